@@ -1,0 +1,6 @@
+pub mod Bytes
+pub mod BytesLaws
+pub mod Counts
+pub mod CountsLaws
+pub mod Faults
+pub mod Streams

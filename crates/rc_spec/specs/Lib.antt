@@ -1,0 +1,5 @@
+pub mod Calls
+pub mod InRange
+pub mod Names
+pub mod Plain
+pub mod Spec

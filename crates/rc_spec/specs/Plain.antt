@@ -1,0 +1,64 @@
+-- What a call does to a relation, and what it answers, by filters over the list of tuples.
+use Rattle.std.specs.Prelude.{◌≡◌, ℕ, ◌+◌, Bool, true, false, cond, nat_le, not, List, [], ◌∷◌, length, map, filter, Option, Some, None, if◌then◌else◌}
+use Rattle.std.specs.declared.cmp.Ordering.{Ordering}
+use Rattle.std.specs.Ordering.{nat_cmp}
+use Rattle.std.specs.Cmp.Lexicographic.{slice_cmp}
+use Rattle.std.specs.List.{list_any, slice_get}
+use Rattle.rc_tuple.specs.RisingSet.{put, gather}
+use Rattle.rc_tuple.specs.Tuple.{Pairs, agree_on, matches, pick, tuple_cmp, tuple_eq}
+use Rattle.rc_tuple.specs.Relation.{breaks}
+use Rattle.rc_tuple.specs.declared.dep.Dep.{Dep}
+use Rattle.rc_spec.specs.declared.items.Op.{Op}
+use Rattle.rc_spec.specs.declared.items.OpKind.{OpKind}
+use Rattle.rc_spec.specs.declared.items.OpKind.TheVariants.{Query, Insert, Remove}
+use Rattle.rc_spec.specs.declared.call.Call.{Call}
+use Rattle.rc_spec.specs.declared.call.Reply.{Reply}
+use Rattle.rc_spec.specs.declared.call.Reply.TheVariants.{Rows, Many, Inserted, Present, Conflict, Removed, Absent}
+use Rattle.rc_spec.specs.declared.spec.Spec.{Spec}
+
+-- a reply, and the relation after it
+pub record Outcome : Type 0 where
+  pub reply : Reply
+  pub relation : List Pairs
+
+-- rows are ordered by their values, in the order of the outputs
+abbrev pub row_cmp : List ℕ → List ℕ → Ordering
+row_cmp v w = slice_cmp nat_cmp v w
+
+-- the distinct rows of the outputs, rising
+abbrev pub rows_of : List ℕ → List Pairs → List (List ℕ)
+rows_of outs tuples = gather row_cmp (map (pick outs) tuples)
+
+abbrev pub at_most_256 : List (List ℕ) → Reply
+at_most_256 rows = if nat_le (length rows) 256 then Rows rows else Many (length rows)
+
+-- the number of the first dependency that the relation breaks, where the first has the number n
+abbrev pub first_broken : ℕ → List Dep → List Pairs → Option ℕ
+first_broken n [] r = None
+first_broken n (d ∷ deps) r = if breaks r d then Some n else first_broken (n + 1) deps r
+
+abbrev pub inserted_unless : Option ℕ → List Pairs → List Pairs → Outcome
+inserted_unless None with_tuple r = record { reply = Inserted; relation = with_tuple }
+inserted_unless (Some n) with_tuple r = record { reply = Conflict n; relation = r }
+
+-- the first of the matching tuples goes
+abbrev pub removed_first : List Pairs → List Pairs → Outcome
+removed_first [] r = record { reply = Absent; relation = r }
+removed_first (t ∷ ts) r = record { reply = Removed t; relation = filter (λ u. not (tuple_eq u t)) r }
+
+abbrev pub plain_by : OpKind → List ℕ → List Dep → Pairs → List Pairs → Outcome
+plain_by (Query outs) pattern deps args r = record { reply = at_most_256 (rows_of outs (filter (matches args) r)); relation = r }
+plain_by Insert pattern deps args r =
+    if list_any (agree_on pattern args) r
+    then record { reply = Present; relation = r }
+    else inserted_unless (first_broken 1 deps (put tuple_cmp args r)) (put tuple_cmp args r) r
+plain_by Remove pattern deps args r = removed_first (filter (matches args) r) r
+
+-- a call of no operation answers Absent; no call that fits is one
+abbrev pub plain_at : Option Op → List Dep → Pairs → List Pairs → Outcome
+plain_at (Some op) deps args r = plain_by op.kind op.pattern deps args r
+plain_at None deps args r = record { reply = Absent; relation = r }
+
+-- the plain step: the reply of a call on a relation, and the relation after it
+abbrev pub plain : Spec → List Pairs → Call → Outcome
+plain spec r call = plain_at (slice_get spec.ops call.op) spec.deps call.args r

@@ -1,0 +1,82 @@
+use rc_tuple::{ColSet, Cols, SmallList};
+
+/// The bytes of a name: in a well named specification 1 to 16 bytes of `a` to `z`, `0` to `9` and `_`,
+/// the first of them a letter.
+pub type Name = SmallList<u8>;
+
+/// What the values of a column stand for.
+#[derive(Clone, Copy, Debug, PartialEq, Eq)]
+pub enum ColKind {
+    /// Numbers.
+    Num,
+    /// Texts, each known by its rank among all texts of a workload.
+    Text,
+}
+
+/// A column of the relation; its number is its place in the list of columns.
+#[derive(Debug, Drop)]
+pub struct Column {
+    pub name: Name,
+    pub kind: ColKind,
+}
+
+/// A node of the decomposition with the columns that it binds (PLDI 2011, decompositions).
+#[derive(Debug, Drop)]
+pub struct Node {
+    pub name: Name,
+    pub cols: ColSet,
+}
+
+/// The kind of container that keeps an edge's rows.
+#[derive(Clone, Copy, Debug, PartialEq, Eq)]
+pub enum EdgeKind {
+    Hash,
+    Ordered,
+    List,
+    Singleton,
+}
+
+/// An edge of the decomposition, from one node to another, by node numbers, with its key columns.
+#[derive(Debug, Drop)]
+pub struct Edge {
+    pub name: Name,
+    pub from: u8,
+    pub to: u8,
+    pub kind: EdgeKind,
+    pub key: ColSet,
+}
+
+/// A lock class: how many stripes it has, and the columns whose values choose one (PLDI 2012, lock
+/// striping).
+#[derive(Debug, Drop)]
+pub struct Class {
+    pub name: Name,
+    pub stripes: u32,
+    pub cols: ColSet,
+}
+
+/// The placement of an edge on a lock class, by their numbers (PLDI 2012, lock placement).
+#[derive(Clone, Copy, Debug, PartialEq, Eq)]
+pub struct Place {
+    pub edge: u8,
+    pub class: u8,
+}
+
+/// What an operation does with the tuples that match its pattern.
+#[derive(Debug, Drop)]
+pub enum OpKind {
+    /// Answers the values of the output columns, in written order.
+    Query { outs: Cols },
+    /// Adds a tuple, unless one with the same pattern values is there (put if absent).
+    Insert,
+    /// Takes the matching tuple out.
+    Remove,
+}
+
+/// An operation with its pattern columns, in written order.
+#[derive(Debug, Drop)]
+pub struct Op {
+    pub name: Name,
+    pub pattern: Cols,
+    pub kind: OpKind,
+}

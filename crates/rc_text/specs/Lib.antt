@@ -1,0 +1,9 @@
+pub mod Bytes
+pub mod Lines
+pub mod LinesLaws
+pub mod Words
+pub mod WordsLaws
+pub mod NextWordLaws
+pub mod Numbers
+pub mod NumbersLaws
+pub mod Reader

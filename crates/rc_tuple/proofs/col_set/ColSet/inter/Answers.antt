@@ -1,0 +1,8 @@
+use Rattle.rc_tuple.specs.ColSetLaws.{columns_of-and, IsColSet-columns_of}
+use Rattle.rc_tuple.proofs.col_set.ColSet.inter.Goals as goal
+
+pub returns-clause-value : goal.returns-clause-value
+returns-clause-value c = rw (← c.self.view_is, ← c.other.view_is) (columns_of-and c.self.inside.mask c.other.inside.mask)
+
+pub returns-clause-set : goal.returns-clause-set
+returns-clause-set c = IsColSet-columns_of _

@@ -1,0 +1,22 @@
+use Rattle.std.proofs.Common.{◌≡◌, ◌<◌, ◌^◌, take, sym, ◌∙◌, ap, subst, arith}
+use Rattle.std.proofs.lemmas.List.{take_all}
+use Rattle.rc_tuple.specs.RisingSet.{put}
+use Rattle.rc_tuple.specs.RisingSetLaws.{in_from_places}
+use Rattle.rc_tuple.specs.Tuple.{IsTuple, pair_cmp, tuple_of}
+use Rattle.rc_tuple.specs.TupleLaws.{IsTuple-tuple_of, tuple_of_next}
+use Rattle.rc_tuple.proofs.tuple.Tuple.from_columns.Goals as goal
+
+pub loop-place-preserved : goal.loop-place-preserved
+loop-place-preserved c =
+    c.in_ok-put_pair.ensures.ok ∙ ap (put pair_cmp _) c.loop-place.invariant
+    ∙ sym (tuple_of_next c.args.cols.now c.args.vals.now c.loop-place.place c.requires.fits (omega arith))
+
+pub invariant_of-result : goal.invariant_of-result
+invariant_of-result c =
+    let whole : c.loop-place.pairs.items ≡ tuple_of c.args.cols.now c.args.vals.now =
+        c.loop-place.invariant
+        ∙ ap (λ l. tuple_of l (take c.loop-place.place c.args.vals.now)) (take_all c.loop-place.place c.args.cols.now (omega arith))
+        ∙ ap (tuple_of c.args.cols.now) (take_all c.loop-place.place c.args.vals.now (let e = c.requires.fits in omega arith)) in
+    subst IsTuple (sym whole)
+    (IsTuple-tuple_of c.args.cols.now c.args.vals.now c.requires.distinct c.requires.below
+      (in_from_places (λ v. v < 2 ^ 64) 0 c.args.vals.now (λ i h. let f = c.type_inv.vals i in omega arith)))

@@ -1,0 +1,13 @@
+use Rattle.std.proofs.Common.{sym, ◌∙◌, ap, arith}
+use Rattle.rc_tuple.specs.RisingSet.{put}
+use Rattle.rc_tuple.specs.Tuple.{pair_cmp, merge}
+use Rattle.rc_tuple.specs.TupleLaws.{merge_more, merge_none}
+use Rattle.rc_tuple.proofs.tuple.merged_pairs.Goals as goal
+
+pub loop-pair-init : goal.loop-pair-init
+loop-pair-init c = c.in_ok-all.ensures.items ∙ sym (merge_none c.args.pairs.now c.requires)
+
+pub loop-pair-preserved : goal.loop-pair-preserved
+loop-pair-preserved c =
+    c.in_ok-put_pair.ensures.ok ∙ ap (put pair_cmp _) c.loop-pair.invariant
+    ∙ sym (merge_more c.args.pairs.now c.args.others.now c.loop-pair.pair-index (0, 0) (omega arith))

@@ -1,0 +1,7 @@
+use Rattle.std.proofs.Common.{◌≡◌, drop}
+use Rattle.std.specs.List.{list_all, zip}
+use Rattle.rc_tuple.specs.Tuple.{same_at}
+use Rattle.rc_tuple.proofs.tuple.same_at.Given as goal
+
+abbrev pub invariant-loop-at : goal.invariant-loop-at
+invariant-loop-at l = list_all (same_at l.cols) (zip (drop l.at l.pairs) (drop l.at l.others)) ≡ list_all (same_at l.cols) (zip l.pairs l.others)

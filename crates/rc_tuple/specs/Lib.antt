@@ -1,0 +1,7 @@
+pub mod ColSet
+pub mod ColSetLaws
+pub mod RisingSet
+pub mod RisingSetLaws
+pub mod Relation
+pub mod Tuple
+pub mod TupleLaws

@@ -1,0 +1,289 @@
+ghost use Rattle.std.specs.Prelude.{◌≡◌, ℕ, ◌<◌, ◌||◌, ◌==◌, ◌++◌, not, length, IfOk, OnOk, OnErr};
+ghost use Rattle.std.specs.Ordering.{nat_cmp};
+ghost use Rattle.std.specs.List.{list_all, zip};
+ghost use Rattle.rc_tuple.specs.RisingSet.{In, IsRising, AreDistinct, IsPlace, put, gather};
+ghost use Rattle.rc_tuple.specs.Tuple.{IsTuple, cols_of, get, project, pick, agrees, pair_cmp, tuple_cmp, agree_on, matches, merged, tuple_of, has_pair, same_at};
+
+use crate::{ColSet, Cols, Memory, Vals};
+use std::alloc::Global;
+use std::cmp::Ordering;
+use std::marker::Model;
+
+/// A tuple: one value of 64 bits for each column of a column set. Contracts see it as the list of
+/// its pairs, each a column and its value, rising by the columns.
+#[derive(Drop, Debug)]
+pub struct Tuple {
+    pairs: Vec<(u8, u64)>,
+}
+
+impl Model for Tuple {
+    ghost use Rattle.rc_tuple.specs.Tuple.{Pairs, IsTuple};
+
+    ghost Value = { Pairs };
+
+    ghost view = { λ t. t.pairs.items };
+
+    ghost invariant = { λ t. IsTuple t.pairs.items };
+}
+
+impl Tuple {
+    /// The tuple that gives the columns, rising, these values.
+    pub fn new(cols: ColSet, vals: Vals) -> Result<Tuple, Memory>
+        requires { length vals ≡ length cols }
+        ensures { IfOk result (λ t. t ≡ zip cols vals) }
+    {
+        zipped(vals.alloc(), cols, vals.list())
+    }
+
+    /// The tuple that gives each of the columns, in any order, the value beside it.
+    pub fn from_columns(alloc: Global, cols: &[u8], vals: &[u64]) -> Result<Tuple, Memory>
+        requires fits { length vals.now ≡ length cols.now }
+        requires below { (c : ℕ) → In c cols.now → c < 32 }
+        requires distinct { AreDistinct cols.now }
+        ensures { IfOk result (λ t. t ≡ tuple_of cols.now vals.now) }
+    {
+        let mut pairs = Vec::new(alloc);
+        for (place, col) in cols.iter().enumerate() {
+            put_pair(&mut pairs, (*col, vals[place]))?;
+        }
+        Ok(Tuple { pairs })
+    }
+
+    /// The pairs, rising by their columns.
+    pub fn pairs(&self) -> &[(u8, u64)]
+        ensures pairs { result.now ≡ self.now }
+        ensures tuple { IsTuple self.now }
+    {
+        &self.pairs
+    }
+
+    /// The allocator that the tuple keeps.
+    pub fn alloc(&self) -> Global {
+        *self.pairs.allocator()
+    }
+
+    /// The columns that have a value.
+    pub fn cols(&self) -> ColSet
+        ensures cols { result ≡ cols_of self.now }
+        ensures tuple { IsTuple self.now }
+    {
+        columns_of(&self.pairs)
+    }
+
+    /// The value at a column; `None` exactly where the column is none of the tuple's.
+    pub fn get(&self, col: u8) -> Option<u64>
+        ensures { result ≡ get self.now col }
+    {
+        get_pair(&self.pairs, col)
+    }
+
+    /// The tuple over those of its columns that the set has.
+    pub fn project(&self, cols: ColSet) -> Result<Tuple, Memory>
+        ensures { IfOk result (λ t. t ≡ project cols self.now) }
+    {
+        let mut pairs = Vec::new(self.alloc());
+        for pair in &self.pairs {
+            if cols.has(pair.0) {
+                pairs.push(*pair)?;
+            }
+        }
+        Ok(Tuple { pairs })
+    }
+
+    /// The values at the columns, in the order of the list, and 0 at a column that the tuple has not.
+    pub fn pick(&self, outs: &Cols) -> Result<Vals, Memory>
+        ensures { IfOk result (λ vals. vals ≡ pick outs.now self.now) }
+    {
+        let mut vals = Vals::new(self.alloc());
+        for col in outs.list() {
+            vals.push(self.get(*col).unwrap_or(0))?;
+        }
+        Ok(vals)
+    }
+
+    /// Whether both have the same value at each column that both have.
+    pub fn agrees(&self, other: &Tuple) -> bool
+        ensures { result ≡ agrees self.now other.now }
+    {
+        all_fit(&self.pairs, &other.pairs)
+    }
+
+    /// Whether both, over the same columns, have the same value at each column of the set.
+    pub fn agrees_on(&self, other: &Tuple, cols: ColSet) -> bool
+        requires { cols_of self.now ≡ cols_of other.now }
+        ensures { result ≡ agree_on cols self.now other.now }
+    {
+        same_at(&self.pairs, &other.pairs, cols)
+    }
+
+    /// Whether the tuple has the pattern's value at each column of the pattern.
+    pub fn matches(&self, pattern: &Tuple) -> bool
+        ensures { result ≡ matches pattern.now self.now }
+    {
+        has_pairs(&self.pairs, &pattern.pairs)
+    }
+
+    /// The tuple over the columns of both; `None` exactly where they disagree on a common column.
+    pub fn merge(&self, other: &Tuple) -> Result<Option<Tuple>, Memory>
+        ensures { IfOk result (λ t. t ≡ merged self.now other.now) }
+    {
+        if !self.agrees(other) {
+            return Ok(None);
+        }
+        let pairs = merged_pairs(self.alloc(), &self.pairs, &other.pairs)?;
+        Ok(Some(Tuple { pairs }))
+    }
+
+    /// Compares by the columns and then by the values, so at equal columns by the values in column
+    /// order.
+    pub fn order(&self, other: &Tuple) -> Ordering
+        ensures { result ≡ tuple_cmp self.now other.now }
+    {
+        self.pairs.as_slice().cmp(&other.pairs.as_slice())
+    }
+
+    /// Another tuple with the same pairs.
+    pub fn copy(&self) -> Result<Tuple, Memory>
+        ensures { IfOk result (λ t. t ≡ self.now) }
+    {
+        Ok(Tuple {
+            pairs: Vec::from_slice(self.alloc(), &self.pairs)?,
+        })
+    }
+}
+
+/// The tuple that gives the columns, rising, these values.
+fn zipped(alloc: Global, cols: ColSet, vals: &[u64]) -> Result<Tuple, Memory>
+    requires { length vals.now ≡ length cols }
+    ensures { IfOk result (λ t. t ≡ zip cols vals.now) }
+{
+    let mut pairs = Vec::new(alloc);
+    let count = cols.len();
+    for place in 0..count {
+        let col = cols.nth(place).unwrap();
+        pairs.push((col, vals[place as usize]))?;
+    }
+    Ok(Tuple { pairs })
+}
+
+/// The value beside the column.
+fn get_pair(pairs: &[(u8, u64)], col: u8) -> Option<u64>
+    ensures { result ≡ get pairs.now col }
+{
+    for pair in pairs {
+        if pair.0 == col {
+            return Some(pair.1);
+        }
+    }
+    None
+}
+
+/// Whether the pairs give the pair's column no other value.
+fn fits(pair: &(u8, u64), others: &[(u8, u64)]) -> bool
+    ensures { result ≡ list_all (λ q. not (pair.now.0 == q.0) || pair.now.1 == q.1) others.now }
+{
+    others.iter().all(|q| pair.0 != q.0 || pair.1 == q.1)
+}
+
+fn all_fit(pairs: &[(u8, u64)], others: &[(u8, u64)]) -> bool
+    ensures { result ≡ agrees pairs.now others.now }
+{
+    for pair in pairs {
+        if !fits(pair, others) {
+            return false;
+        }
+    }
+    true
+}
+
+/// Whether all the pairs of the pattern are among the pairs.
+fn has_pairs(pairs: &[(u8, u64)], pattern: &[(u8, u64)]) -> bool
+    ensures { result ≡ list_all (has_pair pairs.now) pattern.now }
+{
+    for pair in pattern {
+        if !has_pair(pairs, pair) {
+            return false;
+        }
+    }
+    true
+}
+
+fn has_pair(pairs: &[(u8, u64)], pair: &(u8, u64)) -> bool
+    ensures { result ≡ has_pair pairs.now pair.now }
+{
+    pairs
+        .iter()
+        .any(|other| other.0 == pair.0 && other.1 == pair.1)
+}
+
+/// The columns of the pairs.
+fn columns_of(pairs: &[(u8, u64)]) -> ColSet
+    requires { (p : ℕ × ℕ) → In p pairs.now → p.0 < 32 }
+    ensures { result ≡ gather nat_cmp (cols_of pairs.now) }
+{
+    let mut cols = ColSet::empty();
+    for pair in pairs {
+        cols = cols.with(pair.0);
+    }
+    cols
+}
+
+/// Whether each pair at a column of the set has the value of its counterpart.
+fn same_at(pairs: &[(u8, u64)], others: &[(u8, u64)], cols: ColSet) -> bool
+    requires { length others.now ≡ length pairs.now }
+    ensures { result ≡ list_all (same_at cols) (zip pairs.now others.now) }
+{
+    for (at, pair) in pairs.iter().enumerate() {
+        if !same_pair_at(pair, &others[at], cols) {
+            return false;
+        }
+    }
+    true
+}
+
+fn same_pair_at(pair: &(u8, u64), other: &(u8, u64), cols: ColSet) -> bool
+    ensures { result ≡ same_at cols (pair.now, other.now) }
+{
+    !cols.has(pair.0) || pair.1 == other.1
+}
+
+/// The pairs of both, rising, where the first rise.
+fn merged_pairs(
+    alloc: Global,
+    pairs: &[(u8, u64)],
+    others: &[(u8, u64)],
+) -> Result<Vec<(u8, u64)>, Memory>
+    requires { IsRising pair_cmp pairs.now }
+    ensures { IfOk result (λ all. all.items ≡ gather pair_cmp (pairs.now ++ others.now)) }
+{
+    let mut all = Vec::from_slice(alloc, pairs)?;
+    for pair in others {
+        put_pair(&mut all, *pair)?;
+    }
+    Ok(all)
+}
+
+/// Where the pair goes among rising pairs; `None` where it is there.
+fn place_of_pair(pairs: &[(u8, u64)], pair: &(u8, u64)) -> Option<usize>
+    ensures { IsPlace pair_cmp pair.now pairs.now result }
+{
+    for (at, other) in pairs.iter().enumerate() {
+        match pair.cmp(other) {
+            Ordering::Less => return Some(at),
+            Ordering::Equal => return None,
+            Ordering::Greater => {}
+        }
+    }
+    Some(pairs.len())
+}
+
+/// Puts the pair at its place.
+fn put_pair(pairs: &mut Vec<(u8, u64)>, pair: (u8, u64)) -> Result<(), Memory>
+    ensures ok { OnOk result (pairs.new.items ≡ put pair_cmp pair pairs.old.items) }
+    ensures err { OnErr result (pairs.new.items ≡ pairs.old.items) }
+{
+    if let Some(at) = place_of_pair(pairs, &pair) {
+        pairs.insert(at, pair)?;
+    }
+    Ok(())
+}
