@@ -9,7 +9,7 @@ use Rattle.rc_io.specs.BytesLaws.{takes_more, adds_more}
 pub adds_next : (a b c : Option (List ℕ)) (xs : List ℕ) (i n : ℕ) → Adds a (take i xs) b → Adds b (take n (take (length xs - i) (drop i xs))) c → Adds a (take (i + n) xs) c
 adds_next a b c xs i n before piece =
     subst (λ l. Adds a l c) (sym (take-add i n xs))
-        (adds_more a b c (take i xs) (take n (drop i xs)) before (subst (λ l. Adds b (take n l) c) (take_rest xs i) piece))
+    (adds_more a b c (take i xs) (take n (drop i xs)) before (subst (λ l. Adds b (take n l) c) (take_rest xs i) piece))
 
 -- a piece that passes the limit, of which one byte more was asked for than the limit leaves
 pub passed_limit : (a b c : Option (List ℕ)) (xs buf : List ℕ) (n limit : ℕ) → Takes a xs b → Takes b (take n buf) c → length xs ≤ limit → limit - length xs < n → n ≤ length buf → length buf ≤ limit - length xs + 1

@@ -1,5 +1,5 @@
 -- A rise in a part of a run is one in the whole run, where the count never falls.
-use Rattle.std.specs.Prelude.{◌≡◌, ℕ, ◌-◌, ◌^◌, ◌<◌, ◌≤◌, ◌⊎◌}
+use Rattle.std.specs.Prelude.{ℕ, ◌≤◌}
 use Rattle.std.proofs.Common.{inl, inr, arith}
 use Rattle.rc_io.specs.Counts.{Rose}
 

@@ -7,8 +7,9 @@ use rc_tuple::Memory;
 use std::alloc::Global;
 use std::marker::Model;
 
-/// A sink over memory of a fixed size, which fails at the calls that it is told, and where it is full.
-#[derive(Drop)]
+/// A sink over memory of a fixed size, which fails at the calls that it is told, and where it is
+/// full.
+#[derive(Debug, Drop)]
 pub struct MemSink {
     bytes: Vec<u8>,
     room: usize,
@@ -24,19 +25,35 @@ impl Model for MemSink {
 
     ghost Value = { MemSinkState };
 
-    ghost view = { λ a. record { held = a.bytes.items; room = a.room; piece = a.piece; fail = a.fail.items; calls = a.calls; faults = a.faults } };
+    ghost view = { λ a. record {
+      held = a.bytes.items;
+      room = a.room;
+      piece = a.piece;
+      fail = a.fail.items;
+      calls = a.calls;
+      faults = a.faults;
+    } };
 
-    ghost invariant = { λ a. (vec_len a.bytes ≤ a.room) × (a.room ≤ vec_capacity a.bytes) × (1 ≤ a.piece) };
+    ghost invariant = { λ a. (vec_len a.bytes ≤ a.room) × (a.room ≤ vec_capacity a.bytes)
+        × (1 ≤ a.piece) };
 }
 
 impl MemSink {
-    /// An empty sink that takes at most `piece` bytes in a call. The calls with the numbers in `fail`, counted from
-    /// 1, fail. Each call after the one with the last number of a `u64` has that number too. The memory of `room`
-    /// bytes is taken here, and no write takes any.
+    /// An empty sink that takes at most `piece` bytes in a call, and holds at most `room`. The calls
+    /// with the numbers in `fail`, counted from 1, fail. Each call after the one with the last
+    /// number of a `u64` has that number too. The memory of `room` bytes is taken here, and no
+    /// write takes any.
     pub fn new(alloc: Global, room: usize, piece: usize, fail: Vec<u64>) -> Result<MemSink, Memory>
         requires room { 1 ≤ room }
         requires piece { 1 ≤ piece }
-        ensures { IfOk result (λ s. s ≡ record { held = []; room = room; piece = piece; fail = fail.items; calls = 0; faults = 0 }) }
+        ensures { IfOk result (λ s. s ≡ record {
+          held = [];
+          room = room;
+          piece = piece;
+          fail = fail.items;
+          calls = 0;
+          faults = 0;
+        }) }
     {
         Ok(MemSink {
             bytes: Vec::with_capacity(alloc, room)?,
@@ -64,12 +81,20 @@ impl Sink for MemSink {
     fn write_some(&mut self, buf: &[u8]) -> Result<usize, Failed>
         requires { 0 < length buf.now }
         ensures some { IfOk result (λ n. (0 < n) × (n ≤ length buf.now)) }
-        ensures amount { IfOk result (λ n. n ≡ amount self.old.piece (length buf.now) (self.old.room - length self.old.held)) }
+        ensures amount { IfOk result (λ n.
+            n ≡ amount self.old.piece (length buf.now) (self.old.room - length self.old.held)) }
         ensures bytes { IfOk result (λ n. self.new.held ≡ self.old.held ++ take n buf.now) }
-        ensures ok { OnOk result (self.new ≡ record self.old { calls = next self.old.calls; held = self.new.held }) }
+        ensures ok { OnOk result (self.new ≡ record self.old {
+          calls = next self.old.calls;
+          held = self.new.held;
+        }) }
 
-        ensures fails { IsErr result ↔ ((length self.old.held ≡ self.old.room) ⊎ Contains self.old.fail (next self.old.calls)) }
-        ensures err { OnErr result (self.new ≡ record self.old { calls = next self.old.calls; faults = next self.old.faults }) }
+        ensures fails { IsErr result ↔ ((length self.old.held ≡ self.old.room)
+            ⊎ Contains self.old.fail (next self.old.calls)) }
+        ensures err { OnErr result (self.new ≡ record self.old {
+          calls = next self.old.calls;
+          faults = next self.old.faults;
+        }) }
         ensures failed { OnErr result (Rose self.old.faults self.new.faults) }
         ensures count { self.old.faults ≤ self.new.faults }
     {

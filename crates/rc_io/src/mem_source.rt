@@ -6,7 +6,7 @@ use crate::{Failed, Source};
 use std::marker::Model;
 
 /// A source over memory, which fails at the calls that it is told.
-#[derive(Drop)]
+#[derive(Debug, Drop)]
 pub struct MemSource {
     bytes: Vec<u8>,
     at: usize,
@@ -22,17 +22,30 @@ impl Model for MemSource {
 
     ghost Value = { MemSourceState };
 
-    ghost view = { λ a. record { left = drop a.at a.bytes.items; piece = a.piece; fail = a.fail.items; calls = a.calls; faults = a.faults } };
+    ghost view = { λ a. record {
+      left = drop a.at a.bytes.items;
+      piece = a.piece;
+      fail = a.fail.items;
+      calls = a.calls;
+      faults = a.faults;
+    } };
 
     ghost invariant = { λ a. (a.at ≤ length a.bytes.items) × (1 ≤ a.piece) };
 }
 
 impl MemSource {
-    /// A source that gives at most `piece` bytes in a call. The calls with the numbers in `fail`, counted from 1,
-    /// fail. Each call after the one with the last number of a `u64` has that number too.
+    /// A source that gives at most `piece` bytes in a call. The calls with the numbers in `fail`,
+    /// counted from 1, fail. Each call after the one with the last number of a `u64` has that
+    /// number too.
     pub fn new(bytes: Vec<u8>, piece: usize, fail: Vec<u64>) -> MemSource
         requires { 1 ≤ piece }
-        ensures { result ≡ record { left = bytes.items; piece = piece; fail = fail.items; calls = 0; faults = 0 } }
+        ensures { result ≡ record {
+          left = bytes.items;
+          piece = piece;
+          fail = fail.items;
+          calls = 0;
+          faults = 0;
+        } }
     {
         MemSource {
             bytes,
@@ -64,12 +77,19 @@ impl Source for MemSource {
         requires { 0 < length buf.old }
         ensures fits { IfOk result (λ n. n ≤ length buf.new) }
         ensures end { IfOk result (λ n. n ≡ 0 → self.old.left ≡ []) }
-        ensures amount { IfOk result (λ n. n ≡ amount self.old.piece (length buf.old) (length self.old.left)) }
+        ensures amount { IfOk result (λ n.
+            n ≡ amount self.old.piece (length buf.old) (length self.old.left)) }
         ensures bytes { IfOk result (λ n. self.old.left ≡ take n buf.new ++ self.new.left) }
-        ensures ok { OnOk result (self.new ≡ record self.old { calls = next self.old.calls; left = self.new.left }) }
+        ensures ok { OnOk result (self.new ≡ record self.old {
+          calls = next self.old.calls;
+          left = self.new.left;
+        }) }
 
         ensures fails { IsErr result ↔ Contains self.old.fail (next self.old.calls) }
-        ensures err { OnErr result (self.new ≡ record self.old { calls = next self.old.calls; faults = next self.old.faults }) }
+        ensures err { OnErr result (self.new ≡ record self.old {
+          calls = next self.old.calls;
+          faults = next self.old.faults;
+        }) }
         ensures failed { OnErr result (Rose self.old.faults self.new.faults) }
         ensures count { self.old.faults ≤ self.new.faults }
     {

@@ -12,8 +12,8 @@ pub trait Sink {
     /// How many faults there were, up to the last value of a `u64`, where the count stays.
     ghost faults: { Self → ℕ };
 
-    /// Takes bytes from the front of `buf`, at least one, and answers how many. After a fault what is held is as
-    /// before.
+    /// Takes bytes from the front of `buf`, at least one, and answers how many. After a fault what
+    /// is held is as before.
     fn write_some(&mut self, buf: &[u8]) -> Result<usize, Failed>
         requires { 0 < length buf.now }
         ensures some { IfOk result (λ n. (0 < n) × (n ≤ length buf.now)) }

@@ -17,8 +17,8 @@ pub trait Source {
     /// How many faults there were, up to the last value of a `u64`, where the count stays.
     ghost faults: { Self → ℕ };
 
-    /// Reads the next bytes into the front of `buf` and answers how many: 0 at the end alone. After a fault what is
-    /// left is as before.
+    /// Reads the next bytes into the front of `buf` and answers how many: 0 at the end alone. After
+    /// a fault what is left is as before.
     fn read_some(&mut self, buf: &mut [u8]) -> Result<usize, Failed>
         requires { 0 < length buf.old }
         ensures fits { IfOk result (λ n. n ≤ length buf.new) }
@@ -66,14 +66,16 @@ impl From<Failed> for ReadFault {
 /// How many bytes a read asks for at most.
 const PIECE: usize = 4096;
 
-/// All bytes up to the end, of which there are at most `limit`. To find more, one byte beyond it is taken. After a
-/// fault the bytes that were taken are dropped.
+/// All bytes up to the end, of which there are at most `limit`. Where there are more, one byte
+/// beyond the limit is taken. After a fault the bytes that were taken are dropped.
 pub fn read_all<S: Source>(alloc: Global, source: &mut S, limit: u64) -> Result<Vec<u8>, ReadFault>
-    ensures all { IfOk result (λ v. Takes (S.left source.old) v.items (S.left source.new) × IsEmpty (S.left source.new)) }
+    ensures all { IfOk result (λ v. Takes (S.left source.old) v.items (S.left source.new)
+        × IsEmpty (S.left source.new)) }
     ensures within { IfOk result (λ v. vec_len v ≤ limit) }
     ensures taken { IfErr result (λ fault. (bytes : List ℕ) × IsTaken fault limit (length bytes)
         × Takes (S.left source.old) bytes (S.left source.new)) }
-    ensures failed { IsErrOf result ReadFault.Source → Rose (S.faults source.old) (S.faults source.new) }
+    ensures failed { IsErrOf result ReadFault.Source →
+        Rose (S.faults source.old) (S.faults source.new) }
     ensures count { S.faults source.old ≤ S.faults source.new }
 {
     let mut out = Vec::new(alloc);

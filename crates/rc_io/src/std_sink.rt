@@ -6,9 +6,9 @@ use crate::{Failed, Sink};
 use std::io::Write;
 use std::marker::Model;
 
-/// A sink over a writer, as standard output. It tells nothing of the bytes, and hands them to the writer. What
-/// standard output does with them, and when a write to it fails, is trusted.
-#[derive(Drop)]
+/// A sink over a writer, as standard output. It tells nothing of the bytes, and hands them to the
+/// writer. What standard output does with them, and when a write to it fails, is trusted.
+#[derive(Debug, Drop)]
 pub struct StdSink<W> {
     writer: W,
     faults: u64,
@@ -35,7 +35,8 @@ impl<W: Write> StdSink<W> {
 fn write_through<W: Write>(writer: &mut W, buf: &[u8]) -> Result<usize, Failed>
     requires { 0 < length buf.now }
     ensures some { IfOk result (λ n. (0 < n) × (n ≤ length buf.now)) }
-    ensures ok { IfOk result (λ n. Appends (W.contents writer.old) (W.contents writer.new) (take n buf.now)) }
+    ensures ok { IfOk result (λ n.
+        Appends (W.contents writer.old) (W.contents writer.new) (take n buf.now)) }
     ensures err { OnErr result ((n : ℕ) × (n ≤ length buf.now)
         × Appends (W.contents writer.old) (W.contents writer.new) (take n buf.now)) }
 {
@@ -53,11 +54,13 @@ impl<W: Write> Sink for StdSink<W> {
 
     ghost faults = { λ s. s.faults };
 
-    /// One write of the writer, which is then flushed. After a fault the writer may have a part of the bytes.
+    /// One write of the writer, which is then flushed. After a fault the writer may have a part of
+    /// the bytes.
     fn write_some(&mut self, buf: &[u8]) -> Result<usize, Failed>
         requires { 0 < length buf.now }
         ensures some { IfOk result (λ n. (0 < n) × (n ≤ length buf.now)) }
-        ensures writer_ok { IfOk result (λ n. Appends (W.contents self.old.writer) (W.contents self.new.writer) (take n buf.now)) }
+        ensures writer_ok { IfOk result (λ n.
+            Appends (W.contents self.old.writer) (W.contents self.new.writer) (take n buf.now)) }
         ensures writer_err { OnErr result ((n : ℕ) × (n ≤ length buf.now)
             × Appends (W.contents self.old.writer) (W.contents self.new.writer) (take n buf.now)) }
         ensures no_fault { OnOk result (self.new.faults ≡ self.old.faults) }

@@ -6,9 +6,9 @@ use crate::{Failed, Source};
 use std::io::Read;
 use std::marker::Model;
 
-/// A source over a reader, as standard input. It tells nothing of the bytes, and gives what the reader gives. What
-/// standard input gives, and when a read of it fails, is trusted.
-#[derive(Drop)]
+/// A source over a reader, as standard input. It tells nothing of the bytes, and gives what the
+/// reader gives. What standard input gives, and when a read of it fails, is trusted.
+#[derive(Debug, Drop)]
 pub struct StdSource<R> {
     reader: R,
     faults: u64,
@@ -40,7 +40,8 @@ impl<R: Read> Source for StdSource<R> {
     fn read_some(&mut self, buf: &mut [u8]) -> Result<usize, Failed>
         requires { 0 < length buf.old }
         ensures fits { IfOk result (λ n. n ≤ length buf.new) }
-        ensures reader { ReadConsumes (R.remaining self.old.reader) (R.remaining self.new.reader) result buf.new }
+        ensures reader { ReadConsumes (R.remaining self.old.reader) (R.remaining self.new.reader)
+            result buf.new }
         ensures no_fault { OnOk result (self.new.faults ≡ self.old.faults) }
         ensures fault { OnErr result (self.new.faults ≡ next self.old.faults) }
         ensures failed { OnErr result (Rose self.old.faults self.new.faults) }

@@ -3,3 +3,5 @@ pub mod InRange
 pub mod Names
 pub mod Plain
 pub mod Spec
+pub mod PlainLaws
+pub mod CallsLaws

@@ -99,10 +99,11 @@ lacks_line_feed bytes = list_all (λ b. not (b == 10)) bytes
 abbrev pub printed_lines : List (List ℕ) → List ℕ
 printed_lines lines = flat_map (λ line. line ++ 10 ∷ []) lines
 
--- a line that is printed so that it is read again: of bytes that words and blanks are made of, not blank, and no comment
+-- a line that is read again where it is printed: it holds only bytes that a word may hold, and is neither blank nor a comment
 pub record IsPrintable (line : List ℕ) : Type 0 where
   pub bytes : list_all is_text_byte line ≡ true
   pub content : is_content line ≡ true
 
+-- content lines without their places
 abbrev pub bytes_of_content : List ContentLine → List (List ℕ)
 bytes_of_content lines = map (λ line. line.bytes) lines

@@ -1,12 +1,12 @@
 -- The lines of a text are the text, and where they begin.
-use Rattle.std.proofs.Common.{◌≡◌, ◌≢◌, ℕ, zero, suc, ◌+◌, ◌-◌, ◌<◌, ◌≤◌, Bool, true, false, not, ◌&&◌, cond, eqb, List, [], ◌∷◌, ◌++◌, length, get_or, take, drop, map, refl, subst, add-zero, append_assoc, eq-eqb, ap, sym, ◌∙◌, arith}
+use Rattle.std.proofs.Common.{◌≡◌, ◌≢◌, ℕ, zero, suc, ◌+◌, ◌-◌, ◌<◌, ◌≤◌, true, false, not, cond, eqb, List, [], ◌∷◌, ◌++◌, length, get_or, take, drop, refl, add-zero, append_assoc, eq-eqb, ap, sym, ◌∙◌, arith}
 use Rattle.std.specs.Prelude.{sum_by}
-use Rattle.std.specs.List.{concat, flat_map, list_all, AllByRecursion}
+use Rattle.std.specs.List.{concat, list_all, AllByRecursion}
 use Rattle.std.proofs.lemmas.Bool.{ne_eqb, eqb-false, eqb-true, and_parts, not-true}
 use Rattle.std.proofs.lemmas.List.{length-drop, length-take-le, drop-drop, get_or-drop}
 use Rattle.std.proofs.lemmas.List.Sums.{sum_by-cons, sum_by_more, sum_by-take-le}
 use Rattle.rc_text.specs.Bytes.{is_text_byte}
-use Rattle.rc_text.specs.Lines.{onto_first, lines_of, past_end_of, without_last, bytes_of_line, is_content, ContentLine, content_among, TextPlace, start_of, lines_from, content_from, IsLineStart, IsLine, lacks_line_feed, printed_lines, IsPrintable, bytes_of_content}
+use Rattle.rc_text.specs.Lines.{onto_first, lines_of, past_end_of, without_last, bytes_of_line, content_among, TextPlace, start_of, lines_from, IsLineStart, IsLine, lacks_line_feed, printed_lines, IsPrintable, bytes_of_content}
 
 -- how long the first line is
 abbrev pub first_length : List ℕ → ℕ
@@ -166,7 +166,7 @@ lines_of-last (b ∷ c ∷ bs) lacks more =
     rw (not-true (eqb b 10) parts.0) (ap (onto_first b) (lines_of-last (c ∷ bs) parts.1 (omega arith)))
 
 -- a list whose last byte is `last`, and one whose last byte is another
-pub without_last-same : (last : ℕ) (bs : List ℕ) (n : ℕ) → length bs ≡ n + 1 → get_or bs n 0 ≡ last → without_last last bs ≡ take n bs
+without_last-same : (last : ℕ) (bs : List ℕ) (n : ℕ) → length bs ≡ n + 1 → get_or bs n 0 ≡ last → without_last last bs ≡ take n bs
 without_last-same last [] n e same = absurd (omega arith)
 without_last-same last (b ∷ []) zero e same = rw (eq-eqb b last same) refl
 without_last-same last (b ∷ []) (suc n) e same = absurd (omega arith)
@@ -174,7 +174,7 @@ without_last-same last (b ∷ c ∷ bs) zero e same = absurd (omega arith)
 without_last-same last (b ∷ c ∷ bs) (suc n) e same =
     ap (λ (xs : List ℕ). b ∷ xs) (without_last-same last (c ∷ bs) n (omega arith) same)
 
-pub without_last-other : (last : ℕ) (bs : List ℕ) (n : ℕ) → length bs ≡ n + 1 → get_or bs n 0 ≢ last → without_last last bs ≡ bs
+without_last-other : (last : ℕ) (bs : List ℕ) (n : ℕ) → length bs ≡ n + 1 → get_or bs n 0 ≢ last → without_last last bs ≡ bs
 without_last-other last [] n e other = refl
 without_last-other last (b ∷ []) zero e other = rw (ne_eqb b last other) refl
 without_last-other last (b ∷ []) (suc n) e other = absurd (omega arith)
@@ -182,9 +182,14 @@ without_last-other last (b ∷ c ∷ bs) zero e other = absurd (omega arith)
 without_last-other last (b ∷ c ∷ bs) (suc n) e other =
     ap (λ (xs : List ℕ). b ∷ xs) (without_last-other last (c ∷ bs) n (omega arith) other)
 
-pub without_last-nil : (last : ℕ) (bs : List ℕ) → length bs ≡ 0 → without_last last bs ≡ bs
-without_last-nil last [] e = refl
-without_last-nil last (b ∷ bs) e = absurd (omega arith)
+-- a list by its last byte, which is `last` or another
+pub without_last-is : (last : ℕ) (bs : List ℕ) → 0 < length bs → get_or bs (length bs - 1) 0 ≡ last → without_last last bs ≡ take (length bs - 1) bs
+without_last-is last bs more same = without_last-same last bs (length bs - 1) (omega arith) same
+
+pub without_last-is_not : (last : ℕ) (bs : List ℕ) → 0 < length bs → get_or bs (length bs - 1) 0 ≢ last → without_last last bs ≡ bs
+without_last-is_not last bs more other = without_last-other last bs (length bs - 1) (omega arith) other
+
+pub ruleset last_byte = (without_last-is, without_last-is_not)
 
 pub without_last-push : (last : ℕ) (bs : List ℕ) → without_last last (bs ++ last ∷ []) ≡ bs
 without_last-push last [] = rw (eq-eqb last last refl) refl
@@ -224,4 +229,4 @@ pub content-printed : (at number : ℕ) (lines : List (List ℕ)) → AllByRecur
 content-printed at number [] all = refl
 content-printed at number (line ∷ lines) all =
     rw (lines_of-printed line lines all.0.bytes, bytes_of_line-printed line all.0.bytes, all.0.content)
-      (ap (λ (others : List (List ℕ)). line ∷ others) (content-printed (at + length (line ++ 10 ∷ [])) (number + 1) lines all.1))
+    (ap (λ (others : List (List ℕ)). line ∷ others) (content-printed (at + length (line ++ 10 ∷ [])) (number + 1) lines all.1))

@@ -1,5 +1,6 @@
 -- The next word of a line is what the format says, and nothing else is.
-use Rattle.std.proofs.Common.{◌≡◌, ℕ, zero, suc, ◌+◌, ◌<◌, ◌≤◌, Bool, true, false, not, ◌&&◌, ◌||◌, cond, eqb, leb, List, [], ◌∷◌, ◌++◌, length, get_or, take, drop, map, Option, Some, None, Result, Ok, Err, refl, ap, sym, subst, ◌∙◌, ◌↔◌, one-add, append_assoc, and-false, inl, inr, arith}
+use Rattle.std.proofs.Common.{◌≡◌, ℕ, Bool, true, false, not, ◌&&◌, cond, eqb, List, [], ◌∷◌, ◌++◌, length, get_or, drop, map, Some, None, Result, Ok, Err, refl, ap, sym, subst, ◌∙◌, ◌↔◌, one-add, append_assoc, inl, inr, arith}
+use Rattle.std.proofs.Math.Bool.{and-false}
 use Rattle.std.specs.Prelude.{MatchBool}
 use Rattle.std.specs.List.{list_all, AllByRecursion, before_first, position_or_len, join_with_byte}
 use Rattle.std.proofs.lemmas.Bool.{and_parts, or_cases, not-true, eqb-true}
@@ -8,7 +9,7 @@ use Rattle.std.proofs.lemmas.List.Folds.{list_all-append}
 use Rattle.rc_text.specs.declared.words.WordFault.{WordFault}
 use Rattle.rc_text.specs.declared.words.WordFault.TheVariants.{BadByte, Quote}
 use Rattle.rc_text.specs.Bytes.{is_blank, is_quote, is_text_byte, is_plain_byte, is_quotable_byte, without_blanks}
-use Rattle.rc_text.specs.Words.{WordText, plain_text, quoted_text, Found, plain_at, ends_word, closed_at, quoted_at, word_at, next_word_of, words_of, quoted, written, IsPlain, IsWritable, HasWord, IsWordFront, HasBadByte, IsUnclosed, HasUnclosed, ComesNext}
+use Rattle.rc_text.specs.Words.{WordText, plain_text, quoted_text, Found, plain_at, ends_word, closed_at, quoted_at, word_at, next_word_of, words_of, quoted, written, IsPlain, IsWritable, HasWord, IsWordFront, HasBadByte, IsUnclosed, HasQuoteFault, ComesNext}
 use Rattle.rc_text.specs.WordsLaws.{found_none, found_some, words_of-same}
 
 -- what passes two tests
@@ -51,7 +52,7 @@ bad-unquote b bad =
 
 -- what stands before the first byte that passes
 before_first-no : (p : ℕ → Bool) (b : ℕ) (bs : List ℕ) → p b ≡ false → before_first p (b ∷ bs) ≡ b ∷ before_first p bs
-before_first-no p b bs no = rw (no, one-add) refl
+before_first-no p b bs fails = rw (fails, one-add) refl
 
 before_first-none : (p : ℕ → Bool) (bs : List ℕ) → list_all (λ b. not (p b)) (before_first p bs) ≡ true
 before_first-none p [] = refl
@@ -68,7 +69,7 @@ BeginsWith p (b ∷ bs) = p b ≡ true
 
 -- what stands from the first byte on that passes
 drop_to-no : (p : ℕ → Bool) (b : ℕ) (bs : List ℕ) → p b ≡ false → drop (position_or_len p (b ∷ bs)) (b ∷ bs) ≡ drop (position_or_len p bs) bs
-drop_to-no p b bs no = rw (no, one-add) refl
+drop_to-no p b bs fails = rw (fails, one-add) refl
 
 drop_to-begins : (p : ℕ → Bool) (bs : List ℕ) → BeginsWith p (drop (position_or_len p bs) bs)
 drop_to-begins p [] = tt
@@ -112,10 +113,10 @@ first_bad (b ∷ bs) fails =
 
 -- a bad byte stands before the first byte that passes
 before_first-bad : (p : ℕ → Bool) (front : List ℕ) (bad : ℕ) (after : List ℕ) → list_all (λ b. not (p b)) front ≡ true → p bad ≡ false → is_text_byte bad ≡ false → list_all is_text_byte (before_first p (front ++ bad ∷ after)) ≡ false
-before_first-bad p [] bad after none no is_bad = rw (before_first-no p bad after no, is_bad) refl
-before_first-bad p (b ∷ bs) bad after none no is_bad =
+before_first-bad p [] bad after none fails is_bad = rw (before_first-no p bad after fails, is_bad) refl
+before_first-bad p (b ∷ bs) bad after none fails is_bad =
     let parts = and_parts (not (p b)) (list_all (λ b. not (p b)) bs) none in
-    rw (before_first-no p b (bs ++ bad ∷ after) (not-true (p b) parts.0), before_first-bad p bs bad after parts.1 no is_bad) (and-false (is_text_byte b))
+    rw (before_first-no p b (bs ++ bad ∷ after) (not-true (p b) parts.0), before_first-bad p bs bad after parts.1 fails is_bad) (and-false (is_text_byte b))
 
 -- The way from what is found to what the format says.
 
@@ -189,16 +190,16 @@ plain_comes b bs unblank unquote =
     let split : (b ∷ word) ++ after ≡ b ∷ bs = ap (λ (xs : List ℕ). b ∷ xs) (take-append-drop (position_or_len is_blank bs) bs) in
     let none : list_all (λ c. not (is_blank c)) (b ∷ word) ≡ true = rw unblank (before_first-none is_blank bs) in
     rw (before_first-no is_blank b bs unblank, drop_to-no is_blank b bs unblank)
-      (elim (list_all is_text_byte (b ∷ word)) as (λ v. list_all is_text_byte (b ∷ word) ≡ v → ComesNext (b ∷ bs) (cond v (Ok (Some (plain_text (b ∷ word), after))) (Err BadByte))) [
-        | true ↦ λ e. record {
-          blanks = [];
-          are_blanks = refl;
-          is_writable = (unquote, all_both is_text_byte (λ c. not (is_blank c)) (b ∷ word) e none);
-          ends = begins-ends after (drop_to-begins is_blank bs);
-          whole = sym split;
-        }
-        | false ↦ λ e. subst HasBadByte split (plain_bad b word after unquote none e)
-      ] refl)
+    (elim (list_all is_text_byte (b ∷ word)) as (λ v. list_all is_text_byte (b ∷ word) ≡ v → ComesNext (b ∷ bs) (cond v (Ok (Some (plain_text (b ∷ word), after))) (Err BadByte))) [
+      | true ↦ λ e. record {
+        blanks = [];
+        are_blanks = refl;
+        is_writable = (unquote, all_both is_text_byte (λ c. not (is_blank c)) (b ∷ word) e none);
+        ends = begins-ends after (drop_to-begins is_blank bs);
+        whole = sym split;
+      }
+      | false ↦ λ e. subst HasBadByte split (plain_bad b word after unquote none e)
+    ] refl)
 
 quoted_bad : (text after : List ℕ) → list_all (λ c. not (is_quote c)) text ≡ true → list_all is_text_byte text ≡ false → HasBadByte (34 ∷ (text ++ after))
 quoted_bad text after none fails =
@@ -293,16 +294,18 @@ finds_none (b ∷ bs) all =
     rw parts.0 (finds_none bs parts.1)
 
 -- a plain word, and a text in quotes
+plain_at-word : (word after : List ℕ) → list_all is_plain_byte word ≡ true → BeginsWith is_blank after → plain_at (word ++ after) ≡ Ok (Some (plain_text word, after))
+plain_at-word word after plain begins =
+    let none = all_second is_text_byte (λ c. not (is_blank c)) word plain in
+    rw (position-append is_blank word after none begins, take_at word after (length word) refl, drop_at word after (length word) refl, all_first is_text_byte (λ c. not (is_blank c)) word plain) refl
+
 finds_plain : (word after : List ℕ) → IsPlain word → BeginsWith is_blank after → next_word_of (word ++ after) ≡ Ok (Some (plain_text word, after))
 unfolding next_word_of
 finds_plain [] after plain begins = absurd plain
 finds_plain (b ∷ bs) after plain begins =
-    let word : List ℕ = b ∷ bs in
-    let none = all_second is_text_byte (λ c. not (is_blank c)) word plain.1 in
+    let none = all_second is_text_byte (λ c. not (is_blank c)) (b ∷ bs) plain.1 in
     let unblank = not-true (is_blank b) (and_parts (not (is_blank b)) (list_all (λ c. not (is_blank c)) bs) none).0 in
-    let found : plain_at (word ++ after) ≡ Ok (Some (plain_text word, after)) =
-    rw (position-append is_blank word after none begins, take_at word after (length word) refl, drop_at word after (length word) refl, all_first is_text_byte (λ c. not (is_blank c)) word plain.1) refl in
-    rw (unblank, plain.0) found
+    rw (unblank, plain.0) (plain_at-word (b ∷ bs) after plain.1 begins)
 
 quoted_at-text : (text after : List ℕ) → list_all is_quotable_byte text ≡ true → BeginsWith is_quote after → quoted_at (text ++ after) ≡ closed_at text after
 quoted_at-text text after quotable begins =
@@ -370,8 +373,8 @@ closed_at-unclosed text [] unclosed = refl
 closed_at-unclosed text (b ∷ after) unclosed = rw unclosed.1 refl
 
 -- a text in quotes that is not closed as it should be
-pub finds_unclosed : (line : List ℕ) → HasUnclosed line → next_word_of line ≡ Err Quote
-finds_unclosed line has =
+pub finds_quote_fault : (line : List ℕ) → HasQuoteFault line → next_word_of line ≡ Err Quote
+finds_quote_fault line has =
     ap next_word_of has.whole
     ∙ skips_blanks has.blanks (34 ∷ (has.text ++ has.after)) has.are_blanks
     ∙ next_word_of-quote (has.text ++ has.after)
@@ -382,7 +385,7 @@ pub comes_found : (line : List ℕ) (found : Found) → ComesNext line found →
 comes_found line (Ok None) comes = finds_none line comes
 comes_found line (Ok (Some found)) comes = finds_word line found.0 found.1 comes
 comes_found line (Err BadByte) comes = finds_bad_byte line comes
-comes_found line (Err Quote) comes = finds_unclosed line comes
+comes_found line (Err Quote) comes = finds_quote_fault line comes
 
 -- what is found is what comes next, and nothing else comes next
 pub found_iff_comes : (line : List ℕ) (found : Found) → (next_word_of line ≡ found) ↔ ComesNext line found

@@ -8,7 +8,7 @@ use Rattle.std.proofs.lemmas.Bool.{lt-ltb, le-ltb, leb-true, le-leb, and_parts, 
 use Rattle.std.proofs.lemmas.Fmt.{digits_decimal, digits_value-decimal, decimal_nonempty}
 use Rattle.std.proofs.lemmas.List.Sums.{AllPass-from_list_all}
 use Rattle.std.proofs.lemmas.Int.Digits.{digits_value_more}
-use Rattle.std.proofs.lemmas.Str.Parse.{IsDigitsTest, IsNumeralModel, numerals_by_value}
+use Rattle.std.proofs.lemmas.Str.Parse.{IsNumeralModel, numerals_by_value}
 use Rattle.rc_text.specs.declared.numbers.NumFault.TheVariants.{Range}
 use Rattle.rc_text.specs.Bytes.{is_plain_byte}
 use Rattle.rc_text.specs.Words.{IsPlain}
@@ -57,7 +57,8 @@ in_range word number small = rw (number, lt-ltb (number_of word) (2 ^ 64) small)
 -- a zero in front doesn't count
 pub u64_of-zero : (word : List ℕ) → 0 < length word → u64_of (48 ∷ word) ≡ u64_of word
 u64_of-zero [] more = absurd (omega arith)
-u64_of-zero (b ∷ bs) more = refl
+u64_of-zero (b ∷ bs) more =
+    rw (ne_eqb (length (48 ∷ b ∷ bs)) 0 (omega arith), ne_eqb (length (b ∷ bs)) 0 (omega arith)) refl
 
 own : IsNumeralModel (λ ds. list_all is_ascii_digit ds ≡ true) number_of
 own = numerals_by_value _ (search rules)

@@ -8,11 +8,12 @@ use Rattle.rc_text.specs.declared.words.Word.TheVariants as word
 use Rattle.rc_text.specs.declared.words.WordFault.{WordFault}
 use Rattle.rc_text.specs.declared.words.WordFault.TheVariants.{BadByte, Quote}
 
--- a word without where it lies in memory
+-- a word of a line: a plain one, or the text of a quoted one
 pub data WordText : Type 0 where
   plain_text : List ℕ → WordText
   quoted_text : List ℕ → WordText
 
+-- a word of the code without where it lies in memory
 abbrev pub text_of : Word → WordText
 text_of (word.Plain bytes) = plain_text bytes.now
 text_of (word.Quoted bytes) = quoted_text bytes.now
@@ -131,13 +132,13 @@ pub record HasBadByte (line : List ℕ) : Type 0 where
   pub is_bad : is_text_byte bad ≡ false
   pub whole : line ≡ blanks ++ (front ++ bad ∷ after)
 
--- what comes behind a text in quotes is no closing `"` with a space, a tab or the line's end after it
+-- what comes behind a text in quotes, where that is no closing `"` with a space, a tab or the line's end after it
 abbrev pub IsUnclosed : List ℕ → Type 0
 IsUnclosed [] = Unit {0}
 IsUnclosed (b ∷ after) = (is_quote b ≡ true) × (ends_word after ≡ false)
 
 -- The next word of a line begins with `"`, and is not closed as it should be.
-pub record HasUnclosed (line : List ℕ) : Type 0 where
+pub record HasQuoteFault (line : List ℕ) : Type 0 where
   pub blanks : List ℕ
   pub text : List ℕ
   pub after : List ℕ
@@ -151,4 +152,4 @@ abbrev pub ComesNext : List ℕ → Found → Type 0
 ComesNext line (Ok None) = list_all is_blank line ≡ true
 ComesNext line (Ok (Some found)) = HasWord line found.0 found.1
 ComesNext line (Err BadByte) = HasBadByte line
-ComesNext line (Err Quote) = HasUnclosed line
+ComesNext line (Err Quote) = HasQuoteFault line

@@ -1,13 +1,11 @@
 -- A line's words are the next word, and then those of what is left; and the next word is as the format says.
-use Rattle.std.proofs.Common.{◌≡◌, ◌≢◌, ℕ, zero, suc, ◌+◌, ◌<◌, ◌≤◌, Bool, true, false, not, ◌&&◌, cond, eqb, List, [], ◌∷◌, ◌++◌, length, get_or, take, drop, map, Option, Some, None, Result, Ok, Err, refl, ap, sym, subst, ◌∙◌, arith}
-use Rattle.std.specs.Prelude.{MatchBool}
-use Rattle.std.specs.List.{list_all, AllByRecursion, before_first, position_or_len, join_with_byte}
-use Rattle.std.proofs.lemmas.Bool.{and_parts, not-true}
-use Rattle.std.proofs.lemmas.List.{length-drop, take_at, drop_at, append-nil}
+use Rattle.std.proofs.Common.{◌≡◌, ℕ, zero, suc, ◌+◌, ◌<◌, ◌≤◌, Bool, true, false, cond, List, [], ◌∷◌, length, drop, Option, Some, None, Result, Ok, Err, refl, ap, sym, ◌∙◌, arith}
+use Rattle.std.specs.List.{list_all, before_first, position_or_len}
+use Rattle.std.proofs.lemmas.List.{length-drop}
 use Rattle.rc_text.specs.declared.words.WordFault.{WordFault}
 use Rattle.rc_text.specs.declared.words.WordFault.TheVariants.{BadByte, Quote}
-use Rattle.rc_text.specs.Bytes.{is_blank, is_quote, is_text_byte, is_plain_byte, is_quotable_byte, without_blanks}
-use Rattle.rc_text.specs.Words.{WordText, plain_text, quoted_text, Found, plain_at, ends_word, closed_at, quoted_at, word_at, next_word_of, words_within, words_of, found_then, written, IsPlain, IsWritable, HasWord, IsWordFront, HasBadByte, IsUnclosed, HasUnclosed, ComesNext}
+use Rattle.rc_text.specs.Bytes.{is_blank, is_quote, is_text_byte, without_blanks}
+use Rattle.rc_text.specs.Words.{WordText, plain_text, quoted_text, Found, plain_at, ends_word, closed_at, quoted_at, word_at, next_word_of, words_within, words_of, found_then}
 
 -- what a test let through
 passed : (b : Bool) (found : Found) (fault : WordFault) (y : Option (WordText × List ℕ)) → cond b found (Err fault) ≡ Ok y → found ≡ Ok y

@@ -32,6 +32,7 @@ fn first_line_length(text: &[u8]) -> usize
 }
 
 /// The bytes without the last one, where that is `last`.
+#[tactic(auto, using(crate::specs::LinesLaws::last_byte))]
 fn without_last(bytes: &[u8], last: u8) -> &[u8]
     ensures { result.now ≡ without_last last bytes.now }
 {
@@ -104,11 +105,10 @@ impl<'a> Lines<'a> {
             self.at += length;
             self.line += 1;
             if is_content(bytes) {
-                let next = self.at;
                 return Some(Line {
                     number,
                     bytes,
-                    next,
+                    next: self.at,
                 });
             }
         }

@@ -5,3 +5,4 @@ pub mod RisingSetLaws
 pub mod Relation
 pub mod Tuple
 pub mod TupleLaws
+pub mod RelationLaws

@@ -2,7 +2,8 @@
 use Rattle.std.specs.Prelude.{◌≡◌, ℕ, ◌≤◌, List, [], ◌∷◌, ◌⊎◌, Option, Some, None, length}
 use Rattle.std.specs.List.{insert}
 use Rattle.std.specs.declared.cmp.Ordering.{Ordering}
-use Rattle.std.specs.declared.cmp.Ordering.TheVariants.{Less, Equal, Greater}
+use Rattle.std.specs.declared.cmp.Ordering.TheVariants.{Less}
+use Rattle.std.specs.Ordering.{match_ordering}
 
 -- x is an element of the list
 abbrev pub In : {A : Type 0} → A → List A → Type 0
@@ -14,16 +15,10 @@ abbrev pub IsRising : {A : Type 0} → (A → A → Ordering) → List A → Typ
 IsRising R [] = Unit {0}
 IsRising {A} R (x ∷ xs) = ((y : A) → In y xs → R x y ≡ Less) × IsRising R xs
 
--- one of three by an order's answer
-abbrev pub by_order : {A : Type 0} → Ordering → A → A → A → A
-by_order Less x y z = x
-by_order Equal x y z = y
-by_order Greater x y z = z
-
 -- the rising list with one more element, which may stand in it already
 abbrev pub put : {A : Type 0} → (A → A → Ordering) → A → List A → List A
 put R x [] = x ∷ []
-put R x (y ∷ ys) = by_order (R x y) (x ∷ (y ∷ ys)) (y ∷ ys) (y ∷ put R x ys)
+put R x (y ∷ ys) = match_ordering (R x y) (x ∷ (y ∷ ys)) (y ∷ ys) (y ∷ put R x ys)
 
 -- the rising list of the elements of a list, each once
 abbrev pub gather : {A : Type 0} → (A → A → Ordering) → List A → List A

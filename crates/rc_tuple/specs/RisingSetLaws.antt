@@ -2,14 +2,15 @@
 use Rattle.std.specs.Prelude.{◌≡◌, ◌+◌, ◌<◌, length, Bool, true, false, List, [], ◌∷◌, ◌++◌, ◌⊎◌, filter, map, cond}
 use Rattle.std.specs.declared.cmp.Ordering.{Ordering}
 use Rattle.std.specs.declared.cmp.Ordering.TheVariants.{Less, Equal, Greater}
-use Rattle.std.specs.Ordering.{ordering_reverse, nat_cmp}
+use Rattle.std.specs.Ordering.{ordering_reverse, match_ordering, nat_cmp}
 use Rattle.std.specs.Cmp.{IsTotalOrder}
-use Rattle.std.proofs.Common.{ℕ, zero, suc, arith, take, drop, get_or, inl, inr, refl, sym, ap, subst, ◌∙◌, ◌==◌, ◌||◌}
-use Rattle.std.specs.List.{flat_map, list_all}
+use Rattle.std.proofs.Common.{ℕ, Some, zero, suc, arith, take, drop, get_or, inl, inr, refl, sym, ap, subst, ◌∙◌, ◌==◌, ◌||◌}
+use Rattle.std.specs.List.{flat_map, list_all, slice_get, AllByRecursion}
+use Rattle.std.proofs.lemmas.Option.{get_or_from_slice_get, slice_get_within}
 use Rattle.std.proofs.lemmas.Bool.{false≢true, and_parts, and_from, or_cases, or_left, or_right, eqb-true, eq-eqb}
 use Rattle.std.proofs.lemmas.List.{drop_more, take_more, append_assoc}
 use Rattle.std.proofs.lemmas.Cmp.{nat_cmp_total, ranked}
-use Rattle.rc_tuple.specs.RisingSet.{In, IsRising, by_order, put, gather}
+use Rattle.rc_tuple.specs.RisingSet.{In, IsRising, put, gather}
 use Rattle.rc_tuple.specs.ColSet.{has}
 
 -- a total order in which only equal elements tie
@@ -20,7 +21,7 @@ pub record IsOrder {A : Type 0} (R : A → A → Ordering) : Type 0 where
 module _ {A : Type 0} (R : A → A → Ordering) (o : IsOrder R) where
   -- what stands in `put R x ys`
   in_put_go : (z x y : A) (ys : List A) (a : Ordering) → R x y ≡ a → (In z (put R x ys) → (z ≡ x) ⊎ In z ys)
-      → In z (by_order a (x ∷ (y ∷ ys)) (y ∷ ys) (y ∷ put R x ys)) → (z ≡ x) ⊎ In z (y ∷ ys)
+      → In z (match_ordering a (x ∷ (y ∷ ys)) (y ∷ ys) (y ∷ put R x ys)) → (z ≡ x) ⊎ In z (y ∷ ys)
   in_put_go z x y ys Less e ih h = h
   in_put_go z x y ys Equal e ih h = inr h
   in_put_go z x y ys Greater e ih (inl q) = inr (inl q)
@@ -31,7 +32,7 @@ module _ {A : Type 0} (R : A → A → Ordering) (o : IsOrder R) where
   in_put z x (y ∷ ys) h = in_put_go z x y ys (R x y) refl (in_put z x ys) h
 
   put_new_go : (x y : A) (ys : List A) (a : Ordering) → R x y ≡ a → In x (put R x ys)
-      → In x (by_order a (x ∷ (y ∷ ys)) (y ∷ ys) (y ∷ put R x ys))
+      → In x (match_ordering a (x ∷ (y ∷ ys)) (y ∷ ys) (y ∷ put R x ys))
   put_new_go x y ys Less e ih = inl refl
   put_new_go x y ys Equal e ih = inl (o.ties x y e)
   put_new_go x y ys Greater e ih = inr ih
@@ -41,7 +42,7 @@ module _ {A : Type 0} (R : A → A → Ordering) (o : IsOrder R) where
   put_new x (y ∷ ys) = put_new_go x y ys (R x y) refl (put_new x ys)
 
   put_old_go : (z x y : A) (ys : List A) (a : Ordering) → (In z ys → In z (put R x ys)) → In z (y ∷ ys)
-      → In z (by_order a (x ∷ (y ∷ ys)) (y ∷ ys) (y ∷ put R x ys))
+      → In z (match_ordering a (x ∷ (y ∷ ys)) (y ∷ ys) (y ∷ put R x ys))
   put_old_go z x y ys Less ih h = inr h
   put_old_go z x y ys Equal ih h = h
   put_old_go z x y ys Greater ih (inl q) = inl q
@@ -53,7 +54,7 @@ module _ {A : Type 0} (R : A → A → Ordering) (o : IsOrder R) where
 
   -- `put` keeps a list rising
   rising_put_go : (x y : A) (ys : List A) (a : Ordering) → R x y ≡ a → IsRising R (y ∷ ys) → IsRising R (put R x ys)
-      → IsRising R (by_order a (x ∷ (y ∷ ys)) (y ∷ ys) (y ∷ put R x ys))
+      → IsRising R (match_ordering a (x ∷ (y ∷ ys)) (y ∷ ys) (y ∷ put R x ys))
   rising_put_go x y ys Less e h ih =
       ((λ z q. elim q [ inl p ↦ (subst (λ w. R x w ≡ Less) (sym p) e) | inr p ↦ o.total.trans x y z e (h.0 z p) ]), h)
   rising_put_go x y ys Equal e h ih = h
@@ -265,6 +266,25 @@ module _ {A : Type 0} (R : A → A → Ordering) where
       → take i xs ++ put R x (drop i xs) ≡ take (i + 1) xs ++ put R x (drop (i + 1) xs)
   place_more x xs i d lt g =
       ap (λ l. take i xs ++ put R x l) (drop_more xs i d lt)
-      ∙ ap (λ a. take i xs ++ by_order a (x ∷ (get_or xs i d ∷ drop (i + 1) xs)) (get_or xs i d ∷ drop (i + 1) xs) (get_or xs i d ∷ put R x (drop (i + 1) xs))) g
+      ∙ ap (λ a. take i xs ++ match_ordering a (x ∷ (get_or xs i d ∷ drop (i + 1) xs)) (get_or xs i d ∷ drop (i + 1) xs) (get_or xs i d ∷ put R x (drop (i + 1) xs))) g
       ∙ sym (append_assoc (take i xs) (get_or xs i d ∷ []) (put R x (drop (i + 1) xs)))
       ∙ ap (λ l. l ++ put R x (drop (i + 1) xs)) (sym (take_more xs i d lt))
+
+-- what holds of each element, by recursion and by membership
+pub each_in : {A : Type 0} (P : A → Type 0) (xs : List A) → AllByRecursion P xs → (x : A) → In x xs → P x
+each_in P [] h x m = absurd m
+each_in P (y ∷ ys) h x (inl e) = subst P (sym e) h.0
+each_in P (y ∷ ys) h x (inr m) = each_in P ys h.1 x m
+
+pub in_each : {A : Type 0} (P : A → Type 0) (xs : List A) → ((x : A) → In x xs → P x) → AllByRecursion P xs
+in_each P [] h = tt
+in_each P (y ∷ ys) h = (h y (inl refl), in_each P ys (λ x m. h x (inr m)))
+
+-- a gathered list so far, with one more element
+pub gather_next : {A : Type 0} (R : A → A → Ordering) → IsOrder R → (xs : List A) (i : ℕ) (d : A) → i < length xs
+    → gather R (take (i + 1) xs) ≡ put R (get_or xs i d) (gather R (take i xs))
+gather_next R o xs i d h = ap (gather R) (take_more xs i d h) ∙ gather_more R o (take i xs) (get_or xs i d)
+
+pub slice_get_in : {A : Type 0} (xs : List A) (i : ℕ) (x : A) → slice_get xs i ≡ Some x → In x xs
+slice_get_in xs i x e =
+    subst (λ y. In y xs) (get_or_from_slice_get xs i x x e) (get_or_in xs i x (slice_get_within xs i x e))

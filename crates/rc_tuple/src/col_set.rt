@@ -1,4 +1,6 @@
-ghost use Rattle.std.specs.Prelude.{◌≡◌, ◌<◌, ◌≤◌, [], length, slice_get};
+ghost use Rattle.std.specs.Prelude.{◌≡◌, ℕ, ◌<◌, ◌≤◌, ◌↔◌, [], length, slice_get, IsTrue};
+ghost use Rattle.std.specs.Ordering.{nat_cmp};
+ghost use Rattle.rc_tuple.specs.RisingSet.{In, gather};
 ghost use Rattle.rc_tuple.specs.ColSet.{IsColSet, has, with_column, union, inter, minus, is_within, rank};
 
 use std::marker::Model;
@@ -37,6 +39,19 @@ impl ColSet {
         ensures { result ≡ [] }
     {
         ColSet { mask: 0 }
+    }
+
+    /// The set of the columns of a list.
+    pub fn from_list(cols: &[u8]) -> ColSet
+        requires { (c : ℕ) → In c cols.now → c < 32 }
+        ensures value { result ≡ gather nat_cmp cols.now }
+        ensures set { IsColSet result }
+    {
+        let mut set = ColSet::empty();
+        for col in cols {
+            set = set.with(*col);
+        }
+        set
     }
 
     /// The set with one more column.
@@ -94,6 +109,13 @@ impl ColSet {
         ensures set { IsColSet self }
     {
         self.mask & !other.mask == 0
+    }
+
+    /// Whether both sets have the same columns.
+    pub fn equals(self, other: ColSet) -> bool
+        ensures { IsTrue result ↔ (self ≡ other) }
+    {
+        self.mask == other.mask
     }
 
     /// How many columns of the set are below `col`.

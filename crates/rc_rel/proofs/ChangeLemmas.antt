@@ -1,0 +1,100 @@
+-- What a change of the list of tuples does, in the words of the plain step.
+use Rattle.std.proofs.Common.{◌≡◌, ℕ, zero, suc, ◌+◌, ◌<◌, Bool, true, false, cond, not, List, [], ◌∷◌, ◌++◌, length, None, get_or, refl, sym, ap, ◌∙◌, ◌⊎◌, inl, inr, subst, arith}
+use Rattle.std.specs.Prelude.{remove}
+use Rattle.std.specs.List.{list_any, filter}
+use Rattle.std.specs.declared.cmp.Ordering.TheVariants.{Less}
+use Rattle.std.specs.Ordering.{nat_cmp}
+use Rattle.std.proofs.lemmas.Bool.{false≢true}
+use Rattle.rc_tuple.specs.RisingSet.{In, IsRising, put, gather}
+use Rattle.rc_tuple.specs.RisingSetLaws.{get_or_in, gather_in, in_gather, put_old, rising_put, in_has, has_in, nat_order, not_below_itself, same_bool}
+use Rattle.rc_tuple.specs.ColSet.{has}
+use Rattle.rc_tuple.specs.Tuple.{Pairs, agree_on, tuple_cmp, tuple_eq}
+use Rattle.rc_tuple.specs.TupleLaws.{tuple_order, same_from_test, test_from_same}
+use Rattle.rc_tuple.specs.RelationLaws.{agree_on-same, satisfies_fewer}
+use Rattle.rc_tuple.specs.declared.dep.Dep.{Dep}
+use Rattle.rc_spec.specs.declared.items.OpKind.TheVariants.{Remove}
+use Rattle.rc_spec.specs.declared.call.Reply.{Reply}
+use Rattle.rc_spec.specs.declared.call.Reply.TheVariants.{Removed}
+use Rattle.rc_spec.specs.Plain.{Outcome, first_broken, removed_first, plain_by}
+use Rattle.rc_spec.specs.PlainLaws.{satisfies_from_none, rising_after, in_after_remove}
+use Rattle.rc_rel.specs.Kept.{IsKept}
+
+-- a set of columns has what its list has
+has-gather : (cols : List ℕ) (c : ℕ) → has (gather nat_cmp cols) c ≡ has cols c
+has-gather cols c =
+    same_bool _ _
+    (λ h. has_in cols c (in_gather nat_cmp nat_order c cols (in_has (gather nat_cmp cols) c h)))
+    (λ h. has_in (gather nat_cmp cols) c (gather_in nat_cmp nat_order c cols (in_has cols c h)))
+
+any_agrees_same : (xs ys : List ℕ) → ((c : ℕ) → has xs c ≡ has ys c) → (t : Pairs) (r : List Pairs) → list_any (agree_on xs t) r ≡ list_any (agree_on ys t) r
+any_agrees_same xs ys h t [] = refl
+any_agrees_same xs ys h t (u ∷ r) =
+    let a : agree_on xs t u ≡ agree_on ys t u = agree_on-same xs ys h t u in
+    let b : list_any (agree_on xs t) r ≡ list_any (agree_on ys t) r = any_agrees_same xs ys h t r in
+    cc
+
+-- agreeing on the set of a pattern is agreeing on the pattern
+pub any_agrees-set : (pattern : List ℕ) (t : Pairs) (r : List Pairs) → list_any (agree_on (gather nat_cmp pattern) t) r ≡ list_any (agree_on pattern t) r
+any_agrees-set pattern t r = any_agrees_same (gather nat_cmp pattern) pattern (has-gather pattern) t r
+
+differs_above : (x u : Pairs) → tuple_cmp x u ≡ Less → tuple_eq u x ≡ false
+differs_above x u l = go (tuple_eq u x) refl
+  where
+    go : (b : Bool) → tuple_eq u x ≡ b → b ≡ false
+    go false e = refl
+    go true e = let k : tuple_cmp x x ≡ Less = subst (λ z. tuple_cmp x z ≡ Less) (same_from_test u x e) l in absurd (not_below_itself tuple_cmp tuple_order x x k k)
+
+differs_below : (x u : Pairs) → tuple_cmp u x ≡ Less → tuple_eq u x ≡ false
+differs_below x u l = go (tuple_eq u x) refl
+  where
+    go : (b : Bool) → tuple_eq u x ≡ b → b ≡ false
+    go false e = refl
+    go true e = let k : tuple_cmp x x ≡ Less = subst (λ z. tuple_cmp z x ≡ Less) (same_from_test u x e) l in absurd (not_below_itself tuple_cmp tuple_order x x k k)
+
+keeps_all : (x : Pairs) (r : List Pairs) → ((u : Pairs) → In u r → tuple_eq u x ≡ false) → filter (λ u. not (tuple_eq u x)) r ≡ r
+keeps_all x [] f = refl
+keeps_all x (u ∷ r) f =
+    ap (λ b. cond (not b) (u ∷ filter (λ u. not (tuple_eq u x)) r) (filter (λ u. not (tuple_eq u x)) r)) (f u (inl refl))
+    ∙ ap (λ l. u ∷ l) (keeps_all x r (λ w m. f w (inr m)))
+
+-- to leave one tuple of a rising list out is to remove its place
+pub filter-remove : (r : List Pairs) (at : ℕ) → IsRising tuple_cmp r → at < length r → filter (λ u. not (tuple_eq u (get_or r at []))) r ≡ remove r at
+filter-remove [] at h lt = absurd (omega arith)
+filter-remove (x ∷ r) zero h lt =
+    ap (λ b. cond (not b) (x ∷ filter (λ u. not (tuple_eq u x)) r) (filter (λ u. not (tuple_eq u x)) r)) (test_from_same x x refl)
+    ∙ keeps_all x r (λ u m. differs_above x u (h.0 u m))
+filter-remove (x ∷ r) (suc at) h lt =
+    let k : at < length r = omega arith in
+    ap (λ b. cond (not b) (x ∷ filter (λ u. not (tuple_eq u (get_or r at []))) r) (filter (λ u. not (tuple_eq u (get_or r at []))) r))
+      (differs_below (get_or r at []) x (h.0 (get_or r at []) (get_or_in r at [] k)))
+    ∙ ap (λ l. x ∷ l) (filter-remove r at h.1 k)
+
+pub removed_at : (found r others : List Pairs) (at : ℕ) → IsRising tuple_cmp r → at < length r → found ≡ get_or r at [] ∷ others
+    → removed_first found r ≡ record { reply = Removed (get_or r at []); relation = remove r at }
+removed_at found r others at h lt e =
+    ap (λ f. removed_first f r) e
+    ∙ ap (λ l. let o : Outcome = record { reply = Removed (get_or r at []); relation = l } in o) (filter-remove r at h lt)
+
+-- what the code found among the tuples at the set of a pattern
+pub agreement_found : (found : Bool) (set list pattern : List ℕ) (t : Pairs) (rows r : List Pairs) → found ≡ list_any (agree_on set t) rows → set ≡ gather nat_cmp list → list ≡ pattern → rows ≡ r
+    → list_any (agree_on pattern t) r ≡ found
+agreement_found found set list pattern t rows r a b e f =
+    sym (any_agrees-set pattern t r) ∙ ap (λ l. list_any (agree_on (gather nat_cmp l) t) r) (sym e) ∙ ap (λ s. list_any (agree_on s t) r) (sym b)
+    ∙ ap (λ l. list_any (agree_on set t) l) (sym f) ∙ sym a
+
+-- a relation that breaks no dependency with one more tuple keeps them, with and without it
+pub kept_with : (deps : List Dep) (t : Pairs) (r : List Pairs) → IsRising tuple_cmp r → first_broken 1 deps (put tuple_cmp t r) ≡ None → IsKept (put tuple_cmp t r) deps
+kept_with deps t r h e = record { rising = rising_put tuple_cmp tuple_order t r h; satisfies = satisfies_from_none 1 deps (put tuple_cmp t r) e }
+
+pub kept_without : (deps : List Dep) (t : Pairs) (r : List Pairs) → IsRising tuple_cmp r → first_broken 1 deps (put tuple_cmp t r) ≡ None → IsKept r deps
+kept_without deps t r h e = record {
+  rising = h;
+  satisfies = satisfies_fewer (put tuple_cmp t r) r deps (λ u m. put_old tuple_cmp tuple_order u t r m) (satisfies_from_none 1 deps (put tuple_cmp t r) e);
+}
+
+-- to leave tuples out keeps what is known
+pub kept_after_remove : (pattern : List ℕ) (deps known : List Dep) (args : Pairs) (r : List Pairs) → IsKept r known → IsKept (plain_by Remove pattern deps args r).relation known
+kept_after_remove pattern deps known args r h = record {
+  rising = rising_after Remove pattern deps args r h.rising;
+  satisfies = satisfies_fewer r (plain_by Remove pattern deps args r).relation known (in_after_remove pattern deps args r) h.satisfies;
+}

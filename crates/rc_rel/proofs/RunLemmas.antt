@@ -1,0 +1,53 @@
+-- What a step's answer says of the relation after it.
+use Rattle.std.proofs.Common.{◌≡◌, ℕ, ◌<◌, ◌≤◌, List, length, get_or, Some, Result, Ok, Err, sym, ap, ◌∙◌, subst, arith}
+use Rattle.std.specs.List.{slice_get}
+use Rattle.std.proofs.lemmas.Option.{get_or_from_slice_get}
+use Rattle.std.specs.Result.{IfOk, OnErr}
+use Rattle.rc_tuple.specs.RisingSet.{In}
+use Rattle.rc_tuple.specs.RisingSetLaws.{each_in, in_each}
+use Rattle.rc_tuple.specs.Tuple.{Pairs, cols_of}
+use Rattle.rc_tuple.specs.declared.memory.Memory.{Memory}
+use Rattle.rc_spec.specs.declared.call.Reply.{Reply}
+use Rattle.rc_spec.specs.declared.call.Call.{Call}
+use Rattle.rc_spec.specs.declared.items.Op.{Op}
+use Rattle.rc_spec.specs.declared.items.OpKind.TheVariants.{Insert}
+use Rattle.rc_spec.specs.declared.spec.Spec.{Spec}
+use Rattle.rc_spec.specs.Calls.{all_columns, FitsAt}
+use Rattle.rc_spec.specs.CallsLaws.{insert_columns}
+use Rattle.rc_spec.specs.InRange.{IsInRange, AreBelow}
+use Rattle.rc_spec.specs.Plain.{Outcome, plain_by}
+use Rattle.rc_spec.specs.PlainLaws.{each_after}
+use Rattle.rc_rel.specs.Over.{AreOver}
+
+-- what holds of the relation of the outcome and of the relation before holds of the relation after
+pub holds_after : (P : List Pairs → Type 0) (result : Result Reply Memory) (o : Outcome) (new old : List Pairs)
+    → IfOk result (λ reply. o ≡ record { reply = reply; relation = new }) → OnErr result (new ≡ old) → P o.relation → P old → P new
+holds_after P (Ok reply) o new old ok err p q = subst P (ap (λ (x : Outcome). x.relation) ok) p
+holds_after P (Err e) o new old ok err p q = subst P (sym err) q
+
+-- an outcome that is another's
+pub same_outcome : (result : Result Reply Memory) (o p : Outcome) (new : List Pairs)
+    → p ≡ o → IfOk result (λ reply. o ≡ record { reply = reply; relation = new }) → IfOk result (λ reply. p ≡ record { reply = reply; relation = new })
+same_outcome (Ok reply) o p new e h = e ∙ h
+same_outcome (Err x) o p new e h = tt
+
+-- the operation that the code reads is the one that the call names
+pub op_read : (ops list : List Op) (i : ℕ) (op found : Op) → list ≡ ops → found ≡ get_or list i found → slice_get ops i ≡ Some op → found ≡ op
+op_read ops list i op found e f h = f ∙ ap (λ l. get_or l i found) e ∙ get_or_from_slice_get ops i op found h
+
+-- a pattern's columns are below 32
+pub pattern_below : (spec : Spec) (op : Op) → IsInRange spec → In op spec.ops → AreBelow 32 op.pattern
+pattern_below spec op range m = λ n k. let a : n < length spec.columns = (range.known_ops op m).pattern n k in let b : length spec.columns ≤ 32 = range.columns in omega arith
+
+-- tuples over all columns are over those of an insert's arguments
+pub over_arguments : (spec : Spec) (call : Call) (op : Op) (r : List Pairs) → FitsAt spec call op → AreOver (all_columns spec) r → op.kind ≡ Insert → AreOver (cols_of call.args) r
+over_arguments spec call op r fits over e = subst (λ (l : List ℕ). AreOver l r) (sym (insert_columns spec call op fits e)) over
+
+-- the relation after a call is over all columns
+pub over_outcome : (spec : Spec) (call : Call) (op : Op) (r : List Pairs) → FitsAt spec call op → AreOver (all_columns spec) r
+    → AreOver (all_columns spec) (plain_by op.kind op.pattern spec.deps call.args r).relation
+over_outcome spec call op r fits over =
+    in_each (λ (t : Pairs). all_columns spec ≡ cols_of t) (plain_by op.kind op.pattern spec.deps call.args r).relation
+    (each_after (λ (t : Pairs). all_columns spec ≡ cols_of t) op.kind op.pattern spec.deps call.args r
+      (λ e. sym (insert_columns spec call op fits e))
+      (each_in (λ (t : Pairs). all_columns spec ≡ cols_of t) r over))

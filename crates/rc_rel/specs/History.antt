@@ -1,0 +1,59 @@
+-- Histories of calls on the plain relation.
+use Rattle.std.specs.Prelude.{◌≡◌, ℕ, ◌==◌, List, [], ◌∷◌, ◌++◌, filter, map, length}
+use Rattle.std.specs.List.{range_with_len, flat_map, AllByRecursion}
+use Rattle.rc_tuple.specs.Tuple.{Pairs}
+use Rattle.rc_spec.specs.declared.spec.Spec.{Spec}
+use Rattle.rc_spec.specs.declared.call.Call.{Call}
+use Rattle.rc_spec.specs.Calls.{Fits}
+use Rattle.rc_spec.specs.Plain.{plain}
+use Rattle.rc_rel.specs.declared.entry.Step.{Step}
+use Rattle.rc_rel.specs.declared.entry.Entry.{Entry}
+
+-- all steps of a history, in order
+abbrev pub steps_of : List Entry → List Step
+steps_of history = flat_map (λ e. e.steps) history
+
+-- each call in turn has the plain reply, and the relation after it goes on to the next
+abbrev pub AreLegalFrom : Spec → List Pairs → List Step → Type 0
+AreLegalFrom spec r [] = Unit {0}
+AreLegalFrom spec r (s ∷ steps) = (s.reply ≡ (plain spec r s.call).reply) × AreLegalFrom spec (plain spec r s.call).relation steps
+
+-- legal from the empty relation
+abbrev pub IsLegal : Spec → List Entry → Type 0
+IsLegal spec history = AreLegalFrom spec [] (steps_of history)
+
+-- the relation after the calls
+abbrev pub after_steps : Spec → List Pairs → List Step → List Pairs
+after_steps spec r [] = r
+after_steps spec r (s ∷ steps) = after_steps spec (plain spec r s.call).relation steps
+
+-- the relation after the last call of a history
+abbrev pub replay : Spec → List Entry → List Pairs
+replay spec history = after_steps spec [] (steps_of history)
+
+-- the relation at first and after each call
+abbrev pub states_from : Spec → List Pairs → List Step → List (List Pairs)
+states_from spec r [] = r ∷ []
+states_from spec r (s ∷ steps) = r ∷ states_from spec (plain spec r s.call).relation steps
+
+abbrev pub states : Spec → List Entry → List (List Pairs)
+states spec history = states_from spec [] (steps_of history)
+
+-- a pass's own entries
+abbrev pub own : List Entry → ℕ → List Entry
+own history pass = filter (λ e. e.pass == pass) history
+
+-- each pass numbers its own entries from 0 on
+abbrev pub IsNumbered : List Entry → Type 0
+IsNumbered history = (pass : ℕ) → map (λ e. e.nth) (own history pass) ≡ range_with_len 0 (length (own history pass))
+
+-- the calls of some entries, in order
+abbrev pub calls_of : List Entry → List Call
+calls_of entries = map (λ s. s.call) (steps_of entries)
+
+-- each step's call fits
+abbrev pub StepsFit : Spec → List Step → Type 0
+StepsFit spec steps = AllByRecursion (λ s. Fits spec s.call) steps
+
+abbrev pub AllFit : Spec → List Entry → Type 0
+AllFit spec history = AllByRecursion (λ e. StepsFit spec e.steps) history

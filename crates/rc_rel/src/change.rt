@@ -1,0 +1,44 @@
+ghost use Rattle.std.specs.Prelude.{◌≡◌, OnOk, OnErr};
+ghost use Rattle.rc_tuple.specs.RisingSet.{IsPlace, put};
+ghost use Rattle.rc_tuple.specs.Tuple.{tuple_cmp};
+ghost use Rattle.rc_rel.specs.Match.{IsFirstMatch};
+
+use rc_tuple::{Memory, Tuple};
+use std::cmp::Ordering;
+
+/// Where the tuple goes among rising tuples; `None` where it is there.
+fn place_of(tuples: &[Tuple], tuple: &Tuple) -> Option<usize>
+    ensures { IsPlace tuple_cmp tuple.now tuples.now result }
+{
+    for (at, other) in tuples.iter().enumerate() {
+        match tuple.order(other) {
+            Ordering::Less => return Some(at),
+            Ordering::Equal => return None,
+            Ordering::Greater => {}
+        }
+    }
+    Some(tuples.len())
+}
+
+/// Puts the tuple at its place.
+pub(crate) fn put_tuple(tuples: &mut Vec<Tuple>, tuple: Tuple) -> Result<(), Memory>
+    ensures ok { OnOk result (tuples.new.items ≡ put tuple_cmp tuple tuples.old.items) }
+    ensures err { OnErr result (tuples.new.items ≡ tuples.old.items) }
+{
+    if let Some(at) = place_of(tuples, &tuple) {
+        tuples.insert(at, tuple)?;
+    }
+    Ok(())
+}
+
+/// The place of the first tuple that matches.
+pub(crate) fn first_match(tuples: &[Tuple], pattern: &Tuple) -> Option<usize>
+    ensures { IsFirstMatch pattern.now tuples.now result }
+{
+    for (at, tuple) in tuples.iter().enumerate() {
+        if tuple.matches(pattern) {
+            return Some(at);
+        }
+    }
+    None
+}

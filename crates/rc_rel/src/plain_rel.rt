@@ -1,0 +1,140 @@
+ghost use Rattle.std.specs.Prelude.{◌≡◌, ◌≤◌, [], length, IfOk, OnErr};
+ghost use Rattle.rc_tuple.specs.RisingSet.{IsRising};
+ghost use Rattle.rc_tuple.specs.Tuple.{tuple_cmp, cols_of};
+ghost use Rattle.rc_spec.specs.declared.items.OpKind.TheVariants.{Insert, Remove};
+ghost use Rattle.rc_spec.specs.Calls.{all_columns, Fits};
+ghost use Rattle.rc_spec.specs.InRange.{IsInRange, AreBelow};
+ghost use Rattle.rc_spec.specs.Plain.{plain, plain_by};
+ghost use Rattle.rc_rel.specs.Kept.{IsKept};
+ghost use Rattle.rc_rel.specs.Over.{AreOver};
+
+use crate::change::{first_match, put_tuple};
+use crate::dependencies::{any_agrees, first_broken, same_deps};
+use crate::scan::query;
+use rc_spec::{Call, Op, OpKind, Reply, Spec};
+use rc_tuple::{ColSet, Cols, Dep, Memory, Tuple};
+use std::alloc::Global;
+use std::marker::Model;
+
+/// A relation as the rising list of its tuples, on which calls are made one after another.
+#[derive(Debug, Drop)]
+pub struct PlainRel {
+    tuples: Vec<Tuple>,
+    /// Dependencies that the tuples are known to satisfy.
+    known: Vec<Dep>,
+}
+
+impl Model for PlainRel {
+    ghost use Rattle.std.specs.Prelude.{List};
+    ghost use Rattle.rc_tuple.specs.Tuple.{Pairs};
+    ghost use Rattle.rc_rel.specs.Kept.{IsKept};
+
+    ghost Value = { List Pairs };
+
+    ghost view = { λ a. a.tuples.items };
+
+    ghost invariant = { λ a. IsKept a.tuples.items a.known.items };
+}
+
+impl PlainRel {
+    /// The relation without tuples, which takes no memory.
+    pub fn empty(alloc: Global) -> PlainRel
+        ensures { result ≡ [] }
+    {
+        PlainRel {
+            tuples: Vec::new(alloc),
+            known: Vec::new(alloc),
+        }
+    }
+
+    /// The tuples, rising.
+    pub fn rows(&self) -> &[Tuple]
+        ensures rows { result.now ≡ self.now }
+        ensures rising { IsRising tuple_cmp self.now }
+    {
+        &self.tuples
+    }
+
+    /// Makes a call: the reply and the relation afterwards are those of the plain step. Where memory is
+    /// wanted the relation stays as it was. (PLDI 2012, relational operations.)
+    pub fn run(&mut self, spec: &Spec, call: &Call) -> Result<Reply, Memory>
+        requires range { IsInRange spec.now }
+        requires fits { Fits spec.now call.now }
+        requires over { AreOver (all_columns spec.now) self.old }
+        ensures ok { IfOk result (λ reply. plain spec.now self.old call.now ≡ record { reply = reply; relation = self.new }) }
+        ensures err { OnErr result (self.new ≡ self.old) }
+        ensures over { AreOver (all_columns spec.now) self.new }
+    {
+        let op = &spec.ops.list()[call.op as usize];
+        step(
+            &mut self.tuples,
+            &mut self.known,
+            spec.deps.list(),
+            op,
+            &call.args,
+        )
+    }
+}
+
+/// Makes a call of the operation.
+fn step(
+    tuples: &mut Vec<Tuple>,
+    known: &mut Vec<Dep>,
+    deps: &[Dep],
+    op: &Op,
+    args: &Tuple,
+) -> Result<Reply, Memory>
+    requires few { length deps.now ≤ 32 }
+    requires pattern { AreBelow 32 op.now.pattern }
+    requires over { op.now.kind ≡ Insert → AreOver (cols_of args.now) tuples.old.items }
+    requires kept { IsKept tuples.old.items known.old.items }
+    ensures ok { IfOk result (λ reply. plain_by op.now.kind op.now.pattern deps.now args.now tuples.old.items ≡ record { reply = reply; relation = tuples.new.items }) }
+    ensures err { OnErr result (tuples.new.items ≡ tuples.old.items) }
+    ensures kept { IsKept tuples.new.items known.new.items }
+{
+    match &op.kind {
+        OpKind::Query { outs } => query(*tuples.allocator(), tuples, outs, args),
+        OpKind::Insert => insert(tuples, known, deps, &op.pattern, args),
+        OpKind::Remove => Ok(remove(tuples, args)),
+    }
+}
+
+/// Adds the tuple, unless one agrees with it on the pattern or it breaks a dependency.
+fn insert(
+    tuples: &mut Vec<Tuple>,
+    known: &mut Vec<Dep>,
+    deps: &[Dep],
+    pattern: &Cols,
+    args: &Tuple,
+) -> Result<Reply, Memory>
+    requires few { length deps.now ≤ 32 }
+    requires pattern { AreBelow 32 pattern.now }
+    requires over { AreOver (cols_of args.now) tuples.old.items }
+    requires kept { IsKept tuples.old.items known.old.items }
+    ensures ok { IfOk result (λ reply. plain_by Insert pattern.now deps.now args.now tuples.old.items ≡ record { reply = reply; relation = tuples.new.items }) }
+    ensures err { OnErr result (tuples.new.items ≡ tuples.old.items) }
+    ensures kept { IsKept tuples.new.items known.new.items }
+{
+    if any_agrees(tuples, args, ColSet::from_list(pattern.list())) {
+        return Ok(Reply::Present);
+    }
+    let is_known = same_deps(known, deps);
+    if let Some(number) = first_broken(tuples, args, deps, is_known) {
+        return Ok(Reply::Conflict(number));
+    }
+    let tuple = args.copy()?;
+    *known = Vec::from_slice(*known.allocator(), deps)?;
+    put_tuple(tuples, tuple)?;
+    Ok(Reply::Inserted)
+}
+
+/// Takes the first matching tuple out.
+fn remove(tuples: &mut Vec<Tuple>, args: &Tuple) -> Reply
+    requires { IsRising tuple_cmp tuples.old.items }
+    ensures { plain_by Remove [] [] args.now tuples.old.items ≡ record { reply = result; relation = tuples.new.items } }
+{
+    match first_match(tuples, args) {
+        Some(at) => Reply::Removed(tuples.remove(at)),
+        None => Reply::Absent,
+    }
+}

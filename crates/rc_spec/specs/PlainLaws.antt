@@ -1,0 +1,115 @@
+-- What the plain step keeps: the order of the tuples, and the dependencies.
+use Rattle.std.proofs.Common.{◌≡◌, ℕ, ◌+◌, Bool, true, false, cond, not, List, [], ◌∷◌, Option, Some, None, refl, sym, ap, ◌∙◌, ◌⊎◌, inl, inr, subst}
+use Rattle.std.specs.List.{list_any, filter, slice_get}
+use Rattle.std.proofs.lemmas.Bool.{false≢true}
+use Rattle.rc_tuple.specs.RisingSet.{In, IsRising, put}
+use Rattle.rc_tuple.specs.RisingSetLaws.{in_put, put_old, rising_put, rising_filter, in_filter}
+use Rattle.rc_tuple.specs.Tuple.{Pairs, agree_on, matches, tuple_cmp, tuple_eq}
+use Rattle.rc_tuple.specs.TupleLaws.{tuple_order}
+use Rattle.rc_tuple.specs.Relation.{Satisfies, SatisfiesOne, breaks}
+use Rattle.rc_tuple.specs.RelationLaws.{satisfies_from_test, satisfies_fewer}
+use Rattle.rc_tuple.specs.declared.dep.Dep.{Dep}
+use Rattle.rc_spec.specs.declared.items.Op.{Op}
+use Rattle.rc_spec.specs.declared.items.OpKind.{OpKind}
+use Rattle.rc_spec.specs.declared.items.OpKind.TheVariants.{Query, Insert, Remove}
+use Rattle.rc_spec.specs.declared.call.Call.{Call}
+use Rattle.rc_spec.specs.declared.call.Reply.TheVariants.{Present, Conflict, Inserted}
+use Rattle.rc_spec.specs.declared.spec.Spec.{Spec}
+use Rattle.rc_spec.specs.Plain.{Outcome, first_broken, inserted_unless, removed_first, plain_by, plain_at, plain}
+
+-- where no dependency is broken, all are satisfied
+pub satisfies_from_none : (n : ℕ) (deps : List Dep) (r : List Pairs) → first_broken n deps r ≡ None → Satisfies r deps
+satisfies_from_none n [] r h d m = absurd m
+satisfies_from_none n (e ∷ deps) r h d m = go (breaks r e) refl h (λ k. satisfies_from_none (n + 1) deps r k d) m
+  where
+    go : (b : Bool) → breaks r e ≡ b → cond b (Some n) (first_broken (n + 1) deps r) ≡ None
+        → (first_broken (n + 1) deps r ≡ None → In d deps → SatisfiesOne r d.left d.right) → In d (e ∷ deps) → SatisfiesOne r d.left d.right
+    go true k h rest m = cc
+    go false k h rest (inl q) = satisfies_from_test r d (ap (breaks r) q ∙ k)
+    go false k h rest (inr q) = rest h q
+
+-- ---- an insert, by what the code finds
+
+pub insert-present : (pattern : List ℕ) (deps : List Dep) (t : Pairs) (r : List Pairs) → list_any (agree_on pattern t) r ≡ true
+    → plain_by Insert pattern deps t r ≡ record { reply = Present; relation = r }
+insert-present pattern deps t r h =
+    ap (λ b. cond b (let o : Outcome = record { reply = Present; relation = r } in o) (inserted_unless (first_broken 1 deps (put tuple_cmp t r)) (put tuple_cmp t r) r)) h
+
+pub insert-absent : (pattern : List ℕ) (deps : List Dep) (t : Pairs) (r : List Pairs) (broken : Option ℕ) → list_any (agree_on pattern t) r ≡ false
+    → first_broken 1 deps (put tuple_cmp t r) ≡ broken → plain_by Insert pattern deps t r ≡ inserted_unless broken (put tuple_cmp t r) r
+insert-absent pattern deps t r broken h e =
+    ap (λ b. cond b (let o : Outcome = record { reply = Present; relation = r } in o) (inserted_unless (first_broken 1 deps (put tuple_cmp t r)) (put tuple_cmp t r) r)) h
+    ∙ ap (λ f. inserted_unless f (put tuple_cmp t r) r) e
+
+-- ---- what is in the relation afterwards
+
+in_inserted : (broken : Option ℕ) (t : Pairs) (r : List Pairs) (u : Pairs) → In u (inserted_unless broken (put tuple_cmp t r) r).relation → (u ≡ t) ⊎ In u r
+in_inserted None t r u m = in_put tuple_cmp tuple_order u t r m
+in_inserted (Some n) t r u m = inr m
+
+in_inserted_by : (b : Bool) (broken : Option ℕ) (t : Pairs) (r : List Pairs) (u : Pairs)
+    → In u (cond b (let o : Outcome = record { reply = Present; relation = r } in o) (inserted_unless broken (put tuple_cmp t r) r)).relation → (u ≡ t) ⊎ In u r
+in_inserted_by true broken t r u m = inr m
+in_inserted_by false broken t r u m = in_inserted broken t r u m
+
+pub in_after_insert : (pattern : List ℕ) (deps : List Dep) (t : Pairs) (r : List Pairs) (u : Pairs) → In u (plain_by Insert pattern deps t r).relation → (u ≡ t) ⊎ In u r
+in_after_insert pattern deps t r u m = in_inserted_by (list_any (agree_on pattern t) r) (first_broken 1 deps (put tuple_cmp t r)) t r u m
+
+in_removed : (found r : List Pairs) (u : Pairs) → In u (removed_first found r).relation → In u r
+in_removed [] r u m = m
+in_removed (t ∷ ts) r u m = (in_filter (λ x. not (tuple_eq x t)) u r m).0
+
+pub in_after_remove : (pattern : List ℕ) (deps : List Dep) (args : Pairs) (r : List Pairs) (u : Pairs) → In u (plain_by Remove pattern deps args r).relation → In u r
+in_after_remove pattern deps args r u m = in_removed (filter (matches args) r) r u m
+
+-- ---- order
+
+rising_inserted : (b : Bool) (broken : Option ℕ) (t : Pairs) (r : List Pairs) → IsRising tuple_cmp r
+    → IsRising tuple_cmp (cond b (let o : Outcome = record { reply = Present; relation = r } in o) (inserted_unless broken (put tuple_cmp t r) r)).relation
+rising_inserted true broken t r h = h
+rising_inserted false None t r h = rising_put tuple_cmp tuple_order t r h
+rising_inserted false (Some n) t r h = h
+
+rising_removed : (found r : List Pairs) → IsRising tuple_cmp r → IsRising tuple_cmp (removed_first found r).relation
+rising_removed [] r h = h
+rising_removed (t ∷ ts) r h = rising_filter tuple_cmp (λ x. not (tuple_eq x t)) r h
+
+pub rising_after : (kind : OpKind) (pattern : List ℕ) (deps : List Dep) (args : Pairs) (r : List Pairs) → IsRising tuple_cmp r → IsRising tuple_cmp (plain_by kind pattern deps args r).relation
+rising_after (Query outs) pattern deps args r h = h
+rising_after Insert pattern deps args r h = rising_inserted (list_any (agree_on pattern args) r) (first_broken 1 deps (put tuple_cmp args r)) args r h
+rising_after Remove pattern deps args r h = rising_removed (filter (matches args) r) r h
+
+-- ---- dependencies
+
+satisfied_inserted : (b : Bool) (broken : Option ℕ) (deps : List Dep) (t : Pairs) (r : List Pairs) → first_broken 1 deps (put tuple_cmp t r) ≡ broken → Satisfies r deps
+    → Satisfies (cond b (let o : Outcome = record { reply = Present; relation = r } in o) (inserted_unless broken (put tuple_cmp t r) r)).relation deps
+satisfied_inserted true broken deps t r e h = h
+satisfied_inserted false None deps t r e h = satisfies_from_none 1 deps (put tuple_cmp t r) e
+satisfied_inserted false (Some n) deps t r e h = h
+
+pub satisfied_after : (kind : OpKind) (pattern : List ℕ) (deps : List Dep) (args : Pairs) (r : List Pairs) → Satisfies r deps → Satisfies (plain_by kind pattern deps args r).relation deps
+satisfied_after (Query outs) pattern deps args r h = h
+satisfied_after Insert pattern deps args r h = satisfied_inserted (list_any (agree_on pattern args) r) (first_broken 1 deps (put tuple_cmp args r)) deps args r refl h
+satisfied_after Remove pattern deps args r h = satisfies_fewer r (plain_by Remove pattern deps args r).relation deps (in_after_remove pattern deps args r) h
+
+satisfied_at : (op : Option Op) (deps : List Dep) (args : Pairs) (r : List Pairs) → Satisfies r deps → Satisfies (plain_at op deps args r).relation deps
+satisfied_at (Some op) deps args r h = satisfied_after op.kind op.pattern deps args r h
+satisfied_at None deps args r h = h
+
+-- a call leaves a relation that satisfies the dependencies
+pub plain_satisfies : (spec : Spec) (r : List Pairs) (call : Call) → Satisfies r spec.deps → Satisfies (plain spec r call).relation spec.deps
+plain_satisfies spec r call h = satisfied_at (slice_get spec.ops call.op) spec.deps call.args r h
+
+-- ---- what holds of each tuple
+
+-- what holds of each tuple and of an insert's arguments holds of each tuple afterwards
+pub each_after : (P : Pairs → Type 0) (kind : OpKind) (pattern : List ℕ) (deps : List Dep) (args : Pairs) (r : List Pairs)
+    → (kind ≡ Insert → P args) → ((u : Pairs) → In u r → P u) → (u : Pairs) → In u (plain_by kind pattern deps args r).relation → P u
+each_after P (Query outs) pattern deps args r f h u m = h u m
+each_after P Insert pattern deps args r f h u m =
+    elim (in_after_insert pattern deps args r u m) [ inl e ↦ subst P (sym e) (f refl) | inr n ↦ h u n ]
+each_after P Remove pattern deps args r f h u m = h u (in_after_remove pattern deps args r u m)
+
+-- the plain step of a call whose operation is known
+pub plain-known : (spec : Spec) (r : List Pairs) (call : Call) (op : Op) → slice_get spec.ops call.op ≡ Some op → plain spec r call ≡ plain_by op.kind op.pattern spec.deps call.args r
+plain-known spec r call op e = ap (λ o. plain_at o spec.deps call.args r) e
