@@ -1,30 +1,22 @@
 -- What a change of the list of tuples does, in the words of the plain step.
-use Rattle.std.proofs.Common.{◌≡◌, ℕ, zero, suc, ◌+◌, ◌<◌, Bool, true, false, cond, not, List, [], ◌∷◌, ◌++◌, length, None, get_or, refl, sym, ap, ◌∙◌, ◌⊎◌, inl, inr, subst, arith}
+use Rattle.std.proofs.Common.{◌≡◌, ℕ, zero, suc, ◌<◌, Bool, true, false, cond, not, List, [], ◌∷◌, length, None, get_or, refl, sym, ap, ◌∙◌, inl, inr, subst, arith}
 use Rattle.std.specs.Prelude.{remove}
 use Rattle.std.specs.List.{list_any, filter}
 use Rattle.std.specs.declared.cmp.Ordering.TheVariants.{Less}
 use Rattle.std.specs.Ordering.{nat_cmp}
-use Rattle.std.proofs.lemmas.Bool.{false≢true}
 use Rattle.rc_tuple.specs.RisingSet.{In, IsRising, put, gather}
-use Rattle.rc_tuple.specs.RisingSetLaws.{get_or_in, gather_in, in_gather, put_old, rising_put, in_has, has_in, nat_order, not_below_itself, same_bool}
+use Rattle.rc_tuple.specs.RisingSetLaws.{get_or_in, put_old, rising_put, not_below_itself}
 use Rattle.rc_tuple.specs.ColSet.{has}
+use Rattle.rc_tuple.specs.ColSetLaws.{has-gather}
 use Rattle.rc_tuple.specs.Tuple.{Pairs, agree_on, tuple_cmp, tuple_eq}
 use Rattle.rc_tuple.specs.TupleLaws.{tuple_order, same_from_test, test_from_same}
 use Rattle.rc_tuple.specs.RelationLaws.{agree_on-same, satisfies_fewer}
 use Rattle.rc_tuple.specs.declared.dep.Dep.{Dep}
 use Rattle.rc_spec.specs.declared.items.OpKind.TheVariants.{Remove}
-use Rattle.rc_spec.specs.declared.call.Reply.{Reply}
 use Rattle.rc_spec.specs.declared.call.Reply.TheVariants.{Removed}
 use Rattle.rc_spec.specs.Plain.{Outcome, first_broken, removed_first, plain_by}
 use Rattle.rc_spec.specs.PlainLaws.{satisfies_from_none, rising_after, in_after_remove}
 use Rattle.rc_rel.specs.Kept.{IsKept}
-
--- a set of columns has what its list has
-has-gather : (cols : List ℕ) (c : ℕ) → has (gather nat_cmp cols) c ≡ has cols c
-has-gather cols c =
-    same_bool _ _
-    (λ h. has_in cols c (in_gather nat_cmp nat_order c cols (in_has (gather nat_cmp cols) c h)))
-    (λ h. has_in (gather nat_cmp cols) c (gather_in nat_cmp nat_order c cols (in_has cols c h)))
 
 any_agrees_same : (xs ys : List ℕ) → ((c : ℕ) → has xs c ≡ has ys c) → (t : Pairs) (r : List Pairs) → list_any (agree_on xs t) r ≡ list_any (agree_on ys t) r
 any_agrees_same xs ys h t [] = refl
@@ -66,7 +58,7 @@ filter-remove (x ∷ r) zero h lt =
 filter-remove (x ∷ r) (suc at) h lt =
     let k : at < length r = omega arith in
     ap (λ b. cond (not b) (x ∷ filter (λ u. not (tuple_eq u (get_or r at []))) r) (filter (λ u. not (tuple_eq u (get_or r at []))) r))
-      (differs_below (get_or r at []) x (h.0 (get_or r at []) (get_or_in r at [] k)))
+    (differs_below (get_or r at []) x (h.0 (get_or r at []) (get_or_in r at [] k)))
     ∙ ap (λ l. x ∷ l) (filter-remove r at h.1 k)
 
 pub removed_at : (found r others : List Pairs) (at : ℕ) → IsRising tuple_cmp r → at < length r → found ≡ get_or r at [] ∷ others

@@ -6,17 +6,12 @@ use Rattle.std.specs.declared.cmp.Ordering.TheVariants.{Less, Equal, Greater}
 use Rattle.std.specs.Ordering.{nat_cmp, match_ordering}
 use Rattle.std.specs.Cmp.Lexicographic.{slice_cmp}
 use Rattle.std.specs.BTreeSet.{insert_key}
-use Rattle.std.proofs.lemmas.Cmp.{nat_list_cmp_total}
 use Rattle.std.proofs.lemmas.List.{map-append, append-nil}
 use Rattle.std.proofs.lemmas.List.Elements.{filter_more}
-use Rattle.std.proofs.lemmas.Map.Lookups.{exact_bytes}
 use Rattle.rc_tuple.specs.RisingSet.{put, gather}
-use Rattle.rc_tuple.specs.RisingSetLaws.{IsOrder, gather_more}
+use Rattle.rc_tuple.specs.RisingSetLaws.{gather_more, number_lists_order}
 use Rattle.rc_tuple.specs.Tuple.{Pairs, pick}
 use Rattle.rc_spec.specs.Plain.{row_cmp, rows_of}
-
-pub row_order : IsOrder row_cmp
-row_order = record { total = nat_list_cmp_total; ties = exact_bytes }
 
 -- the order of the vectors is that of their lists
 abbrev pub vec_cmp : Vec ℕ Global → Vec ℕ Global → Ordering
@@ -28,14 +23,14 @@ rows_in-insert key (k ∷ keys) = go (vec_cmp key k) (rows_in-insert key keys)
   where
     go : (o : Ordering) → map (λ row. row.items) (insert_key vec_cmp keys key) ≡ put row_cmp key.items (map (λ row. row.items) keys)
         → map (λ row. row.items) (match_ordering o (key ∷ (k ∷ keys)) (k ∷ keys) (k ∷ insert_key vec_cmp keys key))
-          ≡ match_ordering o (key.items ∷ (k.items ∷ map (λ row. row.items) keys)) (k.items ∷ map (λ row. row.items) keys) (k.items ∷ put row_cmp key.items (map (λ row. row.items) keys))
+        ≡ match_ordering o (key.items ∷ (k.items ∷ map (λ row. row.items) keys)) (k.items ∷ map (λ row. row.items) keys) (k.items ∷ put row_cmp key.items (map (λ row. row.items) keys))
     go Less h = refl
     go Equal h = refl
     go Greater h = ap (λ l. k.items ∷ l) h
 
 -- one more tuple, which matches or not
 rows_cond : (outs : List ℕ) (front : List Pairs) (t : Pairs) (b : Bool) → rows_of outs (front ++ cond b (t ∷ []) []) ≡ cond b (put row_cmp (pick outs t) (rows_of outs front)) (rows_of outs front)
-rows_cond outs front t true = ap (gather row_cmp) (map-append (pick outs) front (t ∷ [])) ∙ gather_more row_cmp row_order (map (pick outs) front) (pick outs t)
+rows_cond outs front t true = ap (gather row_cmp) (map-append (pick outs) front (t ∷ [])) ∙ gather_more row_cmp number_lists_order (map (pick outs) front) (pick outs t)
 rows_cond outs front t false = ap (rows_of outs) (append-nil front)
 
 pub rows_more : (p : Pairs → Bool) (outs : List ℕ) (r : List Pairs) (i : ℕ) (d : Pairs) → i < length r

@@ -49,5 +49,5 @@ pub over_outcome : (spec : Spec) (call : Call) (op : Op) (r : List Pairs) → Fi
 over_outcome spec call op r fits over =
     in_each (λ (t : Pairs). all_columns spec ≡ cols_of t) (plain_by op.kind op.pattern spec.deps call.args r).relation
     (each_after (λ (t : Pairs). all_columns spec ≡ cols_of t) op.kind op.pattern spec.deps call.args r
-      (λ e. sym (insert_columns spec call op fits e))
-      (each_in (λ (t : Pairs). all_columns spec ≡ cols_of t) r over))
+    (λ e. sym (insert_columns spec call op fits e))
+    (each_in (λ (t : Pairs). all_columns spec ≡ cols_of t) r over))

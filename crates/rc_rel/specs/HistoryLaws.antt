@@ -1,17 +1,19 @@
 -- Laws of histories.
-use Rattle.std.proofs.Common.{◌≡◌, ℕ, ◌+◌, ◌<◌, List, [], ◌∷◌, ◌++◌, length, drop, get_or, map, refl, sym, ap, ◌∙◌, ◌⊎◌, inl, inr, subst}
-use Rattle.std.specs.List.{AllByRecursion, flat_map}
+use Rattle.std.proofs.Common.{◌≡◌, ℕ, ◌+◌, ◌<◌, List, [], ◌∷◌, ◌++◌, length, drop, get_or, refl, sym, ap, ◌∙◌, inl, inr, subst}
+use Rattle.std.specs.List.{AllByRecursion}
 use Rattle.std.proofs.lemmas.List.{drop_more, append_assoc}
 use Rattle.rc_tuple.specs.RisingSet.{In}
 use Rattle.rc_tuple.specs.Tuple.{Pairs}
-use Rattle.rc_tuple.specs.Relation.{Satisfies}
+use Rattle.rc_tuple.specs.Relation.{Satisfies, IsRelation}
 use Rattle.rc_tuple.specs.RelationLaws.{satisfies_none}
 use Rattle.rc_spec.specs.declared.spec.Spec.{Spec}
+use Rattle.rc_spec.specs.Calls.{all_columns, Fits}
+use Rattle.rc_spec.specs.CallsLaws.{plain_keeps_relation}
 use Rattle.rc_spec.specs.Plain.{plain}
 use Rattle.rc_spec.specs.PlainLaws.{plain_satisfies}
 use Rattle.rc_rel.specs.declared.entry.Step.{Step}
 use Rattle.rc_rel.specs.declared.entry.Entry.{Entry}
-use Rattle.rc_rel.specs.History.{steps_of, AreLegalFrom, after_steps, replay, states_from, states, StepsFit}
+use Rattle.rc_rel.specs.History.{steps_of, AreLegalFrom, after_steps, replay, states_from, states, StepsFit, AllFit}
 
 pub after_steps-append : (spec : Spec) (r : List Pairs) (xs ys : List Step) → after_steps spec r (xs ++ ys) ≡ after_steps spec (after_steps spec r xs) ys
 after_steps-append spec r [] ys = refl
@@ -46,3 +48,44 @@ StatesSatisfy = (spec : Spec) (history : List Entry) (s : List Pairs) → In s (
 
 pub states_satisfy : StatesSatisfy
 states_satisfy spec history s m = states_from_satisfy spec [] (steps_of history) (satisfies_none spec.deps) s m
+
+-- ---- calls that fit
+
+each-append : {A : Type 0} (P : A → Type 0) (xs ys : List A) → AllByRecursion P xs → AllByRecursion P ys → AllByRecursion P (xs ++ ys)
+each-append P [] ys h k = k
+each-append P (x ∷ xs) ys h k = (h.0, each-append P xs ys h.1 k)
+
+pub StepsFit-steps_of : (spec : Spec) (history : List Entry) → AllFit spec history → StepsFit spec (steps_of history)
+StepsFit-steps_of spec [] h = tt
+StepsFit-steps_of spec (x ∷ history) h = each-append (λ (s : Step). Fits spec s.call) x.steps (steps_of history) h.0 (StepsFit-steps_of spec history h.1)
+
+-- one more entry whose calls fit
+pub AllFit-more : (spec : Spec) (history : List Entry) (entry : Entry) → AllFit spec history → StepsFit spec entry.steps → AllFit spec (history ++ entry ∷ [])
+AllFit-more spec history entry h k = each-append (λ (e : Entry). StepsFit spec e.steps) history (entry ∷ []) h (k, tt)
+
+none_is_relation : (columns : List ℕ) → IsRelation columns []
+none_is_relation columns = record { rising = tt; each = λ t m. absurd m }
+
+-- every state of a history whose calls fit is a relation over all columns
+states_from_are_relations : (spec : Spec) (r : List Pairs) (steps : List Step) → StepsFit spec steps → IsRelation (all_columns spec) r
+    → (s : List Pairs) → In s (states_from spec r steps) → IsRelation (all_columns spec) s
+states_from_are_relations spec r [] f h s (inl e) = subst (λ (x : List Pairs). IsRelation (all_columns spec) x) (sym e) h
+states_from_are_relations spec r [] f h s (inr m) = absurd m
+states_from_are_relations spec r (x ∷ steps) f h s (inl e) = subst (λ (y : List Pairs). IsRelation (all_columns spec) y) (sym e) h
+states_from_are_relations spec r (x ∷ steps) f h s (inr m) =
+    states_from_are_relations spec (plain spec r x.call).relation steps f.1 (plain_keeps_relation spec r x.call f.0 h) s m
+
+abbrev pub StatesAreRelations : Type 0
+StatesAreRelations = (spec : Spec) (history : List Entry) → AllFit spec history → (s : List Pairs) → In s (states spec history) → IsRelation (all_columns spec) s
+
+pub states_are_relations : StatesAreRelations
+states_are_relations spec history f s m =
+    states_from_are_relations spec [] (steps_of history) (StepsFit-steps_of spec history f) (none_is_relation (all_columns spec)) s m
+
+-- the relation after the last call is one of the states
+in_states_from : (spec : Spec) (r : List Pairs) (steps : List Step) → In (after_steps spec r steps) (states_from spec r steps)
+in_states_from spec r [] = inl refl
+in_states_from spec r (x ∷ steps) = inr (in_states_from spec (plain spec r x.call).relation steps)
+
+pub replay_in_states : (spec : Spec) (history : List Entry) → In (replay spec history) (states spec history)
+replay_in_states spec history = in_states_from spec [] (steps_of history)

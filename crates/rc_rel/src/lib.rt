@@ -3,14 +3,16 @@
 #![tactic(auto)]
 
 mod change;
+mod dependencies;
 mod entry;
 mod laws;
 mod plain_rel;
 mod replaying;
 mod scan;
-mod dependencies;
+#[cfg(test)]
+mod tests;
 
 pub use entry::{Entry, Step, Steps};
-pub use laws::states_satisfy;
+pub use laws::{states_are_relations, states_satisfy};
 pub use plain_rel::PlainRel;
 pub use replaying::replay;

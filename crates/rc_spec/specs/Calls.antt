@@ -1,5 +1,5 @@
 -- The columns of a specification, and the calls that fit it.
-use Rattle.std.specs.Prelude.{◌≡◌, ℕ, List, length, Some, ◌∷◌, []}
+use Rattle.std.specs.Prelude.{◌≡◌, ℕ, List, length, Some}
 use Rattle.std.specs.List.{slice_get, range_with_len}
 use Rattle.std.specs.Ordering.{nat_cmp}
 use Rattle.rc_tuple.specs.RisingSet.{gather}

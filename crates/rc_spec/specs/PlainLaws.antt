@@ -1,9 +1,8 @@
 -- What the plain step keeps: the order of the tuples, and the dependencies.
 use Rattle.std.proofs.Common.{◌≡◌, ℕ, ◌+◌, Bool, true, false, cond, not, List, [], ◌∷◌, Option, Some, None, refl, sym, ap, ◌∙◌, ◌⊎◌, inl, inr, subst}
 use Rattle.std.specs.List.{list_any, filter, slice_get}
-use Rattle.std.proofs.lemmas.Bool.{false≢true}
 use Rattle.rc_tuple.specs.RisingSet.{In, IsRising, put}
-use Rattle.rc_tuple.specs.RisingSetLaws.{in_put, put_old, rising_put, rising_filter, in_filter}
+use Rattle.rc_tuple.specs.RisingSetLaws.{in_put, rising_put, rising_filter, in_filter}
 use Rattle.rc_tuple.specs.Tuple.{Pairs, agree_on, matches, tuple_cmp, tuple_eq}
 use Rattle.rc_tuple.specs.TupleLaws.{tuple_order}
 use Rattle.rc_tuple.specs.Relation.{Satisfies, SatisfiesOne, breaks}
@@ -13,7 +12,7 @@ use Rattle.rc_spec.specs.declared.items.Op.{Op}
 use Rattle.rc_spec.specs.declared.items.OpKind.{OpKind}
 use Rattle.rc_spec.specs.declared.items.OpKind.TheVariants.{Query, Insert, Remove}
 use Rattle.rc_spec.specs.declared.call.Call.{Call}
-use Rattle.rc_spec.specs.declared.call.Reply.TheVariants.{Present, Conflict, Inserted}
+use Rattle.rc_spec.specs.declared.call.Reply.TheVariants.{Present}
 use Rattle.rc_spec.specs.declared.spec.Spec.{Spec}
 use Rattle.rc_spec.specs.Plain.{Outcome, first_broken, inserted_unless, removed_first, plain_by, plain_at, plain}
 

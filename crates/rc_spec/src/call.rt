@@ -1,4 +1,6 @@
-use rc_tuple::{SmallList, Tuple, Vals};
+ghost use Rattle.std.specs.Prelude.{◌≡◌, IfOk};
+
+use rc_tuple::{Memory, SmallList, Tuple, Vals};
 
 /// A call of an operation, by its number, with its arguments. A call that fits a specification gives
 /// an insert a value for every column, and a query or a remove one for every pattern column.
@@ -6,6 +8,18 @@ use rc_tuple::{SmallList, Tuple, Vals};
 pub struct Call {
     pub op: u8,
     pub args: Tuple,
+}
+
+impl Call {
+    /// Another call of the same operation with the same arguments.
+    pub fn copy(&self) -> Result<Call, Memory>
+        ensures { IfOk result (λ call. call ≡ self.now) }
+    {
+        Ok(Call {
+            op: self.op,
+            args: self.args.copy()?,
+        })
+    }
 }
 
 /// Rows of values, each in the order of a query's outputs.

@@ -12,3 +12,6 @@ pub use items::{Class, ColKind, Column, Edge, EdgeKind, Name, Node, Op, OpKind, 
 pub use lock::{Found, Mode};
 pub use named::Named;
 pub use spec::{Classes, Columns, Deps, Edges, Nodes, Ops, Places, Spec};
+
+#[cfg(test)]
+mod tests;

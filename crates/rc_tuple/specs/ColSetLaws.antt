@@ -1,16 +1,16 @@
 -- Laws of column sets, and what a mask says of the set that it stands for.
 use Rattle.std.proofs.Common.{◌≡◌, ℕ, zero, suc, ◌+◌, ◌-◌, ◌++◌, length, Some, None, ◌*◌, ◌/◌, ◌%◌, ◌^◌, ◌<◌, ◌≤◌, Bool, true, false, cond, ◌&&◌, ◌||◌, not, min, max, eqb, leb, ltb, List, [], ◌∷◌, refl, sym, ap, ◌∙◌, ◌⊎◌, inl, inr, lit<, subst, arith}
-use Rattle.std.specs.List.{slice_get, filter, list_any, list_all, range_with_len}
+use Rattle.std.specs.List.{slice_get, filter, range_with_len}
 use Rattle.std.specs.declared.cmp.Ordering.TheVariants.{Less}
 use Rattle.std.specs.Ordering.{nat_cmp}
 use Rattle.std.specs.Int.{bit_at, bit_not, w32}
 use Rattle.std.specs.Prelude.{bit_and, bit_or}
 use Rattle.std.proofs.lemmas.Nat.Bits.{bit_at_or, bit_at_and, bit_at_not, bit_at-lt, bit_at_set_same, bit_at_set_other, shr_and_one, same_from_bits_below, bit_at-zero}
 use Rattle.std.proofs.lemmas.Map.Views.{any-filter_same}
-use Rattle.std.proofs.lemmas.Bool.{eqb-true, lt-ltb, le-ltb, ltb-true, and_parts, and_from, or_cases, or_left, or_right, cond-true, eqb-false, eq-eqb, ne_eqb, cases_eq, cases_Bool, false≢true}
+use Rattle.std.proofs.lemmas.Bool.{eqb-true, lt-ltb, le-ltb, ltb-true, or_cases, or_left, or_right, cond-true, eqb-false, eq-eqb, ne_eqb, cases_eq, cases_Bool, false≢true}
 use Rattle.std.proofs.lemmas.Bool.Decides.{nat_tests}
 use Rattle.std.proofs.lemmas.Nat.{mod-pow-add, and_le_l}
-use Rattle.std.proofs.lemmas.List.{map-id, append_assoc, length-append}
+use Rattle.std.proofs.lemmas.List.{map-id, length-append}
 use Rattle.std.proofs.lemmas.List.Elements.{filter-append}
 use Rattle.std.proofs.lemmas.List.FromFn.{filter_of_map_range_with_len_more}
 use Rattle.std.proofs.lemmas.Option.{slice_get_past}
@@ -59,6 +59,14 @@ within_from_test xs ys h c m = in_has ys c (list_all_in (has ys) xs h c m)
 pub test_from_within : (xs ys : List ℕ) → Within xs ys → is_within xs ys ≡ true
 test_from_within xs ys w = in_list_all (has ys) xs (λ c m. has_in ys c (w c m))
 
+-- the empty set has no column
+pub within_none : (xs : List ℕ) → is_within xs [] ≡ (eqb (length xs) 0)
+within_none [] = refl
+within_none (x ∷ xs) = ne_zero (length xs)
+  where
+    ne_zero : (n : ℕ) → false ≡ eqb (suc n) 0
+    ne_zero n = grind (arith, nat_tests)
+
 -- ---- the set operations give column sets
 
 pub IsColSet-none : IsColSet []
@@ -88,6 +96,13 @@ same_sets xs ys r s h =
     same_rising nat_cmp nat_order xs ys r s
     (λ c m. in_has ys c (sym (h c) ∙ has_in xs c m))
     (λ c m. in_has xs c (h c ∙ has_in ys c m))
+
+-- the set of a list has what the list has
+pub has-gather : (xs : List ℕ) (c : ℕ) → has (gather nat_cmp xs) c ≡ has xs c
+has-gather xs c =
+    same_bool _ _
+    (λ h. has_in xs c (in_gather nat_cmp nat_order c xs (in_has (gather nat_cmp xs) c h)))
+    (λ h. has_in (gather nat_cmp xs) c (gather_in nat_cmp nat_order c xs (in_has xs c h)))
 
 pub has-union : (xs ys : List ℕ) (c : ℕ) → has (union xs ys) c ≡ (has xs c || has ys c)
 has-union xs ys c =
@@ -220,14 +235,14 @@ pub columns_of-or : (a b : ℕ) → columns_of (bit_or a b) ≡ union (columns_o
 columns_of-or a b =
     same_sets (columns_of (bit_or a b)) (union (columns_of a) (columns_of b)) (IsColSet-columns_of (bit_or a b)).rising (rising_gather nat_cmp nat_order (columns_of a ++ columns_of b))
     (λ c. has-columns_of (bit_or a b) c ∙ ap (λ t. t && ltb c 32) (has_bit-or a b c) ∙ or_within (has_bit a c) (has_bit b c) (ltb c 32)
-      ∙ sym (has-union (columns_of a) (columns_of b) c ∙ ap (λ t. t || has (columns_of b) c) (has-columns_of a c) ∙ ap (λ t. (has_bit a c && ltb c 32) || t) (has-columns_of b c)))
+    ∙ sym (has-union (columns_of a) (columns_of b) c ∙ ap (λ t. t || has (columns_of b) c) (has-columns_of a c) ∙ ap (λ t. (has_bit a c && ltb c 32) || t) (has-columns_of b c)))
 
 pub columns_of-and : (a b : ℕ) → columns_of (bit_and a b) ≡ inter (columns_of a) (columns_of b)
 columns_of-and a b =
     same_sets (columns_of (bit_and a b)) (inter (columns_of a) (columns_of b)) (IsColSet-columns_of (bit_and a b)).rising
     (rising_filter nat_cmp (has (columns_of b)) (columns_of a) (IsColSet-columns_of a).rising)
     (λ c. has-columns_of (bit_and a b) c ∙ ap (λ t. t && ltb c 32) (has_bit-and a b c) ∙ and_within (has_bit a c) (has_bit b c) (ltb c 32)
-      ∙ sym (has-filter (has (columns_of b)) (columns_of a) c ∙ ap (λ t. t && has (columns_of a) c) (has-columns_of b c) ∙ ap (λ t. (has_bit b c && ltb c 32) && t) (has-columns_of a c)))
+    ∙ sym (has-filter (has (columns_of b)) (columns_of a) c ∙ ap (λ t. t && has (columns_of a) c) (has-columns_of b c) ∙ ap (λ t. (has_bit b c && ltb c 32) && t) (has-columns_of a c)))
 
 minus_below : (a b : Bool) → (a && not b) ≡ (not b && a)
 minus_below true true = refl
@@ -268,8 +283,8 @@ columns_of-with m c lt =
     same_sets (columns_of (bit_or m (1 * 2 ^ c % 2 ^ 32))) (with_column (columns_of m) c) (IsColSet-columns_of (bit_or m (1 * 2 ^ c % 2 ^ 32))).rising
     (rising_put nat_cmp nat_order c (columns_of m) (IsColSet-columns_of m).rising)
     (λ k. has-columns_of (bit_or m (1 * 2 ^ c % 2 ^ 32)) k ∙ ap (λ t. t && ltb k 32) (has_bit-with m c k lt (cases_eq k c))
-      ∙ with_within (has_bit m k) (eqb k c) (ltb k 32) (λ e. lt-ltb k 32 (subst (λ n. n < 32) (sym (eqb-true k c e)) lt))
-      ∙ sym (has-with_column (columns_of m) c k ∙ ap (λ t. t || eqb k c) (has-columns_of m k)))
+    ∙ with_within (has_bit m k) (eqb k c) (ltb k 32) (λ e. lt-ltb k 32 (subst (λ n. n < 32) (sym (eqb-true k c e)) lt))
+    ∙ sym (has-with_column (columns_of m) c k ∙ ap (λ t. t || eqb k c) (has-columns_of m k)))
 
 -- the test in the code
 pub has-columns_of_shifted : (m k : ℕ) → k < 32 → eqb (bit_and (m / 2 ^ k) 1) 1 ≡ has (columns_of m) k
@@ -303,8 +318,8 @@ pub within_from_zero : (a b : ℕ) → b < 2 ^ 32 → bit_and a (bit_not w32 b) 
 within_from_zero a b lt e k m =
     let small : k < 32 = (IsColSet-columns_of a).below k m in
     in_has (columns_of b) k (has-columns_of_below b k small ∙ no_rest (has_bit a k) (has_bit b k)
-      (sym (has-columns_of_below a k small) ∙ has_in (columns_of a) k m)
-      (sym (has_bit-minus a b k lt small) ∙ ap (λ n. has_bit n k) e ∙ ap (λ n. eqb n 1) (bit_at-zero k)))
+    (sym (has-columns_of_below a k small) ∙ has_in (columns_of a) k m)
+    (sym (has_bit-minus a b k lt small) ∙ ap (λ n. has_bit n k) e ∙ ap (λ n. eqb n 1) (bit_at-zero k)))
 
 pub zero_from_within : (a b : ℕ) → a < 2 ^ 32 → b < 2 ^ 32 → Within (columns_of a) (columns_of b) → bit_and a (bit_not w32 b) ≡ 0
 zero_from_within a b al bl w = same_from_bits_below 32 _ 0 (below_left a (bit_not w32 b) al (and_le_l a (bit_not w32 b))) (lit< tt) (λ i h.

@@ -1,9 +1,9 @@
 -- Laws of relations and of the dependencies that they satisfy.
-use Rattle.std.proofs.Common.{◌≡◌, ℕ, Bool, true, false, ◌&&◌, ◌||◌, not, cond, List, [], ◌∷◌, refl, sym, ap, ◌∙◌, ◌⊎◌, inl, inr, subst}
-use Rattle.std.specs.List.{list_any, filter}
-use Rattle.std.proofs.lemmas.Bool.{and_parts, or_cases, and_from, or_left, or_right, cases_Bool, not-true, false≢true}
+use Rattle.std.proofs.Common.{◌≡◌, ℕ, Bool, true, false, ◌&&◌, ◌||◌, not, cond, List, [], ◌∷◌, refl, sym, ap, ◌∙◌, ◌⊎◌, inl, inr}
+use Rattle.std.specs.List.{list_any}
+use Rattle.std.proofs.lemmas.Bool.{and_parts, or_cases, and_from, or_left, or_right, not-true, false≢true}
 use Rattle.rc_tuple.specs.RisingSet.{In, put}
-use Rattle.rc_tuple.specs.RisingSetLaws.{in_put, put_new, put_old, in_filter, same_bool}
+use Rattle.rc_tuple.specs.RisingSetLaws.{in_put, put_new, put_old, same_bool}
 use Rattle.rc_tuple.specs.ColSet.{has}
 use Rattle.rc_tuple.specs.Tuple.{Pairs, project, tuple_cmp, tuple_eq, agree_on}
 use Rattle.rc_tuple.specs.TupleLaws.{tuple_order, same_from_test, test_from_same}
@@ -77,12 +77,12 @@ breaks-put t r d = same_bool _ _ there back
     back : (breaks r d || breaks_with d t r) ≡ true → breaks (put tuple_cmp t r) d ≡ true
     back h = elim (or_cases (breaks r d) (breaks_with d t r) h) [
       | inl e ↦
-        let x = in_list_any (λ z. breaks_with d z r) r e in
-        let y = in_list_any (breaks_pair d x.0) r x.2 in
-        breaks_from (put tuple_cmp t r) d x.0 y.0 (put_old tuple_cmp tuple_order x.0 t r x.1) (put_old tuple_cmp tuple_order y.0 t r y.1) y.2
+          let x = in_list_any (λ z. breaks_with d z r) r e in
+          let y = in_list_any (breaks_pair d x.0) r x.2 in
+          breaks_from (put tuple_cmp t r) d x.0 y.0 (put_old tuple_cmp tuple_order x.0 t r x.1) (put_old tuple_cmp tuple_order y.0 t r y.1) y.2
       | inr e ↦
-        let y = in_list_any (breaks_pair d t) r e in
-        breaks_from (put tuple_cmp t r) d t y.0 (put_new tuple_cmp tuple_order t r) (put_old tuple_cmp tuple_order y.0 t r y.1) y.2
+          let y = in_list_any (breaks_pair d t) r e in
+          breaks_from (put tuple_cmp t r) d t y.0 (put_new tuple_cmp tuple_order t r) (put_old tuple_cmp tuple_order y.0 t r y.1) y.2
     ]
 
 -- the test of a dependency is the fact
@@ -103,7 +103,7 @@ test_from_satisfies r d s = go (breaks r d) refl
         let y = in_list_any (breaks_pair d x.0) r x.2 in
         let both = and_parts (agree_on d.left x.0 y.0) (not (agree_on d.right x.0 y.0)) y.2 in
         absurd (false≢true (sym (not-true (agree_on d.right x.0 y.0) both.1)
-          ∙ test_from_agree d.right x.0 y.0 (s x.0 y.0 x.1 y.1 (agree_from_test d.left x.0 y.0 both.0))))
+        ∙ test_from_agree d.right x.0 y.0 (s x.0 y.0 x.1 y.1 (agree_from_test d.left x.0 y.0 both.0))))
 
 -- fewer tuples satisfy what more do
 pub satisfies_fewer : (r s : List Pairs) (deps : List Dep) → ((t : Pairs) → In t s → In t r) → Satisfies r deps → Satisfies s deps

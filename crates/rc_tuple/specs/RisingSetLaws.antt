@@ -4,12 +4,14 @@ use Rattle.std.specs.declared.cmp.Ordering.{Ordering}
 use Rattle.std.specs.declared.cmp.Ordering.TheVariants.{Less, Equal, Greater}
 use Rattle.std.specs.Ordering.{ordering_reverse, match_ordering, nat_cmp}
 use Rattle.std.specs.Cmp.{IsTotalOrder}
-use Rattle.std.proofs.Common.{ℕ, Some, zero, suc, arith, take, drop, get_or, inl, inr, refl, sym, ap, subst, ◌∙◌, ◌==◌, ◌||◌}
+use Rattle.std.specs.Cmp.Lexicographic.{slice_cmp}
+use Rattle.std.proofs.Common.{ℕ, Some, zero, suc, arith, take, drop, get_or, inl, inr, refl, sym, ap, subst, ◌∙◌, ◌==◌}
 use Rattle.std.specs.List.{flat_map, list_all, slice_get, AllByRecursion}
 use Rattle.std.proofs.lemmas.Option.{get_or_from_slice_get, slice_get_within}
 use Rattle.std.proofs.lemmas.Bool.{false≢true, and_parts, and_from, or_cases, or_left, or_right, eqb-true, eq-eqb}
 use Rattle.std.proofs.lemmas.List.{drop_more, take_more, append_assoc}
-use Rattle.std.proofs.lemmas.Cmp.{nat_cmp_total, ranked}
+use Rattle.std.proofs.lemmas.Cmp.{nat_cmp_total, nat_list_cmp_total, ranked, by_ranked}
+use Rattle.std.proofs.lemmas.Map.Lookups.{exact_bytes}
 use Rattle.rc_tuple.specs.RisingSet.{In, IsRising, put, gather}
 use Rattle.rc_tuple.specs.ColSet.{has}
 
@@ -288,3 +290,45 @@ gather_next R o xs i d h = ap (gather R) (take_more xs i d h) ∙ gather_more R 
 pub slice_get_in : {A : Type 0} (xs : List A) (i : ℕ) (x : A) → slice_get xs i ≡ Some x → In x xs
 slice_get_in xs i x e =
     subst (λ y. In y xs) (get_or_from_slice_get xs i x x e) (get_or_in xs i x (slice_get_within xs i x e))
+
+-- ---- places in a list
+
+-- a member stands at some place
+pub in_slice_get : {A : Type 0} (x : A) (xs : List A) → In x xs → (i : ℕ) × (slice_get xs i ≡ Some x)
+in_slice_get x [] m = absurd m
+in_slice_get x (y ∷ ys) (inl e) = (zero, ap Some (sym e))
+in_slice_get x (y ∷ ys) (inr m) = let w = in_slice_get x ys m in (suc w.0, w.1)
+
+-- in a rising list each element is below those at later places
+pub rising_places : {A : Type 0} (R : A → A → Ordering) (xs : List A) (i j : ℕ) (x y : A) → IsRising R xs
+    → slice_get xs i ≡ Some x → slice_get xs j ≡ Some y → i < j → R x y ≡ Less
+rising_places R [] i j x y r e f h = cc
+rising_places R (z ∷ zs) zero zero x y r e f h = absurd (omega arith)
+rising_places R (z ∷ zs) zero (suc j) x y r e f h =
+    let k : z ≡ x = cc in
+    subst (λ w. R w y ≡ Less) k (r.0 y (slice_get_in zs j y f))
+rising_places R (z ∷ zs) (suc i) zero x y r e f h = absurd (omega arith)
+rising_places R (z ∷ zs) (suc i) (suc j) x y r e f h = rising_places R zs i j x y r.1 e f (omega arith)
+
+module _ {A : Type 0} (R : A → A → Ordering) (o : IsOrder R) where
+  -- and elements that are below others stand at earlier places
+  pub places_rise : (xs : List A) (i j : ℕ) (x y : A) → IsRising R xs → slice_get xs i ≡ Some x → slice_get xs j ≡ Some y → R x y ≡ Less → i < j
+  places_rise xs i j x y r e f l =
+      by_ranked (i < j) (i ≡ j) (j < i) (nat_cmp i j) (ranked i j (nat_cmp i j) refl)
+      (λ _ h. h)
+      (λ _ h. let k : x ≡ y = cc in absurd (not_below_itself R o x y l (subst (λ w. R y w ≡ Less) (sym k) (subst (λ w. R w y ≡ Less) k l))))
+      (λ _ h. absurd (not_below_itself R o x y l (rising_places R xs j i y x r f e h)))
+
+  -- an element of a rising list stands at one place
+  pub one_place : (xs : List A) (i j : ℕ) (x : A) → IsRising R xs → slice_get xs i ≡ Some x → slice_get xs j ≡ Some x → i ≡ j
+  one_place xs i j x r e f =
+      by_ranked (i < j) (i ≡ j) (j < i) (nat_cmp i j) (ranked i j (nat_cmp i j) refl)
+      (λ _ h. let l = rising_places R xs i j x x r e f h in absurd (not_below_itself R o x x l l))
+      (λ _ h. h)
+      (λ _ h. let l = rising_places R xs j i x x r f e h in absurd (not_below_itself R o x x l l))
+
+-- ---- lists of numbers
+
+-- the first number that differs decides, and a list that goes on comes after
+pub number_lists_order : IsOrder (slice_cmp nat_cmp)
+number_lists_order = record { total = nat_list_cmp_total; ties = exact_bytes }

@@ -1,6 +1,6 @@
 -- Laws of tuples: projection, agreement, merging and matching by their pairs.
 use Rattle.std.specs.Prelude.{◌≡◌, ℕ, ◌<◌, ◌^◌, Bool, true, false, List, [], ◌∷◌, ◌++◌, ◌⊎◌, ◌||◌, ◌&&◌, ◌==◌, filter, cond, not, length}
-use Rattle.std.specs.List.{list_all, list_any, zip}
+use Rattle.std.specs.List.{list_all, zip}
 use Rattle.std.specs.declared.cmp.Ordering.{Ordering}
 use Rattle.std.specs.declared.cmp.Ordering.TheVariants.{Less, Equal, Greater}
 use Rattle.std.specs.Ordering.{ordering_then, nat_cmp, is_eq}
@@ -8,10 +8,10 @@ use Rattle.std.proofs.Common.{◌+◌, inl, inr, refl, sym, ap, subst, ◌∙◌
 use Rattle.std.proofs.lemmas.List.{take_more, map-append, append_assoc, append-nil, length-take}
 use Rattle.std.specs.Cmp.{tied_itself}
 use Rattle.std.proofs.lemmas.Bool.{false≢true, eqb-true, eq-eqb, or_cases, and_parts, and_from, or_left, or_right, cases_Bool}
-use Rattle.std.proofs.lemmas.Cmp.{nat_cmp_total, then_total, on_total, lists_total, ranked}
+use Rattle.std.proofs.lemmas.Cmp.{nat_cmp_total, then_total, on_total, lists_total}
 use Rattle.rc_tuple.specs.RisingSet.{In, IsRising, AreDistinct, put, gather}
 use Rattle.rc_tuple.specs.ColSet.{has, Within, IsColSet}
-use Rattle.rc_tuple.specs.Tuple.{Pairs, IsTuple, cols_of, get, value, project, agrees, pair_cmp, tuple_cmp, tuple_eq, agree_on, matches, has_pair, same_at, merge, tuple_of}
+use Rattle.rc_tuple.specs.Tuple.{Pairs, IsTuple, cols_of, project, agrees, pair_cmp, tuple_cmp, tuple_eq, agree_on, matches, has_pair, same_at, merge, tuple_of}
 use Rattle.rc_tuple.specs.RisingSetLaws.{IsOrder, rising_gather, in_gather, gather_in, gather-rising, gather_more, same_rising, not_below_itself, in_filter, filter_in, filter-filter, rising_filter, in_map, map_in, in_append, append_in_left, append_in_right, nat_order, in_has, has_in, same_bool, list_all_in, in_list_all}
 
 -- the orders
@@ -110,22 +110,17 @@ rising_merge t u = rising_gather pair_cmp pair_order (t ++ u)
 pub rising_pairs : (t : Pairs) → IsTuple t → IsRising pair_cmp t
 rising_pairs t h = rising_cols t h.rising
 
+below_its_column : (x : ℕ × ℕ) (t : Pairs) → IsRising nat_cmp (cols_of (x ∷ t)) → (q : ℕ × ℕ) → In q t → x.0 ≡ q.0 → ⊥
+below_its_column x t r q n e =
+    let l : nat_cmp x.0 x.0 ≡ Less = subst (λ k. nat_cmp x.0 k ≡ Less) (sym e) (r.0 q.0 (map_in (λ (w : ℕ × ℕ). w.0) q t n)) in
+    not_below_itself nat_cmp nat_order x.0 x.0 l l
+
 -- a tuple has one pair at a column
 pub one_pair : (t : Pairs) → IsRising nat_cmp (cols_of t) → (p q : ℕ × ℕ) → In p t → In q t → p.0 ≡ q.0 → p ≡ q
 one_pair [] r p q m n e = absurd m
 one_pair (x ∷ t) r p q (inl a) (inl b) e = a ∙ sym b
 one_pair (x ∷ t) r p q (inl a) (inr n) e = absurd (below_its_column x t r q n (ap (λ (w : ℕ × ℕ). w.0) (sym a) ∙ e))
-  where
-    below_its_column : (x : ℕ × ℕ) (t : Pairs) → IsRising nat_cmp (cols_of (x ∷ t)) → (q : ℕ × ℕ) → In q t → x.0 ≡ q.0 → ⊥
-    below_its_column x t r q n e =
-        let l : nat_cmp x.0 x.0 ≡ Less = subst (λ k. nat_cmp x.0 k ≡ Less) (sym e) (r.0 q.0 (map_in (λ (w : ℕ × ℕ). w.0) q t n)) in
-        not_below_itself nat_cmp nat_order x.0 x.0 l l
 one_pair (x ∷ t) r p q (inr m) (inl b) e = absurd (below_its_column x t r p m (ap (λ (w : ℕ × ℕ). w.0) (sym b) ∙ sym e))
-  where
-    below_its_column : (x : ℕ × ℕ) (t : Pairs) → IsRising nat_cmp (cols_of (x ∷ t)) → (q : ℕ × ℕ) → In q t → x.0 ≡ q.0 → ⊥
-    below_its_column x t r q n e =
-        let l : nat_cmp x.0 x.0 ≡ Less = subst (λ k. nat_cmp x.0 k ≡ Less) (sym e) (r.0 q.0 (map_in (λ (w : ℕ × ℕ). w.0) q t n)) in
-        not_below_itself nat_cmp nat_order x.0 x.0 l l
 one_pair (x ∷ t) r p q (inr m) (inr n) e = one_pair t r.1 p q m n e
 
 -- ---- equality of tuples as a test
@@ -226,8 +221,8 @@ pub matches_within : (s t : Pairs) → IsTuple s → IsTuple t → ((p : ℕ × 
 matches_within s t a b f =
     test_from_same (project (cols_of s) t) s
     (same_rising pair_cmp pair_order (project (cols_of s) t) s (rising_filter pair_cmp (λ (p : ℕ × ℕ). has (cols_of s) p.0) t (rising_pairs t b)) (rising_pairs s a)
-      (λ p m. back p (in_project (cols_of s) p t m))
-      (λ p m. project_in (cols_of s) p t (f p m) (map_in (λ (w : ℕ × ℕ). w.0) p s m)))
+    (λ p m. back p (in_project (cols_of s) p t m))
+    (λ p m. project_in (cols_of s) p t (f p m) (map_in (λ (w : ℕ × ℕ). w.0) p s m)))
   where
     back : (p : ℕ × ℕ) → In p t × In p.0 (cols_of s) → In p s
     back p h =
@@ -367,3 +362,18 @@ zip_next cols vals i c e h f =
     ap (λ l. zip l (take (i + 1) vals)) (take_more cols i 0 h) ∙ ap (zip (take i cols ++ get_or cols i 0 ∷ [])) (take_more vals i 0 k)
     ∙ zip_more (take i cols) (take i vals) (get_or cols i 0) (get_or vals i 0) same
     ∙ ap (λ x. zip (take i cols) (take i vals) ++ (x, get_or vals i 0) ∷ []) (sym f)
+
+-- the columns of a tuple of columns and values
+pub cols_of-tuple_of : (cols vals : List ℕ) → AreDistinct cols → length vals ≡ length cols → cols_of (tuple_of cols vals) ≡ gather nat_cmp cols
+cols_of-tuple_of cols vals d e =
+    same_rising nat_cmp nat_order (cols_of (tuple_of cols vals)) (gather nat_cmp cols)
+    (rising_columns (tuple_of cols vals) (rising_gather pair_cmp pair_order (zip cols vals))
+    (λ p q m n f. GivesOne-zip cols vals d p q (in_gather pair_cmp pair_order p (zip cols vals) m) (in_gather pair_cmp pair_order q (zip cols vals) n) f))
+    (rising_gather nat_cmp nat_order cols)
+    (λ c m.
+    let w = in_map (λ (p : ℕ × ℕ). p.0) c (tuple_of cols vals) m in
+    gather_in nat_cmp nat_order c cols (subst (λ k. In k cols) (sym w.2) (zip_columns cols vals w.0 (in_gather pair_cmp pair_order w.0 (zip cols vals) w.1)).0))
+    (λ c m.
+    let n : In c (cols_of (zip cols vals)) = subst (In c) (sym (cols_of-zip cols vals e)) (in_gather nat_cmp nat_order c cols m) in
+    let w = in_map (λ (p : ℕ × ℕ). p.0) c (zip cols vals) n in
+    subst (λ k. In k (cols_of (tuple_of cols vals))) (sym w.2) (map_in (λ (p : ℕ × ℕ). p.0) w.0 (tuple_of cols vals) (gather_in pair_cmp pair_order w.0 (zip cols vals) w.1)))

@@ -1,4 +1,4 @@
-ghost use Rattle.std.specs.Prelude.{◌≡◌, ℕ, ◌<◌, ◌≤◌, ◌↔◌, [], length, slice_get, IsTrue};
+ghost use Rattle.std.specs.Prelude.{◌≡◌, ℕ, ◌<◌, ◌≤◌, ◌==◌, ◌↔◌, [], length, slice_get, IsTrue};
 ghost use Rattle.std.specs.Ordering.{nat_cmp};
 ghost use Rattle.rc_tuple.specs.RisingSet.{In, gather};
 ghost use Rattle.rc_tuple.specs.ColSet.{IsColSet, has, with_column, union, inter, minus, is_within, rank};
@@ -148,7 +148,7 @@ impl ColSet {
 
     /// Whether the set has no column.
     pub fn is_empty(self) -> bool
-        ensures { result ≡ is_within self [] }
+        ensures { result ≡ (length self == 0) }
     {
         self.within(ColSet::empty())
     }

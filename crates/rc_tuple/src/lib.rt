@@ -21,3 +21,6 @@ pub type Vals = SmallList<u64>;
 
 /// A list of tuples.
 pub type Tuples = SmallList<Tuple>;
+
+#[cfg(test)]
+mod tests;

@@ -1,4 +1,4 @@
-use Rattle.std.proofs.Common.{◌≡◌, ℕ, ◌+◌, ◌<◌, ◌∷◌, List, [], Bool, true, length, drop, get_or, cond, sym, ap, ◌∙◌, arith}
+use Rattle.std.proofs.Common.{◌≡◌, ℕ, ◌+◌, ◌<◌, ◌∷◌, List, [], Bool, true, length, drop, get_or, sym, ap, ◌∙◌}
 use Rattle.std.specs.List.{filter}
 use Rattle.std.proofs.lemmas.List.{drop_more, get_or_default}
 use Rattle.std.proofs.lemmas.Bool.{cond-true}
@@ -14,6 +14,10 @@ returns-then-matches c =
     let r : List Pairs = c.args.tuples.now in
     let p : Pairs → Bool = matches c.args.pattern.now in
     let here : c.index-tuples-at.result ≡ get_or c.args.tuples.now c.loop-at.at [] =
-        c.index-tuples-at.is ∙ get_or_default c.args.tuples.now c.loop-at.at c.index-tuples-at.result [] c.loop-at-test.true in
-    (c.loop-at-test.true, (filter p (drop (c.loop-at.at + 1) r),
-      sym c.loop-at.invariant ∙ filter_here p r c.loop-at.at [] c.loop-at-test.true (sym (ap p here) ∙ sym c.if-matches.ensures)))
+    c.index-tuples-at.is ∙ get_or_default c.args.tuples.now c.loop-at.at c.index-tuples-at.result [] c.loop-at-test.true in (
+      c.loop-at-test.true,
+      (
+        filter p (drop (c.loop-at.at + 1) r),
+        sym c.loop-at.invariant ∙ filter_here p r c.loop-at.at [] c.loop-at-test.true (sym (ap p here) ∙ sym c.if-matches.ensures),
+      ),
+    )

@@ -22,17 +22,17 @@ pub returns-then-breaks_with : goal.returns-then-breaks_with
 returns-then-breaks_with c =
     let e : breaks_with c.args.dep.now c.args.tuple.now c.args.tuples.now ≡ true = sym c.breaks_with.ensures ∙ c.if-breaks_with.true in
     c.if-breaks_with.true ∙ sym (breaks-put c.args.tuple.now c.args.tuples.now c.args.dep.now ∙ ap (λ b. breaks c.args.tuples.now c.args.dep.now || b) e
-      ∙ or_true (breaks c.args.tuples.now c.args.dep.now))
+    ∙ or_true (breaks c.args.tuples.now c.args.dep.now))
 
 pub returns-then-not-is_satisfied : goal.returns-then-not-is_satisfied
 returns-then-not-is_satisfied c =
     let e : breaks_with c.args.dep.now c.args.tuple.now c.args.tuples.now ≡ false = sym c.breaks_with.ensures ∙ c.if-breaks_with.false in
     c.breaks.ensures ∙ sym (breaks-put c.args.tuple.now c.args.tuples.now c.args.dep.now ∙ ap (λ b. breaks c.args.tuples.now c.args.dep.now || b) e
-      ∙ or_false (breaks c.args.tuples.now c.args.dep.now))
+    ∙ or_false (breaks c.args.tuples.now c.args.dep.now))
 
 pub returns-else-not-is_satisfied : goal.returns-else-not-is_satisfied
 returns-else-not-is_satisfied c =
     let e : breaks_with c.args.dep.now c.args.tuple.now c.args.tuples.now ≡ false = sym c.breaks_with.ensures ∙ c.if-breaks_with.false in
     let f : breaks c.args.tuples.now c.args.dep.now ≡ false = test_from_satisfies c.args.tuples.now c.args.dep.now (c.requires.satisfied c.if-not-is_satisfied.false) in
     ap not c.if-not-is_satisfied.false ∙ sym (breaks-put c.args.tuple.now c.args.tuples.now c.args.dep.now ∙ ap (λ b. breaks c.args.tuples.now c.args.dep.now || b) e
-      ∙ or_false (breaks c.args.tuples.now c.args.dep.now) ∙ f)
+    ∙ or_false (breaks c.args.tuples.now c.args.dep.now) ∙ f)

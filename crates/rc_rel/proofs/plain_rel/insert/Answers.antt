@@ -1,7 +1,6 @@
 use Rattle.std.proofs.Common.{◌≡◌, true, false, ℕ, List, sym, ap, subst, ◌∙◌, None, Some}
-use Rattle.std.specs.List.{list_any}
 use Rattle.rc_tuple.specs.RisingSet.{In, put}
-use Rattle.rc_tuple.specs.Tuple.{Pairs, agree_on, tuple_cmp}
+use Rattle.rc_tuple.specs.Tuple.{Pairs, tuple_cmp}
 use Rattle.rc_tuple.specs.declared.dep.Dep.{Dep}
 use Rattle.rc_spec.specs.declared.call.Reply.TheVariants.{Inserted}
 use Rattle.rc_spec.specs.Plain.{Outcome, first_broken}
@@ -17,38 +16,38 @@ pub returns-then-any_agrees-clause-ok : goal.returns-then-any_agrees-clause-ok
 returns-then-any_agrees-clause-ok c =
     insert-present c.args.pattern.now c.args.deps.now c.args.args.now c.args.tuples.now.items
     (agreement_found true c.from_list.result c.list.result.now c.args.pattern.now c.args.args.now c.deref.result.now c.args.tuples.now.items
-      c.if-any_agrees.ensures c.from_list.ensures.value c.list.ensures c.deref.ensures.value)
+    c.if-any_agrees.ensures c.from_list.ensures.value c.list.ensures c.deref.ensures.value)
 
 pub returns-in-Some-clause-ok : goal.returns-in-Some-clause-ok
 returns-in-Some-clause-ok c =
     insert-absent c.args.pattern.now c.args.deps.now c.args.args.now c.args.tuples.now.items (Some c.in-Some.number)
     (agreement_found false c.from_list.result c.list.result.now c.args.pattern.now c.args.args.now c.deref.result.now c.args.tuples.now.items
-      c.if-any_agrees.ensures c.from_list.ensures.value c.list.ensures c.deref.ensures.value)
+    c.if-any_agrees.ensures c.from_list.ensures.value c.list.ensures c.deref.ensures.value)
     (ap (λ (l : List Pairs). first_broken 1 c.args.deps.now (put tuple_cmp c.args.args.now l)) (sym c.deref-3.ensures.value) ∙ sym c.in-Some.ensures)
 
 pub returns-in_err-put_tuple-clause-kept : goal.returns-in_err-put_tuple-clause-kept
 returns-in_err-put_tuple-clause-kept c =
     let none : first_broken 1 c.args.deps.now (put tuple_cmp c.args.args.now c.args.tuples.now.items) ≡ None =
-        ap (λ (l : List Pairs). first_broken 1 c.args.deps.now (put tuple_cmp c.args.args.now l)) (sym c.deref-3.ensures.value) ∙ sym c.in_default.ensures in
+    ap (λ (l : List Pairs). first_broken 1 c.args.deps.now (put tuple_cmp c.args.args.now l)) (sym c.deref-3.ensures.value) ∙ sym c.in_default.ensures in
     subst (λ (l : List Dep). IsKept c.put_tuple.new.tuples.items l) (sym c.in_ok-known.ensures.items)
     (subst (λ (l : List Pairs). IsKept l c.args.deps.now) (sym c.in_err-put_tuple.ensures.err)
-      (kept_without c.args.deps.now c.args.args.now c.args.tuples.now.items c.requires.kept.rising none))
+    (kept_without c.args.deps.now c.args.args.now c.args.tuples.now.items c.requires.kept.rising none))
 
 pub returns-clause-ok : goal.returns-clause-ok
 returns-clause-ok c =
     let none : first_broken 1 c.args.deps.now (put tuple_cmp c.args.args.now c.args.tuples.now.items) ≡ None =
-        ap (λ (l : List Pairs). first_broken 1 c.args.deps.now (put tuple_cmp c.args.args.now l)) (sym c.deref-3.ensures.value) ∙ sym c.in_default.ensures in
+    ap (λ (l : List Pairs). first_broken 1 c.args.deps.now (put tuple_cmp c.args.args.now l)) (sym c.deref-3.ensures.value) ∙ sym c.in_default.ensures in
     insert-absent c.args.pattern.now c.args.deps.now c.args.args.now c.args.tuples.now.items None
     (agreement_found false c.from_list.result c.list.result.now c.args.pattern.now c.args.args.now c.deref.result.now c.args.tuples.now.items
-      c.if-any_agrees.ensures c.from_list.ensures.value c.list.ensures c.deref.ensures.value) none
+    c.if-any_agrees.ensures c.from_list.ensures.value c.list.ensures c.deref.ensures.value) none
     ∙ ap (λ (l : List Pairs). let o : Outcome = record { reply = Inserted; relation = l } in o)
-      (ap (λ (t : Pairs). put tuple_cmp t c.args.tuples.now.items) (sym c.in_ok-tuple.ensures) ∙ sym c.in_ok-put_tuple.ensures.ok)
+    (ap (λ (t : Pairs). put tuple_cmp t c.args.tuples.now.items) (sym c.in_ok-tuple.ensures) ∙ sym c.in_ok-put_tuple.ensures.ok)
 
 pub returns-clause-kept : goal.returns-clause-kept
 returns-clause-kept c =
     let none : first_broken 1 c.args.deps.now (put tuple_cmp c.args.args.now c.args.tuples.now.items) ≡ None =
-        ap (λ (l : List Pairs). first_broken 1 c.args.deps.now (put tuple_cmp c.args.args.now l)) (sym c.deref-3.ensures.value) ∙ sym c.in_default.ensures in
+    ap (λ (l : List Pairs). first_broken 1 c.args.deps.now (put tuple_cmp c.args.args.now l)) (sym c.deref-3.ensures.value) ∙ sym c.in_default.ensures in
     subst (λ (l : List Dep). IsKept c.put_tuple.new.tuples.items l) (sym c.in_ok-known.ensures.items)
     (subst (λ (l : List Pairs). IsKept l c.args.deps.now)
-      (ap (λ (t : Pairs). put tuple_cmp t c.args.tuples.now.items) (sym c.in_ok-tuple.ensures) ∙ sym c.in_ok-put_tuple.ensures.ok)
-      (kept_with c.args.deps.now c.args.args.now c.args.tuples.now.items c.requires.kept.rising none))
+    (ap (λ (t : Pairs). put tuple_cmp t c.args.tuples.now.items) (sym c.in_ok-tuple.ensures) ∙ sym c.in_ok-put_tuple.ensures.ok)
+    (kept_with c.args.deps.now c.args.args.now c.args.tuples.now.items c.requires.kept.rising none))

@@ -1,5 +1,4 @@
-use Rattle.std.proofs.Common.{◌≡◌, ℕ, ◌+◌, ◌<◌, List, length, drop, get_or, sym, ap, subst, ◌∙◌}
-use Rattle.std.specs.List.{AllByRecursion}
+use Rattle.std.proofs.Common.{ℕ, ◌+◌, ◌<◌, List, length, drop, sym, ap, subst, ◌∙◌}
 use Rattle.std.proofs.lemmas.List.{drop_more}
 use Rattle.rc_tuple.specs.Tuple.{Pairs}
 use Rattle.rc_spec.specs.declared.spec.Spec.{Spec}
@@ -15,10 +14,10 @@ fit_later spec entries i d h f = (subst (λ (l : List Entry). AllFit spec l) (dr
 pub loop-entry-preserved : goal.loop-entry-preserved
 loop-entry-preserved c = record {
   rest =
-    ap (λ (r : List Pairs). after_steps c.args.spec.now r (steps_of (drop (c.loop-entry.entry-index + 1) c.args.entries.now)))
+      ap (λ (r : List Pairs). after_steps c.args.spec.now r (steps_of (drop (c.loop-entry.entry-index + 1) c.args.entries.now)))
       (c.in_ok-run_steps.ensures.rows ∙ ap (λ (l : List Step). after_steps c.args.spec.now c.loop-entry.rel l) (c.list.ensures ∙ ap (λ (e : Entry). e.steps) c.entry-item.is))
-    ∙ sym (after_entry c.args.spec.now c.loop-entry.rel c.args.entries.now c.loop-entry.entry-index c.entry-item.result c.loop-entry-test.true)
-    ∙ c.loop-entry.invariant.rest;
+      ∙ sym (after_entry c.args.spec.now c.loop-entry.rel c.args.entries.now c.loop-entry.entry-index c.entry-item.result c.loop-entry-test.true)
+      ∙ c.loop-entry.invariant.rest;
   over = c.in_ok-run_steps.ensures.over;
   fit = fit_later c.args.spec.now c.args.entries.now c.loop-entry.entry-index c.entry-item.result c.loop-entry-test.true c.loop-entry.invariant.fit;
 }

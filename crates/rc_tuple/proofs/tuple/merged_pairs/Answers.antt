@@ -1,6 +1,6 @@
 use Rattle.std.proofs.Common.{sym, ◌∙◌, ap, arith}
 use Rattle.rc_tuple.specs.RisingSet.{put}
-use Rattle.rc_tuple.specs.Tuple.{pair_cmp, merge}
+use Rattle.rc_tuple.specs.Tuple.{pair_cmp}
 use Rattle.rc_tuple.specs.TupleLaws.{merge_more, merge_none}
 use Rattle.rc_tuple.proofs.tuple.merged_pairs.Goals as goal
 

@@ -4,7 +4,6 @@ use Rattle.rc_tuple.specs.RisingSetLaws.{slice_get_in}
 use Rattle.rc_tuple.specs.Tuple.{Pairs, cols_of}
 use Rattle.rc_tuple.specs.declared.dep.Dep.{Dep}
 use Rattle.rc_spec.specs.declared.items.Op.{Op}
-use Rattle.rc_spec.specs.declared.items.OpKind.TheVariants.{Insert}
 use Rattle.rc_spec.specs.Calls.{all_columns}
 use Rattle.rc_spec.specs.InRange.{AreBelow}
 use Rattle.rc_spec.specs.Plain.{Outcome, plain, plain_by}
@@ -24,7 +23,7 @@ step-requires-clause-over c =
     let op : Op = c.requires.fits.0 in
     let read : c.index-list-call.result ≡ op = op_read c.args.spec.now.ops c.list.result.now c.args.call.now.op op c.index-list-call.result c.list.ensures c.index-list-call.is c.requires.fits.1.known in
     λ e. subst (λ (r : List Pairs). AreOver (cols_of c.args.call.now.args) r) (sym c.self.view_is)
-      (over_arguments c.args.spec.now c.args.call.now op c.args.self.now c.requires.fits.1 c.requires.over (sym (ap (λ (o : Op). o.kind) read) ∙ e))
+    (over_arguments c.args.spec.now c.args.call.now op c.args.self.now c.requires.fits.1 c.requires.over (sym (ap (λ (o : Op). o.kind) read) ∙ e))
 
 pub returns-clause-ok : goal.returns-clause-ok
 returns-clause-ok c =
@@ -32,9 +31,9 @@ returns-clause-ok c =
     let read : c.index-list-call.result ≡ op = op_read c.args.spec.now.ops c.list.result.now c.args.call.now.op op c.index-list-call.result c.list.ensures c.index-list-call.is c.requires.fits.1.known in
     same_outcome c.step.result _ (plain c.args.spec.now c.args.self.now c.args.call.now) c.step.new.tuples.items
     (plain-known c.args.spec.now c.args.self.now c.args.call.now op c.requires.fits.1.known
-      ∙ ap (λ (o : Op). plain_by o.kind o.pattern c.args.spec.now.deps c.args.call.now.args c.args.self.now) (sym read)
-      ∙ ap (λ (deps : List Dep). plain_by c.index-list-call.result.kind c.index-list-call.result.pattern deps c.args.call.now.args c.args.self.now) (sym c.list-2.ensures)
-      ∙ ap (λ (r : List Pairs). plain_by c.index-list-call.result.kind c.index-list-call.result.pattern c.list-2.result.now c.args.call.now.args r) (sym c.self.view_is))
+    ∙ ap (λ (o : Op). plain_by o.kind o.pattern c.args.spec.now.deps c.args.call.now.args c.args.self.now) (sym read)
+    ∙ ap (λ (deps : List Dep). plain_by c.index-list-call.result.kind c.index-list-call.result.pattern deps c.args.call.now.args c.args.self.now) (sym c.list-2.ensures)
+    ∙ ap (λ (r : List Pairs). plain_by c.index-list-call.result.kind c.index-list-call.result.pattern c.list-2.result.now c.args.call.now.args r) (sym c.self.view_is))
     c.step.ensures.ok
 
 pub returns-clause-over : goal.returns-clause-over
@@ -43,5 +42,5 @@ returns-clause-over c =
     holds_after (λ (r : List Pairs). AreOver (all_columns c.args.spec.now) r) c.step.result (plain c.args.spec.now c.args.self.now c.args.call.now) c.step.new.tuples.items c.args.self.now
     (returns-clause-ok c) (subst (λ (r : List Pairs). OnErr c.step.result (c.step.new.tuples.items ≡ r)) c.self.view_is c.step.ensures.err)
     (subst (λ (o : Outcome). AreOver (all_columns c.args.spec.now) o.relation) (sym (plain-known c.args.spec.now c.args.self.now c.args.call.now op c.requires.fits.1.known))
-      (over_outcome c.args.spec.now c.args.call.now op c.args.self.now c.requires.fits.1 c.requires.over))
+    (over_outcome c.args.spec.now c.args.call.now op c.args.self.now c.requires.fits.1 c.requires.over))
     c.requires.over

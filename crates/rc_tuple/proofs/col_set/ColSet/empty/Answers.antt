@@ -1,4 +1,3 @@
-use Rattle.std.proofs.Common.{sym, ◌∙◌}
 use Rattle.rc_tuple.specs.ColSetLaws.{columns_of-zero}
 use Rattle.rc_tuple.proofs.col_set.ColSet.empty.Goals as goal
 

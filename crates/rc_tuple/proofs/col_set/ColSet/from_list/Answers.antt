@@ -1,4 +1,4 @@
-use Rattle.std.proofs.Common.{◌≡◌, get_or, ap, sym, subst, ◌∙◌}
+use Rattle.std.proofs.Common.{get_or, ap, sym, subst, ◌∙◌}
 use Rattle.std.specs.Ordering.{nat_cmp}
 use Rattle.rc_tuple.specs.RisingSet.{put}
 use Rattle.rc_tuple.specs.RisingSetLaws.{get_or_in, nat_order, gather_next}
@@ -15,6 +15,6 @@ with-set-requires c = c.requires (get_or c.args.cols.now c.loop-col.col-index 0)
 pub loop-col-preserved : goal.loop-col-preserved
 loop-col-preserved c = record {
   value = c.with-set.ensures.value ∙ ap (put nat_cmp (get_or c.args.cols.now c.loop-col.col-index 0)) c.loop-col.invariant.value
-    ∙ sym (gather_next nat_cmp nat_order c.args.cols.now c.loop-col.col-index 0 c.loop-col-test.true);
+      ∙ sym (gather_next nat_cmp nat_order c.args.cols.now c.loop-col.col-index 0 c.loop-col-test.true);
   set = c.with-set.ensures.set;
 }

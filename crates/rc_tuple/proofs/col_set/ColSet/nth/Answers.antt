@@ -1,4 +1,4 @@
-use Rattle.std.proofs.Common.{◌≡◌, ◌≤◌, ℕ, ◌+◌, sym, ap, arith, ◌∙◌}
+use Rattle.std.proofs.Common.{◌≡◌, ◌≤◌, sym, ap, arith, ◌∙◌}
 use Rattle.rc_tuple.specs.ColSet.{rank}
 use Rattle.rc_tuple.specs.ColSetLaws.{slice_get-at_rank, slice_get-past_rank, IsColSet-from_mask}
 use Rattle.rc_tuple.proofs.col_set.ColSet.nth.Goals as goal

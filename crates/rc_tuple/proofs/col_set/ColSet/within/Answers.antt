@@ -1,4 +1,3 @@
-use Rattle.std.proofs.Common.{arith}
 use Rattle.rc_tuple.specs.ColSetLaws.{within-masks, IsColSet-from_mask}
 use Rattle.rc_tuple.proofs.col_set.ColSet.within.Goals as goal
 

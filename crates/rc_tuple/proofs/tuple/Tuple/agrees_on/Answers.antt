@@ -1,4 +1,4 @@
-use Rattle.std.proofs.Common.{sym, ◌∙◌, ap}
+use Rattle.std.proofs.Common.{◌∙◌, ap}
 use Rattle.std.specs.List.{list_all, zip}
 use Rattle.rc_tuple.specs.Tuple.{same_at}
 use Rattle.rc_tuple.specs.TupleLaws.{agree_on_zip}

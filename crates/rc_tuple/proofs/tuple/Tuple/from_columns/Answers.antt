@@ -14,9 +14,9 @@ loop-place-preserved c =
 pub invariant_of-result : goal.invariant_of-result
 invariant_of-result c =
     let whole : c.loop-place.pairs.items ≡ tuple_of c.args.cols.now c.args.vals.now =
-        c.loop-place.invariant
-        ∙ ap (λ l. tuple_of l (take c.loop-place.place c.args.vals.now)) (take_all c.loop-place.place c.args.cols.now (omega arith))
-        ∙ ap (tuple_of c.args.cols.now) (take_all c.loop-place.place c.args.vals.now (let e = c.requires.fits in omega arith)) in
+    c.loop-place.invariant
+    ∙ ap (λ l. tuple_of l (take c.loop-place.place c.args.vals.now)) (take_all c.loop-place.place c.args.cols.now (omega arith))
+    ∙ ap (tuple_of c.args.cols.now) (take_all c.loop-place.place c.args.vals.now (let e = c.requires.fits in omega arith)) in
     subst IsTuple (sym whole)
     (IsTuple-tuple_of c.args.cols.now c.args.vals.now c.requires.distinct c.requires.below
-      (in_from_places (λ v. v < 2 ^ 64) 0 c.args.vals.now (λ i h. let f = c.type_inv.vals i in omega arith)))
+    (in_from_places (λ v. v < 2 ^ 64) 0 c.args.vals.now (λ i h. let f = c.type_inv.vals i in omega arith)))

@@ -1,4 +1,4 @@
-use Rattle.std.proofs.Common.{sym, ◌∙◌, ap, subst}
+use Rattle.std.proofs.Common.{◌∙◌, ap, subst}
 use Rattle.std.specs.List.{list_all}
 use Rattle.rc_tuple.specs.Tuple.{IsTuple, has_pair}
 use Rattle.rc_tuple.specs.TupleLaws.{matches_has_pairs}

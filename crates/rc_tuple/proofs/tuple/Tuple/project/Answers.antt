@@ -8,6 +8,6 @@ use Rattle.rc_tuple.proofs.tuple.Tuple.project.Goals as goal
 pub invariant_of-result : goal.invariant_of-result
 invariant_of-result c =
     let whole : c.loop-pair.pairs.items ≡ project c.args.cols c.deref-pair-items.result.now =
-        c.loop-pair.invariant ∙ ap (project c.args.cols) (take_all c.loop-pair.pair-index c.deref-pair-items.result.now (omega arith)) in
+    c.loop-pair.invariant ∙ ap (project c.args.cols) (take_all c.loop-pair.pair-index c.deref-pair-items.result.now (omega arith)) in
     subst IsTuple (sym whole)
     (IsTuple-filter (λ (p : ℕ × ℕ). has c.args.cols p.0) c.deref-pair-items.result.now (subst IsTuple (sym c.deref-pair-items.ensures.value) c.self.invariant))

@@ -1,0 +1,78 @@
+#!/usr/bin/env python3
+"""Writes one text to measure `relc run` on: texts.py NAME, with the names at the end."""
+
+import sys
+
+GRAPH = """relc 1
+col src num
+col dst num
+col weight num
+fd src dst -> weight
+node root
+node u src
+node w src dst
+node z src dst weight
+edge e1 root u hash src
+edge e2 u w ordered dst
+edge e3 w z singleton weight
+lock k1 8 src
+lock k2 4 src
+place e1 k1
+place e2 k2
+place e3 k2
+op ins insert src dst
+op del remove src dst
+op succ query src -> dst weight
+op find query src dst -> weight
+end
+"""
+
+MIB = 1 << 20
+CALLS = 20_000
+THREADS = 8
+ROUNDS = 64
+
+
+def inserts():
+    """20,000 inserts of distinct edges, by 8 threads in 64 rounds."""
+    lines = [f"work {THREADS}"]
+    for number in range(CALLS):
+        if number * ROUNDS // CALLS != (number - 1) * ROUNDS // CALLS:
+            lines.append("round")
+        lines.append(f"{number % THREADS} ins {number * 7919 % CALLS} {number % 97} {number}")
+    return GRAPH + "\n".join(lines + ["end", ""])
+
+
+def comments(size=16 * MIB):
+    """A text of this many bytes, nearly all of them comments in the specification."""
+    comment = "# " + "c" * 61 + "\n"
+    head, end, work = GRAPH[: -len("end\n")], "end\n", "work 1\nend\n"
+    return head + comment * ((size - len(head + end + work)) // len(comment)) + end + work
+
+
+def workload(size=16 * MIB):
+    """A text of this many bytes, nearly all of them calls whose words stand far apart."""
+    begin, end = "work 1\nround\n", "end\n"
+    call = "0 find 1 2"
+    call = call + " " * ((size - len(GRAPH + begin + end)) // CALLS - len(call) - 1) + "\n"
+    return GRAPH + begin + call * CALLS + end
+
+
+def replies():
+    """Replies of 256 rows: 256 inserts, and 2,000 queries for all of them."""
+    lines = ["work 1", "round"]
+    lines += [f"0 ins 1 {target} 0" for target in range(256)]
+    lines += ["0 succ 1"] * 2_000
+    return GRAPH + "\n".join(lines + ["end", ""])
+
+
+if __name__ == "__main__":
+    texts = {
+        "inserts": inserts,
+        "comments": comments,
+        "half_comments": lambda: comments(8 * MIB),
+        "workload": workload,
+        "half_workload": lambda: workload(8 * MIB),
+        "replies": replies,
+    }
+    sys.stdout.write(texts[sys.argv[1]]())

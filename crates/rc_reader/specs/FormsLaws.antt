@@ -1,0 +1,138 @@
+-- What the forms of lines see to.
+use Rattle.std.proofs.Common.{◌≡◌, ℕ, ◌<◌, ◌≤◌, Bool, true, false, cond, ltb, List, [], ◌∷◌, length, Option, Some, None, refl, subst, arith, lit≤, codes}
+use Rattle.std.specs.Prelude.{unwrap_or}
+use Rattle.std.specs.Option.{option_map}
+use Rattle.std.specs.Str.{bytes_eq}
+use Rattle.std.proofs.lemmas.Bool.Decides.{nat_tests}
+use Rattle.rc_text.specs.Numbers.{is_number, number_of}
+use Rattle.rc_spec.specs.declared.items.EdgeKind.{EdgeKind}
+use Rattle.rc_reader.specs.declared.forms.Keyword.{Keyword}
+use Rattle.rc_reader.specs.declared.forms.Keyword.TheVariants as keyword
+use Rattle.rc_reader.specs.Forms.{FormText, header_line, column_line, dependency_line, node_line, edge_line, lock_line, place_line, query_line, insert_line, remove_line, end_line, keyword_of, column_kind_of, edge_kind_of, stripes_of, stripes_at, split_at_arrow, header_form, column_form, dependency_of, dependency_by, node_form, edge_form, lock_form, place_form, query_form, operation_form, end_form, form_by, form_of}
+
+-- the right list of a dependency has a word, and a number of stripes is not above 65,535
+abbrev pub IsFormed : FormText → Type 0
+IsFormed header_line = Unit {0}
+IsFormed (column_line name kind) = Unit {0}
+IsFormed (dependency_line left right) = 0 < length right
+IsFormed (node_line name columns) = Unit {0}
+IsFormed (edge_line name from to kind key) = Unit {0}
+IsFormed (lock_line name number columns) = unwrap_or number 0 ≤ 65535
+IsFormed (place_line edge class) = Unit {0}
+IsFormed (query_line name pattern outs) = Unit {0}
+IsFormed (insert_line name pattern) = Unit {0}
+IsFormed (remove_line name pattern) = Unit {0}
+IsFormed end_line = Unit {0}
+
+abbrev some_form : FormText → Option FormText
+some_form form = Some form
+
+same_form : (x y : FormText) → some_form x ≡ some_form y → x ≡ y
+same_form x y e = cc
+
+-- a form that is given, at once or by a test, or made of what was found
+given : (x form : FormText) → IsFormed x → some_form x ≡ Some form → IsFormed form
+given x form formed e = subst IsFormed (same_form x form e) formed
+
+chosen : (b : Bool) (x y : Option FormText) (form : FormText) → (x ≡ Some form → IsFormed form) → (y ≡ Some form → IsFormed form) → cond b x y ≡ Some form → IsFormed form
+chosen true x y form at_true at_false e = at_true e
+chosen false x y form at_true at_false e = at_false e
+
+made : {X : Type 0} (make : X → FormText) (found : Option X) (form : FormText) → ((x : X) → found ≡ Some x → IsFormed (make x)) → option_map make found ≡ Some form → IsFormed form
+made make None form formed e = absurd cc
+made make (Some x) form formed e = given (make x) form (formed x refl) e
+
+header_formed : (words : List (List ℕ)) (form : FormText) → header_form words ≡ Some form → IsFormed form
+header_formed [] form e = absurd cc
+header_formed (version ∷ []) form e = chosen (bytes_eq version (codes "1")) (Some header_line) None form (λ h. given header_line form tt h) (λ h. absurd cc) e
+header_formed (version ∷ word ∷ words) form e = absurd cc
+
+column_formed : (words : List (List ℕ)) (form : FormText) → column_form words ≡ Some form → IsFormed form
+column_formed [] form e = absurd cc
+column_formed (name ∷ []) form e = absurd cc
+column_formed (name ∷ kind ∷ []) form e = made (column_line name) (column_kind_of kind) form (λ _ _. tt) e
+column_formed (name ∷ kind ∷ word ∷ words) form e = absurd cc
+
+right_formed : (left right : List (List ℕ)) (form : FormText) → dependency_of left right ≡ Some form → IsFormed form
+right_formed left [] form e = absurd cc
+right_formed left (word ∷ words) form e = given (dependency_line left (word ∷ words)) form (omega arith) e
+
+dependency_formed : (lists : Option (List (List ℕ) × List (List ℕ))) (form : FormText) → dependency_by lists ≡ Some form → IsFormed form
+dependency_formed None form e = absurd cc
+dependency_formed (Some lists) form e = right_formed lists.0 lists.1 form e
+
+node_formed : (words : List (List ℕ)) (form : FormText) → node_form words ≡ Some form → IsFormed form
+node_formed [] form e = absurd cc
+node_formed (name ∷ columns) form e = given (node_line name columns) form tt e
+
+edge_formed : (words : List (List ℕ)) (form : FormText) → edge_form words ≡ Some form → IsFormed form
+edge_formed [] form e = absurd cc
+edge_formed (name ∷ []) form e = absurd cc
+edge_formed (name ∷ from ∷ []) form e = absurd cc
+edge_formed (name ∷ from ∷ to ∷ []) form e = absurd cc
+edge_formed (name ∷ from ∷ to ∷ kind ∷ key) form e = made (λ (k : EdgeKind). edge_line name from to k key) (edge_kind_of kind) form (λ _ _. tt) e
+
+few_stripes : (n : ℕ) → unwrap_or (cond (ltb 65535 n) None (Some n)) 0 ≤ 65535
+few_stripes n =
+    elim (ltb 65535 n) as (λ v. ltb 65535 n ≡ v → unwrap_or (cond v None (Some n)) 0 ≤ 65535) [
+      | true ↦ λ _. lit≤ tt
+      | false ↦ λ e. grind (arith, nat_tests)
+    ] refl
+
+some_number : Option ℕ → Option (Option ℕ)
+some_number number = Some number
+
+same_number : (x y : Option ℕ) → some_number x ≡ some_number y → x ≡ y
+unfolding some_number
+same_number x y e = cc
+
+stripes_formed : (word : List ℕ) (stripes : Option ℕ) → stripes_at word ≡ Some stripes → unwrap_or stripes 0 ≤ 65535
+stripes_formed word stripes e =
+    elim (is_number word) as (λ v. cond v (Some (stripes_of word)) None ≡ Some stripes → unwrap_or stripes 0 ≤ 65535) [
+      | true ↦ λ h. subst (λ (s : Option ℕ). unwrap_or s 0 ≤ 65535) (let same : stripes_of word ≡ stripes = cc in same) (few_stripes (number_of word))
+      | false ↦ λ h. absurd cc
+    ] e
+
+lock_formed : (words : List (List ℕ)) (form : FormText) → lock_form words ≡ Some form → IsFormed form
+lock_formed [] form e = absurd cc
+lock_formed (name ∷ []) form e = absurd cc
+lock_formed (name ∷ number ∷ columns) form e = made (λ (stripes : Option ℕ). lock_line name stripes columns) (stripes_at number) form (stripes_formed number) e
+
+place_formed : (words : List (List ℕ)) (form : FormText) → place_form words ≡ Some form → IsFormed form
+place_formed [] form e = absurd cc
+place_formed (edge ∷ []) form e = absurd cc
+place_formed (edge ∷ class ∷ []) form e = given (place_line edge class) form tt e
+place_formed (edge ∷ class ∷ word ∷ words) form e = absurd cc
+
+operation_formed : (words : List (List ℕ)) (form : FormText) → operation_form words ≡ Some form → IsFormed form
+operation_formed [] form e = absurd cc
+operation_formed (name ∷ []) form e = absurd cc
+operation_formed (name ∷ kind ∷ words) form e =
+    let a_remove = cond (bytes_eq kind (codes "remove")) (Some (remove_line name words)) None in
+    let an_insert = cond (bytes_eq kind (codes "insert")) (Some (insert_line name words)) a_remove in
+    chosen (bytes_eq kind (codes "query")) (query_form name words) an_insert form
+    (λ h. made (λ (lists : List (List ℕ) × List (List ℕ)). query_line name lists.0 lists.1) (split_at_arrow words) form (λ _ _. tt) h)
+    (λ h. chosen (bytes_eq kind (codes "insert")) (Some (insert_line name words)) a_remove form
+    (λ k. given (insert_line name words) form tt k)
+    (λ k. chosen (bytes_eq kind (codes "remove")) (Some (remove_line name words)) None form (λ j. given (remove_line name words) form tt j) (λ j. absurd cc) k) h) e
+
+end_formed : (words : List (List ℕ)) (form : FormText) → end_form words ≡ Some form → IsFormed form
+end_formed [] form e = given end_line form tt e
+end_formed (word ∷ words) form e = absurd cc
+
+by_keyword : (first : Option Keyword) (words : List (List ℕ)) (form : FormText) → form_by first words ≡ Some form → IsFormed form
+by_keyword None words form e = absurd cc
+by_keyword (Some keyword.Relc) words form e = header_formed words form e
+by_keyword (Some keyword.Col) words form e = column_formed words form e
+by_keyword (Some keyword.Fd) words form e = dependency_formed (split_at_arrow words) form e
+by_keyword (Some keyword.Node) words form e = node_formed words form e
+by_keyword (Some keyword.Edge) words form e = edge_formed words form e
+by_keyword (Some keyword.Lock) words form e = lock_formed words form e
+by_keyword (Some keyword.Place) words form e = place_formed words form e
+by_keyword (Some keyword.Op) words form e = operation_formed words form e
+by_keyword (Some keyword.End) words form e = end_formed words form e
+
+pub formed : (words : List (List ℕ)) (form : FormText) → form_of words ≡ Some form → IsFormed form
+unfolding form_of
+formed [] form e = absurd cc
+formed (first ∷ words) form e = by_keyword (keyword_of first) words form e

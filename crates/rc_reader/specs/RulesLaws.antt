@@ -1,0 +1,116 @@
+-- A line that is taken broke no rule, and what all such lines keep.
+use Rattle.std.proofs.Common.{◌≡◌, ℕ, Bool, true, false, cond, List, Option, Some, None, Result, Ok, Err, refl, subst}
+use Rattle.rc_spec.specs.declared.spec.Spec.{Spec}
+use Rattle.rc_reader.specs.declared.refusal.LineRule.{LineRule}
+use Rattle.rc_reader.specs.declared.refusal.LineRule.TheVariants.{S2, S3, S4, S5, S6, S7}
+use Rattle.rc_reader.specs.Forms.{FormText, plain_words_of, form_of}
+use Rattle.rc_reader.specs.Rules.{breaks_names, breaks_known, breaks_range, breaks_limit, breaks_order, with_line, after_form}
+use Rattle.rc_reader.specs.Grammar.{After, is_end, ended_by, after_form_of, after_words, after_bytes}
+use Rattle.rc_reader.specs.Answers.{IsSpecRule}
+use Rattle.rc_reader.specs.FormsLaws.{IsFormed, formed}
+
+-- the line of this form breaks no rule, and leaves the specification `next`
+pub record IsTaken (spec : Spec) (form : FormText) (next : Spec) : Type 0 where
+  pub names : breaks_names spec form ≡ false
+  pub known : breaks_known spec form ≡ false
+  pub range : breaks_range form ≡ false
+  pub limit : breaks_limit spec form ≡ false
+  pub order : breaks_order spec form ≡ false
+  pub value : with_line spec form ≡ next
+
+-- a test that did not refuse
+unrefused : (b : Bool) (rule : LineRule) (gives : Result Spec LineRule) (next : Spec) → cond b (Err rule) gives ≡ Ok next → (b ≡ false) × (gives ≡ Ok next)
+unrefused true rule gives next e = absurd cc
+unrefused false rule gives next e = (refl, e)
+
+abbrev ok_spec : Spec → Result Spec LineRule
+ok_spec spec = Ok spec
+
+same_spec : (x y : Spec) → ok_spec x ≡ ok_spec y → x ≡ y
+same_spec x y e = cc
+
+pub taken : (spec : Spec) (form : FormText) (next : Spec) → after_form spec form ≡ Ok next → IsTaken spec form next
+taken spec form next e =
+    let order_test = cond (breaks_order spec form) (Err S7) (ok_spec (with_line spec form)) in
+    let limit_test = cond (breaks_limit spec form) (Err S6) order_test in
+    let range_test = cond (breaks_range form) (Err S5) limit_test in
+    let known_test = cond (breaks_known spec form) (Err S4) range_test in
+    let names = unrefused (breaks_names spec form) S3 known_test next e in
+    let known = unrefused (breaks_known spec form) S4 range_test next names.1 in
+    let range = unrefused (breaks_range form) S5 limit_test next known.1 in
+    let limit = unrefused (breaks_limit spec form) S6 order_test next range.1 in
+    let order = unrefused (breaks_order spec form) S7 (ok_spec (with_line spec form)) next limit.1 in
+    record { names = names.0; known = known.0; range = range.0; limit = limit.0; order = order.0; value = same_spec (with_line spec form) next order.1 }
+
+-- a line that is read has a form that is taken
+pub record IsLineTaken (spec : Spec) (after : After) : Type 0 where
+  pub form : FormText
+  pub formed : IsFormed form
+  pub taken : IsTaken spec form after.spec
+  pub ended : is_end form ≡ after.ended
+
+abbrev ok_after : After → Result After LineRule
+ok_after after = Ok after
+
+same_after : (x y : After) → ok_after x ≡ ok_after y → x ≡ y
+same_after x y e = cc
+
+form_taken : (spec : Spec) (form : FormText) (gives : Result Spec LineRule) (after : After) → IsFormed form → after_form spec form ≡ gives → ended_by form gives ≡ Ok after → IsLineTaken spec after
+form_taken spec form (Err rule) after formed gives-is e = absurd cc
+form_taken spec form (Ok next) after formed gives-is e =
+    let here : IsLineTaken spec (record { ended = is_end form; spec = next }) = record { form = form; formed = formed; taken = taken spec form next gives-is; ended = refl } in
+    subst (λ (x : After). IsLineTaken spec x) (same_after (record { ended = is_end form; spec = next }) after e) here
+
+words_taken : (spec : Spec) (words : List (List ℕ)) (found : Option FormText) (after : After) → form_of words ≡ found → after_form_of spec found ≡ Ok after → IsLineTaken spec after
+words_taken spec words None after found-is e = absurd cc
+words_taken spec words (Some form) after found-is e = form_taken spec form (after_form spec form) after (formed words form found-is) refl e
+
+bytes_taken : (spec : Spec) (found : Option (List (List ℕ))) (after : After) → after_words spec found ≡ Ok after → IsLineTaken spec after
+bytes_taken spec None after e = absurd cc
+bytes_taken spec (Some words) after e = words_taken spec words (form_of words) after refl e
+
+pub line_taken : (spec : Spec) (bytes : List ℕ) (after : After) → after_bytes spec bytes ≡ Ok after → IsLineTaken spec after
+unfolding after_bytes
+line_taken spec bytes after e = bytes_taken spec (plain_words_of bytes) after e
+
+-- a line that is taken leaves P of the specification true
+abbrev pub Keeps : (Spec → Type 0) → Type 0
+Keeps P = (spec : Spec) (form : FormText) (next : Spec) → IsFormed form → IsTaken spec form next → P spec → P (with_line spec form)
+
+pub keeps-after_bytes : (P : Spec → Type 0) → Keeps P → (spec : Spec) (bytes : List ℕ) (after : After) → P spec → after_bytes spec bytes ≡ Ok after → P after.spec
+keeps-after_bytes P keeps spec bytes after holds e =
+    let line = line_taken spec bytes after e in
+    subst P line.taken.value (keeps spec line.form after.spec line.formed line.taken holds)
+
+-- the rule that a line breaks is one of a specification's
+rule_by : (b : Bool) (broken rule : LineRule) (gives : Result Spec LineRule) → IsSpecRule broken → (gives ≡ Err rule → IsSpecRule rule) → cond b (Err broken) gives ≡ Err rule → IsSpecRule rule
+rule_by true broken rule gives here others e = let same : broken ≡ rule = cc in subst IsSpecRule same here
+rule_by false broken rule gives here others e = others e
+
+form_rule : (spec : Spec) (form : FormText) (rule : LineRule) → after_form spec form ≡ Err rule → IsSpecRule rule
+form_rule spec form rule e =
+    let order_test = cond (breaks_order spec form) (Err S7) (ok_spec (with_line spec form)) in
+    let limit_test = cond (breaks_limit spec form) (Err S6) order_test in
+    let range_test = cond (breaks_range form) (Err S5) limit_test in
+    let known_test = cond (breaks_known spec form) (Err S4) range_test in
+    rule_by (breaks_names spec form) S3 rule known_test tt
+    (λ h. rule_by (breaks_known spec form) S4 rule range_test tt
+    (λ h. rule_by (breaks_range form) S5 rule limit_test tt
+    (λ h. rule_by (breaks_limit spec form) S6 rule order_test tt
+    (λ h. rule_by (breaks_order spec form) S7 rule (ok_spec (with_line spec form)) tt (λ h. absurd cc) h) h) h) h) e
+
+ended_rule : (form : FormText) (gives : Result Spec LineRule) (rule : LineRule) → ((rule : LineRule) → gives ≡ Err rule → IsSpecRule rule) → ended_by form gives ≡ Err rule → IsSpecRule rule
+ended_rule form (Ok next) rule rules e = absurd cc
+ended_rule form (Err broken) rule rules e = let same : broken ≡ rule = cc in subst IsSpecRule same (rules broken refl)
+
+found_rule : (spec : Spec) (found : Option FormText) (rule : LineRule) → after_form_of spec found ≡ Err rule → IsSpecRule rule
+found_rule spec None rule e = let same : S2 ≡ rule = cc in subst IsSpecRule same tt
+found_rule spec (Some form) rule e = ended_rule form (after_form spec form) rule (form_rule spec form) e
+
+words_rule : (spec : Spec) (found : Option (List (List ℕ))) (rule : LineRule) → after_words spec found ≡ Err rule → IsSpecRule rule
+words_rule spec None rule e = let same : S2 ≡ rule = cc in subst IsSpecRule same tt
+words_rule spec (Some words) rule e = found_rule spec (form_of words) rule e
+
+pub line_rule : (spec : Spec) (bytes : List ℕ) (rule : LineRule) → after_bytes spec bytes ≡ Err rule → IsSpecRule rule
+unfolding after_bytes
+line_rule spec bytes rule e = words_rule spec (plain_words_of bytes) rule e

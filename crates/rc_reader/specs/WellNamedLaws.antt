@@ -1,0 +1,111 @@
+-- A line that breaks no rule leaves the specification well named.
+use Rattle.std.proofs.Common.{◌≡◌, ℕ, false, List, []}
+use Rattle.std.specs.Prelude.{unwrap_or}
+use Rattle.std.proofs.lemmas.Bool.{or_parts}
+use Rattle.rc_tuple.specs.RisingSet.{AreDistinct}
+use Rattle.rc_spec.specs.declared.items.Column.{Column}
+use Rattle.rc_spec.specs.declared.items.Node.{Node}
+use Rattle.rc_spec.specs.declared.items.Edge.{Edge}
+use Rattle.rc_spec.specs.declared.items.Class.{Class}
+use Rattle.rc_spec.specs.declared.items.Op.{Op}
+use Rattle.rc_spec.specs.declared.items.OpKind.{OpKind}
+use Rattle.rc_spec.specs.declared.items.OpKind.TheVariants as kinds
+use Rattle.rc_spec.specs.declared.spec.Spec.{Spec}
+use Rattle.rc_spec.specs.Spec.{empty}
+use Rattle.rc_spec.specs.Names.{node_names, edge_names, class_names, op_names, AreNames, IsWellNamed}
+use Rattle.rc_reader.specs.Names.{is_refused_name}
+use Rattle.rc_reader.specs.Forms.{header_line, column_line, dependency_line, node_line, edge_line, lock_line, place_line, query_line, insert_line, remove_line, end_line}
+use Rattle.rc_reader.specs.Rules.{repeats, number_named, columns_named, set_named, operation_of, with_operation}
+use Rattle.rc_reader.specs.MembersLaws.{each_push, distinct_from_test}
+use Rattle.rc_reader.specs.NamesLaws.{items_push}
+use Rattle.rc_reader.specs.RulesLaws.{Keeps}
+
+well_named-operation : (spec : Spec) (name : List ℕ) (pattern : List (List ℕ)) (kind : OpKind) → IsWellNamed spec → (is_refused_name (op_names spec.ops) name ≡ false) × (repeats spec pattern ≡ false) → IsWellNamed (with_operation spec (operation_of spec name pattern kind))
+well_named-operation spec name pattern kind named parts =
+    let more : Op = operation_of spec name pattern kind in
+    record {
+      columns = named.columns;
+      nodes = named.nodes;
+      edges = named.edges;
+      classes = named.classes;
+      ops = items_push (λ (x : Op). x.name) spec.ops more named.ops parts.0;
+      patterns = each_push (λ (x : Op). AreDistinct x.pattern) spec.ops more named.patterns (distinct_from_test (columns_named spec pattern) parts.1);
+    }
+
+well_named-with_line : Keeps IsWellNamed
+well_named-with_line spec header_line next formed is_taken named = named
+well_named-with_line spec (column_line name kind) next formed is_taken named =
+    let more : Column = record { name = name; kind = kind } in
+    record {
+      columns = items_push (λ (x : Column). x.name) spec.columns more named.columns is_taken.names;
+      nodes = named.nodes;
+      edges = named.edges;
+      classes = named.classes;
+      ops = named.ops;
+      patterns = named.patterns;
+    }
+well_named-with_line spec (dependency_line left right) next formed is_taken named = record {
+  columns = named.columns;
+  nodes = named.nodes;
+  edges = named.edges;
+  classes = named.classes;
+  ops = named.ops;
+  patterns = named.patterns;
+}
+well_named-with_line spec (node_line name columns) next formed is_taken named =
+    let parts = or_parts (is_refused_name (node_names spec.nodes) name) (repeats spec columns) is_taken.names in
+    let more : Node = record { name = name; cols = set_named spec columns } in
+    record {
+      columns = named.columns;
+      nodes = items_push (λ (x : Node). x.name) spec.nodes more named.nodes parts.0;
+      edges = named.edges;
+      classes = named.classes;
+      ops = named.ops;
+      patterns = named.patterns;
+    }
+well_named-with_line spec (edge_line name from to kind key) next formed is_taken named =
+    let parts = or_parts (is_refused_name (edge_names spec.edges) name) (repeats spec key) is_taken.names in
+    let more : Edge = record { name = name; from = number_named (node_names spec.nodes) from; to = number_named (node_names spec.nodes) to; kind = kind; key = set_named spec key } in
+    record {
+      columns = named.columns;
+      nodes = named.nodes;
+      edges = items_push (λ (x : Edge). x.name) spec.edges more named.edges parts.0;
+      classes = named.classes;
+      ops = named.ops;
+      patterns = named.patterns;
+    }
+well_named-with_line spec (lock_line name number columns) next formed is_taken named =
+    let parts = or_parts (is_refused_name (class_names spec.classes) name) (repeats spec columns) is_taken.names in
+    let more : Class = record { name = name; stripes = unwrap_or number 0; cols = set_named spec columns } in
+    record {
+      columns = named.columns;
+      nodes = named.nodes;
+      edges = named.edges;
+      classes = items_push (λ (x : Class). x.name) spec.classes more named.classes parts.0;
+      ops = named.ops;
+      patterns = named.patterns;
+    }
+well_named-with_line spec (place_line edge class) next formed is_taken named = record {
+  columns = named.columns;
+  nodes = named.nodes;
+  edges = named.edges;
+  classes = named.classes;
+  ops = named.ops;
+  patterns = named.patterns;
+}
+well_named-with_line spec (query_line name pattern outs) next formed is_taken named =
+    well_named-operation spec name pattern (kinds.Query (columns_named spec outs)) named (or_parts (is_refused_name (op_names spec.ops) name) (repeats spec pattern) is_taken.names)
+well_named-with_line spec (insert_line name pattern) next formed is_taken named =
+    well_named-operation spec name pattern kinds.Insert named (or_parts (is_refused_name (op_names spec.ops) name) (repeats spec pattern) is_taken.names)
+well_named-with_line spec (remove_line name pattern) next formed is_taken named =
+    well_named-operation spec name pattern kinds.Remove named (or_parts (is_refused_name (op_names spec.ops) name) (repeats spec pattern) is_taken.names)
+well_named-with_line spec end_line next formed is_taken named = named
+
+pub well_named-keeps : Keeps IsWellNamed
+well_named-keeps = well_named-with_line
+
+no_names : AreNames []
+no_names = record { each = λ name none. absurd none; distinct = tt }
+
+pub well_named-empty : IsWellNamed empty
+well_named-empty = record { columns = no_names; nodes = no_names; edges = no_names; classes = no_names; ops = no_names; patterns = λ op none. absurd none }

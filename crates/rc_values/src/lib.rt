@@ -1,0 +1,13 @@
+//! Text values as ranks among all texts of a workload.
+#![tactic(auto)]
+
+mod laws;
+mod name64;
+mod ranks;
+
+pub use laws::{ranks_are_places, ranks_keep_order};
+pub use name64::Name64;
+pub use ranks::Ranks;
+
+#[cfg(test)]
+mod tests;

@@ -1,0 +1,3 @@
+pub mod RawLemmas
+pub mod WordLemmas
+pub mod ReadingLemmas

@@ -1,0 +1,68 @@
+-- The forms of a workload's lines, from their words.
+use Rattle.std.specs.Prelude.{ℕ, Bool, true, if◌then◌else◌, List, [], ◌∷◌, map, Option, Some, None, Result, Ok, Err, codes}
+use Rattle.std.specs.List.{list_all}
+use Rattle.std.specs.Str.{bytes_eq}
+use Rattle.rc_text.specs.Words.{WordText, plain_text, quoted_text, text_of, words_of}
+use Rattle.rc_text.specs.declared.words.Word.{Word}
+use Rattle.rc_text.specs.declared.words.WordFault.{WordFault}
+use Rattle.rc_text.specs.Numbers.{is_number}
+use Rattle.rc_work.specs.declared.forms.Form.{Form}
+use Rattle.rc_work.specs.declared.forms.Form.TheVariants as forms
+
+-- words without where they lie in memory
+abbrev pub word_texts : List Word → List WordText
+word_texts words = map text_of words
+
+-- a word put before the words that are read, if they are
+abbrev pub onto_words : WordText → Option (List WordText) → Option (List WordText)
+onto_words word None = None
+onto_words word (Some words) = Some (word ∷ words)
+
+-- the words of a line, if none has a fault
+abbrev pub all_read : List (Result WordText WordFault) → Option (List WordText)
+all_read [] = Some []
+all_read (Ok word ∷ words) = onto_words word (all_read words)
+all_read (Err fault ∷ words) = None
+
+abbrev pub words_read : List ℕ → Option (List WordText)
+words_read bytes = all_read (words_of bytes)
+
+-- what a line behind the header says: a call has the word of its thread, the word of its operation, and the words of
+-- its values, each of which is digits or quoted
+pub data FormText : Type 0 where
+  round_line : FormText
+  end_line : FormText
+  call_line : List ℕ → List ℕ → List WordText → FormText
+
+abbrev pub form_text : Form → FormText
+form_text forms.Round = round_line
+form_text forms.End = end_line
+form_text (forms.Call thread op values) = call_line thread.now op.now (word_texts values.now)
+
+-- a line of one word
+abbrev pub alone : FormText → List WordText → Option FormText
+alone form [] = Some form
+alone form (word ∷ words) = None
+
+-- a word that stands for a value
+abbrev pub is_value : WordText → Bool
+is_value (plain_text word) = is_number word
+is_value (quoted_text text) = true
+
+abbrev pub call_form : List ℕ → List WordText → Option FormText
+call_form thread (plain_text op ∷ values) = if list_all is_value values then Some (call_line thread op values) else None
+call_form thread (quoted_text text ∷ values) = None
+call_form thread [] = None
+
+-- what a line with this first word and these further words says, if it has one of the forms
+abbrev pub form_by : List ℕ → List WordText → Option FormText
+form_by first words =
+    if bytes_eq first (codes "round") then alone round_line words
+    else if bytes_eq first (codes "end") then alone end_line words
+    else if is_number first then call_form first words
+    else None
+
+unfoldable pub form_of : List WordText → Option FormText
+form_of [] = None
+form_of (plain_text first ∷ words) = form_by first words
+form_of (quoted_text text ∷ words) = None

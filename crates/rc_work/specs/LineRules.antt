@@ -1,0 +1,128 @@
+-- The rules that a line behind the header may break, after the lines before it, and what it adds where it breaks none.
+use Rattle.std.specs.Prelude.{ℕ, Bool, true, false, not, ◌||◌, ◌==◌, nat_le, nat_lt, if◌then◌else◌, List, [], ◌∷◌, ◌++◌, length, sum_by, Option, Some, None, is_none, unwrap_or, Result, Ok, Err}
+use Rattle.std.specs.List.{list_any, filter_map}
+use Rattle.std.specs.Option.{option_map_or}
+use Rattle.rc_text.specs.Words.{WordText, plain_text, quoted_text}
+use Rattle.rc_text.specs.Numbers.{u64_of}
+use Rattle.rc_text.specs.declared.numbers.NumFault.{NumFault}
+use Rattle.rc_spec.specs.Names.{op_names}
+use Rattle.rc_spec.specs.declared.items.ColKind.{ColKind}
+use Rattle.rc_spec.specs.declared.items.ColKind.TheVariants as kinds
+use Rattle.rc_spec.specs.declared.spec.Spec.{Spec}
+use Rattle.rc_reader.specs.Names.{number_among}
+use Rattle.rc_reader.specs.declared.refusal.LineRule.{LineRule}
+use Rattle.rc_reader.specs.declared.refusal.LineRule.TheVariants.{S5, S6, S7, S8, W1, W2, W3}
+use Rattle.rc_work.specs.declared.raw.RawValue.{RawValue}
+use Rattle.rc_work.specs.declared.raw.RawValue.TheVariants as raw
+use Rattle.rc_work.specs.declared.raw.RawTurn.{RawTurn}
+use Rattle.rc_work.specs.declared.raw.Draft.{Draft}
+use Rattle.rc_work.specs.Printed.{kind_at}
+use Rattle.rc_work.specs.CallColumns.{columns_at}
+use Rattle.rc_work.specs.RawTurns.{onto_last}
+use Rattle.rc_work.specs.LineForms.{FormText, round_line, end_line, call_line}
+
+abbrev pub thread_by : ℕ → Result ℕ NumFault → Option ℕ
+thread_by threads (Ok number) = if nat_lt number threads then Some number else None
+thread_by threads (Err fault) = None
+
+-- the thread that a word of digits names, if it is below the count
+abbrev pub thread_of : ℕ → List ℕ → Option ℕ
+thread_of threads word = thread_by threads (u64_of word)
+
+abbrev pub number_by : Result ℕ NumFault → Option RawValue
+number_by (Ok number) = Some (raw.Number number)
+number_by (Err fault) = None
+
+-- the value that digits or a quoted word stand for, if the number is at most 2^64 - 1 and the text has at most 64 bytes
+abbrev pub raw_value : WordText → Option RawValue
+raw_value (plain_text word) = number_by (u64_of word)
+raw_value (quoted_text text) = if nat_le (length text) 64 then Some (raw.Text text) else None
+
+abbrev pub raw_values : List WordText → List RawValue
+raw_values words = filter_map raw_value words
+
+abbrev pub is_too_large : WordText → Bool
+is_too_large word = is_none (raw_value word)
+
+-- the number of the operation with this name
+abbrev pub op_number : Spec → List ℕ → Option ℕ
+op_number spec word = number_among (op_names spec.ops) word
+
+-- the columns to which a call of that operation gives values
+abbrev pub columns_named : Spec → List ℕ → List ℕ
+columns_named spec word = option_map_or (columns_at spec) (op_number spec word) []
+
+-- a number for a column of texts, or a text for a column of numbers
+abbrev pub is_wrong_kind : ColKind → RawValue → Bool
+is_wrong_kind kinds.Num (raw.Number number) = false
+is_wrong_kind kinds.Num (raw.Text text) = true
+is_wrong_kind kinds.Text (raw.Number number) = true
+is_wrong_kind kinds.Text (raw.Text text) = false
+
+-- a value is so for the column beside it
+abbrev pub has_wrong_kind : Spec → List ℕ → List RawValue → Bool
+has_wrong_kind spec [] values = false
+has_wrong_kind spec (col ∷ cols) [] = false
+has_wrong_kind spec (col ∷ cols) (value ∷ values) = is_wrong_kind (kind_at spec col) value || has_wrong_kind spec cols values
+
+-- S5: a thread that is not below the count, a value above 2^64 - 1, or a text of more than 64 bytes
+abbrev pub breaks_range : Draft → FormText → Bool
+breaks_range draft round_line = false
+breaks_range draft end_line = false
+breaks_range draft (call_line thread op values) = is_none (thread_of draft.threads thread) || list_any is_too_large values
+
+-- S6: the line is one more than 64 rounds, or than 20,000 calls
+abbrev pub breaks_limit : Draft → FormText → Bool
+breaks_limit draft round_line = nat_le 64 (length draft.rounds)
+breaks_limit draft end_line = false
+breaks_limit draft (call_line thread op values) = nat_le 20000 (sum_by length draft.rounds)
+
+-- S7: a call before the first `round`
+abbrev pub breaks_order : Draft → FormText → Bool
+breaks_order draft round_line = false
+breaks_order draft end_line = false
+breaks_order draft (call_line thread op values) = length draft.rounds == 0
+
+-- W1: the word names no operation
+abbrev pub breaks_operation : Spec → FormText → Bool
+breaks_operation spec round_line = false
+breaks_operation spec end_line = false
+breaks_operation spec (call_line thread op values) = is_none (op_number spec op)
+
+-- W2: the number of values is not the operation's
+abbrev pub breaks_count : Spec → FormText → Bool
+breaks_count spec round_line = false
+breaks_count spec end_line = false
+breaks_count spec (call_line thread op values) = not (length values == length (columns_named spec op))
+
+-- W3: a number for a column of texts, or a text for a column of numbers
+abbrev pub breaks_kinds : Spec → FormText → Bool
+breaks_kinds spec round_line = false
+breaks_kinds spec end_line = false
+breaks_kinds spec (call_line thread op values) = has_wrong_kind spec (columns_named spec op) (raw_values values)
+
+-- the turn of a call
+abbrev pub turn_of : Spec → Draft → List ℕ → List ℕ → List WordText → RawTurn
+turn_of spec draft thread op values = record {
+  thread = unwrap_or (thread_of draft.threads thread) 0;
+  op = unwrap_or (op_number spec op) 0;
+  values = raw_values values;
+}
+
+-- what was read, with the line
+abbrev pub with_line : Spec → Draft → FormText → Draft
+with_line spec draft round_line = record draft { rounds = draft.rounds ++ [] ∷ [] }
+with_line spec draft end_line = record draft { ended = true }
+with_line spec draft (call_line thread op values) = record draft { rounds = onto_last draft.rounds (turn_of spec draft thread op values) }
+
+-- the first rule from S5 on that the line breaks, or what was read with it; S8: a line after `end`
+abbrev pub after_form : Spec → Draft → FormText → Result Draft LineRule
+after_form spec draft form =
+    if breaks_range draft form then Err S5
+    else if breaks_limit draft form then Err S6
+    else if breaks_order draft form then Err S7
+    else if draft.ended then Err S8
+    else if breaks_operation spec form then Err W1
+    else if breaks_count spec form then Err W2
+    else if breaks_kinds spec form then Err W3
+    else Ok (with_line spec draft form)

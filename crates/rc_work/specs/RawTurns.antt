@@ -1,0 +1,9 @@
+-- Turns as they stand in the text.
+use Rattle.std.specs.Prelude.{List, [], ◌∷◌, ◌++◌}
+use Rattle.rc_work.specs.declared.raw.RawTurn.{RawTurn}
+
+-- the rounds with one more turn at the end of the last one
+abbrev pub onto_last : List (List RawTurn) → RawTurn → List (List RawTurn)
+onto_last [] turn = []
+onto_last (round ∷ []) turn = (round ++ turn ∷ []) ∷ []
+onto_last (round ∷ next ∷ rounds) turn = round ∷ onto_last (next ∷ rounds) turn

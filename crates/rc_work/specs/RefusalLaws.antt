@@ -1,0 +1,134 @@
+-- A workload is refused by its own rules alone.
+use Rattle.std.proofs.Common.{◌≡◌, ℕ, Bool, true, false, cond, List, [], ◌∷◌, codes, Option, Some, None, Result, Ok, Err, refl, subst}
+use Rattle.std.specs.Prelude.{◌&&◌, nat_le}
+use Rattle.std.specs.Str.{bytes_eq}
+use Rattle.rc_text.specs.Lines.{ContentLine, TextPlace, content_from, past_end_of}
+use Rattle.rc_text.specs.Words.{WordText, plain_text, quoted_text}
+use Rattle.rc_text.specs.Numbers.{u64_of}
+use Rattle.rc_text.specs.declared.numbers.NumFault.{NumFault}
+use Rattle.rc_text.specs.declared.numbers.NumFault.TheVariants as faults
+use Rattle.rc_spec.specs.declared.spec.Spec.{Spec}
+use Rattle.rc_reader.specs.Grammar.{Broken}
+use Rattle.rc_reader.specs.Answers.{Refuses}
+use Rattle.rc_reader.specs.declared.refusal.LineRule.{LineRule}
+use Rattle.rc_reader.specs.declared.refusal.LineRule.TheVariants.{S1, S2, S5, S6, S7, S8, W1, W2, W3}
+use Rattle.rc_reader.specs.declared.refusal.ReadRefusal.{ReadRefusal}
+use Rattle.rc_reader.specs.declared.refusal.ReadRefusal.TheVariants as refusals
+use Rattle.rc_work.specs.declared.raw.Draft.{Draft}
+use Rattle.rc_work.specs.declared.work.Work.{Work}
+use Rattle.rc_work.specs.LineForms.{FormText, words_read, form_of}
+use Rattle.rc_work.specs.LineRules.{breaks_range, breaks_limit, breaks_order, breaks_operation, breaks_count, breaks_kinds, with_line, after_form}
+use Rattle.rc_work.specs.WorkGrammar.{after_form_of, after_words, after_bytes, broken_at, reading_after, reading_from, threads_by, threads_at, threads_of_words, threads_of_read, threads_of, headed_by, draft_of, reading_behind, reading_all}
+use Rattle.rc_work.specs.Ranking.{work_by, work_reading}
+use Rattle.rc_work.specs.Answers.{IsWorkRule, IsWorkRefusal}
+
+abbrev refused : {X : Type 0} → LineRule → Result X LineRule
+refused rule = Err rule
+
+same_rule : {X : Type 0} (r rule : LineRule) → refused {X = X} r ≡ refused rule → r ≡ rule
+same_rule r rule e = cc
+
+-- a test that refuses, or the tests behind it
+refused_by : {X : Type 0} (b : Bool) (r rule : LineRule) (gives : Result X LineRule) → IsWorkRule r → (gives ≡ Err rule → IsWorkRule rule) → cond b (Err r) gives ≡ Err rule → IsWorkRule rule
+refused_by true r rule gives own others e = subst IsWorkRule (same_rule r rule e) own
+refused_by false r rule gives own others e = others e
+
+form_rule : (spec : Spec) (draft : Draft) (form : FormText) (rule : LineRule) → after_form spec draft form ≡ Err rule → IsWorkRule rule
+form_rule spec draft form rule =
+    refused_by (breaks_range draft form) S5 rule _ tt
+    (refused_by (breaks_limit draft form) S6 rule _ tt
+    (refused_by (breaks_order draft form) S7 rule _ tt
+    (refused_by draft.ended S8 rule _ tt
+    (refused_by (breaks_operation spec form) W1 rule _ tt
+    (refused_by (breaks_count spec form) W2 rule _ tt
+    (refused_by (breaks_kinds spec form) W3 rule (Ok (with_line spec draft form)) tt (λ e. absurd cc)))))))
+
+found_rule : (spec : Spec) (draft : Draft) (found : Option FormText) (rule : LineRule) → after_form_of spec draft found ≡ Err rule → IsWorkRule rule
+found_rule spec draft None rule e = subst IsWorkRule (same_rule S2 rule e) tt
+found_rule spec draft (Some form) rule e = form_rule spec draft form rule e
+
+words_rule : (spec : Spec) (draft : Draft) (found : Option (List WordText)) (rule : LineRule) → after_words spec draft found ≡ Err rule → IsWorkRule rule
+words_rule spec draft None rule e = subst IsWorkRule (same_rule S2 rule e) tt
+words_rule spec draft (Some words) rule e = found_rule spec draft (form_of words) rule e
+
+line_rule : (spec : Spec) (draft : Draft) (bytes : List ℕ) (rule : LineRule) → after_bytes spec draft bytes ≡ Err rule → IsWorkRule rule
+unfolding after_bytes
+line_rule spec draft bytes rule e = words_rule spec draft (words_read bytes) rule e
+
+-- ---- the header
+
+passed_by : {X : Type 0} (b : Bool) (r rule : LineRule) (gives : Result X LineRule) → IsWorkRule r → (gives ≡ Err rule → IsWorkRule rule) → cond b gives (Err r) ≡ Err rule → IsWorkRule rule
+passed_by true r rule gives own others e = others e
+passed_by false r rule gives own others e = subst IsWorkRule (same_rule r rule e) own
+
+count_rule : (found : Result ℕ NumFault) (rule : LineRule) → threads_by found ≡ Err rule → IsWorkRule rule
+count_rule (Ok n) rule e = passed_by (nat_le 1 n && nat_le n 8) S5 rule (Ok n) tt (λ h. absurd cc) e
+count_rule (Err faults.Range) rule e = subst IsWorkRule (same_rule S5 rule e) tt
+count_rule (Err faults.Form) rule e = subst IsWorkRule (same_rule S1 rule e) tt
+
+at_rule : (first : List ℕ) (words : List WordText) (rule : LineRule) → threads_at first words ≡ Err rule → IsWorkRule rule
+at_rule first [] rule e = subst IsWorkRule (same_rule S1 rule e) tt
+at_rule first (quoted_text text ∷ words) rule e = subst IsWorkRule (same_rule S1 rule e) tt
+at_rule first (plain_text count ∷ []) rule e = passed_by (bytes_eq first (codes "work")) S1 rule (threads_by (u64_of count)) tt (count_rule (u64_of count) rule) e
+at_rule first (plain_text count ∷ word ∷ words) rule e = subst IsWorkRule (same_rule S1 rule e) tt
+
+header_words_rule : (words : List WordText) (rule : LineRule) → threads_of_words words ≡ Err rule → IsWorkRule rule
+header_words_rule [] rule e = subst IsWorkRule (same_rule S1 rule e) tt
+header_words_rule (quoted_text text ∷ words) rule e = subst IsWorkRule (same_rule S1 rule e) tt
+header_words_rule (plain_text first ∷ words) rule e = at_rule first words rule e
+
+read_rule : (found : Option (List WordText)) (rule : LineRule) → threads_of_read found ≡ Err rule → IsWorkRule rule
+read_rule None rule e = subst IsWorkRule (same_rule S1 rule e) tt
+read_rule (Some words) rule e = header_words_rule words rule e
+
+header_rule : (bytes : List ℕ) (rule : LineRule) → threads_of bytes ≡ Err rule → IsWorkRule rule
+unfolding threads_of
+header_rule bytes rule e = read_rule (words_read bytes) rule e
+
+-- ---- the lines
+
+abbrev refused_text : {X : Type 0} → Broken → Result X Broken
+refused_text broken = Err broken
+
+same_broken : {X : Type 0} (x y : Broken) → refused_text {X = X} x ≡ refused_text y → x ≡ y
+same_broken x y e = cc
+
+at_line : {X : Type 0} (rule : LineRule) (line : ℕ) (broken : Broken) → IsWorkRule rule → broken_at {X = X} rule line ≡ Err broken → IsWorkRule broken.rule
+at_line {X} rule line broken own e =
+    subst (λ (x : Broken). IsWorkRule x.rule) (same_broken {X = X} (record { rule = rule; line = line }) broken e) own
+
+end_rule : (ended : Bool) (past_end : ℕ) (draft : Draft) (broken : Broken) → cond ended (Ok draft) (broken_at S8 past_end) ≡ Err broken → IsWorkRule broken.rule
+end_rule true past_end draft broken e = absurd cc
+end_rule false past_end draft broken e = at_line {X = Draft} S8 past_end broken tt e
+
+after_rule : (spec : Spec) (draft : Draft) (line : ContentLine) (after : Result Draft LineRule) (go_on : Draft → Result Draft Broken) (broken : Broken) → after_bytes spec draft line.bytes ≡ after → ((next : Draft) → go_on next ≡ Err broken → IsWorkRule broken.rule) → reading_after after line go_on ≡ Err broken → IsWorkRule broken.rule
+after_rule spec draft line (Ok next) go_on broken is others e = others next e
+after_rule spec draft line (Err rule) go_on broken is others e = at_line {X = Draft} rule line.number broken (line_rule spec draft line.bytes rule is) e
+
+lines_rule : (past_end : ℕ) (spec : Spec) (draft : Draft) (lines : List ContentLine) (broken : Broken) → reading_from past_end spec draft lines ≡ Err broken → IsWorkRule broken.rule
+unfolding reading_from
+lines_rule past_end spec draft [] broken e = end_rule draft.ended past_end draft broken e
+lines_rule past_end spec draft (line ∷ others) broken e =
+    after_rule spec draft line (after_bytes spec draft line.bytes) (λ next. reading_from past_end spec next others) broken refl (λ next h. lines_rule past_end spec next others broken h) e
+
+head_rule : (past_end : ℕ) (spec : Spec) (line : ContentLine) (others : List ContentLine) (found : Result ℕ LineRule) (broken : Broken) → threads_of line.bytes ≡ found → reading_behind past_end spec (headed_by found line others) ≡ Err broken → IsWorkRule broken.rule
+head_rule past_end spec line others (Ok threads) broken is e = lines_rule past_end spec (draft_of threads) others broken e
+head_rule past_end spec line others (Err rule) broken is e = at_line {X = Draft} rule line.number broken (header_rule line.bytes rule is) e
+
+content_rule : (past_end : ℕ) (spec : Spec) (lines : List ContentLine) (broken : Broken) → reading_all past_end spec lines ≡ Err broken → IsWorkRule broken.rule
+content_rule past_end spec [] broken e = at_line {X = Draft} S1 past_end broken tt e
+content_rule past_end spec (line ∷ others) broken e = head_rule past_end spec line others (threads_of line.bytes) broken refl e
+
+work_rule : (spec : Spec) (lines : List ContentLine) (past_end : ℕ) (found : Result Draft Broken) (broken : Broken) → reading_all past_end spec lines ≡ found → work_by spec found ≡ Err broken → IsWorkRule broken.rule
+work_rule spec lines past_end (Ok draft) broken is e = absurd cc
+work_rule spec lines past_end (Err other) broken is e =
+    subst (λ (x : Broken). IsWorkRule x.rule) (same_broken {X = Work} other broken e) (content_rule past_end spec lines other is)
+
+-- a workload is refused by one of its rules
+pub IsWorkRule-work_reading : (spec : Spec) (place : TextPlace) (broken : Broken) → work_reading spec place ≡ Err broken → IsWorkRule broken.rule
+IsWorkRule-work_reading spec place broken e =
+    work_rule spec (content_from place) (past_end_of place.text) (reading_all (past_end_of place.text) spec (content_from place)) broken refl e
+
+pub IsWorkRefusal-reading_all : (past_end : ℕ) (spec : Spec) (lines : List ContentLine) (refusal : ReadRefusal) → Refuses refusal (reading_all past_end spec lines) → IsWorkRefusal refusal
+IsWorkRefusal-reading_all past_end spec lines refusals.Memory e = tt
+IsWorkRefusal-reading_all past_end spec lines (refusals.Line rule line) e = content_rule past_end spec lines (record { rule = rule; line = line }) e

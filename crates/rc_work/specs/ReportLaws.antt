@@ -1,0 +1,118 @@
+-- Where the lines of a report stand.
+use Rattle.std.proofs.Common.{◌≡◌, ℕ, zero, suc, ◌+◌, ◌-◌, ◌<◌, ◌≤◌, List, [], ◌∷◌, ◌++◌, length, take, drop, get_or, map, Some, refl, sym, ap, ◌∙◌, arith}
+use Rattle.std.specs.Prelude.{codes}
+use Rattle.std.specs.List.{slice_get, enumerate_from}
+use Rattle.std.proofs.lemmas.List.{length-map, length-append, append_assoc, take-append-drop, take_more}
+use Rattle.std.proofs.lemmas.Option.{slice_get_within, get_or_from_slice_get}
+use Rattle.rc_tuple.specs.Tuple.{Pairs}
+use Rattle.rc_spec.specs.declared.spec.Spec.{Spec}
+use Rattle.rc_rel.specs.declared.entry.Entry.{Entry}
+use Rattle.rc_work.specs.Printed.{row_text}
+use Rattle.rc_text.specs.Lines.{printed_lines}
+use Rattle.rc_work.specs.Report.{entry_line, entry_lines, final_lines, count_line, report}
+
+-- ---- places in two lists, one after the other
+
+pub slice_get_left : {A : Type 0} (xs ys : List A) (i : ℕ) → i < length xs → slice_get (xs ++ ys) i ≡ slice_get xs i
+slice_get_left [] ys i h = absurd (omega arith)
+slice_get_left (x ∷ xs) ys zero h = refl
+slice_get_left (x ∷ xs) ys (suc i) h = slice_get_left xs ys i (omega arith)
+
+pub slice_get_right : {A : Type 0} (xs ys : List A) (i : ℕ) → length xs ≤ i → slice_get (xs ++ ys) i ≡ slice_get ys (i - length xs)
+slice_get_right [] ys i h = let e : i ≡ i - 0 = omega arith in ap (slice_get ys) e
+slice_get_right (x ∷ xs) ys zero h = absurd (omega arith)
+slice_get_right (x ∷ xs) ys (suc i) h = let e : i - length xs ≡ suc i - suc (length xs) = omega arith in slice_get_right xs ys i (omega arith) ∙ ap (slice_get ys) e
+
+pub slice_get_later : {A : Type 0} (x : A) (xs : List A) (i : ℕ) → (i ≡ 0 → ⊥) → slice_get (x ∷ xs) i ≡ slice_get xs (i - 1)
+slice_get_later x xs zero h = absurd (h refl)
+slice_get_later x xs (suc i) h = let e : i ≡ suc i - 1 = omega arith in ap (slice_get xs) e
+
+-- ---- the entries
+
+numbered_at : (f : ℕ × Entry → List ℕ) (n : ℕ) (history : List Entry) (i : ℕ) (e : Entry) → slice_get history i ≡ Some e → slice_get (map f (enumerate_from n history)) i ≡ Some (f (n + i, e))
+numbered_at f n [] i e h = cc
+numbered_at f n (x ∷ history) zero e h =
+    let y : x ≡ e = some_same x e h in
+    let z : n ≡ n + 0 = omega arith in
+    ap (λ k. Some (f (k, x))) z ∙ ap (λ w. Some (f (n + 0, w))) y
+  where
+    some_same : (x e : Entry) → Some x ≡ Some e → x ≡ e
+    some_same x e h = cc
+numbered_at f n (x ∷ history) (suc i) e h =
+    let z : n + 1 + i ≡ n + suc i = omega arith in
+    numbered_at f (n + 1) history i e h ∙ ap (λ k. Some (f (k, e))) z
+
+numbered_length : (f : ℕ × Entry → List ℕ) (n : ℕ) (history : List Entry) → length (map f (enumerate_from n history)) ≡ length history
+numbered_length f n [] = refl
+numbered_length f n (x ∷ history) = ap suc (numbered_length f (n + 1) history)
+
+pub length-entry_lines : (spec : Spec) (texts : List (List ℕ)) (history : List Entry) → length (entry_lines spec texts history) ≡ length history
+length-entry_lines spec texts history = numbered_length (λ e. entry_line spec texts e.0 e.1) 0 history
+
+pub entry_at : (spec : Spec) (texts : List (List ℕ)) (history : List Entry) (i : ℕ) (e : Entry) → slice_get history i ≡ Some e
+    → slice_get (entry_lines spec texts history) i ≡ Some (entry_line spec texts i e)
+entry_at spec texts history i e h =
+    let z : 0 + i ≡ i = omega arith in
+    numbered_at (λ x. entry_line spec texts x.0 x.1) 0 history i e h ∙ ap (λ k. Some (entry_line spec texts k e)) z
+
+-- ---- the report
+
+pub report_entry : (spec : Spec) (texts : List (List ℕ)) (history : List Entry) (rows : List Pairs) (number : ℕ) → (number ≡ 0 → ⊥) → number - 1 < length history
+    → slice_get (report spec texts history rows) number ≡ slice_get (entry_lines spec texts history) (number - 1)
+unfolding report
+report_entry spec texts history rows number h lt =
+    slice_get_later (count_line (codes "journal") (length history)) (entry_lines spec texts history ++ final_lines spec texts rows) number h
+    ∙ slice_get_left (entry_lines spec texts history) (final_lines spec texts rows) (number - 1) (omega (arith, length-entry_lines spec texts history))
+
+pub report_after : (spec : Spec) (texts : List (List ℕ)) (history : List Entry) (rows : List Pairs) (number : ℕ) → (number ≡ 0 → ⊥) → length history ≤ number - 1
+    → slice_get (report spec texts history rows) number ≡ slice_get (final_lines spec texts rows) (number - 1 - length history)
+unfolding report
+report_after spec texts history rows number h le =
+    slice_get_later (count_line (codes "journal") (length history)) (entry_lines spec texts history ++ final_lines spec texts rows) number h
+    ∙ slice_get_right (entry_lines spec texts history) (final_lines spec texts rows) (number - 1) (omega (arith, length-entry_lines spec texts history))
+    ∙ ap (λ n. slice_get (final_lines spec texts rows) (number - 1 - n)) (length-entry_lines spec texts history)
+
+mapped_at : (f : Pairs → List ℕ) (rows : List Pairs) (i : ℕ) (t : Pairs) → slice_get rows i ≡ Some t → slice_get (map f rows) i ≡ Some (f t)
+mapped_at f [] i t h = cc
+mapped_at f (x ∷ rows) zero t h = ap (λ w. Some (f w)) (some_same x t h)
+  where
+    some_same : (x t : Pairs) → Some x ≡ Some t → x ≡ t
+    some_same x t h = cc
+mapped_at f (x ∷ rows) (suc i) t h = mapped_at f rows i t h
+
+pub final_row : (spec : Spec) (texts : List (List ℕ)) (rows : List Pairs) (number : ℕ) (t : Pairs) → (number ≡ 0 → ⊥) → number - 1 < length rows → slice_get rows (number - 1) ≡ Some t
+    → slice_get (final_lines spec texts rows) number ≡ Some (row_text spec texts t)
+final_row spec texts rows number t h lt e =
+    slice_get_later (count_line (codes "final") (length rows)) (map (row_text spec texts) rows ++ codes "end" ∷ []) number h
+    ∙ slice_get_left (map (row_text spec texts) rows) (codes "end" ∷ []) (number - 1) (omega (arith, length-map rows (row_text spec texts)))
+    ∙ mapped_at (row_text spec texts) rows (number - 1) t e
+
+pub final_after : (spec : Spec) (texts : List (List ℕ)) (rows : List Pairs) (number : ℕ) → (number ≡ 0 → ⊥) → length rows ≤ number - 1
+    → slice_get (final_lines spec texts rows) number ≡ slice_get (codes "end" ∷ []) (number - 1 - length rows)
+final_after spec texts rows number h le =
+    slice_get_later (count_line (codes "final") (length rows)) (map (row_text spec texts) rows ++ codes "end" ∷ []) number h
+    ∙ slice_get_right (map (row_text spec texts) rows) (codes "end" ∷ []) (number - 1) (omega (arith, length-map rows (row_text spec texts)))
+    ∙ ap (λ n. slice_get (codes "end" ∷ []) (number - 1 - n)) (length-map rows (row_text spec texts))
+
+pub length-report : (spec : Spec) (texts : List (List ℕ)) (history : List Entry) (rows : List Pairs) → length (report spec texts history rows) ≡ length history + length rows + 3
+unfolding report
+length-report spec texts history rows =
+    let a : length (entry_lines spec texts history ++ final_lines spec texts rows) ≡ length (entry_lines spec texts history) + length (final_lines spec texts rows) =
+    length-append (entry_lines spec texts history) (final_lines spec texts rows) in
+    let b : length (map (row_text spec texts) rows ++ codes "end" ∷ []) ≡ length (map (row_text spec texts) rows) + 1 = length-append (map (row_text spec texts) rows) (codes "end" ∷ []) in
+    omega (arith, a, b, length-entry_lines spec texts history, length-map rows (row_text spec texts))
+
+-- ---- lines one after another
+
+pub printed_lines-append : (xs ys : List (List ℕ)) → printed_lines (xs ++ ys) ≡ printed_lines xs ++ printed_lines ys
+printed_lines-append [] ys = refl
+printed_lines-append (x ∷ xs) ys = ap (λ l. (x ++ 10 ∷ []) ++ l) (printed_lines-append xs ys) ∙ sym (append_assoc (x ++ 10 ∷ []) (printed_lines xs) (printed_lines ys))
+
+-- the text of the lines is that of the first ones and that of the others
+pub printed_lines-parts : (lines : List (List ℕ)) (i : ℕ) → printed_lines lines ≡ printed_lines (take i lines) ++ printed_lines (drop i lines)
+printed_lines-parts lines i = ap printed_lines (sym (take-append-drop i lines)) ∙ printed_lines-append (take i lines) (drop i lines)
+
+pub printed_lines_next : (lines : List (List ℕ)) (i : ℕ) (line : List ℕ) → slice_get lines i ≡ Some line → printed_lines (take (i + 1) lines) ≡ printed_lines (take i lines) ++ printed_lines (line ∷ [])
+printed_lines_next lines i line h =
+    ap printed_lines (take_more lines i [] (slice_get_within lines i line h)) ∙ printed_lines-append (take i lines) (get_or lines i [] ∷ [])
+    ∙ ap (λ l. printed_lines (take i lines) ++ printed_lines (l ∷ [])) (get_or_from_slice_get lines i line [] h)

@@ -1,0 +1,93 @@
+-- What the content lines behind a specification give: a draft of a workload, or the first broken line rule with its line.
+use Rattle.std.specs.Prelude.{ℕ, false, ◌&&◌, nat_le, if◌then◌else◌, List, [], ◌∷◌, Option, Some, None, Result, Ok, Err, codes}
+use Rattle.std.specs.Str.{bytes_eq}
+use Rattle.rc_text.specs.Lines.{ContentLine}
+use Rattle.rc_text.specs.Words.{WordText, plain_text}
+use Rattle.rc_text.specs.Numbers.{u64_of}
+use Rattle.rc_text.specs.declared.numbers.NumFault.{NumFault}
+use Rattle.rc_text.specs.declared.numbers.NumFault.TheVariants as faults
+use Rattle.rc_spec.specs.declared.spec.Spec.{Spec}
+use Rattle.rc_reader.specs.Grammar.{Broken}
+use Rattle.rc_reader.specs.declared.refusal.LineRule.{LineRule}
+use Rattle.rc_reader.specs.declared.refusal.LineRule.TheVariants.{S1, S2, S5, S8}
+use Rattle.rc_work.specs.declared.raw.Draft.{Draft}
+use Rattle.rc_work.specs.LineForms.{FormText, words_read, form_of}
+use Rattle.rc_work.specs.LineRules.{after_form}
+
+abbrev pub after_form_of : Spec → Draft → Option FormText → Result Draft LineRule
+after_form_of spec draft None = Err S2
+after_form_of spec draft (Some form) = after_form spec draft form
+
+abbrev pub after_words : Spec → Draft → Option (List WordText) → Result Draft LineRule
+after_words spec draft None = Err S2
+after_words spec draft (Some words) = after_form_of spec draft (form_of words)
+
+-- S2 to W3 for a line behind the header, after the lines that gave this draft
+unfoldable pub after_bytes : Spec → Draft → List ℕ → Result Draft LineRule
+after_bytes spec draft bytes = after_words spec draft (words_read bytes)
+
+abbrev pub broken_at : {X : Type 0} → LineRule → ℕ → Result X Broken
+broken_at rule line = Err (record { rule = rule; line = line })
+
+abbrev pub reading_after : Result Draft LineRule → ContentLine → (Draft → Result Draft Broken) → Result Draft Broken
+reading_after (Err rule) line go_on = broken_at rule line.number
+reading_after (Ok next) line go_on = go_on next
+
+-- S8 where the lines run out: `end` does not stand before, and the line is one past the last
+abbrev pub at_end : ℕ → Draft → Result Draft Broken
+at_end past_end draft = if draft.ended then Ok draft else broken_at S8 past_end
+
+-- The lines behind the header, tested in order.
+unfoldable pub reading_from : ℕ → Spec → Draft → List ContentLine → Result Draft Broken
+reading_from past_end spec draft [] = at_end past_end draft
+reading_from past_end spec draft (line ∷ others) =
+    reading_after (after_bytes spec draft line.bytes) line (λ next. reading_from past_end spec next others)
+
+-- S1 for a count of threads that is no digits, and S5 for one that is not 1 to 8
+abbrev pub threads_by : Result ℕ NumFault → Result ℕ LineRule
+threads_by (Ok threads) = if nat_le 1 threads && nat_le threads 8 then Ok threads else Err S5
+threads_by (Err faults.Range) = Err S5
+threads_by (Err faults.Form) = Err S1
+
+abbrev pub threads_at : List ℕ → List WordText → Result ℕ LineRule
+threads_at first (plain_text count ∷ []) = if bytes_eq first (codes "work") then threads_by (u64_of count) else Err S1
+threads_at first words = Err S1
+
+-- the number of threads that the header's words give: S1 where they are not `work` and one number
+abbrev pub threads_of_words : List WordText → Result ℕ LineRule
+threads_of_words (plain_text first ∷ words) = threads_at first words
+threads_of_words words = Err S1
+
+abbrev pub threads_of_read : Option (List WordText) → Result ℕ LineRule
+threads_of_read None = Err S1
+threads_of_read (Some words) = threads_of_words words
+
+-- the number of threads that a header gives
+unfoldable pub threads_of : List ℕ → Result ℕ LineRule
+threads_of bytes = threads_of_read (words_read bytes)
+
+-- the number of threads, and the lines behind the header
+pub record Headed : Type 0 where
+  pub threads : ℕ
+  pub others : List ContentLine
+
+abbrev pub headed_by : Result ℕ LineRule → ContentLine → List ContentLine → Result Headed Broken
+headed_by (Err rule) line others = broken_at rule line.number
+headed_by (Ok threads) line others = Ok (record { threads = threads; others = others })
+
+-- The first of the lines is the header. S1: there is no line, and the line is one past the last.
+abbrev pub headed : ℕ → List ContentLine → Result Headed Broken
+headed past_end [] = broken_at S1 past_end
+headed past_end (line ∷ others) = headed_by (threads_of line.bytes) line others
+
+-- what is read when the header is
+abbrev pub draft_of : ℕ → Draft
+draft_of threads = record { threads = threads; ended = false; rounds = [] }
+
+abbrev pub reading_behind : ℕ → Spec → Result Headed Broken → Result Draft Broken
+reading_behind past_end spec (Err broken) = Err broken
+reading_behind past_end spec (Ok head) = reading_from past_end spec (draft_of head.threads) head.others
+
+-- what the content lines behind a specification give
+abbrev pub reading_all : ℕ → Spec → List ContentLine → Result Draft Broken
+reading_all past_end spec lines = reading_behind past_end spec (headed past_end lines)

@@ -1,0 +1,26 @@
+//! Workloads: what a text says of them, their runs, and the report of a run.
+#![tactic(auto)]
+
+mod columns;
+mod fault;
+mod forms;
+mod laws;
+mod printing;
+mod ranking;
+mod raw;
+mod reading;
+mod reading_laws;
+mod report;
+mod rules;
+mod words;
+mod work;
+
+pub use laws::runs_make_calls;
+pub use printing::{print_step, print_tuple};
+pub use reading::read_work;
+pub use reading_laws::first_broken_work_line;
+pub use report::Report;
+pub use work::{Round, Rounds, Turn, Work};
+
+#[cfg(test)]
+mod reading_tests;

@@ -1,0 +1,147 @@
+//! Gives each text its rank, and makes the calls.
+
+ghost use Rattle.std.specs.Prelude.{◌≡◌, ◌++◌, map, IfOk, OnOk};
+ghost use Rattle.std.specs.List.{AllByRecursion};
+ghost use Rattle.rc_tuple.specs.Tuple.{IsTuple};
+ghost use Rattle.rc_spec.specs.InRange.{IsInRange};
+ghost use Rattle.rc_spec.specs.Names.{IsWellNamed};
+ghost use Rattle.rc_work.specs.Drafts.{IsRawTurn};
+ghost use Rattle.rc_work.specs.Ranking.{texts_in_turn, texts_in_round, texts_in, ranked_value, ranked_turn, ranked_round, ranked_rounds, work_of};
+
+use crate::columns::columns_at;
+use crate::raw::{Draft, RawRound, RawTurn, RawValue};
+use crate::work::{Round, Rounds, Turn, Work};
+use rc_spec::{Call, Spec};
+use rc_tuple::{Memory, Tuple};
+use rc_values::{Name64, Ranks};
+use std::alloc::Global;
+
+/// Appends the texts of a turn's values.
+fn push_turn_texts(texts: &mut Vec<Name64>, turn: &RawTurn) -> Result<(), Memory>
+    ensures { OnOk result (texts.new.items ≡ texts.old.items ++ texts_in_turn turn.now) }
+{
+    for value in turn.values.list() {
+        if let RawValue::Text(text) = value {
+            let text = Name64::new(*texts.allocator(), text.bytes())?;
+            texts.push(text)?;
+        }
+    }
+    Ok(())
+}
+
+/// Appends the texts of a round's values.
+fn push_round_texts(texts: &mut Vec<Name64>, round: &[RawTurn]) -> Result<(), Memory>
+    ensures { OnOk result (texts.new.items ≡ texts.old.items ++ texts_in_round round.now) }
+{
+    for turn in round {
+        push_turn_texts(texts, turn)?;
+    }
+    Ok(())
+}
+
+/// The texts of all values.
+fn texts_in(alloc: Global, rounds: &[RawRound]) -> Result<Vec<Name64>, Memory>
+    ensures { IfOk result (λ texts. texts.items ≡ texts_in rounds.now) }
+{
+    let mut texts = Vec::new(alloc);
+    for round in rounds {
+        push_round_texts(&mut texts, round.list())?;
+    }
+    Ok(texts)
+}
+
+/// The number that stands for a value.
+fn ranked_value(ranks: &Ranks, value: &RawValue) -> u64
+    ensures { result ≡ ranked_value ranks.now value.now }
+{
+    match value {
+        RawValue::Number(number) => *number,
+        RawValue::Text(text) => ranks.rank_of(text.bytes()).unwrap_or(0),
+    }
+}
+
+/// The numbers that stand for values.
+fn ranked_values(alloc: Global, ranks: &Ranks, values: &[RawValue]) -> Result<Vec<u64>, Memory>
+    ensures { IfOk result (λ vals. vals.items ≡ map (ranked_value ranks.now) values.now) }
+{
+    let mut vals = Vec::new(alloc);
+    for value in values {
+        vals.push(ranked_value(ranks, value))?;
+    }
+    Ok(vals)
+}
+
+/// The turn with its call.
+fn ranked_turn(alloc: Global, spec: &Spec, ranks: &Ranks, turn: &RawTurn) -> Result<Turn, Memory>
+    requires range { IsInRange spec.now }
+    requires named { IsWellNamed spec.now }
+    requires turn { IsRawTurn spec.now turn.now }
+    ensures turn { IfOk result (λ ranked. ranked ≡ ranked_turn spec.now ranks.now turn.now) }
+    ensures tuple { IfOk result (λ ranked. IsTuple ranked.call.args) }
+{
+    let cols = columns_at(alloc, spec, turn.op as usize)?;
+    let vals = ranked_values(alloc, ranks, turn.values.list())?;
+    let args = Tuple::from_columns(alloc, cols.list(), &vals)?;
+    Ok(Turn {
+        thread: turn.thread,
+        call: Call { op: turn.op, args },
+    })
+}
+
+/// The round with its calls.
+fn ranked_round(
+    alloc: Global,
+    spec: &Spec,
+    ranks: &Ranks,
+    round: &[RawTurn],
+) -> Result<Round, Memory>
+    requires range { IsInRange spec.now }
+    requires named { IsWellNamed spec.now }
+    requires turns { AllByRecursion (IsRawTurn spec.now) round.now }
+    ensures turns { IfOk result (λ ranked. ranked ≡ ranked_round spec.now ranks.now round.now) }
+    ensures tuples { IfOk result (λ ranked. AllByRecursion (λ turn. IsTuple turn.call.args) ranked) }
+{
+    let mut ranked = Round::new(alloc);
+    for turn in round {
+        ranked.push(ranked_turn(alloc, spec, ranks, turn)?)?;
+    }
+    Ok(ranked)
+}
+
+/// The rounds with their calls.
+fn ranked_rounds(
+    alloc: Global,
+    spec: &Spec,
+    ranks: &Ranks,
+    rounds: &[RawRound],
+) -> Result<Rounds, Memory>
+    requires range { IsInRange spec.now }
+    requires named { IsWellNamed spec.now }
+    requires turns { AllByRecursion (AllByRecursion (IsRawTurn spec.now)) rounds.now }
+    ensures rounds { IfOk result (λ ranked. ranked ≡ ranked_rounds spec.now ranks.now rounds.now) }
+    ensures tuples { IfOk result (λ ranked. AllByRecursion (AllByRecursion (λ turn. IsTuple turn.call.args)) ranked) }
+{
+    let mut ranked = Rounds::new(alloc);
+    for round in rounds {
+        ranked.push(ranked_round(alloc, spec, ranks, round.list())?)?;
+    }
+    Ok(ranked)
+}
+
+/// The workload of a draft.
+pub(crate) fn work_of(alloc: Global, spec: &Spec, draft: &Draft) -> Result<Work, Memory>
+    requires range { IsInRange spec.now }
+    requires named { IsWellNamed spec.now }
+    requires turns { AllByRecursion (AllByRecursion (IsRawTurn spec.now)) draft.now.rounds }
+    ensures work { IfOk result (λ work. work ≡ work_of spec.now draft.now) }
+    ensures tuples { IfOk result (λ work. AllByRecursion (AllByRecursion (λ turn. IsTuple turn.call.args)) work.rounds) }
+{
+    let rounds = draft.rounds.list();
+    let ranks = Ranks::build(texts_in(alloc, rounds)?)?;
+    let rounds = ranked_rounds(alloc, spec, &ranks, rounds)?;
+    Ok(Work {
+        threads: draft.threads,
+        rounds,
+        ranks,
+    })
+}

@@ -1,0 +1,193 @@
+//! The rules that a line may break, and what it adds where it breaks none.
+
+ghost use Rattle.std.specs.Prelude.{◌≡◌, length, IfOk};
+ghost use Rattle.std.specs.List.{list_any};
+ghost use Rattle.rc_text.specs.Words.{text_of};
+ghost use Rattle.rc_spec.specs.InRange.{IsInRange};
+ghost use Rattle.rc_spec.specs.declared.spec.Spec.{Spec};
+ghost use Rattle.rc_work.specs.LineForms.{word_texts, form_text, round_line, end_line, call_line};
+ghost use Rattle.rc_work.specs.LineRules.{thread_of, raw_value, raw_values, is_too_large, is_wrong_kind, has_wrong_kind, after_form};
+ghost use Rattle.rc_work.specs.Answers.{TakesLine};
+
+use crate::columns::columns_at;
+use crate::fault::LineFault;
+use crate::forms::Form;
+use crate::printing::kind_at;
+use crate::raw::{Draft, RawTurn, RawValue, RawValues};
+use rc_reader::{LineRule, number_among};
+use rc_spec::{ColKind, Spec};
+use rc_text::{Word, read_u64};
+use rc_tuple::Memory;
+use rc_values::Name64;
+use std::alloc::Global;
+
+/// The thread that a word names, if it is below the number of threads.
+fn thread_of(threads: u32, word: &[u8]) -> Option<u32>
+    ensures { result ≡ thread_of threads word.now }
+{
+    match read_u64(word) {
+        Ok(number) if number < u64::from(threads) => Some(number as u32),
+        _ => None,
+    }
+}
+
+/// Whether a number has more than 64 bits, or a text more than 64 bytes.
+fn is_too_large(word: &Word<'_>) -> bool
+    ensures { result ≡ is_too_large (text_of word.now) }
+{
+    match word {
+        Word::Plain(word) => read_u64(word).is_err(),
+        Word::Quoted(text) => text.len() > 64,
+    }
+}
+
+/// Whether some value is too large.
+fn has_too_large(words: &[Word<'_>]) -> bool
+    ensures { result ≡ list_any is_too_large (word_texts words.now) }
+{
+    for word in words {
+        if is_too_large(word) {
+            return true;
+        }
+    }
+    false
+}
+
+/// The value that a word stands for, unless it is too large.
+fn raw_value(alloc: Global, word: &Word<'_>) -> Result<Option<RawValue>, Memory>
+    ensures { IfOk result (λ value. value ≡ raw_value (text_of word.now)) }
+{
+    match word {
+        Word::Plain(word) => match read_u64(word) {
+            Ok(number) => Ok(Some(RawValue::Number(number))),
+            Err(_) => Ok(None),
+        },
+        Word::Quoted(text) if text.len() <= 64 => {
+            Ok(Some(RawValue::Text(Name64::new(alloc, text)?)))
+        }
+        Word::Quoted(_) => Ok(None),
+    }
+}
+
+/// The values that words stand for, save those that are too large.
+fn raw_values(alloc: Global, words: &[Word<'_>]) -> Result<RawValues, Memory>
+    ensures { IfOk result (λ values. values ≡ raw_values (word_texts words.now)) }
+{
+    let mut values = RawValues::new(alloc);
+    for word in words {
+        if let Some(value) = raw_value(alloc, word)? {
+            values.push(value)?;
+        }
+    }
+    Ok(values)
+}
+
+/// Whether the value is none for a column of this kind.
+fn is_wrong_kind(kind: ColKind, value: &RawValue) -> bool
+    ensures { result ≡ is_wrong_kind kind value.now }
+{
+    match (kind, value) {
+        (ColKind::Num, RawValue::Number(_)) => false,
+        (ColKind::Num, RawValue::Text(_)) => true,
+        (ColKind::Text, RawValue::Number(_)) => true,
+        (ColKind::Text, RawValue::Text(_)) => false,
+    }
+}
+
+/// Whether some value is none for the column beside it.
+fn has_wrong_kind(spec: &Spec, cols: &[u8], values: &[RawValue]) -> bool
+    requires { length values.now ≡ length cols.now }
+    ensures { result ≡ has_wrong_kind spec.now cols.now values.now }
+{
+    for (i, value) in values.iter().enumerate() {
+        if is_wrong_kind(kind_at(spec, cols[i]), value) {
+            return true;
+        }
+    }
+    false
+}
+
+fn add_round(draft: &mut Draft) -> Result<(), LineFault>
+    ensures { (spec : Spec) → TakesLine result draft.new (after_form spec draft.old round_line) }
+{
+    if draft.rounds.list().len() >= 64 {
+        return Err(LineFault::Broken(LineRule::S6));
+    }
+    if draft.ended {
+        return Err(LineFault::Broken(LineRule::S8));
+    }
+    draft.rounds.push_round()?;
+    Ok(())
+}
+
+fn add_end(draft: &mut Draft) -> Result<(), LineFault>
+    ensures { (spec : Spec) → TakesLine result draft.new (after_form spec draft.old end_line) }
+{
+    if draft.ended {
+        return Err(LineFault::Broken(LineRule::S8));
+    }
+    draft.ended = true;
+    Ok(())
+}
+
+fn add_call(
+    alloc: Global,
+    spec: &Spec,
+    draft: &mut Draft,
+    thread: &[u8],
+    op: &[u8],
+    values: &[Word<'_>],
+) -> Result<(), LineFault>
+    requires { IsInRange spec.now }
+    ensures { TakesLine result draft.new (after_form spec.now draft.old (call_line thread.now op.now (word_texts values.now))) }
+{
+    let Some(thread) = thread_of(draft.threads, thread) else {
+        return Err(LineFault::Broken(LineRule::S5));
+    };
+    if has_too_large(values) {
+        return Err(LineFault::Broken(LineRule::S5));
+    }
+    if draft.rounds.calls() >= 20_000 {
+        return Err(LineFault::Broken(LineRule::S6));
+    }
+    if draft.rounds.list().is_empty() {
+        return Err(LineFault::Broken(LineRule::S7));
+    }
+    if draft.ended {
+        return Err(LineFault::Broken(LineRule::S8));
+    }
+    let Some(op) = number_among(spec.ops.list(), op) else {
+        return Err(LineFault::Broken(LineRule::W1));
+    };
+    let cols = columns_at(alloc, spec, op)?;
+    if values.len() != cols.list().len() {
+        return Err(LineFault::Broken(LineRule::W2));
+    }
+    let values = raw_values(alloc, values)?;
+    if has_wrong_kind(spec, cols.list(), values.list()) {
+        return Err(LineFault::Broken(LineRule::W3));
+    }
+    draft.rounds.push_turn(RawTurn {
+        thread,
+        op: op as u8,
+        values,
+    })?;
+    Ok(())
+}
+
+/// Takes a line of this form into the draft. After a refusal the draft is of no use.
+pub(crate) fn take_form(
+    alloc: Global,
+    spec: &Spec,
+    draft: &mut Draft,
+    form: Form<'_>,
+) -> Result<(), LineFault>
+    requires { IsInRange spec.now }
+    ensures { TakesLine result draft.new (after_form spec.now draft.old (form_text form.entry)) }
+{
+    match form {
+        Form::Round => add_round(draft),
+        Form::End => add_end(draft),
+        Form::Call { thread, op, values } => add_call(alloc, spec, draft, thread, op, values),
+    }
+}

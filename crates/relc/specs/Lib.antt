@@ -1,0 +1,6 @@
+pub mod Answers
+pub mod Command
+pub mod Ends
+pub mod InTurn
+pub mod Refusals
+pub mod Statuses

@@ -1,0 +1,49 @@
+//! RELC: reads a specification and a workload, makes the calls, and prints the journal.
+#![tactic(auto)]
+
+use crate::status::Status;
+use crate::top::relc;
+use rc_io::{StdSink, StdSource};
+use std::alloc::Global;
+use std::process::ExitCode;
+use std::{env, io};
+
+mod command;
+mod performing;
+mod refusing;
+mod running;
+mod status;
+#[cfg(test)]
+mod tests;
+mod top;
+mod writing;
+
+/// The exit status where the system hands out no words.
+const NO_WORDS: u8 = 7;
+
+/// Runs the program over its words and the standard streams.
+fn main(rt: HostRuntime) -> ExitCode {
+    let alloc = rt.alloc();
+    let words = match words(&rt, alloc) {
+        Ok(words) => words,
+        Err(error) => return ExitCode::from(words_status(&error)),
+    };
+    let mut source = StdSource::new(rt.reader());
+    let mut sink = StdSink::new(io::writer(&rt));
+    let status = relc(alloc, &words, &mut source, &mut sink);
+    ExitCode::from(status.code())
+}
+
+/// The words of the command line, the program's name first.
+fn words(rt: &HostRuntime, alloc: Global) -> io::Result<Vec<String>> {
+    let words = env::args(rt)?.collect(alloc)?;
+    Ok(words)
+}
+
+/// The exit status where the words cannot be had.
+fn words_status(error: &io::Error) -> u8 {
+    match error.kind() {
+        io::ErrorKind::OutOfMemory => Status::OutOfMemory.code(),
+        _ => NO_WORDS,
+    }
+}

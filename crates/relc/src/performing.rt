@@ -1,0 +1,56 @@
+//! Answers a text: reads it, makes its calls, and writes the report or a refusal.
+
+ghost use Rattle.std.specs.Prelude.{◌≡◌, ◌≤◌, ◌^◌, length, IsErrOf};
+ghost use Rattle.rc_io.specs.Counts.{Rose};
+ghost use Rattle.rc_spec.specs.InRange.{IsInRange};
+ghost use Rattle.rc_work.specs.Fitting.{RoundsFit, HasThreads};
+ghost use Rattle.relc.specs.Answers.{Answers, IsReport};
+ghost use Rattle.relc.specs.Ends.{Writes};
+
+use crate::refusing::refuse;
+use crate::running::run_work;
+use crate::status::{Status, Stop};
+use crate::writing::write_report;
+use rc_io::Sink;
+use rc_reader::read_spec;
+use rc_spec::Spec;
+use rc_work::{Report, Work, read_work};
+use std::alloc::Global;
+
+/// Makes the calls of a workload, and writes the report.
+fn perform<K: Sink>(alloc: Global, sink: &mut K, spec: &Spec, work: &Work) -> Result<Status, Stop>
+    requires range { IsInRange spec.now }
+    requires fit { RoundsFit spec.now work.now.rounds }
+    requires threads { HasThreads work.now }
+    ensures written { Writes (IsReport spec.now work.now) (K.held sink.old) (K.held sink.new) result }
+    ensures failed { IsErrOf result Stop.Sink → Rose (K.faults sink.old) (K.faults sink.new) }
+    ensures count { K.faults sink.old ≤ K.faults sink.new }
+{
+    let ran = run_work(alloc, spec, work)?;
+    let printed = Report {
+        spec,
+        ranks: &work.ranks,
+        entries: &ran.journal,
+        rows: ran.relation.rows(),
+    };
+    write_report(alloc, sink, &printed)?;
+    Ok(Status::Done)
+}
+
+/// Answers a text of at most 2^24 bytes.
+pub(crate) fn answer<K: Sink>(alloc: Global, text: &[u8], sink: &mut K) -> Result<Status, Stop>
+    requires { length text.now ≤ 2 ^ 24 }
+    ensures written { Writes (Answers text.now) (K.held sink.old) (K.held sink.new) result }
+    ensures failed { IsErrOf result Stop.Sink → Rose (K.faults sink.old) (K.faults sink.new) }
+    ensures count { K.faults sink.old ≤ K.faults sink.new }
+{
+    let (spec, rest) = match read_spec(alloc, text) {
+        Ok(read) => read,
+        Err(refusal) => return refuse(alloc, sink, refusal),
+    };
+    let work = match read_work(alloc, text, rest, &spec) {
+        Ok(work) => work,
+        Err(refusal) => return refuse(alloc, sink, refusal),
+    };
+    perform(alloc, sink, &spec, &work)
+}

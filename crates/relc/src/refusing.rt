@@ -1,0 +1,52 @@
+//! Writes refusals.
+
+ghost use Rattle.std.specs.Prelude.{◌≡◌, ◌≤◌, IfOk, IsErrOf};
+ghost use Rattle.rc_io.specs.Counts.{Rose};
+ghost use Rattle.relc.specs.Answers.{refusal_line, IsRefusal, size_text};
+ghost use Rattle.relc.specs.Ends.{Writes};
+ghost use Rattle.relc.specs.Refusals.{WritesRefusal, IsSizeRefusal};
+
+use crate::status::{Status, Stop};
+use crate::writing::write_line;
+use rc_io::{Sink, write_all};
+use rc_reader::{LineRule, ReadRefusal};
+use rc_tuple::Memory;
+use std::alloc::Global;
+
+/// The line that refuses a text for its first broken line rule.
+fn refusal_line(alloc: Global, rule: LineRule, line: u32) -> Result<Vec<u8>, Memory>
+    ensures { IfOk result (λ bytes. bytes.items ≡ refusal_line (record { rule = rule; line = line })) }
+{
+    let text = format!(in alloc; "refused {rule} line {line}")?;
+    Ok(text.into_bytes())
+}
+
+/// Writes the refusal of a text.
+pub(crate) fn refuse<K: Sink>(
+    alloc: Global,
+    sink: &mut K,
+    refusal: ReadRefusal,
+) -> Result<Status, Stop>
+    ensures written { WritesRefusal (K.held sink.old) (K.held sink.new) refusal result }
+    ensures failed { IsErrOf result Stop.Sink → Rose (K.faults sink.old) (K.faults sink.new) }
+    ensures count { K.faults sink.old ≤ K.faults sink.new }
+{
+    match refusal {
+        ReadRefusal::Memory => Err(Stop::Memory),
+        ReadRefusal::Line { rule, line } => {
+            let line = refusal_line(alloc, rule, line)?;
+            write_line(sink, line)?;
+            Ok(Status::Refused)
+        }
+    }
+}
+
+/// Writes the refusal of a text that is too long.
+pub(crate) fn refuse_size<K: Sink>(sink: &mut K) -> Result<Status, Stop>
+    ensures written { Writes IsSizeRefusal (K.held sink.old) (K.held sink.new) result }
+    ensures failed { IsErrOf result Stop.Sink → Rose (K.faults sink.old) (K.faults sink.new) }
+    ensures count { K.faults sink.old ≤ K.faults sink.new }
+{
+    write_all(sink, b"refused size\n")?;
+    Ok(Status::Refused)
+}

@@ -1,0 +1,102 @@
+//! The top call.
+
+ghost use Rattle.std.specs.Prelude.{◌≡◌, ◌≤◌, ◌^◌, ◌⊎◌, ℕ, List, [], Some, None, length, map, string_bytes};
+ghost use Rattle.rc_io.specs.Counts.{Rose};
+ghost use Rattle.relc.specs.Answers.{IsAnswer, KeepsLineRules};
+ghost use Rattle.relc.specs.Command.{command_of};
+ghost use Rattle.relc.specs.Ends.{Ends, EndsUsage, status_of};
+ghost use Rattle.relc.specs.declared.command.Command.TheVariants.{Run};
+
+use crate::command::{Command, command_in};
+use crate::performing::answer;
+use crate::refusing::refuse_size;
+use crate::status::{Status, Stop};
+use rc_io::{ReadFault, Sink, Source, WriteFault, read_all, write_all};
+use std::alloc::Global;
+
+/// The most bytes that an input may have.
+const MAX_BYTES: u64 = 1 << 24;
+
+/// Does what the words ask. `words[0]` is the program's name; the one command is `run`, which reads the
+/// source to its end.
+///
+/// `run` writes, over the bytes that the source tells to be left at entry, the refusal of the first broken line
+/// rule, or the report of a journal that is a run of the workload and of the rows of its replay. Other words write
+/// the usage line, and take nothing from the source.
+pub fn relc<S: Source, K: Sink>(
+    alloc: Global,
+    words: &[String],
+    source: &mut S,
+    sink: &mut K,
+) -> Status
+    // Words that are no command, and they alone, write the usage line.
+    ensures usage { command_of (map string_bytes words.now) ≡ None → EndsUsage (K.held sink.old) (K.held sink.new) result }
+    ensures untouched { command_of (map string_bytes words.now) ≡ None → source.new ≡ source.old }
+    ensures only_usage { result ≡ Status.Usage → command_of (map string_bytes words.now) ≡ None }
+
+    // What is written of told bytes, and what is left of them.
+    ensures answers { command_of (map string_bytes words.now) ≡ Some Run → (input : List ℕ) → S.left source.old ≡ Some input
+        → Ends (IsAnswer input) (K.held sink.old) (K.held sink.new) result }
+    ensures left { command_of (map string_bytes words.now) ≡ Some Run → (input : List ℕ) → S.left source.old ≡ Some input
+        → length input ≤ 2 ^ 24 → (result ≡ Status.Done) ⊎ (result ≡ Status.Refused) → S.left source.new ≡ Some [] }
+
+    // Statuses have their causes.
+    ensures source_failed { result ≡ Status.SourceFailed → Rose (S.faults source.old) (S.faults source.new) }
+    ensures nothing_written { result ≡ Status.SourceFailed → K.held sink.new ≡ K.held sink.old }
+    ensures sink_failed { result ≡ Status.SinkFailed → Rose (K.faults sink.old) (K.faults sink.new) }
+    ensures source_count { S.faults source.old ≤ S.faults source.new }
+    ensures sink_count { K.faults sink.old ≤ K.faults sink.new }
+
+    // A text that keeps all rules is answered, where nothing fails and memory is there.
+    ensures complete { command_of (map string_bytes words.now) ≡ Some Run → (input : List ℕ) → S.left source.old ≡ Some input
+        → length input ≤ 2 ^ 24 → KeepsLineRules input
+        → (Rose (S.faults source.old) (S.faults source.new) → ⊥) → (Rose (K.faults sink.old) (K.faults sink.new) → ⊥)
+        → (result ≡ Status.Done) ⊎ (result ≡ Status.OutOfMemory) }
+{
+    match command_in(words) {
+        Some(Command::Run) => run(alloc, source, sink),
+        None => usage(sink),
+    }
+}
+
+/// Writes the usage line.
+fn usage<K: Sink>(sink: &mut K) -> Status
+    ensures ends { EndsUsage (K.held sink.old) (K.held sink.new) result }
+    ensures failed { result ≡ Status.SinkFailed → Rose (K.faults sink.old) (K.faults sink.new) }
+    ensures count { K.faults sink.old ≤ K.faults sink.new }
+{
+    match write_all(sink, b"usage: relc check, plan, run or big SEED N\n") {
+        Ok(()) => Status::Usage,
+        Err(WriteFault::Sink) => Status::SinkFailed,
+    }
+}
+
+/// The status of a writer's answer.
+fn status_of(answer: Result<Status, Stop>) -> Status
+    ensures { result ≡ status_of answer }
+{
+    match answer {
+        Ok(status) => status,
+        Err(stop) => stop.status(),
+    }
+}
+
+/// Reads the source to its end, and answers its text.
+fn run<S: Source, K: Sink>(alloc: Global, source: &mut S, sink: &mut K) -> Status
+    ensures answers { (input : List ℕ) → S.left source.old ≡ Some input → Ends (IsAnswer input) (K.held sink.old) (K.held sink.new) result }
+    ensures left { (input : List ℕ) → S.left source.old ≡ Some input → length input ≤ 2 ^ 24
+        → (result ≡ Status.Done) ⊎ (result ≡ Status.Refused) → S.left source.new ≡ Some [] }
+    ensures not_usage { result ≡ Status.Usage → ⊥ }
+    ensures source_failed { result ≡ Status.SourceFailed → Rose (S.faults source.old) (S.faults source.new) }
+    ensures nothing_written { result ≡ Status.SourceFailed → K.held sink.new ≡ K.held sink.old }
+    ensures sink_failed { result ≡ Status.SinkFailed → Rose (K.faults sink.old) (K.faults sink.new) }
+    ensures source_count { S.faults source.old ≤ S.faults source.new }
+    ensures sink_count { K.faults sink.old ≤ K.faults sink.new }
+{
+    match read_all(alloc, source, MAX_BYTES) {
+        Ok(text) => status_of(answer(alloc, &text, sink)),
+        Err(ReadFault::TooLong) => status_of(refuse_size(sink)),
+        Err(ReadFault::Source) => Status::SourceFailed,
+        Err(ReadFault::Memory) => Status::OutOfMemory,
+    }
+}
