@@ -1,3 +1,5 @@
+//! A sink over memory.
+
 ghost use Rattle.std.specs.Prelude.{◌≡◌, ◌-◌, ◌<◌, ◌≤◌, ◌↔◌, ◌⊎◌, ◌++◌, [], Some, length, take, Contains, IfOk, IsErr, OnErr, OnOk};
 ghost use Rattle.rc_io.specs.Counts.{Rose, next};
 ghost use Rattle.rc_io.specs.Streams.{MemSinkState, amount};

@@ -1,3 +1,5 @@
+//! Sinks, and writing whole.
+
 ghost use Rattle.std.specs.Prelude.{◌≡◌, ℕ, ◌<◌, ◌≤◌, List, Option, length, take, IfOk, OnOk, OnErr};
 ghost use Rattle.rc_io.specs.Bytes.{Adds, AddsPrefix};
 ghost use Rattle.rc_io.specs.Counts.{Rose};
@@ -36,7 +38,8 @@ impl From<Failed> for WriteFault {
     }
 }
 
-/// Writes all the bytes. Takes no memory.
+/// Writes all the bytes. After a fault, which comes only where the sink's count of faults rose, some first
+/// bytes of them were added. Takes no memory.
 pub fn write_all<K: Sink>(sink: &mut K, bytes: &[u8]) -> Result<(), WriteFault>
     ensures ok { OnOk result (Adds (K.held sink.old) bytes.now (K.held sink.new)) }
     ensures prefix { OnErr result (AddsPrefix (K.held sink.old) bytes.now (K.held sink.new)) }

@@ -1,3 +1,5 @@
+//! Sources, and reading to the end.
+
 ghost use Rattle.std.specs.Prelude.{◌≡◌, ℕ, ◌+◌, ◌<◌, ◌≤◌, List, Option, None, length, take, vec_len, IfOk, IfErr, OnErr, IsErrOf};
 ghost use Rattle.rc_io.specs.Bytes.{Takes, IsEmpty};
 ghost use Rattle.rc_io.specs.Counts.{Rose};
@@ -67,7 +69,8 @@ impl From<Failed> for ReadFault {
 const PIECE: usize = 4096;
 
 /// All bytes up to the end, of which there are at most `limit`. Where there are more, one byte
-/// beyond the limit is taken. After a fault the bytes that were taken are dropped.
+/// beyond the limit is taken. After a fault the bytes that were taken are dropped. `Source` comes only
+/// where the source's count of faults rose, `TooLong` exactly where that one byte was taken.
 pub fn read_all<S: Source>(alloc: Global, source: &mut S, limit: u64) -> Result<Vec<u8>, ReadFault>
     ensures all { IfOk result (λ v. Takes (S.left source.old) v.items (S.left source.new)
         × IsEmpty (S.left source.new)) }

@@ -6,7 +6,9 @@ use rc_tuple::{Memory, SmallList, Tuple, Vals};
 /// an insert a value for every column, and a query or a remove one for every pattern column.
 #[derive(Debug, Drop)]
 pub struct Call {
+    /// The place of the operation in its specification's list, from 0.
     pub op: u8,
+    /// A value for each column that the call gives.
     pub args: Tuple,
 }
 

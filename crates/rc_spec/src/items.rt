@@ -30,9 +30,13 @@ pub struct Node {
 /// The kind of container that keeps an edge's rows.
 #[derive(Clone, Copy, Debug, PartialEq, Eq)]
 pub enum EdgeKind {
+    /// A hashed map from keys to rows.
     Hash,
+    /// A map in the order of the keys.
     Ordered,
+    /// A list of rows.
     List,
+    /// One row at most for each row of the source node, which determines the key.
     Singleton,
 }
 

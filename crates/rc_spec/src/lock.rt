@@ -1,7 +1,9 @@
 /// How a lock is taken: beside other readers, or alone.
 #[derive(Clone, Copy, Debug, PartialEq, Eq)]
 pub enum Mode {
+    /// Beside other readers.
     Shared,
+    /// Alone.
     Exclusive,
 }
 

@@ -88,10 +88,11 @@ impl<'a> Lines<'a> {
         Lines { bytes, at, line }
     }
 
-    /// The next content line, or `None` exactly where none is left.
+    /// The next content line, or `None` exactly where none is left, as then at every later call.
     pub fn next_line(&mut self) -> Option<Line<'a>>
         ensures line { IfSome result (λ line. content_from self.old ≡ content_of line ∷ content_from self.new) }
         ensures none { IfNone result (content_from self.old ≡ []) }
+        ensures rest { IfNone result (content_from self.new ≡ []) }
         ensures after { IfSome result (λ line. self.new ≡ after_line self.old line) }
         ensures number { IfSome result (λ line. line.number ≤ 2 ^ 24) }
         ensures start { IsLineStart self.new }

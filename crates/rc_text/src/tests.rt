@@ -15,21 +15,21 @@ const fn line(number: u32, bytes: &[u8], next: usize) -> Line<'_> {
 
 /// A text has these content lines, also where it is read on from behind the first, and this number past its end.
 fn has_lines(rt: &impl Abort, text: &[u8], want: &[Line<'_>], past_end: u32) {
-    if text.len() <= 4096 {
-        let mut lines = Lines::new(text, 0, 1);
-        for line in want {
-            assert_eq!(rt; lines.next_line(), Some(*line));
+    assert!(rt; text.len() <= 4096);
+    let mut lines = Lines::new(text, 0, 1);
+    for line in want {
+        assert_eq!(rt; lines.next_line(), Some(*line));
+    }
+    assert_eq!(rt; lines.next_line(), None);
+    assert_eq!(rt; lines.next_line(), None);
+    assert_eq!(rt; lines.past_end(), past_end);
+    if let Some(first) = Lines::new(text, 0, 1).next_line() {
+        let mut others = Lines::new(text, first.next, first.number + 1);
+        for line in want.iter().skip(1) {
+            assert_eq!(rt; others.next_line(), Some(*line));
         }
-        assert_eq!(rt; lines.next_line(), None);
-        assert_eq!(rt; lines.past_end(), past_end);
-        if let Some(first) = Lines::new(text, 0, 1).next_line() {
-            let mut others = Lines::new(text, first.next, first.number + 1);
-            for line in want.iter().skip(1) {
-                assert_eq!(rt; others.next_line(), Some(*line));
-            }
-            assert_eq!(rt; others.next_line(), None);
-            assert_eq!(rt; others.past_end(), past_end);
-        }
+        assert_eq!(rt; others.next_line(), None);
+        assert_eq!(rt; others.past_end(), past_end);
     }
 }
 

@@ -1,3 +1,5 @@
+//! Ranks of texts in byte order.
+
 ghost use Rattle.std.specs.Prelude.{◌≡◌, ◌≤◌, ◌==◌, length, slice_get, option_copied, IfOk, IfSome};
 ghost use Rattle.rc_tuple.specs.RisingSet.{IsRising};
 ghost use Rattle.rc_values.specs.Ranks.{text_cmp, texts_of, rank_of};

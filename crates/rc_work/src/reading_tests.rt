@@ -1,6 +1,13 @@
-// Workloads by example: what they give, and the first rule that they break.
-use crate::{Work, read_work};
+// Workloads by example: what they give, the first rule that they break, and how their steps print.
+ghost use Rattle.std.specs.Prelude.{◌≤◌, ◌^◌, length};
+ghost use Rattle.rc_work.specs.Fitting.{TurnsFit};
+
+use crate::{Turn, Work, print_step, print_tuple, read_work};
 use rc_reader::{LineRule, ReadRefusal, read_spec};
+use rc_rel::Step;
+use rc_spec::{Reply, Spec};
+use rc_tuple::Memory;
+use rc_values::Ranks;
 use std::alloc::{AllocError, Global};
 use std::process::Abort;
 use std::test::Fail;
@@ -261,5 +268,57 @@ fn keeps_the_length_of_texts(rt: HostRuntime) -> Result<(), Fail> {
         .ok()
         .ok_or("a text of no byte")?;
     assert_eq!(rt; work.ranks.rank_of(b""), Some(0));
+    Ok(())
+}
+
+/// The first turn of a round as a step that inserted, and the tuple of its call.
+fn print_first(
+    alloc: Global,
+    spec: &Spec,
+    ranks: &Ranks,
+    turns: &[Turn],
+) -> Result<Option<(Vec<u8>, Vec<u8>)>, Memory>
+    requires { TurnsFit spec.now turns.now }
+{
+    let [turn, ..] = turns else {
+        return Ok(None);
+    };
+    let step = Step {
+        call: turn.call.copy()?,
+        reply: Reply::Inserted,
+    };
+    let step = print_step(alloc, spec, ranks, &step)?;
+    let tuple = print_tuple(alloc, spec, ranks, &turn.call.args)?;
+    Ok(Some((step, tuple)))
+}
+
+/// The same, of the first round of a text.
+fn print_first_of(alloc: Global, text: &[u8]) -> Result<Option<(Vec<u8>, Vec<u8>)>, ReadRefusal>
+    requires { length text.now ≤ 2 ^ 24 }
+{
+    let (spec, rest) = read_spec(alloc, text)?;
+    let work = read_work(alloc, text, rest, &spec)?;
+    let [round, ..] = work.rounds.list() else {
+        return Ok(None);
+    };
+    Ok(print_first(alloc, &spec, &work.ranks, round.list())?)
+}
+
+// A step and a tuple by themselves print as they do in a report.
+#[test]
+fn prints_a_step_and_a_tuple(rt: HostRuntime) -> Result<(), Fail> {
+    let mut text = Vec::new(rt.alloc());
+    rc_text::push_bytes(&mut text, SCHEDULER.as_bytes())?;
+    rc_text::push_bytes(&mut text, b"work 1\nround\n0 spawn 1 10 \"run\" 0\nend\n")?;
+    assert!(rt; text.len() <= 16_777_216);
+    let printed = print_first_of(rt.alloc(), &text)
+        .ok()
+        .ok_or("it is a text")?;
+    let (step, tuple) = printed.ok_or("it has a turn")?;
+    assert_eq!(rt;
+        step.as_slice(),
+        b"spawn 1 10 \"run\" 0 -> inserted".as_slice()
+    );
+    assert_eq!(rt; tuple.as_slice(), b"(1 10 \"run\" 0)".as_slice());
     Ok(())
 }
