@@ -147,7 +147,7 @@ in_range-with_line spec (dependency_line left right) next formed is_taken range 
       known_deps = each_push (IsDepAmong (length spec.columns)) spec.deps more range.known_deps (record {
         left = set_below spec left range.columns;
         right = set_below spec right range.columns;
-        determines = set_some spec right formed known.1;
+        has_right = set_some spec right formed known.1;
       });
       known_nodes = range.known_nodes;
       known_edges = range.known_edges;

@@ -12,7 +12,8 @@ use Rattle.rc_spec.specs.Spec.{empty}
 use Rattle.rc_reader.specs.Forms.{FormText, header_line, column_line, dependency_line, node_line, edge_line, lock_line, place_line, query_line, insert_line, remove_line, end_line}
 use Rattle.rc_reader.specs.Rules.{columns_named, set_named, operation_of, with_operation, with_line}
 use Rattle.rc_reader.specs.Grammar.{is_end, after_bytes}
-use Rattle.rc_reader.specs.TextLimits.{KeepsTextLimits, HasColumnAndNode}
+use Rattle.rc_spec.specs.InRange.{HasColumnAndNode}
+use Rattle.rc_reader.specs.TextLimits.{KeepsTextLimits}
 use Rattle.rc_reader.specs.MembersLaws.{each_push}
 use Rattle.rc_reader.specs.RulesLaws.{IsTaken, line_taken, Keeps}
 

@@ -14,7 +14,7 @@ use Rattle.rc_tuple.specs.RelationLaws.{agree_on-same, satisfies_fewer}
 use Rattle.rc_tuple.specs.declared.dep.Dep.{Dep}
 use Rattle.rc_spec.specs.declared.items.OpKind.TheVariants.{Remove}
 use Rattle.rc_spec.specs.declared.call.Reply.TheVariants.{Removed}
-use Rattle.rc_spec.specs.Plain.{Outcome, first_broken, removed_first, plain_by}
+use Rattle.rc_spec.specs.Plain.{Outcome, first_broken_dependency, removed_first, plain_by}
 use Rattle.rc_spec.specs.PlainLaws.{satisfies_from_none, rising_after, in_after_remove}
 use Rattle.rc_rel.specs.Kept.{IsKept}
 
@@ -75,10 +75,10 @@ agreement_found found set list pattern t rows r a b e f =
     ∙ ap (λ l. list_any (agree_on set t) l) (sym f) ∙ sym a
 
 -- a relation that breaks no dependency with one more tuple keeps them, with and without it
-pub kept_with : (deps : List Dep) (t : Pairs) (r : List Pairs) → IsRising tuple_cmp r → first_broken 1 deps (put tuple_cmp t r) ≡ None → IsKept (put tuple_cmp t r) deps
+pub kept_with : (deps : List Dep) (t : Pairs) (r : List Pairs) → IsRising tuple_cmp r → first_broken_dependency 1 deps (put tuple_cmp t r) ≡ None → IsKept (put tuple_cmp t r) deps
 kept_with deps t r h e = record { rising = rising_put tuple_cmp tuple_order t r h; satisfies = satisfies_from_none 1 deps (put tuple_cmp t r) e }
 
-pub kept_without : (deps : List Dep) (t : Pairs) (r : List Pairs) → IsRising tuple_cmp r → first_broken 1 deps (put tuple_cmp t r) ≡ None → IsKept r deps
+pub kept_without : (deps : List Dep) (t : Pairs) (r : List Pairs) → IsRising tuple_cmp r → first_broken_dependency 1 deps (put tuple_cmp t r) ≡ None → IsKept r deps
 kept_without deps t r h e = record {
   rising = h;
   satisfies = satisfies_fewer (put tuple_cmp t r) r deps (λ u m. put_old tuple_cmp tuple_order u t r m) (satisfies_from_none 1 deps (put tuple_cmp t r) e);

@@ -32,7 +32,7 @@ not_empty xs h e = let z : length xs ≡ 0 = ap length e in absurd (false≢true
 
 pub dep_among : (dep : Dep) (all : List ℕ) → all ≡ with_column (with_column (with_column [] 0) 1) 2 → IsColSet dep.left → IsColSet dep.right
     → is_within dep.left all ≡ true → is_within dep.right all ≡ true → not (eqb (length dep.right) 0) ≡ true → IsDepAmong 3 dep
-dep_among dep all e l r wl wr h = record { left = set_below dep.left all l e wl; right = set_below dep.right all r e wr; determines = not_empty dep.right h }
+dep_among dep all e l r wl wr h = record { left = set_below dep.left all l e wl; right = set_below dep.right all r e wr; has_right = not_empty dep.right h }
 
 none_in : {A : Type 0} (xs : List A) (x : A) → length xs ≡ 0 → In x xs → ⊥
 none_in [] x e m = m

@@ -3,7 +3,7 @@ ghost use Rattle.std.specs.List.{list_any};
 ghost use Rattle.rc_tuple.specs.RisingSet.{In, put};
 ghost use Rattle.rc_tuple.specs.Tuple.{Pairs, agree_on, tuple_cmp, cols_of};
 ghost use Rattle.rc_tuple.specs.Relation.{breaks, breaks_pair, breaks_with, Satisfies, SatisfiesOne};
-ghost use Rattle.rc_spec.specs.Plain.{first_broken};
+ghost use Rattle.rc_spec.specs.Plain.{first_broken_dependency};
 ghost use Rattle.rc_rel.specs.Over.{AreOver};
 
 use rc_tuple::{ColSet, Dep, Tuple};
@@ -66,7 +66,7 @@ fn breaks_with_one_more(tuples: &[Tuple], tuple: &Tuple, dep: &Dep, is_satisfied
 }
 
 /// The number, counted from 1, of the first dependency that the tuples with one more break.
-pub(crate) fn first_broken(
+pub(crate) fn first_broken_dependency(
     tuples: &[Tuple],
     tuple: &Tuple,
     deps: &[Dep],
@@ -75,7 +75,7 @@ pub(crate) fn first_broken(
     requires few { length deps.now ≤ 32 }
     requires over { AreOver (cols_of tuple.now) tuples.now }
     requires satisfied { is_satisfied ≡ true → Satisfies tuples.now deps.now }
-    ensures { result ≡ first_broken 1 deps.now (put tuple_cmp tuple.now tuples.now) }
+    ensures { result ≡ first_broken_dependency 1 deps.now (put tuple_cmp tuple.now tuples.now) }
 {
     for (at, dep) in deps.iter().enumerate() {
         if breaks_with_one_more(tuples, tuple, dep, is_satisfied) {

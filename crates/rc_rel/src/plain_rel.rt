@@ -1,4 +1,4 @@
-ghost use Rattle.std.specs.Prelude.{◌≡◌, ◌≤◌, [], length, IfOk, OnErr};
+ghost use Rattle.std.specs.Prelude.{◌≡◌, ◌≤◌, [], length, true, IfOk, OnOk, OnErr};
 ghost use Rattle.rc_tuple.specs.RisingSet.{IsRising};
 ghost use Rattle.rc_tuple.specs.Tuple.{tuple_cmp, cols_of};
 ghost use Rattle.rc_spec.specs.declared.items.OpKind.TheVariants.{Insert, Remove};
@@ -9,7 +9,7 @@ ghost use Rattle.rc_rel.specs.Kept.{IsKept};
 ghost use Rattle.rc_rel.specs.Over.{AreOver};
 
 use crate::change::{first_match, put_tuple};
-use crate::dependencies::{any_agrees, first_broken, same_deps};
+use crate::dependencies::{any_agrees, first_broken_dependency, same_deps};
 use crate::scan::query;
 use rc_spec::{Call, Op, OpKind, Reply, Spec};
 use rc_tuple::{ColSet, Cols, Dep, Memory, Tuple};
@@ -119,13 +119,25 @@ fn insert(
         return Ok(Reply::Present);
     }
     let is_known = same_deps(known, deps);
-    if let Some(number) = first_broken(tuples, args, deps, is_known) {
+    if let Some(number) = first_broken_dependency(tuples, args, deps, is_known) {
         return Ok(Reply::Conflict(number));
     }
     let tuple = args.copy()?;
-    *known = Vec::from_slice(*known.allocator(), deps)?;
+    remember(known, deps, is_known)?;
     put_tuple(tuples, tuple)?;
     Ok(Reply::Inserted)
+}
+
+/// Remembers the dependencies, unless they are those that are known.
+fn remember(known: &mut Vec<Dep>, deps: &[Dep], is_known: bool) -> Result<(), Memory>
+    requires { is_known ≡ true → known.old.items ≡ deps.now }
+    ensures ok { OnOk result (known.new.items ≡ deps.now) }
+    ensures err { OnErr result (known.new.items ≡ known.old.items) }
+{
+    if !is_known {
+        *known = Vec::from_slice(*known.allocator(), deps)?;
+    }
+    Ok(())
 }
 
 /// Takes the first matching tuple out.

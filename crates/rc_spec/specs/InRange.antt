@@ -25,7 +25,7 @@ pub record IsSetBelow (limit : ℕ) (cols : List ℕ) : Type 0 where
 pub record IsDepAmong (columns : ℕ) (dep : Dep) : Type 0 where
   pub left : IsSetBelow columns dep.left
   pub right : IsSetBelow columns dep.right
-  pub determines : dep.right ≡ [] → ⊥
+  pub has_right : dep.right ≡ [] → ⊥
 
 -- an edge among so many nodes and columns
 pub record IsEdgeAmong (nodes columns : ℕ) (edge : Edge) : Type 0 where
@@ -63,3 +63,8 @@ pub record IsInRange (spec : Spec) : Type 0 where
   pub known_classes : (class : Class) → In class spec.classes → IsSetBelow (length spec.columns) class.cols
   pub known_places : (place : Place) → In place spec.places → IsPlaceAmong (length spec.edges) (length spec.classes) place
   pub known_ops : (op : Op) → In op spec.ops → IsOpAmong (length spec.columns) op
+
+-- there are a column and a node
+pub record HasColumnAndNode (spec : Spec) : Type 0 where
+  pub column : 0 < length spec.columns
+  pub node : 0 < length spec.nodes

@@ -33,9 +33,9 @@ abbrev pub at_most_256 : List (List ℕ) → Reply
 at_most_256 rows = if nat_le (length rows) 256 then Rows rows else Many (length rows)
 
 -- the number of the first dependency that the relation breaks, where the first has the number n
-abbrev pub first_broken : ℕ → List Dep → List Pairs → Option ℕ
-first_broken n [] r = None
-first_broken n (d ∷ deps) r = if breaks r d then Some n else first_broken (n + 1) deps r
+abbrev pub first_broken_dependency : ℕ → List Dep → List Pairs → Option ℕ
+first_broken_dependency n [] r = None
+first_broken_dependency n (d ∷ deps) r = if breaks r d then Some n else first_broken_dependency (n + 1) deps r
 
 abbrev pub inserted_unless : Option ℕ → List Pairs → List Pairs → Outcome
 inserted_unless None with_tuple r = record { reply = Inserted; relation = with_tuple }
@@ -51,7 +51,7 @@ plain_by (Query outs) pattern deps args r = record { reply = at_most_256 (rows_o
 plain_by Insert pattern deps args r =
     if list_any (agree_on pattern args) r
     then record { reply = Present; relation = r }
-    else inserted_unless (first_broken 1 deps (put tuple_cmp args r)) (put tuple_cmp args r) r
+    else inserted_unless (first_broken_dependency 1 deps (put tuple_cmp args r)) (put tuple_cmp args r) r
 plain_by Remove pattern deps args r = removed_first (filter (matches args) r) r
 
 -- a call of no operation answers Absent; no call that fits is one

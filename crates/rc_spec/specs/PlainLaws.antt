@@ -14,15 +14,15 @@ use Rattle.rc_spec.specs.declared.items.OpKind.TheVariants.{Query, Insert, Remov
 use Rattle.rc_spec.specs.declared.call.Call.{Call}
 use Rattle.rc_spec.specs.declared.call.Reply.TheVariants.{Present}
 use Rattle.rc_spec.specs.declared.spec.Spec.{Spec}
-use Rattle.rc_spec.specs.Plain.{Outcome, first_broken, inserted_unless, removed_first, plain_by, plain_at, plain}
+use Rattle.rc_spec.specs.Plain.{Outcome, first_broken_dependency, inserted_unless, removed_first, plain_by, plain_at, plain}
 
 -- where no dependency is broken, all are satisfied
-pub satisfies_from_none : (n : ℕ) (deps : List Dep) (r : List Pairs) → first_broken n deps r ≡ None → Satisfies r deps
+pub satisfies_from_none : (n : ℕ) (deps : List Dep) (r : List Pairs) → first_broken_dependency n deps r ≡ None → Satisfies r deps
 satisfies_from_none n [] r h d m = absurd m
 satisfies_from_none n (e ∷ deps) r h d m = go (breaks r e) refl h (λ k. satisfies_from_none (n + 1) deps r k d) m
   where
-    go : (b : Bool) → breaks r e ≡ b → cond b (Some n) (first_broken (n + 1) deps r) ≡ None
-        → (first_broken (n + 1) deps r ≡ None → In d deps → SatisfiesOne r d.left d.right) → In d (e ∷ deps) → SatisfiesOne r d.left d.right
+    go : (b : Bool) → breaks r e ≡ b → cond b (Some n) (first_broken_dependency (n + 1) deps r) ≡ None
+        → (first_broken_dependency (n + 1) deps r ≡ None → In d deps → SatisfiesOne r d.left d.right) → In d (e ∷ deps) → SatisfiesOne r d.left d.right
     go true k h rest m = cc
     go false k h rest (inl q) = satisfies_from_test r d (ap (breaks r) q ∙ k)
     go false k h rest (inr q) = rest h q
@@ -32,12 +32,12 @@ satisfies_from_none n (e ∷ deps) r h d m = go (breaks r e) refl h (λ k. satis
 pub insert-present : (pattern : List ℕ) (deps : List Dep) (t : Pairs) (r : List Pairs) → list_any (agree_on pattern t) r ≡ true
     → plain_by Insert pattern deps t r ≡ record { reply = Present; relation = r }
 insert-present pattern deps t r h =
-    ap (λ b. cond b (let o : Outcome = record { reply = Present; relation = r } in o) (inserted_unless (first_broken 1 deps (put tuple_cmp t r)) (put tuple_cmp t r) r)) h
+    ap (λ b. cond b (let o : Outcome = record { reply = Present; relation = r } in o) (inserted_unless (first_broken_dependency 1 deps (put tuple_cmp t r)) (put tuple_cmp t r) r)) h
 
 pub insert-absent : (pattern : List ℕ) (deps : List Dep) (t : Pairs) (r : List Pairs) (broken : Option ℕ) → list_any (agree_on pattern t) r ≡ false
-    → first_broken 1 deps (put tuple_cmp t r) ≡ broken → plain_by Insert pattern deps t r ≡ inserted_unless broken (put tuple_cmp t r) r
+    → first_broken_dependency 1 deps (put tuple_cmp t r) ≡ broken → plain_by Insert pattern deps t r ≡ inserted_unless broken (put tuple_cmp t r) r
 insert-absent pattern deps t r broken h e =
-    ap (λ b. cond b (let o : Outcome = record { reply = Present; relation = r } in o) (inserted_unless (first_broken 1 deps (put tuple_cmp t r)) (put tuple_cmp t r) r)) h
+    ap (λ b. cond b (let o : Outcome = record { reply = Present; relation = r } in o) (inserted_unless (first_broken_dependency 1 deps (put tuple_cmp t r)) (put tuple_cmp t r) r)) h
     ∙ ap (λ f. inserted_unless f (put tuple_cmp t r) r) e
 
 -- ---- what is in the relation afterwards
@@ -52,7 +52,7 @@ in_inserted_by true broken t r u m = inr m
 in_inserted_by false broken t r u m = in_inserted broken t r u m
 
 pub in_after_insert : (pattern : List ℕ) (deps : List Dep) (t : Pairs) (r : List Pairs) (u : Pairs) → In u (plain_by Insert pattern deps t r).relation → (u ≡ t) ⊎ In u r
-in_after_insert pattern deps t r u m = in_inserted_by (list_any (agree_on pattern t) r) (first_broken 1 deps (put tuple_cmp t r)) t r u m
+in_after_insert pattern deps t r u m = in_inserted_by (list_any (agree_on pattern t) r) (first_broken_dependency 1 deps (put tuple_cmp t r)) t r u m
 
 in_removed : (found r : List Pairs) (u : Pairs) → In u (removed_first found r).relation → In u r
 in_removed [] r u m = m
@@ -75,12 +75,12 @@ rising_removed (t ∷ ts) r h = rising_filter tuple_cmp (λ x. not (tuple_eq x t
 
 pub rising_after : (kind : OpKind) (pattern : List ℕ) (deps : List Dep) (args : Pairs) (r : List Pairs) → IsRising tuple_cmp r → IsRising tuple_cmp (plain_by kind pattern deps args r).relation
 rising_after (Query outs) pattern deps args r h = h
-rising_after Insert pattern deps args r h = rising_inserted (list_any (agree_on pattern args) r) (first_broken 1 deps (put tuple_cmp args r)) args r h
+rising_after Insert pattern deps args r h = rising_inserted (list_any (agree_on pattern args) r) (first_broken_dependency 1 deps (put tuple_cmp args r)) args r h
 rising_after Remove pattern deps args r h = rising_removed (filter (matches args) r) r h
 
 -- ---- dependencies
 
-satisfied_inserted : (b : Bool) (broken : Option ℕ) (deps : List Dep) (t : Pairs) (r : List Pairs) → first_broken 1 deps (put tuple_cmp t r) ≡ broken → Satisfies r deps
+satisfied_inserted : (b : Bool) (broken : Option ℕ) (deps : List Dep) (t : Pairs) (r : List Pairs) → first_broken_dependency 1 deps (put tuple_cmp t r) ≡ broken → Satisfies r deps
     → Satisfies (cond b (let o : Outcome = record { reply = Present; relation = r } in o) (inserted_unless broken (put tuple_cmp t r) r)).relation deps
 satisfied_inserted true broken deps t r e h = h
 satisfied_inserted false None deps t r e h = satisfies_from_none 1 deps (put tuple_cmp t r) e
@@ -88,7 +88,7 @@ satisfied_inserted false (Some n) deps t r e h = h
 
 pub satisfied_after : (kind : OpKind) (pattern : List ℕ) (deps : List Dep) (args : Pairs) (r : List Pairs) → Satisfies r deps → Satisfies (plain_by kind pattern deps args r).relation deps
 satisfied_after (Query outs) pattern deps args r h = h
-satisfied_after Insert pattern deps args r h = satisfied_inserted (list_any (agree_on pattern args) r) (first_broken 1 deps (put tuple_cmp args r)) deps args r refl h
+satisfied_after Insert pattern deps args r h = satisfied_inserted (list_any (agree_on pattern args) r) (first_broken_dependency 1 deps (put tuple_cmp args r)) deps args r refl h
 satisfied_after Remove pattern deps args r h = satisfies_fewer r (plain_by Remove pattern deps args r).relation deps (in_after_remove pattern deps args r) h
 
 satisfied_at : (op : Option Op) (deps : List Dep) (args : Pairs) (r : List Pairs) → Satisfies r deps → Satisfies (plain_at op deps args r).relation deps

@@ -1,17 +1,25 @@
-//! Specifications, calls and replies, and what a call does to a relation.
+//! Specifications and when they are accepted, lock stripes, calls and replies, and what a call does to a relation.
 #![tactic(auto)]
 
+mod accepted;
 mod call;
 mod items;
+mod laws;
 mod lock;
 mod named;
+mod refusal;
 mod spec;
+mod stripes;
 
+pub use accepted::Accepted;
 pub use call::{Call, Reply, RowList};
 pub use items::{Class, ColKind, Column, Edge, EdgeKind, Name, Node, Op, OpKind, Place};
+pub use laws::{checks_are_rules, refused_is_not_accepted, stripes_are_few};
 pub use lock::{Found, Mode};
 pub use named::Named;
+pub use refusal::{Item, Refusal, Rule, print_refusal};
 pub use spec::{Classes, Columns, Deps, Edges, Nodes, Ops, Places, Spec};
+pub use stripes::{band_start, stripe_of, stripe_total};
 
 #[cfg(test)]
 mod tests;

@@ -1,8 +1,12 @@
-ghost use Rattle.std.specs.Prelude.{◌≡◌};
+ghost use Rattle.std.specs.Prelude.{◌≡◌, ◌<◌, length};
+ghost use Rattle.rc_spec.specs.Calls.{all_columns};
+ghost use Rattle.rc_spec.specs.Decomposition.{bound, source_and_key};
+ghost use Rattle.rc_spec.specs.InRange.{IsInRange};
+ghost use Rattle.rc_spec.specs.Placement.{class_of};
 ghost use Rattle.rc_spec.specs.Spec.{empty};
 
 use crate::{Class, Column, Edge, Node, Op, Place};
-use rc_tuple::{Dep, SmallList};
+use rc_tuple::{ColSet, Dep, SmallList};
 use std::alloc::Global;
 
 /// The columns, by number.
@@ -52,5 +56,46 @@ impl Spec {
             places: Places::new(alloc),
             ops: Ops::new(alloc),
         }
+    }
+
+    /// The set of all columns.
+    #[tactic(auto, using(rc_tuple::specs::ColSetLaws::range_with_next))]
+    pub fn all_columns(&self) -> ColSet
+        requires { IsInRange self.now }
+        ensures { result ≡ all_columns self.now }
+    {
+        let mut cols = ColSet::empty();
+        for col in 0..self.columns.list().len() as u8 {
+            cols = cols.with(col);
+        }
+        cols
+    }
+
+    /// The columns that a node binds.
+    pub fn bound(&self, node: u8) -> ColSet
+        requires { node < length self.now.nodes }
+        ensures { result ≡ bound self.now node }
+    {
+        self.nodes.list()[node as usize].cols
+    }
+
+    /// The columns by which a row of an edge is found: those of its source, and its key.
+    pub fn source_and_key(&self, edge: &Edge) -> ColSet
+        requires { edge.now.from < length self.now.nodes }
+        ensures { result ≡ source_and_key self.now edge.now }
+    {
+        self.bound(edge.from).union(edge.key)
+    }
+
+    /// The class of the first placement of an edge, or 0 where the edge has none.
+    pub fn class_of(&self, edge: u8) -> u8
+        ensures { result ≡ class_of self.now edge }
+    {
+        for place in self.places.list() {
+            if place.edge == edge {
+                return place.class;
+            }
+        }
+        0
     }
 }

@@ -1,8 +1,12 @@
+ghost use Rattle.std.specs.Prelude.{◌≡◌};
+
 // A specification by hand: edges src -> dst of a graph, each with one weight.
 use crate::{
-    Call, Class, ColKind, Column, Edge, EdgeKind, Name, Named, Node, Op, OpKind, Reply, Spec,
+    Accepted, Call, Class, ColKind, Column, Edge, EdgeKind, Item, Name, Named, Node, Op, OpKind,
+    Place, Refusal, Reply, Rule, Spec, band_start, print_refusal, stripe_of, stripe_total,
 };
 use rc_tuple::{ColSet, Cols, Dep, Tuple};
+use std::alloc::Global;
 use std::process::Abort;
 use std::test::Fail;
 
@@ -77,6 +81,71 @@ fn copies_calls(rt: HostRuntime) -> Result<(), Fail> {
     Ok(())
 }
 
+#[test]
+fn chooses_stripes(rt: HostRuntime) -> Result<(), Fail> {
+    let alloc = rt.alloc();
+    // The values of src, and the stripes that they choose in classes of 8 and of 4 stripes.
+    let rows = [(1, 2, 2), (2, 3, 3), (9, 2, 2)];
+    for (src, of_eight, of_four) in rows {
+        let tuple = Tuple::from_columns(alloc, &[0, 1], &[src, 5])?;
+        let eight = Class {
+            name: Name::new(alloc),
+            stripes: 8,
+            cols: ColSet::empty().with(0),
+        };
+        assert_eq!(rt; stripe_of(&eight, &tuple), of_eight);
+        let four = Class {
+            stripes: 4,
+            ..eight
+        };
+        assert_eq!(rt; stripe_of(&four, &tuple), of_four);
+    }
+    Ok(())
+}
+
+fn class_of_stripes(alloc: Global, stripes: u32) -> Class
+    ensures { result.stripes ≡ stripes }
+{
+    Class {
+        name: Name::new(alloc),
+        stripes,
+        cols: ColSet::empty(),
+    }
+}
+
+#[test]
+fn counts_stripes(rt: HostRuntime) -> Result<(), Fail> {
+    let alloc = rt.alloc();
+    let mut spec = Spec::new(alloc);
+    spec.classes.push(class_of_stripes(alloc, 8))?;
+    spec.classes.push(class_of_stripes(alloc, 4))?;
+    assert_eq!(rt; band_start(&spec, 0), 0);
+    assert_eq!(rt; band_start(&spec, 1), 8);
+    assert_eq!(rt; stripe_total(&spec), 12);
+    spec.places.push(Place { edge: 1, class: 1 })?;
+    spec.places.push(Place { edge: 0, class: 0 })?;
+    assert_eq!(rt; spec.class_of(1), 1);
+    Ok(())
+}
+
+#[test]
+fn prints_refusals(rt: HostRuntime) -> Result<(), Fail> {
+    let alloc = rt.alloc();
+    let mut spec = Spec::new(alloc);
+    spec.classes.push(Class {
+        name: Name::from_slice(alloc, b"k2")?,
+        stripes: 8,
+        cols: ColSet::empty(),
+    })?;
+    let refusal = Refusal {
+        rule: Rule::P6,
+        item: Item::Lock(0),
+    };
+    let line = print_refusal(alloc, &spec, &refusal)?;
+    assert_eq!(rt; line.as_slice(), b"refused P6 lock k2".as_slice());
+    Ok(())
+}
+
 fn is_shared<T: Send + Sync>(_: &T) {}
 
 #[test]
@@ -84,6 +153,8 @@ fn shares_between_threads(rt: HostRuntime) -> Result<(), Fail> {
     let args = Tuple::from_columns(rt.alloc(), &[0], &[1])?;
     is_shared(&Spec::new(rt.alloc()));
     is_shared(&Reply::Absent);
+    let sealed: Option<Accepted> = None;
+    is_shared(&sealed);
     is_shared(&Call { op: 2, args });
     Ok(())
 }

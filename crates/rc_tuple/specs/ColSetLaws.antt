@@ -16,7 +16,7 @@ use Rattle.std.proofs.lemmas.List.FromFn.{filter_of_map_range_with_len_more}
 use Rattle.std.proofs.lemmas.Option.{slice_get_past}
 use Rattle.std.proofs.Math.Nat.{div-div-eq-div-mul, pow-suc, mod-one, mod-eq_of_lt, div-one}
 use Rattle.rc_tuple.specs.RisingSet.{In, IsRising, put, gather}
-use Rattle.rc_tuple.specs.RisingSetLaws.{same_rising, nat_order, in_put, put_new, put_old, rising_put, rising_gather, in_gather, gather_in, in_filter, filter_in, rising_filter, in_append, append_in_left, append_in_right, in_has, has_in, same_bool, list_all_in, in_list_all}
+use Rattle.rc_tuple.specs.RisingSetLaws.{same_rising, same_gather, gather_more, gather-rising, nat_order, in_put, put_new, put_old, rising_put, rising_gather, in_gather, gather_in, in_filter, filter_in, rising_filter, in_append, append_in_left, append_in_right, in_has, has_in, same_bool, list_all_in, in_list_all}
 use Rattle.rc_tuple.specs.ColSet.{has, IsColSet, Within, is_within, with_column, union, inter, minus, has_bit, columns_of, mask_of, rank}
 
 -- ---- members
@@ -32,6 +32,19 @@ union_right xs ys c h = gather_in nat_cmp nat_order c (xs ++ ys) (append_in_righ
 
 pub union_within : (xs ys zs : List ℕ) → Within xs zs → Within ys zs → Within (union xs ys) zs
 union_within xs ys zs f g c h = elim (in_union xs ys c h) [ inl q ↦ f c q | inr q ↦ g c q ]
+
+-- a union with what was gathered
+pub gather-union : (xs ys : List ℕ) → gather nat_cmp (xs ++ ys) ≡ union (gather nat_cmp xs) ys
+gather-union xs ys =
+    same_gather nat_cmp nat_order (xs ++ ys) (gather nat_cmp xs ++ ys)
+    (λ z m. elim (in_append z xs ys m) [
+      | inl a ↦ append_in_left z (gather nat_cmp xs) ys (gather_in nat_cmp nat_order z xs a)
+      | inr b ↦ append_in_right z (gather nat_cmp xs) ys b
+    ])
+    (λ z m. elim (in_append z (gather nat_cmp xs) ys m) [
+      | inl a ↦ append_in_left z xs ys (in_gather nat_cmp nat_order z xs a)
+      | inr b ↦ append_in_right z xs ys b
+    ])
 
 pub in_inter : (xs ys : List ℕ) (c : ℕ) → In c (inter xs ys) → In c xs × In c ys
 in_inter xs ys c h = let q : In c xs × (has ys c ≡ true) = in_filter (has ys) c xs h in (q.0, in_has ys c q.1)
@@ -420,6 +433,34 @@ range_split a (suc n) m = range_step a n m (range_split (a + 1) n m)
 
 range_cons : (a n : ℕ) → range_with_len a (1 + n) ≡ a ∷ range_with_len (a + 1) n
 range_cons a n = let e : 1 + n ≡ suc n = omega arith in ap (range_with_len a) e
+
+-- one more number at the end
+pub range_with_len_more : (a n : ℕ) → range_with_len a (n + 1) ≡ range_with_len a n ++ (a + n) ∷ []
+range_with_len_more a n = range_split a n 1
+
+-- the set of the numbers below n, with n
+pub range_with_next : (n : ℕ) → with_column (range_with_len 0 n) n ≡ range_with_len 0 (n + 1)
+range_with_next n =
+    let z : 0 + n ≡ n = omega arith in
+    ap (put nat_cmp n) (sym (gather-rising nat_cmp nat_order (range_with_len 0 n) (rising_range 0 n)))
+    ∙ sym (gather_more nat_cmp nat_order (range_with_len 0 n) n)
+    ∙ ap (gather nat_cmp) (ap (λ k. range_with_len 0 n ++ k ∷ []) (sym z) ∙ sym (range_with_len_more 0 n))
+    ∙ gather-rising nat_cmp nat_order (range_with_len 0 (n + 1)) (rising_range 0 (n + 1))
+
+-- the numbers below n, at one of them
+pub range_at : (n k : ℕ) → k < n → (after : List ℕ) × (range_with_len 0 n ≡ range_with_len 0 k ++ k ∷ after)
+range_at n k h =
+    let m : ℕ = n - (k + 1) in
+    let e : n ≡ k + (1 + m) = omega (arith, h) in
+    let z : 0 + k ≡ k = omega arith in (
+      range_with_len (k + 1) m,
+      ap (range_with_len 0) e ∙ range_split 0 k (1 + m) ∙ ap (λ a. range_with_len 0 k ++ range_with_len a (1 + m)) z ∙ ap (λ l. range_with_len 0 k ++ l) (range_cons k m),
+    )
+
+pub in_range_below : (n k : ℕ) → k < n → In k (range_with_len 0 n)
+in_range_below n k l =
+    let s : (after : List ℕ) × (range_with_len 0 n ≡ range_with_len 0 k ++ k ∷ after) = range_at n k l in
+    subst (In k) (sym s.1) (append_in_right k (range_with_len 0 k) (k ∷ s.0) (inl refl))
 
 filter_cons : (p : ℕ → Bool) (a n : ℕ) → p a ≡ true → filter p (range_with_len a (1 + n)) ≡ a ∷ filter p (range_with_len (a + 1) n)
 filter_cons p a n h = ap (filter p) (range_cons a n) ∙ cond-true (p a) _ _ h

@@ -1,5 +1,6 @@
 pub mod ColSet
 pub mod ColSetLaws
+pub mod GrowthLaws
 pub mod RisingSet
 pub mod RisingSetLaws
 pub mod Relation

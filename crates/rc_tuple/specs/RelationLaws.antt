@@ -1,13 +1,15 @@
 -- Laws of relations and of the dependencies that they satisfy.
-use Rattle.std.proofs.Common.{◌≡◌, ℕ, Bool, true, false, ◌&&◌, ◌||◌, not, cond, List, [], ◌∷◌, refl, sym, ap, ◌∙◌, ◌⊎◌, inl, inr}
+use Rattle.std.proofs.Common.{◌≡◌, ℕ, Bool, true, false, ◌&&◌, ◌||◌, not, cond, List, [], ◌∷◌, refl, sym, ap, ◌∙◌, subst, ◌⊎◌, inl, inr}
 use Rattle.std.specs.List.{list_any}
 use Rattle.std.proofs.lemmas.Bool.{and_parts, or_cases, and_from, or_left, or_right, not-true, false≢true}
-use Rattle.rc_tuple.specs.RisingSet.{In, put}
+use Rattle.std.specs.Prelude.{◌↔◌}
+use Rattle.std.specs.Ordering.{nat_cmp}
+use Rattle.rc_tuple.specs.RisingSet.{In, IsRising, put}
 use Rattle.rc_tuple.specs.RisingSetLaws.{in_put, put_new, put_old, same_bool}
 use Rattle.rc_tuple.specs.ColSet.{has}
-use Rattle.rc_tuple.specs.Tuple.{Pairs, project, tuple_cmp, tuple_eq, agree_on}
-use Rattle.rc_tuple.specs.TupleLaws.{tuple_order, same_from_test, test_from_same}
-use Rattle.rc_tuple.specs.Relation.{SatisfiesOne, Satisfies, breaks_pair, breaks_with, breaks}
+use Rattle.rc_tuple.specs.Tuple.{Pairs, pair_cmp, project, tuple_cmp, tuple_eq, agree_on}
+use Rattle.rc_tuple.specs.TupleLaws.{tuple_order, rising_cols, same_from_test, test_from_same}
+use Rattle.rc_tuple.specs.Relation.{IsRelation, SatisfiesOne, Satisfies, Follows, breaks_pair, breaks_with, breaks}
 use Rattle.rc_tuple.specs.declared.dep.Dep.{Dep}
 
 -- ---- some element passes a test
@@ -111,3 +113,14 @@ satisfies_fewer r s deps f h d m t u a b = h d m t u (f t a) (f u b)
 
 pub satisfies_none : (deps : List Dep) → Satisfies [] deps
 satisfies_none deps d m t u a b = absurd a
+
+-- ---- implication
+
+-- the tuples of a relation rise
+pub rising_of : (columns : List ℕ) (r : List Pairs) → IsRising nat_cmp columns → IsRelation columns r → (t : Pairs) → In t r → IsRising pair_cmp t
+rising_of columns r a i t h = rising_cols t (subst (IsRising nat_cmp) (sym (i.each t h).over) a)
+
+-- a test of implication, at equal lists
+pub follows_at : (deps others : List Dep) (xs xs' ys ys' : List ℕ) (b : Bool) → deps ≡ others → xs ≡ xs' → ys ≡ ys' → (b ≡ true) ↔ Follows deps xs ys → (b ≡ true) ↔ Follows others xs' ys'
+follows_at deps others xs xs' ys ys' b d x y h =
+    subst (λ l. (b ≡ true) ↔ Follows l xs' ys') d (subst (λ l. (b ≡ true) ↔ Follows deps l ys') x (subst (λ l. (b ≡ true) ↔ Follows deps xs l) y h))

@@ -5,7 +5,7 @@ use Rattle.std.specs.declared.cmp.Ordering.TheVariants.{Less, Equal, Greater}
 use Rattle.std.specs.Ordering.{ordering_reverse, match_ordering, nat_cmp}
 use Rattle.std.specs.Cmp.{IsTotalOrder}
 use Rattle.std.specs.Cmp.Lexicographic.{slice_cmp}
-use Rattle.std.proofs.Common.{ℕ, Some, zero, suc, arith, take, drop, get_or, inl, inr, refl, sym, ap, subst, ◌∙◌, ◌==◌}
+use Rattle.std.proofs.Common.{ℕ, Some, None, zero, suc, arith, take, drop, get_or, inl, inr, refl, sym, ap, subst, ◌∙◌, ◌==◌}
 use Rattle.std.specs.List.{flat_map, list_all, slice_get, AllByRecursion}
 use Rattle.std.proofs.lemmas.Option.{get_or_from_slice_get, slice_get_within}
 use Rattle.std.proofs.lemmas.Bool.{false≢true, and_parts, and_from, or_cases, or_left, or_right, eqb-true, eq-eqb}
@@ -292,6 +292,12 @@ slice_get_in xs i x e =
     subst (λ y. In y xs) (get_or_from_slice_get xs i x x e) (get_or_in xs i x (slice_get_within xs i x e))
 
 -- ---- places in a list
+
+-- a place within a list has an element
+pub slice_get_there : {A : Type 0} (xs : List A) (i : ℕ) → i < length xs → slice_get xs i ≡ None → ⊥
+slice_get_there [] i l e = absurd (omega arith)
+slice_get_there (x ∷ xs) zero l e = cc
+slice_get_there (x ∷ xs) (suc i) l e = slice_get_there xs i (omega arith) e
 
 -- a member stands at some place
 pub in_slice_get : {A : Type 0} (x : A) (xs : List A) → In x xs → (i : ℕ) × (slice_get xs i ≡ Some x)

@@ -377,3 +377,18 @@ cols_of-tuple_of cols vals d e =
     let n : In c (cols_of (zip cols vals)) = subst (In c) (sym (cols_of-zip cols vals e)) (in_gather nat_cmp nat_order c cols m) in
     let w = in_map (λ (p : ℕ × ℕ). p.0) c (zip cols vals) n in
     subst (λ k. In k (cols_of (tuple_of cols vals))) (sym w.2) (map_in (λ (p : ℕ × ℕ). p.0) w.0 (tuple_of cols vals) (gather_in pair_cmp pair_order w.0 (zip cols vals) w.1)))
+
+-- ---- agreement on several sets
+
+part_by : (xs : List ℕ) (t u : Pairs) → ((c : ℕ) → In c xs → (ys : List ℕ) × In c ys × (project ys t ≡ project ys u)) → (p : ℕ × ℕ) → In p (project xs t) → In p (project xs u)
+part_by xs t u f p h =
+    let q : In p t × In p.0 xs = in_project xs p t h in
+    let g : (ys : List ℕ) × In p.0 ys × (project ys t ≡ project ys u) = f p.0 q.1 in
+    project_in xs p u (in_project g.0 p u (subst (In p) g.2 (project_in g.0 p t q.0 g.1))).0 q.1
+
+-- tuples that agree on columns that together hold xs agree on xs
+pub project_by : (xs : List ℕ) (t u : Pairs) → IsRising pair_cmp t → IsRising pair_cmp u → ((c : ℕ) → In c xs → (ys : List ℕ) × In c ys × (project ys t ≡ project ys u)) → project xs t ≡ project xs u
+project_by xs t u a b f =
+    same_rising pair_cmp pair_order (project xs t) (project xs u)
+    (rising_filter pair_cmp (λ (p : ℕ × ℕ). has xs p.0) t a) (rising_filter pair_cmp (λ (p : ℕ × ℕ). has xs p.0) u b)
+    (part_by xs t u f) (part_by xs u t (λ c h. ((f c h).0, (f c h).1, sym (f c h).2)))

@@ -3,11 +3,10 @@ use Rattle.std.proofs.Common.{◌≡◌, ℕ, List, ◌∷◌, Result, sym, ◌�
 use Rattle.rc_text.specs.Lines.{ContentLine}
 use Rattle.rc_spec.specs.declared.spec.Spec.{Spec}
 use Rattle.rc_reader.specs.Grammar.{Broken}
-use Rattle.rc_reader.specs.Answers.{Refuses}
-use Rattle.rc_work.specs.declared.fault.LineFault.{LineFault}
-use Rattle.rc_work.specs.declared.fault.LineFault.TheVariants as faults
+use Rattle.rc_reader.specs.Answers.{FailsLine, Refuses, refusal_at}
+use Rattle.rc_reader.specs.declared.refusal.LineFault.{LineFault}
+use Rattle.rc_reader.specs.declared.refusal.LineFault.TheVariants as faults
 use Rattle.rc_work.specs.declared.raw.Draft.{Draft}
-use Rattle.rc_work.specs.Answers.{FailsLine, refusal_at}
 use Rattle.rc_work.specs.WorkGrammar.{after_bytes, reading_from}
 use Rattle.rc_work.specs.ReadingLaws.{breaks}
 

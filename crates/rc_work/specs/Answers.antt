@@ -1,24 +1,12 @@
 -- How the code's answers give what the definitions give. Want of memory says nothing.
 use Rattle.std.specs.Prelude.{◌≡◌, ℕ, Result, Ok, Err}
-use Rattle.rc_reader.specs.Grammar.{Broken}
-use Rattle.rc_reader.specs.Answers.{Refuses}
+use Rattle.rc_reader.specs.Answers.{FailsLine}
 use Rattle.rc_reader.specs.declared.refusal.LineRule.{LineRule}
 use Rattle.rc_reader.specs.declared.refusal.LineRule.TheVariants.{S1, S2, S3, S4, S5, S6, S7, S8, W1, W2, W3}
 use Rattle.rc_reader.specs.declared.refusal.ReadRefusal.{ReadRefusal}
 use Rattle.rc_reader.specs.declared.refusal.ReadRefusal.TheVariants as refusals
-use Rattle.rc_work.specs.declared.fault.LineFault.{LineFault}
-use Rattle.rc_work.specs.declared.fault.LineFault.TheVariants as faults
+use Rattle.rc_reader.specs.declared.refusal.LineFault.{LineFault}
 use Rattle.rc_work.specs.declared.raw.Draft.{Draft}
-
--- the refusal of the text for the fault of a line
-abbrev pub refusal_at : LineFault → ℕ → ReadRefusal
-refusal_at faults.Memory line = refusals.Memory
-refusal_at (faults.Broken rule) line = refusals.Line rule line
-
--- a line was refused by the rule that breaks
-abbrev pub FailsLine : {Y : Type 0} → LineFault → Result Y LineRule → Type 0
-FailsLine faults.Memory gives = Unit {0}
-FailsLine (faults.Broken rule) gives = gives ≡ Err rule
 
 -- the header gave a number of threads
 abbrev pub GivesThreads : Result ℕ LineFault → Result ℕ LineRule → Type 0
@@ -29,11 +17,6 @@ GivesThreads (Err fault) gives = FailsLine fault gives
 abbrev pub TakesLine : {X : Type 0} → Result X LineFault → Draft → Result Draft LineRule → Type 0
 TakesLine (Ok done) new gives = gives ≡ Ok new
 TakesLine (Err fault) new gives = FailsLine fault gives
-
--- what reading a text answers
-abbrev pub ReadsAs : {X : Type 0} → Result X ReadRefusal → Result X Broken → Type 0
-ReadsAs (Ok value) gives = gives ≡ Ok value
-ReadsAs (Err refusal) gives = Refuses refusal gives
 
 -- a rule that lines of a workload may break
 abbrev pub IsWorkRule : LineRule → Type 0

@@ -1,6 +1,6 @@
 -- Laws of the columns to which calls give values.
-use Rattle.std.proofs.Common.{◌≡◌, ℕ, zero, suc, ◌+◌, ◌<◌, List, [], ◌∷◌, ◌++◌, Option, Some, None, length, refl, ap, ◌∙◌, arith}
-use Rattle.std.specs.List.{range_with_len, slice_get}
+use Rattle.std.proofs.Common.{◌≡◌, ℕ, ◌<◌, List, [], ◌∷◌, Option, Some, None, length, refl, arith}
+use Rattle.std.specs.List.{slice_get}
 use Rattle.std.specs.Option.{option_map_or}
 use Rattle.std.specs.Ordering.{nat_cmp}
 use Rattle.rc_tuple.specs.RisingSet.{In, IsRising, AreDistinct}
@@ -14,14 +14,6 @@ use Rattle.rc_spec.specs.declared.items.OpKind.{OpKind}
 use Rattle.rc_spec.specs.declared.items.OpKind.TheVariants.{Query, Insert, Remove}
 use Rattle.rc_spec.specs.declared.spec.Spec.{Spec}
 use Rattle.rc_work.specs.CallColumns.{columns_at}
-
--- one more number at the end
-pub range_with_len_more : (a n : ℕ) → range_with_len a (n + 1) ≡ range_with_len a n ++ (a + n) ∷ []
-range_with_len_more a n = go a n (n + 1) (a + n) (omega arith) refl
-  where
-    go : (a n m j : ℕ) → m ≡ suc n → a + n ≡ j → range_with_len a m ≡ range_with_len a n ++ j ∷ []
-    go a zero m j e f = ap (range_with_len a) e ∙ ap (λ (k : ℕ). k ∷ []) (let k : a ≡ j = omega arith in k)
-    go a (suc n) m j e f = ap (range_with_len a) e ∙ ap (λ (xs : List ℕ). a ∷ xs) (go (a + 1) n (suc n) j refl (omega arith))
 
 abbrev columns_by : Spec → Option Op → List ℕ
 columns_by spec found = option_map_or (λ op. value_columns spec op.pattern op.kind) found []

@@ -1,4 +1,5 @@
 pub mod Printed
+pub mod PrintedLaws
 pub mod Report
 pub mod ReportLaws
 pub mod Fitting

@@ -2,7 +2,6 @@
 #![tactic(auto)]
 
 mod columns;
-mod fault;
 mod forms;
 mod laws;
 mod printing;
@@ -15,7 +14,7 @@ mod rules;
 mod words;
 mod work;
 
-pub use laws::runs_make_calls;
+pub use laws::{runs_make_calls, texts_print_as_written};
 pub use printing::{print_step, print_tuple};
 pub use reading::read_work;
 pub use reading_laws::first_broken_work_line;

@@ -5,22 +5,21 @@ ghost use Rattle.rc_text.specs.Lines.{IsLineStart, content_from, past_end_of};
 ghost use Rattle.rc_text.specs.Numbers.{u64_of};
 ghost use Rattle.rc_spec.specs.InRange.{IsInRange};
 ghost use Rattle.rc_spec.specs.Names.{IsWellNamed};
-ghost use Rattle.rc_reader.specs.Answers.{rest_place, Refuses};
+ghost use Rattle.rc_reader.specs.Answers.{rest_place, ReadsAs, Refuses};
 ghost use Rattle.rc_work.specs.LineForms.{word_texts};
 ghost use Rattle.rc_work.specs.WorkGrammar.{after_bytes, threads_by, threads_of_words, threads_of, headed, reading_all};
 ghost use Rattle.rc_work.specs.Ranking.{work_reading};
 ghost use Rattle.rc_work.specs.Fitting.{HasThreads, RoundsFit};
 ghost use Rattle.rc_work.specs.Limits.{KeepsLimits, KnowsTexts};
-ghost use Rattle.rc_work.specs.Answers.{GivesThreads, TakesLine, ReadsAs, IsWorkRefusal};
+ghost use Rattle.rc_work.specs.Answers.{GivesThreads, TakesLine, IsWorkRefusal};
 
-use crate::fault::{LineFault, refusal_at};
 use crate::forms::form_of;
 use crate::ranking::work_of;
 use crate::raw::{Draft, RawRounds};
 use crate::rules::take_form;
 use crate::words::line_words;
 use crate::work::Work;
-use rc_reader::{LineRule, ReadRefusal, Rest};
+use rc_reader::{LineFault, LineRule, ReadRefusal, Rest};
 use rc_spec::Spec;
 use rc_text::{Lines, NumFault, Word, read_u64};
 use std::alloc::Global;
@@ -75,7 +74,7 @@ fn read_header(alloc: Global, lines: &mut Lines<'_>) -> Result<u32, ReadRefusal>
     };
     match threads_of(alloc, line.bytes) {
         Ok(threads) => Ok(threads),
-        Err(fault) => Err(refusal_at(fault, line.number)),
+        Err(fault) => Err(fault.at(line.number)),
     }
 }
 
@@ -108,7 +107,7 @@ fn read_draft(alloc: Global, spec: &Spec, lines: &mut Lines<'_>) -> Result<Draft
     while let Some(line) = lines.next_line() {
         match read_line(alloc, spec, &mut draft, line.bytes) {
             Ok(()) => {}
-            Err(fault) => return Err(refusal_at(fault, line.number)),
+            Err(fault) => return Err(fault.at(line.number)),
         }
     }
     if draft.ended {

@@ -10,11 +10,10 @@ ghost use Rattle.rc_work.specs.LineRules.{thread_of, raw_value, raw_values, is_t
 ghost use Rattle.rc_work.specs.Answers.{TakesLine};
 
 use crate::columns::columns_at;
-use crate::fault::LineFault;
 use crate::forms::Form;
 use crate::printing::kind_at;
 use crate::raw::{Draft, RawTurn, RawValue, RawValues};
-use rc_reader::{LineRule, number_among};
+use rc_reader::{LineFault, LineRule, number_among};
 use rc_spec::{ColKind, Spec};
 use rc_text::{Word, read_u64};
 use rc_tuple::Memory;

@@ -1,14 +1,20 @@
 -- The end of a command, of what was written.
-use Rattle.std.proofs.Common.{◌≡◌, ℕ, ◌+◌, ◌<◌, ◌≤◌, ◌^◌, ◌⊎◌, inl, inr, List, Option, Some, Result, Ok, Err, length, ◌∙◌, sym, subst, ap, arith}
+use Rattle.std.proofs.Common.{◌≡◌, ℕ, ◌+◌, ◌<◌, ◌≤◌, ◌^◌, ◌⊎◌, inl, inr, List, Option, Some, Result, Ok, Err, length, ◌∙◌, refl, sym, subst, ap, arith}
 use Rattle.rc_io.specs.Bytes.{Takes, IsEmpty}
 use Rattle.rc_io.specs.BytesLaws.{takes_all, takes_at_most}
-use Rattle.rc_reader.specs.Grammar.{Broken, Reading, spec_reading}
+use Rattle.rc_reader.specs.Grammar.{Broken, Reading, spec_of, spec_reading}
+use Rattle.rc_reader.specs.Answers.{IsRead, rest_place}
+use Rattle.rc_reader.specs.declared.reading.Rest.{Rest}
+use Rattle.rc_text.specs.Lines.{TextPlace}
 use Rattle.rc_spec.specs.declared.spec.Spec.{Spec}
+use Rattle.rc_spec.specs.Acceptance.{IsAccepted}
+use Rattle.rc_spec.specs.AcceptanceLaws.{refused_not_accepted}
 use Rattle.rc_work.specs.declared.work.Work.{Work}
 use Rattle.rc_work.specs.Ranking.{work_reading}
-use Rattle.relc.specs.Answers.{Answers, AnswersSpec, AnswersWork, IsAnswer, place_after}
+use Rattle.relc.specs.Answers.{Answers, AnswersCheck, AnswersRules, AnswersRun, AnswersWork, IsAcceptedText, IsAnswer, IsGoodReading, IsGoodSpec, IsGoodWork, IsReport, IsSizeRefusal, KeepsRules, place_after}
 use Rattle.relc.specs.Ends.{Ends, Writes, status_of}
-use Rattle.relc.specs.Refusals.{IsSizeRefusal}
+use Rattle.relc.specs.declared.command.Command.{Command}
+use Rattle.relc.specs.declared.command.Command.TheVariants.{Check, Run}
 use Rattle.relc.specs.declared.status.Status.{Status}
 use Rattle.relc.specs.declared.status.Status.TheVariants.{Done, Usage, Refused, SourceFailed, SinkFailed, OutOfMemory}
 use Rattle.relc.specs.declared.status.Stop.{Stop}
@@ -52,40 +58,55 @@ written_work : (spec : Spec) (reading : Result Work Broken) (text : List ℕ) (s
 written_work spec (Err broken) text status is = inr is.1
 written_work spec (Ok work) text status (history, runs, single, printed, done) = inl done
 
-written_spec : (input : List ℕ) (reading : Result Reading Broken) (text : List ℕ) (status : Status) → AnswersSpec input reading text status → IsWritten status
-written_spec input (Err broken) text status is = inr is.1
-written_spec input (Ok reading) text status is = written_work reading.spec (work_reading reading.spec (place_after input reading)) text status is
+written_rules : (spec : Spec) (IfAccepted : List ℕ → Status → Type 0) (text : List ℕ) (status : Status) → (IfAccepted text status → IsWritten status)
+    → AnswersRules spec IfAccepted text status → IsWritten status
+written_rules spec IfAccepted text status written (inl (accepted, is)) = written is
+written_rules spec IfAccepted text status written (inr (refusal, first, is)) = inr is.1
+
+written_check : (reading : Result Spec Broken) (text : List ℕ) (status : Status) → AnswersCheck reading text status → IsWritten status
+written_check (Err broken) text status is = inr is.1
+written_check (Ok spec) text status is = written_rules spec IsAcceptedText text status (λ h. inl h.1) is
+
+written_run : (input : List ℕ) (reading : Result Reading Broken) (text : List ℕ) (status : Status) → AnswersRun input reading text status → IsWritten status
+written_run input (Err broken) text status is = inr is.1
+written_run input (Ok reading) text status is =
+    let work : Result Work Broken = work_reading reading.spec (place_after input reading) in
+    written_rules reading.spec (AnswersWork reading.spec work) text status (written_work reading.spec work text status) is
+
+written : (command : Command) (input text : List ℕ) (status : Status) → Answers command input text status → IsWritten status
+written Check input text status is = written_check (spec_of input) text status is
+written Run input text status is = written_run input (spec_reading input) text status is
 
 -- told bytes that were read whole are answered
-pub read_ends : (input bytes : List ℕ) (told left : Option (List ℕ)) (old new : Option (List ℕ)) (r : Result Status Stop)
+pub read_ends : (command : Command) (input bytes : List ℕ) (told left : Option (List ℕ)) (old new : Option (List ℕ)) (r : Result Status Stop)
     → told ≡ Some input → Takes told bytes left → IsEmpty left → length bytes ≤ 2 ^ 24
-    → Writes (Answers bytes) old new r → Ends (IsAnswer input) old new (status_of r)
-read_ends input bytes told left old new r is_told taken empty within written =
-    ends_wider (Answers bytes) (IsAnswer input) old new r wider written
+    → Writes (Answers command bytes) old new r → Ends (IsAnswer command input) old new (status_of r)
+read_ends command input bytes told left old new r is_told taken empty within writes =
+    ends_wider (Answers command bytes) (IsAnswer command input) old new r wider writes
   where
     same : bytes ≡ input
     same = (takes_all input bytes left (sym is_told ∙ taken) empty).0
 
-    wider : (text : List ℕ) (status : Status) → Answers bytes text status → IsAnswer input text status × IsWritten status
+    wider : (text : List ℕ) (status : Status) → Answers command bytes text status → IsAnswer command input text status × IsWritten status
     wider text status is = (
-      record { read = λ short. subst (λ (read : List ℕ). Answers read text status) same is; long = λ long. absurd (too_long long) },
-      written_spec bytes (spec_reading bytes) text status is,
+      record { read = λ short. subst (λ (read : List ℕ). Answers command read text status) same is; long = λ long. absurd (too_long long) },
+      written command bytes text status is,
     )
       where
         too_long : 2 ^ 24 < length input → ⊥
         too_long long = let e : length bytes ≡ length input = ap length same in omega (arith, within, e, long)
 
 -- told bytes of which more were taken than may be are refused
-pub long_ends : (input bytes : List ℕ) (told left : Option (List ℕ)) (old new : Option (List ℕ)) (r : Result Status Stop)
+pub long_ends : (command : Command) (input bytes : List ℕ) (told left : Option (List ℕ)) (old new : Option (List ℕ)) (r : Result Status Stop)
     → told ≡ Some input → Takes told bytes left → length bytes ≡ 2 ^ 24 + 1
-    → Writes IsSizeRefusal old new r → Ends (IsAnswer input) old new (status_of r)
-long_ends input bytes told left old new r is_told taken beyond written =
-    ends_wider IsSizeRefusal (IsAnswer input) old new r wider written
+    → Writes IsSizeRefusal old new r → Ends (IsAnswer command input) old new (status_of r)
+long_ends command input bytes told left old new r is_told taken beyond writes =
+    ends_wider IsSizeRefusal (IsAnswer command input) old new r wider writes
   where
     most : length bytes ≤ length input
     most = takes_at_most input bytes left (sym is_told ∙ taken)
 
-    wider : (text : List ℕ) (status : Status) → IsSizeRefusal text status → IsAnswer input text status × IsWritten status
+    wider : (text : List ℕ) (status : Status) → IsSizeRefusal text status → IsAnswer command input text status × IsWritten status
     wider text status is = (
       record { read = λ short. absurd (too_short short); long = λ long. is },
       inr is.1,
@@ -93,3 +114,67 @@ long_ends input bytes told left old new r is_told taken beyond written =
       where
         too_short : length input ≤ 2 ^ 24 → ⊥
         too_short short = omega (arith, most, beyond, short)
+
+-- ---- texts that keep all rules
+
+refused_work : (reading : Result Work Broken) (spec : Spec) (text : List ℕ) → IsGoodWork reading → AnswersWork spec reading text Refused → ⊥
+refused_work (Err broken) spec text good is = absurd good
+refused_work (Ok work) spec text good (history, runs, single, printed, done) = cc
+
+refused_rules : (spec : Spec) (IfAccepted : List ℕ → Status → Type 0) (text : List ℕ) → IsAccepted spec → (IfAccepted text Refused → ⊥) → AnswersRules spec IfAccepted text Refused → ⊥
+refused_rules spec IfAccepted text good other (inl (accepted, is)) = other is
+refused_rules spec IfAccepted text good other (inr (refusal, first, is)) = refused_not_accepted spec refusal first good
+
+refused_check : (reading : Result Spec Broken) (text : List ℕ) → IsGoodSpec reading → AnswersCheck reading text Refused → ⊥
+refused_check (Err broken) text good is = absurd good
+refused_check (Ok spec) text good is = refused_rules spec IsAcceptedText text good (λ h. let e : Refused ≡ Done = h.1 in cc) is
+
+refused_run : (input : List ℕ) (reading : Result Reading Broken) (text : List ℕ) → IsGoodReading input reading → AnswersRun input reading text Refused → ⊥
+refused_run input (Err broken) text good is = absurd good
+refused_run input (Ok reading) text good is =
+    let work : Result Work Broken = work_reading reading.spec (place_after input reading) in
+    refused_rules reading.spec (AnswersWork reading.spec work) text good.0 (refused_work work reading.spec text good.1) is
+
+refused_text : (command : Command) (input text : List ℕ) → KeepsRules command input → Answers command input text Refused → ⊥
+refused_text Check input text good is = refused_check (spec_of input) text good is
+refused_text Run input text good is = refused_run input (spec_reading input) text good is
+
+-- a text that keeps all rules is answered, where nothing fails
+pub answered : (command : Command) (input : List ℕ) (old new : Option (List ℕ)) (status : Status) → length input ≤ 2 ^ 24 → KeepsRules command input
+    → Ends (IsAnswer command input) old new status → (status ≡ Usage → ⊥) → (status ≡ SourceFailed → ⊥) → (status ≡ SinkFailed → ⊥) → (status ≡ Done) ⊎ (status ≡ OutOfMemory)
+answered command input old new Done short good ends usage source sink = inl refl
+answered command input old new Usage short good ends usage source sink = absurd (usage refl)
+answered command input old new Refused short good (text, is, adds) usage source sink = absurd (refused_text command input text good (is.read short))
+answered command input old new SourceFailed short good ends usage source sink = absurd (source refl)
+answered command input old new SinkFailed short good ends usage source sink = absurd (sink refl)
+answered command input old new OutOfMemory short good ends usage source sink = inr refl
+
+-- ---- what a run writes
+
+pub writes_wider : (A B : List ℕ → Status → Type 0) (old new : Option (List ℕ)) (r : Result Status Stop) → ((text : List ℕ) (status : Status) → A text status → B text status)
+    → Writes A old new r → Writes B old new r
+writes_wider A B old new (Ok status) wider (text, is, adds) = (text, wider text status is, adds)
+writes_wider A B old new (Err Memory) wider (inl same) = inl same
+writes_wider A B old new (Err Memory) wider (inr (text, status, is, part)) = inr (text, status, wider text status is, part)
+writes_wider A B old new (Err Sink) wider (text, status, is, part) = (text, status, wider text status is, part)
+
+-- the report of a workload behind an accepted specification is what `run` may write
+pub report_answers : (input : List ℕ) (reading : Reading) (spec : Spec) (rest : Rest) (work : Work) → spec_reading input ≡ Ok reading → IsRead input spec rest reading → IsAccepted spec
+    → work_reading spec (rest_place input rest) ≡ Ok work → (text : List ℕ) (status : Status) → IsReport spec work text status → Answers Run input text status
+report_answers input reading spec rest work read is accepted made text status report =
+    subst (λ (found : Result Reading Broken). AnswersRun input found text status) (sym read)
+    (inl (subst (λ (s : Spec). IsAccepted s) (sym is.value) accepted, answers))
+  where
+    place : place_after input reading ≡ rest_place input rest
+    place = let P : ℕ → ℕ → TextPlace = λ at line. record { text = input; at = at; line = line } in ap (λ at. P at (reading.last.number + 1)) (sym is.at) ∙ ap (P rest.at) (sym is.line)
+
+    behind : work_reading reading.spec (place_after input reading) ≡ Ok work
+    behind = ap (λ (s : Spec). work_reading s (place_after input reading)) is.value ∙ ap (work_reading spec) place ∙ made
+
+    answers : AnswersWork reading.spec (work_reading reading.spec (place_after input reading)) text status
+    answers =
+        subst (λ (found : Result Work Broken). AnswersWork reading.spec found text status) (sym behind)
+        (subst (λ (s : Spec). IsReport s work text status) (sym is.value) report)
+
+pub one_command : (a b : Command) → Some a ≡ Some b → a ≡ b
+one_command a b e = cc

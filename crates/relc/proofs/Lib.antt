@@ -1,3 +1,4 @@
 pub mod EndLemmas
 pub mod InTurnLemmas
 pub mod WriteLemmas
+pub mod WordLemmas

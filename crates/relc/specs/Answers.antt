@@ -1,21 +1,29 @@
 -- What may be written for an input, with which status.
-use Rattle.std.specs.Prelude.{◌≡◌, ℕ, ◌+◌, ◌<◌, ◌≤◌, ◌^◌, List, [], ◌∷◌, length, Result, Ok, Err, decimal, codes}
+use Rattle.std.specs.Prelude.{◌≡◌, ℕ, ◌+◌, ◌<◌, ◌≤◌, ◌^◌, ◌⊎◌, List, [], ◌∷◌, length, Result, Ok, Err, decimal, codes}
 use Rattle.rc_text.specs.Lines.{TextPlace, printed_lines}
+use Rattle.rc_spec.specs.declared.refusal.Refusal.{Refusal}
 use Rattle.rc_spec.specs.declared.spec.Spec.{Spec}
+use Rattle.rc_spec.specs.Acceptance.{IsAccepted, IsFirstBroken}
+use Rattle.rc_spec.specs.RefusalText as rules
 use Rattle.rc_rel.specs.declared.entry.Entry.{Entry}
 use Rattle.rc_rel.specs.History.{replay}
-use Rattle.rc_reader.specs.Grammar.{Broken, Reading, spec_reading}
+use Rattle.rc_reader.specs.Grammar.{Broken, Reading, spec_reading, spec_of}
 use Rattle.rc_reader.specs.RuleText.{rule_text}
 use Rattle.rc_work.specs.declared.work.Work.{Work}
 use Rattle.rc_work.specs.Printed.{words_text}
 use Rattle.rc_work.specs.Ranking.{work_reading}
 use Rattle.rc_work.specs.Report.{report}
 use Rattle.rc_work.specs.Runs.{Runs, HasSingleSteps}
+use Rattle.relc.specs.declared.command.Command.{Command}
+use Rattle.relc.specs.declared.command.Command.TheVariants.{Check, Run}
 use Rattle.relc.specs.declared.status.Status.{Status}
 use Rattle.relc.specs.declared.status.Status.TheVariants.{Done, Refused}
 
 abbrev pub usage_text : List ℕ
 usage_text = printed_lines (codes "usage: relc check, plan, run or big SEED N" ∷ [])
+
+abbrev pub accepted_text : List ℕ
+accepted_text = printed_lines (codes "accepted" ∷ [])
 
 abbrev pub size_text : List ℕ
 size_text = printed_lines (codes "refused size" ∷ [])
@@ -24,12 +32,32 @@ size_text = printed_lines (codes "refused size" ∷ [])
 abbrev pub refusal_line : Broken → List ℕ
 refusal_line broken = words_text (codes "refused" ∷ rule_text broken.rule ∷ codes "line" ∷ decimal broken.line ∷ [])
 
-abbrev pub refusal_text : Broken → List ℕ
-refusal_text broken = printed_lines (refusal_line broken ∷ [])
+abbrev pub line_refusal_text : Broken → List ℕ
+line_refusal_text broken = printed_lines (refusal_line broken ∷ [])
 
 -- the refusal of a broken line rule
 abbrev pub IsRefusal : Broken → List ℕ → Status → Type 0
-IsRefusal broken text status = (text ≡ refusal_text broken) × (status ≡ Refused)
+IsRefusal broken text status = (text ≡ line_refusal_text broken) × (status ≡ Refused)
+
+-- the refusal of a broken rule of acceptance
+abbrev pub IsRuleRefusal : Spec → Refusal → List ℕ → Status → Type 0
+IsRuleRefusal spec refusal text status = (text ≡ printed_lines (rules.refusal_text spec refusal ∷ [])) × (status ≡ Refused)
+
+-- Acceptance of a specification. One that isn't accepted is refused for its first broken rule.
+abbrev pub AnswersRules : Spec → (List ℕ → Status → Type 0) → List ℕ → Status → Type 0
+AnswersRules spec IfAccepted text status =
+    (IsAccepted spec × IfAccepted text status) ⊎ ((refusal : Refusal) × IsFirstBroken spec refusal × IsRuleRefusal spec refusal text status)
+
+-- ---- check
+
+abbrev pub IsAcceptedText : List ℕ → Status → Type 0
+IsAcceptedText text status = (text ≡ accepted_text) × (status ≡ Done)
+
+abbrev pub AnswersCheck : Result Spec Broken → List ℕ → Status → Type 0
+AnswersCheck (Err broken) text status = IsRefusal broken text status
+AnswersCheck (Ok spec) text status = AnswersRules spec IsAcceptedText text status
+
+-- ---- run
 
 -- the report of a run of the workload, and of the rows of its replay
 abbrev pub IsReport : Spec → Work → List ℕ → Status → Type 0
@@ -45,29 +73,42 @@ abbrev pub AnswersWork : Spec → Result Work Broken → List ℕ → Status →
 AnswersWork spec (Err broken) text status = IsRefusal broken text status
 AnswersWork spec (Ok work) text status = IsReport spec work text status
 
-abbrev pub AnswersSpec : List ℕ → Result Reading Broken → List ℕ → Status → Type 0
-AnswersSpec input (Err broken) text status = IsRefusal broken text status
-AnswersSpec input (Ok reading) text status = AnswersWork reading.spec (work_reading reading.spec (place_after input reading)) text status
+abbrev pub AnswersRun : List ℕ → Result Reading Broken → List ℕ → Status → Type 0
+AnswersRun input (Err broken) text status = IsRefusal broken text status
+AnswersRun input (Ok reading) text status = AnswersRules reading.spec (AnswersWork reading.spec (work_reading reading.spec (place_after input reading))) text status
 
--- What an input that is not too long may have written: the refusal of its first broken line rule, of the specification's
--- and then of the workload's; else the report of a run.
-abbrev pub Answers : List ℕ → List ℕ → Status → Type 0
-Answers input text status = AnswersSpec input (spec_reading input) text status
+-- ---- both
+
+-- What an input that is not too long may have written. `check` reads a specification alone: the refusal of its first broken line
+-- rule, then of its first broken rule of acceptance, else `accepted`. `run` reads a workload behind it, and refuses by its line
+-- rules last; else it writes the report of a run.
+abbrev pub Answers : Command → List ℕ → List ℕ → Status → Type 0
+Answers Check input text status = AnswersCheck (spec_of input) text status
+Answers Run input text status = AnswersRun input (spec_reading input) text status
 
 -- a workload was read
 abbrev pub IsGoodWork : Result Work Broken → Type 0
 IsGoodWork (Err broken) = ⊥
 IsGoodWork (Ok work) = Unit {0}
 
-abbrev pub IsGoodSpec : List ℕ → Result Reading Broken → Type 0
-IsGoodSpec input (Err broken) = ⊥
-IsGoodSpec input (Ok reading) = IsGoodWork (work_reading reading.spec (place_after input reading))
+abbrev pub IsGoodReading : List ℕ → Result Reading Broken → Type 0
+IsGoodReading input (Err broken) = ⊥
+IsGoodReading input (Ok reading) = IsAccepted reading.spec × IsGoodWork (work_reading reading.spec (place_after input reading))
 
--- an input that breaks no line rule
-abbrev pub KeepsLineRules : List ℕ → Type 0
-KeepsLineRules input = IsGoodSpec input (spec_reading input)
+abbrev pub IsGoodSpec : Result Spec Broken → Type 0
+IsGoodSpec (Err broken) = ⊥
+IsGoodSpec (Ok spec) = IsAccepted spec
+
+-- an input that breaks no rule of the command
+abbrev pub KeepsRules : Command → List ℕ → Type 0
+KeepsRules Check input = IsGoodSpec (spec_of input)
+KeepsRules Run input = IsGoodReading input (spec_reading input)
+
+-- an input that is too long
+abbrev pub IsSizeRefusal : List ℕ → Status → Type 0
+IsSizeRefusal text status = (text ≡ size_text) × (status ≡ Refused)
 
 -- what any input may have written, with its status
-pub record IsAnswer (input text : List ℕ) (status : Status) : Type 0 where
-  pub read : length input ≤ 2 ^ 24 → Answers input text status
-  pub long : 2 ^ 24 < length input → (text ≡ size_text) × (status ≡ Refused)
+pub record IsAnswer (command : Command) (input text : List ℕ) (status : Status) : Type 0 where
+  pub read : length input ≤ 2 ^ 24 → Answers command input text status
+  pub long : 2 ^ 24 < length input → IsSizeRefusal text status

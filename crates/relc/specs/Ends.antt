@@ -43,4 +43,4 @@ EndsUsage old new Usage = Adds old usage_text new
 EndsUsage old new Refused = ⊥
 EndsUsage old new SourceFailed = ⊥
 EndsUsage old new SinkFailed = AddsPrefix old usage_text new
-EndsUsage old new OutOfMemory = ⊥
+EndsUsage old new OutOfMemory = new ≡ old

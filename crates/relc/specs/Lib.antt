@@ -1,6 +1,7 @@
 pub mod Answers
 pub mod Command
 pub mod Ends
+pub mod Grammar
 pub mod InTurn
 pub mod Refusals
 pub mod Statuses

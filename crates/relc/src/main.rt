@@ -1,4 +1,4 @@
-//! RELC: reads a specification and a workload, makes the calls, and prints the journal.
+//! RELC: checks specifications, and runs workloads on them.
 #![tactic(auto)]
 
 use crate::status::Status;
@@ -8,6 +8,8 @@ use std::alloc::Global;
 use std::process::ExitCode;
 use std::{env, io};
 
+#[cfg(test)]
+mod check_tests;
 mod command;
 mod performing;
 mod refusing;
@@ -16,6 +18,8 @@ mod status;
 #[cfg(test)]
 mod tests;
 mod top;
+#[cfg(test)]
+mod word_tests;
 mod writing;
 
 /// The exit status where the system hands out no words.

@@ -1,4 +1,4 @@
-//! Answers a text: reads it, makes its calls, and writes the report or a refusal.
+//! Answers a text: reads it, tests its rules, makes its calls, and writes what the command asks or a refusal.
 
 ghost use Rattle.std.specs.Prelude.{◌≡◌, ◌≤◌, ◌^◌, length, IsErrOf};
 ghost use Rattle.rc_io.specs.Counts.{Rose};
@@ -6,13 +6,16 @@ ghost use Rattle.rc_spec.specs.InRange.{IsInRange};
 ghost use Rattle.rc_work.specs.Fitting.{RoundsFit, HasThreads};
 ghost use Rattle.relc.specs.Answers.{Answers, IsReport};
 ghost use Rattle.relc.specs.Ends.{Writes};
+ghost use Rattle.relc.specs.declared.command.Command.TheVariants as commands;
 
-use crate::refusing::refuse;
+use crate::command::Command;
+use crate::refusing::{refuse, refuse_spec};
 use crate::running::run_work;
 use crate::status::{Status, Stop};
-use crate::writing::write_report;
+use crate::writing::{write_accepted, write_report};
 use rc_io::Sink;
-use rc_reader::read_spec;
+use rc_place::accept;
+use rc_reader::{read_spec, read_spec_only};
 use rc_spec::Spec;
 use rc_work::{Report, Work, read_work};
 use std::alloc::Global;
@@ -37,10 +40,27 @@ fn perform<K: Sink>(alloc: Global, sink: &mut K, spec: &Spec, work: &Work) -> Re
     Ok(Status::Done)
 }
 
-/// Answers a text of at most 2^24 bytes.
-pub(crate) fn answer<K: Sink>(alloc: Global, text: &[u8], sink: &mut K) -> Result<Status, Stop>
+/// Answers a specification that stands alone: whether it is accepted.
+fn check<K: Sink>(alloc: Global, text: &[u8], sink: &mut K) -> Result<Status, Stop>
     requires { length text.now ≤ 2 ^ 24 }
-    ensures written { Writes (Answers text.now) (K.held sink.old) (K.held sink.new) result }
+    ensures written { Writes (Answers commands.Check text.now) (K.held sink.old) (K.held sink.new) result }
+    ensures failed { IsErrOf result Stop.Sink → Rose (K.faults sink.old) (K.faults sink.new) }
+    ensures count { K.faults sink.old ≤ K.faults sink.new }
+{
+    let spec = match read_spec_only(alloc, text) {
+        Ok(spec) => spec,
+        Err(refusal) => return refuse(alloc, sink, refusal),
+    };
+    match accept(alloc, spec) {
+        Ok(_) => write_accepted(sink),
+        Err(fault) => refuse_spec(alloc, sink, fault),
+    }
+}
+
+/// Answers a specification and the workload behind it: makes the calls where all rules are kept.
+fn run<K: Sink>(alloc: Global, text: &[u8], sink: &mut K) -> Result<Status, Stop>
+    requires { length text.now ≤ 2 ^ 24 }
+    ensures written { Writes (Answers commands.Run text.now) (K.held sink.old) (K.held sink.new) result }
     ensures failed { IsErrOf result Stop.Sink → Rose (K.faults sink.old) (K.faults sink.new) }
     ensures count { K.faults sink.old ≤ K.faults sink.new }
 {
@@ -48,9 +68,32 @@ pub(crate) fn answer<K: Sink>(alloc: Global, text: &[u8], sink: &mut K) -> Resul
         Ok(read) => read,
         Err(refusal) => return refuse(alloc, sink, refusal),
     };
-    let work = match read_work(alloc, text, rest, &spec) {
+    let accepted = match accept(alloc, spec) {
+        Ok(accepted) => accepted,
+        Err(fault) => return refuse_spec(alloc, sink, fault),
+    };
+    let spec = accepted.spec();
+    let work = match read_work(alloc, text, rest, spec) {
         Ok(work) => work,
         Err(refusal) => return refuse(alloc, sink, refusal),
     };
-    perform(alloc, sink, &spec, &work)
+    perform(alloc, sink, spec, &work)
+}
+
+/// Answers a text of at most 2^24 bytes as the command asks.
+pub(crate) fn answer<K: Sink>(
+    alloc: Global,
+    command: Command,
+    text: &[u8],
+    sink: &mut K,
+) -> Result<Status, Stop>
+    requires { length text.now ≤ 2 ^ 24 }
+    ensures written { Writes (Answers command text.now) (K.held sink.old) (K.held sink.new) result }
+    ensures failed { IsErrOf result Stop.Sink → Rose (K.faults sink.old) (K.faults sink.new) }
+    ensures count { K.faults sink.old ≤ K.faults sink.new }
+{
+    match command {
+        Command::Check => check(alloc, text, sink),
+        Command::Run => run(alloc, text, sink),
+    }
 }

@@ -2,14 +2,18 @@
 
 ghost use Rattle.std.specs.Prelude.{◌≡◌, ◌≤◌, IfOk, IsErrOf};
 ghost use Rattle.rc_io.specs.Counts.{Rose};
-ghost use Rattle.relc.specs.Answers.{refusal_line, IsRefusal, size_text};
+ghost use Rattle.rc_spec.specs.Acceptance.{IsItemOf};
+ghost use Rattle.rc_place.specs.Fault.{IfHandedBack};
+ghost use Rattle.relc.specs.Answers.{refusal_line, IsSizeRefusal};
 ghost use Rattle.relc.specs.Ends.{Writes};
-ghost use Rattle.relc.specs.Refusals.{WritesRefusal, IsSizeRefusal};
+ghost use Rattle.relc.specs.Refusals.{WritesRefusal, WritesRuleRefusal};
 
 use crate::status::{Status, Stop};
 use crate::writing::write_line;
 use rc_io::{Sink, write_all};
+use rc_place::AcceptFault;
 use rc_reader::{LineRule, ReadRefusal};
+use rc_spec::print_refusal;
 use rc_tuple::Memory;
 use std::alloc::Global;
 
@@ -35,6 +39,27 @@ pub(crate) fn refuse<K: Sink>(
         ReadRefusal::Memory => Err(Stop::Memory),
         ReadRefusal::Line { rule, line } => {
             let line = refusal_line(alloc, rule, line)?;
+            write_line(sink, line)?;
+            Ok(Status::Refused)
+        }
+    }
+}
+
+/// Writes the refusal of a specification that isn't accepted.
+pub(crate) fn refuse_spec<K: Sink>(
+    alloc: Global,
+    sink: &mut K,
+    fault: AcceptFault,
+) -> Result<Status, Stop>
+    requires { IfHandedBack (λ spec refusal. IsItemOf spec refusal.item) fault }
+    ensures written { WritesRuleRefusal (K.held sink.old) (K.held sink.new) fault result }
+    ensures failed { IsErrOf result Stop.Sink → Rose (K.faults sink.old) (K.faults sink.new) }
+    ensures count { K.faults sink.old ≤ K.faults sink.new }
+{
+    match fault {
+        AcceptFault::Memory => Err(Stop::Memory),
+        AcceptFault::Refused(spec, refusal) => {
+            let line = print_refusal(alloc, &spec, &refusal)?;
             write_line(sink, line)?;
             Ok(Status::Refused)
         }

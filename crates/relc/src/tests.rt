@@ -8,7 +8,7 @@ use rc_tuple::Memory;
 use std::alloc::Global;
 use std::test::Fail;
 
-const GRAPH: &str = "relc 1
+pub(crate) const GRAPH: &str = "relc 1
 col src num
 col dst num
 col weight num
@@ -184,21 +184,21 @@ const USAGE: &str = "usage: relc check, plan, run or big SEED N\n";
 
 /// How a call of the program ended: its status, what the sink holds, and how many bytes are left in the source.
 #[derive(Debug, Drop)]
-struct End {
-    status: Status,
-    written: String,
-    left: usize,
+pub(crate) struct End {
+    pub(crate) status: Status,
+    pub(crate) written: String,
+    pub(crate) left: usize,
 }
 
 /// Streams by the bytes that they pass at most in a call, and by the calls that fail.
 #[derive(Clone, Copy)]
-struct Streams<'a> {
+pub(crate) struct Streams<'a> {
     piece: usize,
     failed_reads: &'a [u64],
     failed_writes: &'a [u64],
 }
 
-const WHOLE: Streams<'static> = Streams {
+pub(crate) const WHOLE: Streams<'static> = Streams {
     piece: 1_000_000,
     failed_reads: &[],
     failed_writes: &[],
@@ -211,7 +211,12 @@ fn left_in(alloc: Global, source: &mut MemSource) -> Result<usize, Memory> {
     }
 }
 
-fn end_of(alloc: Global, words: &[&str], text: &[u8], streams: Streams) -> Result<End, Fail>
+pub(crate) fn end_of(
+    alloc: Global,
+    words: &[&str],
+    text: &[u8],
+    streams: Streams,
+) -> Result<End, Fail>
     requires { 1 ≤ streams.piece }
 {
     let mut said = Vec::new(alloc);
@@ -423,10 +428,11 @@ fn answers_failed_streams(rt: HostRuntime) -> Result<(), Fail> {
 // Words that are no command write the usage line, and leave the source.
 #[test]
 fn writes_the_usage_of_other_words(rt: HostRuntime) -> Result<(), Fail> {
-    let rows: [&[&str]; 5] = [
+    let rows: [&[&str]; 6] = [
         &[],
         &["relc"],
         &["relc", "frob"],
+        &["relc", "--help"],
         &["relc", "run", "--"],
         &["relc", "run", "run"],
     ];

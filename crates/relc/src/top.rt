@@ -2,27 +2,32 @@
 
 ghost use Rattle.std.specs.Prelude.{◌≡◌, ◌≤◌, ◌^◌, ◌⊎◌, ℕ, List, [], Some, None, length, map, string_bytes};
 ghost use Rattle.rc_io.specs.Counts.{Rose};
-ghost use Rattle.relc.specs.Answers.{IsAnswer, KeepsLineRules};
+ghost use Rattle.relc.specs.Answers.{IsAnswer, KeepsRules};
 ghost use Rattle.relc.specs.Command.{command_of};
 ghost use Rattle.relc.specs.Ends.{Ends, EndsUsage, status_of};
-ghost use Rattle.relc.specs.declared.command.Command.TheVariants.{Run};
+ghost use Rattle.relc.specs.declared.command.Command.{Command};
 
 use crate::command::{Command, command_in};
 use crate::performing::answer;
 use crate::refusing::refuse_size;
 use crate::status::{Status, Stop};
 use rc_io::{ReadFault, Sink, Source, WriteFault, read_all, write_all};
+use rc_tuple::Memory;
 use std::alloc::Global;
 
 /// The most bytes that an input may have.
 const MAX_BYTES: u64 = 1 << 24;
 
-/// Does what the words ask. `words[0]` is the program's name; the one command is `run`, which reads the
-/// source to its end.
+/// Does what the words ask. `words[0]` is the program's name; the commands are `check` and `run`, and both read
+/// the source to its end, or until 2^24 + 1 bytes are taken.
 ///
-/// `run` writes, over the bytes that the source tells to be left at entry, the refusal of the first broken line
-/// rule, or the report of a journal that is a run of the workload and of the rows of its replay. Other words write
-/// the usage line, and take nothing from the source.
+/// Over the bytes that the source tells to be left at entry, `check` writes `accepted` where the specification keeps
+/// all rules, and `run` writes the report of a journal that is a run of the workload and of the rows of its replay.
+/// Where a rule is broken, both write the refusal of the first, and of more than 2^24 bytes `refused size`. Other words
+/// write the usage line, and take nothing from the source.
+///
+/// The status is `Done` or `Refused` with the whole text, `Usage` with the usage line, `SourceFailed` with nothing
+/// written, `SinkFailed` with a prefix of such a text, and `OutOfMemory` with nothing or a prefix.
 pub fn relc<S: Source, K: Sink>(
     alloc: Global,
     words: &[String],
@@ -35,9 +40,9 @@ pub fn relc<S: Source, K: Sink>(
     ensures only_usage { result ≡ Status.Usage → command_of (map string_bytes words.now) ≡ None }
 
     // What is written of told bytes, and what is left of them.
-    ensures answers { command_of (map string_bytes words.now) ≡ Some Run → (input : List ℕ) → S.left source.old ≡ Some input
-        → Ends (IsAnswer input) (K.held sink.old) (K.held sink.new) result }
-    ensures left { command_of (map string_bytes words.now) ≡ Some Run → (input : List ℕ) → S.left source.old ≡ Some input
+    ensures answers { (command : Command) → command_of (map string_bytes words.now) ≡ Some command → (input : List ℕ) → S.left source.old ≡ Some input
+        → Ends (IsAnswer command input) (K.held sink.old) (K.held sink.new) result }
+    ensures left { (command : Command) → command_of (map string_bytes words.now) ≡ Some command → (input : List ℕ) → S.left source.old ≡ Some input
         → length input ≤ 2 ^ 24 → (result ≡ Status.Done) ⊎ (result ≡ Status.Refused) → S.left source.new ≡ Some [] }
 
     // Statuses have their causes.
@@ -48,14 +53,15 @@ pub fn relc<S: Source, K: Sink>(
     ensures sink_count { K.faults sink.old ≤ K.faults sink.new }
 
     // A text that keeps all rules is answered, where nothing fails and memory is there.
-    ensures complete { command_of (map string_bytes words.now) ≡ Some Run → (input : List ℕ) → S.left source.old ≡ Some input
-        → length input ≤ 2 ^ 24 → KeepsLineRules input
+    ensures complete { (command : Command) → command_of (map string_bytes words.now) ≡ Some command → (input : List ℕ) → S.left source.old ≡ Some input
+        → length input ≤ 2 ^ 24 → KeepsRules command input
         → (Rose (S.faults source.old) (S.faults source.new) → ⊥) → (Rose (K.faults sink.old) (K.faults sink.new) → ⊥)
         → (result ≡ Status.Done) ⊎ (result ≡ Status.OutOfMemory) }
 {
-    match command_in(words) {
-        Some(Command::Run) => run(alloc, source, sink),
-        None => usage(sink),
+    match command_in(alloc, words) {
+        Ok(Some(command)) => read_and_answer(alloc, command, source, sink),
+        Ok(None) => usage(sink),
+        Err(Memory) => Status::OutOfMemory,
     }
 }
 
@@ -81,9 +87,14 @@ fn status_of(answer: Result<Status, Stop>) -> Status
     }
 }
 
-/// Reads the source to its end, and answers its text.
-fn run<S: Source, K: Sink>(alloc: Global, source: &mut S, sink: &mut K) -> Status
-    ensures answers { (input : List ℕ) → S.left source.old ≡ Some input → Ends (IsAnswer input) (K.held sink.old) (K.held sink.new) result }
+/// Reads the source to its end, and answers its text as the command asks.
+fn read_and_answer<S: Source, K: Sink>(
+    alloc: Global,
+    command: Command,
+    source: &mut S,
+    sink: &mut K,
+) -> Status
+    ensures answers { (input : List ℕ) → S.left source.old ≡ Some input → Ends (IsAnswer command input) (K.held sink.old) (K.held sink.new) result }
     ensures left { (input : List ℕ) → S.left source.old ≡ Some input → length input ≤ 2 ^ 24
         → (result ≡ Status.Done) ⊎ (result ≡ Status.Refused) → S.left source.new ≡ Some [] }
     ensures not_usage { result ≡ Status.Usage → ⊥ }
@@ -94,7 +105,7 @@ fn run<S: Source, K: Sink>(alloc: Global, source: &mut S, sink: &mut K) -> Statu
     ensures sink_count { K.faults sink.old ≤ K.faults sink.new }
 {
     match read_all(alloc, source, MAX_BYTES) {
-        Ok(text) => status_of(answer(alloc, &text, sink)),
+        Ok(text) => status_of(answer(alloc, command, &text, sink)),
         Err(ReadFault::TooLong) => status_of(refuse_size(sink)),
         Err(ReadFault::Source) => Status::SourceFailed,
         Err(ReadFault::Memory) => Status::OutOfMemory,

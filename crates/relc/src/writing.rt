@@ -6,8 +6,10 @@ ghost use Rattle.rc_io.specs.Counts.{Rose};
 ghost use Rattle.rc_rel.specs.History.{AllFit};
 ghost use Rattle.rc_text.specs.Lines.{printed_lines};
 ghost use Rattle.rc_work.specs.Report.{report};
+ghost use Rattle.relc.specs.Answers.{IsAcceptedText};
+ghost use Rattle.relc.specs.Ends.{Writes};
 
-use crate::status::Stop;
+use crate::status::{Status, Stop};
 use rc_io::{Sink, write_all};
 use rc_work::Report;
 use std::alloc::Global;
@@ -24,6 +26,16 @@ pub(crate) fn write_line<K: Sink>(sink: &mut K, mut line: Vec<u8>) -> Result<(),
     }
     write_all(sink, &line)?;
     Ok(())
+}
+
+/// Writes that a specification is accepted.
+pub(crate) fn write_accepted<K: Sink>(sink: &mut K) -> Result<Status, Stop>
+    ensures written { Writes IsAcceptedText (K.held sink.old) (K.held sink.new) result }
+    ensures failed { IsErrOf result Stop.Sink → Rose (K.faults sink.old) (K.faults sink.new) }
+    ensures count { K.faults sink.old ≤ K.faults sink.new }
+{
+    write_all(sink, b"accepted\n")?;
+    Ok(Status::Done)
 }
 
 /// Writes a report line by line.

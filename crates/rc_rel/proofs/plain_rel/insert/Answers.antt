@@ -3,7 +3,7 @@ use Rattle.rc_tuple.specs.RisingSet.{In, put}
 use Rattle.rc_tuple.specs.Tuple.{Pairs, tuple_cmp}
 use Rattle.rc_tuple.specs.declared.dep.Dep.{Dep}
 use Rattle.rc_spec.specs.declared.call.Reply.TheVariants.{Inserted}
-use Rattle.rc_spec.specs.Plain.{Outcome, first_broken}
+use Rattle.rc_spec.specs.Plain.{Outcome, first_broken_dependency}
 use Rattle.rc_spec.specs.PlainLaws.{insert-present, insert-absent}
 use Rattle.rc_rel.specs.Kept.{IsKept}
 use Rattle.rc_rel.proofs.ChangeLemmas.{agreement_found, kept_with, kept_without}
@@ -23,20 +23,20 @@ returns-in-Some-clause-ok c =
     insert-absent c.args.pattern.now c.args.deps.now c.args.args.now c.args.tuples.now.items (Some c.in-Some.number)
     (agreement_found false c.from_list.result c.list.result.now c.args.pattern.now c.args.args.now c.deref.result.now c.args.tuples.now.items
     c.if-any_agrees.ensures c.from_list.ensures.value c.list.ensures c.deref.ensures.value)
-    (ap (λ (l : List Pairs). first_broken 1 c.args.deps.now (put tuple_cmp c.args.args.now l)) (sym c.deref-3.ensures.value) ∙ sym c.in-Some.ensures)
+    (ap (λ (l : List Pairs). first_broken_dependency 1 c.args.deps.now (put tuple_cmp c.args.args.now l)) (sym c.deref-3.ensures.value) ∙ sym c.in-Some.ensures)
 
 pub returns-in_err-put_tuple-clause-kept : goal.returns-in_err-put_tuple-clause-kept
 returns-in_err-put_tuple-clause-kept c =
-    let none : first_broken 1 c.args.deps.now (put tuple_cmp c.args.args.now c.args.tuples.now.items) ≡ None =
-    ap (λ (l : List Pairs). first_broken 1 c.args.deps.now (put tuple_cmp c.args.args.now l)) (sym c.deref-3.ensures.value) ∙ sym c.in_default.ensures in
-    subst (λ (l : List Dep). IsKept c.put_tuple.new.tuples.items l) (sym c.in_ok-known.ensures.items)
+    let none : first_broken_dependency 1 c.args.deps.now (put tuple_cmp c.args.args.now c.args.tuples.now.items) ≡ None =
+    ap (λ (l : List Pairs). first_broken_dependency 1 c.args.deps.now (put tuple_cmp c.args.args.now l)) (sym c.deref-3.ensures.value) ∙ sym c.in_default.ensures in
+    subst (λ (l : List Dep). IsKept c.put_tuple.new.tuples.items l) (sym c.in_ok-remember.ensures.ok)
     (subst (λ (l : List Pairs). IsKept l c.args.deps.now) (sym c.in_err-put_tuple.ensures.err)
     (kept_without c.args.deps.now c.args.args.now c.args.tuples.now.items c.requires.kept.rising none))
 
 pub returns-clause-ok : goal.returns-clause-ok
 returns-clause-ok c =
-    let none : first_broken 1 c.args.deps.now (put tuple_cmp c.args.args.now c.args.tuples.now.items) ≡ None =
-    ap (λ (l : List Pairs). first_broken 1 c.args.deps.now (put tuple_cmp c.args.args.now l)) (sym c.deref-3.ensures.value) ∙ sym c.in_default.ensures in
+    let none : first_broken_dependency 1 c.args.deps.now (put tuple_cmp c.args.args.now c.args.tuples.now.items) ≡ None =
+    ap (λ (l : List Pairs). first_broken_dependency 1 c.args.deps.now (put tuple_cmp c.args.args.now l)) (sym c.deref-3.ensures.value) ∙ sym c.in_default.ensures in
     insert-absent c.args.pattern.now c.args.deps.now c.args.args.now c.args.tuples.now.items None
     (agreement_found false c.from_list.result c.list.result.now c.args.pattern.now c.args.args.now c.deref.result.now c.args.tuples.now.items
     c.if-any_agrees.ensures c.from_list.ensures.value c.list.ensures c.deref.ensures.value) none
@@ -45,9 +45,9 @@ returns-clause-ok c =
 
 pub returns-clause-kept : goal.returns-clause-kept
 returns-clause-kept c =
-    let none : first_broken 1 c.args.deps.now (put tuple_cmp c.args.args.now c.args.tuples.now.items) ≡ None =
-    ap (λ (l : List Pairs). first_broken 1 c.args.deps.now (put tuple_cmp c.args.args.now l)) (sym c.deref-3.ensures.value) ∙ sym c.in_default.ensures in
-    subst (λ (l : List Dep). IsKept c.put_tuple.new.tuples.items l) (sym c.in_ok-known.ensures.items)
+    let none : first_broken_dependency 1 c.args.deps.now (put tuple_cmp c.args.args.now c.args.tuples.now.items) ≡ None =
+    ap (λ (l : List Pairs). first_broken_dependency 1 c.args.deps.now (put tuple_cmp c.args.args.now l)) (sym c.deref-3.ensures.value) ∙ sym c.in_default.ensures in
+    subst (λ (l : List Dep). IsKept c.put_tuple.new.tuples.items l) (sym c.in_ok-remember.ensures.ok)
     (subst (λ (l : List Pairs). IsKept l c.args.deps.now)
     (ap (λ (t : Pairs). put tuple_cmp t c.args.tuples.now.items) (sym c.in_ok-tuple.ensures) ∙ sym c.in_ok-put_tuple.ensures.ok)
     (kept_with c.args.deps.now c.args.args.now c.args.tuples.now.items c.requires.kept.rising none))

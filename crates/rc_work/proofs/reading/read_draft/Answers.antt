@@ -16,7 +16,7 @@ loop-line-preserved c =
 
 pub returns-in-Err : goal.returns-in-Err
 returns-in-Err c =
-    rw c.refusal_at.ensures (refuses _ _ _ _ (content_of c.in-Some.line) _ c.in-Err.fault _ c.in-Some.ensures.line c.in-Err.ensures c.loop-line.invariant.whole)
+    rw c.at.ensures (refuses _ _ _ _ (content_of c.in-Some.line) _ c.in-Err.fault _ c.in-Some.ensures.line c.in-Err.ensures c.loop-line.invariant.whole)
 
 pub returns-then-draft : goal.returns-then-draft
 returns-then-draft c = sym c.loop-line.invariant.whole ∙ ends _ _ _ _ c.in_default.ensures.none c.if-draft.true

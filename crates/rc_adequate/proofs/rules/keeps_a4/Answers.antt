@@ -1,0 +1,8 @@
+use Rattle.rc_spec.specs.Decomposition.{bound, source_and_key}
+use Rattle.rc_tuple.specs.RelationLaws.{follows_at}
+use Rattle.rc_adequate.proofs.rules.keeps_a4.Goals as goal
+
+pub returns : goal.returns
+returns c =
+    follows_at c.list.result.now c.args.spec.now.deps c.source_and_key.result (source_and_key c.args.spec.now c.args.edge.now) c.bound.result (bound c.args.spec.now c.args.edge.now.to)
+    c.determines.result c.list.ensures c.source_and_key.ensures c.bound.ensures c.determines.ensures

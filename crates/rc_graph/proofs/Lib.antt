@@ -1,0 +1,5 @@
+pub mod CircleLemmas
+pub mod EdgeLemmas
+pub mod OrderLemmas
+pub mod RuleLemmas
+pub mod TestLemmas

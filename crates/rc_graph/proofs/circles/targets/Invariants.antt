@@ -1,0 +1,7 @@
+use Rattle.std.proofs.Common.{take}
+use Rattle.rc_tuple.specs.ColSet.{IsColSet}
+use Rattle.rc_graph.proofs.CircleLemmas.{AreTargets}
+use Rattle.rc_graph.proofs.circles.targets.Given as goal
+
+abbrev pub invariant-loop-edge : goal.invariant-loop-edge
+invariant-loop-edge l = record { targets : AreTargets (take l.edge-index l.spec.edges) l.node l.set l.found; set : IsColSet l.found }

@@ -1,0 +1,64 @@
+ghost use Rattle.std.specs.Prelude.{◌<◌, ◌↔◌, IsTrue, length};
+ghost use Rattle.rc_spec.specs.InRange.{IsInRange, HasColumnAndNode};
+ghost use Rattle.rc_spec.specs.Adequacy.{HasEdgeInto, HasEdgeOutOf, IsRoot, KeepsA1};
+ghost use Rattle.rc_graph.specs.FirstNumber.{IsFirstNumber};
+
+use rc_spec::Spec;
+
+/// Whether an edge enters the node.
+fn has_edge_in(spec: &Spec, node: u8) -> bool
+    ensures { IsTrue result ↔ HasEdgeInto spec.now node }
+{
+    for edge in spec.edges.list() {
+        if edge.to == node {
+            return true;
+        }
+    }
+    false
+}
+
+/// Whether an edge leaves the node.
+fn has_edge_out(spec: &Spec, node: u8) -> bool
+    ensures { IsTrue result ↔ HasEdgeOutOf spec.now node }
+{
+    for edge in spec.edges.list() {
+        if edge.from == node {
+            return true;
+        }
+    }
+    false
+}
+
+/// Whether the first node is the root.
+fn begins_with_root(spec: &Spec) -> bool
+    requires { HasColumnAndNode spec.now }
+    ensures { IsTrue result ↔ IsRoot spec.now 0 }
+{
+    spec.nodes.list()[0].cols.is_empty() && !has_edge_in(spec, 0) && has_edge_out(spec, 0)
+}
+
+/// Whether the node keeps rule A1.
+fn keeps_a1(spec: &Spec, node: u8) -> bool
+    requires { HasColumnAndNode spec.now }
+    ensures { IsTrue result ↔ KeepsA1 spec.now node }
+{
+    if node == 0 {
+        begins_with_root(spec)
+    } else {
+        has_edge_in(spec, node)
+    }
+}
+
+/// The first node that breaks rule A1.
+pub(crate) fn first_breaking_a1(spec: &Spec) -> Option<u8>
+    requires range { IsInRange spec.now }
+    requires populated { HasColumnAndNode spec.now }
+    ensures { IsFirstNumber (KeepsA1 spec.now) (length spec.now.nodes) result }
+{
+    for node in 0..spec.nodes.list().len() as u8 {
+        if !keeps_a1(spec, node) {
+            return Some(node);
+        }
+    }
+    None
+}

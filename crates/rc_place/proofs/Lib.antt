@@ -1,0 +1,3 @@
+mod PlaceLemmas
+mod RuleLemmas
+mod TestLemmas

@@ -1,8 +1,0 @@
-use Rattle.std.proofs.Common.{◌≡◌, ◌+◌, drop}
-use Rattle.rc_tuple.specs.RisingSet.{put}
-use Rattle.rc_tuple.specs.Tuple.{tuple_cmp}
-use Rattle.rc_spec.specs.Plain.{first_broken}
-use Rattle.rc_rel.proofs.dependencies.first_broken.Given as goal
-
-abbrev pub invariant-loop-at : goal.invariant-loop-at
-invariant-loop-at l = first_broken (l.at + 1) (drop l.at l.deps) (put tuple_cmp l.tuple l.tuples) ≡ first_broken 1 l.deps (put tuple_cmp l.tuple l.tuples)

@@ -1,0 +1,9 @@
+use Rattle.std.proofs.Common.{◌≡◌, drop, eqb}
+use Rattle.std.specs.List.{find}
+use Rattle.std.specs.Option.{option_map_or}
+use Rattle.rc_spec.specs.declared.items.Place.{Place}
+use Rattle.rc_spec.specs.Placement.{class_of}
+use Rattle.rc_spec.proofs.spec.Spec.class_of.Given as goal
+
+abbrev pub invariant-loop-place : goal.invariant-loop-place
+invariant-loop-place l = option_map_or (λ (place : Place). place.class) (find (λ (place : Place). eqb place.edge l.edge) (drop l.place-index l.place-items)) 0 ≡ class_of l.self l.edge

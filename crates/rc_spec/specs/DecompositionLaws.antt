@@ -1,0 +1,40 @@
+-- Laws of edges by number, and of the columns that they visit.
+use Rattle.std.proofs.Common.{◌≡◌, ℕ, ◌+◌, ◌<◌, List, [], ◌∷◌, ◌++◌, length, take, get_or, sym, ap, ◌∙◌, subst}
+use Rattle.std.specs.List.{flat_map}
+use Rattle.std.specs.Ordering.{nat_cmp}
+use Rattle.std.proofs.lemmas.List.{take_more, get_or_default, append-nil}
+use Rattle.std.proofs.lemmas.Grind.{flat_map-append}
+use Rattle.rc_tuple.specs.RisingSet.{In, gather}
+use Rattle.rc_tuple.specs.RisingSetLaws.{get_or_in}
+use Rattle.rc_tuple.specs.ColSet.{union}
+use Rattle.rc_tuple.specs.ColSetLaws.{gather-union}
+use Rattle.rc_spec.specs.declared.items.Edge.{Edge}
+use Rattle.rc_spec.specs.declared.spec.Spec.{Spec}
+use Rattle.rc_spec.specs.Adequacy.{visited}
+use Rattle.rc_spec.specs.Decomposition.{bound, edge_at, no_edge}
+use Rattle.rc_spec.specs.InRange.{IsInRange, IsEdgeAmong}
+
+-- what was found by its number is what has that number
+pub at_found : {A : Type 0} (xs ys : List A) (n : ℕ) (d x : A) → xs ≡ ys → n < length ys → x ≡ get_or xs n x → get_or ys n d ≡ x
+at_found xs ys n d x same l found = get_or_default ys n d x l ∙ ap (λ zs. get_or zs n x) (sym same) ∙ sym found
+
+-- an edge that was found by its number is the edge with that number
+pub edge_at_found : (spec : Spec) (edges : List Edge) (n : ℕ) (e : Edge) → edges ≡ spec.edges → n < length spec.edges → e ≡ get_or edges n e → edge_at spec n ≡ e
+edge_at_found spec edges n e same l found = at_found edges spec.edges n no_edge e same l found
+
+pub edge_at_in : (spec : Spec) (n : ℕ) → n < length spec.edges → In (edge_at spec n) spec.edges
+edge_at_in spec n l = get_or_in spec.edges n no_edge l
+
+-- the numbers of an edge that was found are the specification's
+pub edge_known : (spec : Spec) (edges : List Edge) (n : ℕ) (e : Edge) → IsInRange spec → edges ≡ spec.edges → n < length spec.edges → e ≡ get_or edges n e
+    → IsEdgeAmong (length spec.nodes) (length spec.columns) e
+edge_known spec edges n e range same l found =
+    range.known_edges e (subst (λ (x : Edge). In x spec.edges) (edge_at_found spec edges n e same l found) (edge_at_in spec n l))
+
+-- the columns visited by one more edge
+pub visited_more : (spec : Spec) (n : ℕ) → n < length spec.edges → visited spec (n + 1) ≡ union (visited spec n) (bound spec (edge_at spec n).to)
+visited_more spec n l =
+    let f : Edge → List ℕ = λ e. bound spec e.to in
+    ap (λ es. gather nat_cmp (flat_map f es)) (take_more spec.edges n no_edge l)
+    ∙ ap (gather nat_cmp) (flat_map-append f (take n spec.edges) (edge_at spec n ∷ []) ∙ ap (λ l. flat_map f (take n spec.edges) ++ l) (append-nil (f (edge_at spec n))))
+    ∙ gather-union (flat_map f (take n spec.edges)) (f (edge_at spec n))

@@ -1,0 +1,71 @@
+//! Lock stripes, numbered class by class (PLDI 2012, lock striping).
+
+ghost use Rattle.std.specs.Prelude.{◌≡◌, ◌<◌, ◌≤◌, length};
+ghost use Rattle.std.specs.List.{sum_by};
+ghost use Rattle.rc_tuple.specs.ColSet.{Within};
+ghost use Rattle.rc_tuple.specs.Tuple.{IsTuple, cols_of};
+ghost use Rattle.rc_spec.specs.Stripes.{mix, hash_of, stripe_of, band_start, stripe_total};
+
+use crate::{Class, Spec};
+use rc_tuple::{ColSet, Tuple};
+
+/// The hash of the tuple's values at the columns, where a column that it hasn't counts as 0.
+fn hash_of(cols: ColSet, tuple: &Tuple) -> u32
+    ensures { result ≡ hash_of cols tuple.now }
+{
+    let mut hash = 7;
+    for place in 0..cols.len() {
+        if let Some(col) = cols.nth(place) {
+            hash = mix(hash, tuple.get(col).unwrap_or(0));
+        }
+    }
+    hash
+}
+
+/// The stripe of the class on which the tuple falls, from 0. The tuple has the class's columns, and the class a
+/// stripe.
+pub fn stripe_of(class: &Class, tuple: &Tuple) -> u32
+    requires columns { Within class.now.cols (cols_of tuple.now) }
+    requires some { 0 < class.now.stripes }
+    ensures value { result ≡ stripe_of class.now tuple.now }
+    ensures below { result < class.now.stripes }
+{
+    hash_of(class.cols, tuple) % class.stripes
+}
+
+/// The hash with one more value, of which the low 32 bits count.
+#[tactic(auto, unfolding(crate::specs::Stripes::mix))]
+fn mix(hash: u32, value: u64) -> u32
+    ensures { result ≡ mix hash value }
+{
+    ((u64::from(hash) * 31 + value % (1 << 32)) % (1 << 32)) as u32
+}
+
+/// How many stripes the classes have.
+fn stripes_of(classes: &[Class]) -> u32
+    requires { sum_by (λ class. class.stripes) classes.now ≤ 256 }
+    ensures { result ≡ sum_by (λ class. class.stripes) classes.now }
+{
+    let mut count = 0;
+    for class in classes {
+        count += class.stripes;
+    }
+    count
+}
+
+/// The number of the class's first stripe among all stripes. The classes have at most 256 stripes together.
+pub fn band_start(spec: &Spec, class: u8) -> u32
+    requires known { class < length spec.now.classes }
+    requires few { stripe_total spec.now ≤ 256 }
+    ensures { result ≡ band_start spec.now class }
+{
+    stripes_of(&spec.classes.list()[..class as usize])
+}
+
+/// How many stripes all classes have together, at most 256.
+pub fn stripe_total(spec: &Spec) -> u32
+    requires few { stripe_total spec.now ≤ 256 }
+    ensures { result ≡ stripe_total spec.now }
+{
+    stripes_of(spec.classes.list())
+}
