@@ -1,0 +1,56 @@
+use Rattle.std.proofs.Common.{◌≡◌, sym, ap, subst, ◌∙◌}
+use Rattle.std.specs.FinMap as fin
+use Rattle.std.specs.Prelude.{IsSome}
+use Rattle.std.proofs.lemmas.Bool.{false≢true}
+use Rattle.rc_tuple.specs.Tuple.{Pairs}
+use Rattle.rc_edges.specs.EdgeMap.{Kept, lowered, written}
+use Rattle.rc_edges.specs.Entry.{now_of}
+use Rattle.rc_edges.specs.ListMap.{IsAt, IsGap}
+use Rattle.rc_edges.specs.ListMapLaws.{now_none, now_at, count_there, writes_at, set_now, stays_taken}
+use Rattle.rc_edges.proofs.list_map.ListMapEdgeMap.sub.Goals as goal
+
+pub unreachable-requires : goal.unreachable-requires
+unreachable-requires c =
+    let m : Kept = c.args.self.now in
+    let key : Pairs = c.args.key.now in
+    let es = c.self.inside.items.items in
+    let h : IsGap key es c.in_default.field-0 = subst (λ z. IsGap key z c.in_default.field-0) c.deref.ensures.value c.in_default.ensures.gap in
+    absurd (false≢true (subst IsSome (now_none m key es c.in_default.field-0 c.self.view_is c.self.invariant h) c.requires))
+
+pub lower-requires : goal.lower-requires
+lower-requires c =
+    let m : Kept = c.args.self.now in
+    let key : Pairs = c.args.key.now in
+    let es = c.self.inside.items.items in
+    let i = c.index_mut-item.result.now in
+    let h : IsAt key es c.in-Ok.at = subst (λ z. IsAt key z c.in-Ok.at) c.deref.ensures.value c.in-Ok.ensures.found in
+    let e : fin.get m.now key ≡ now_of i.1 = now_at m key es c.in-Ok.at i c.self.view_is h c.index_mut-item.ensures.value in
+    count_there m es key (now_of i.1) c.self.view_is e (subst IsSome e c.requires)
+
+pub sweep-requires-clause-keyed : goal.sweep-requires-clause-keyed
+sweep-requires-clause-keyed c =
+    let m : Kept = c.args.self.now in
+    let key : Pairs = c.args.key.now in
+    let es = c.self.inside.items.items in
+    let i = c.index_mut-item.result.now in
+    let h : IsAt key es c.in-Ok.at = subst (λ z. IsAt key z c.in-Ok.at) c.deref.ensures.value c.in-Ok.ensures.found in
+    (writes_at key es c.in-Ok.at i c.lower.new.self c.self.invariant h c.index_mut-item.ensures.value).keyed
+
+pub returns-clause-now : goal.returns-clause-now
+returns-clause-now c =
+    let m : Kept = c.args.self.now in
+    let key : Pairs = c.args.key.now in
+    let es = c.self.inside.items.items in
+    let i = c.index_mut-item.result.now in
+    let h : IsAt key es c.in-Ok.at = subst (λ z. IsAt key z c.in-Ok.at) c.deref.ensures.value c.in-Ok.ensures.found in
+    c.sweep.ensures.now ∙ set_now m key es c.in-Ok.at i c.lower.new.self c.self.view_is c.self.invariant h c.index_mut-item.ensures.value
+    ∙ ap (written m.now key) (c.lower.ensures.now ∙ ap lowered (sym (now_at m key es c.in-Ok.at i c.self.view_is h c.index_mut-item.ensures.value)))
+
+pub returns-clause-taken : goal.returns-clause-taken
+returns-clause-taken c =
+    let m : Kept = c.args.self.now in
+    let key : Pairs = c.args.key.now in
+    let es = c.self.inside.items.items in
+    let i = c.index_mut-item.result.now in
+    let h : IsAt key es c.in-Ok.at = subst (λ z. IsAt key z c.in-Ok.at) c.deref.ensures.value c.in-Ok.ensures.found in
+    c.sweep.ensures.taken ∙ stays_taken m key es c.in-Ok.at i c.lower.new.self c.self.view_is c.self.invariant h c.index_mut-item.ensures.value c.lower.ensures.taken

@@ -1,0 +1,15 @@
+//! The containers of an edge's rows.
+#![tactic(auto)]
+
+mod edge_map;
+mod entry;
+mod list_map;
+mod one_map;
+
+pub use edge_map::EdgeMap;
+pub use entry::Entry;
+pub use list_map::ListMap;
+pub use one_map::OneMap;
+
+#[cfg(test)]
+mod tests;
