@@ -1,6 +1,5 @@
 -- What a loop over items finds, as the answer to the checks of a rule.
-use Rattle.std.proofs.Common.{◌≡◌, ℕ, ◌+◌, ◌<◌, List, ◌∷◌, ◌++◌, length, get_or, Result, Err, sym, ap, ◌∙◌, subst, inl, inr, arith}
-use Rattle.std.proofs.lemmas.Bool.{cases_lt}
+use Rattle.std.proofs.Common.{◌≡◌, ℕ, ◌+◌, ◌<◌, List, ◌∷◌, ◌++◌, length, get_or, Result, Err, sym, ap, ◌∙◌, subst}
 use Rattle.std.proofs.lemmas.List.{append_assoc}
 use Rattle.std.proofs.lemmas.List.Sums.{sum_by_more}
 use Rattle.rc_tuple.specs.RisingSet.{In}
@@ -26,10 +25,6 @@ pub refused_at : {B : Type 0} (spec : Spec) (item : ℕ → Item) (rule : Rule) 
     → Judges (IsKept spec) (on_each item rule count) answer
 refused_at spec item rule count n answer y below before e same fails =
     judged_err (IsKept spec) (on_each item rule count) answer y (check_on item rule n) e same (first_numbered (IsKept spec) (check_on item rule) count n below before fails)
-
--- what holds of all numbers below one, and of that one
-pub one_more : (P : ℕ → Type 0) (n : ℕ) → ((m : ℕ) → m < n → P m) → P n → (m : ℕ) → m < n + 1 → P m
-one_more P n before here m l = elim (cases_lt m n) [ inl q ↦ before m q | inr q ↦ let same : n ≡ m = omega arith in subst P same here ]
 
 -- the first of some checks fails
 pub refused_here : {B : Type 0} (P : Refusal → Type 0) (x : Refusal) (xs : List Refusal) (answer : Result B Refusal) (y : Refusal) → answer ≡ Err y → y ≡ x → (P x → ⊥)

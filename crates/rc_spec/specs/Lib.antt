@@ -3,11 +3,17 @@ pub mod AcceptanceLaws
 pub mod Adequacy
 pub mod Calls
 pub mod CallsLaws
+pub mod Contents
+pub mod ContentsLaws
 pub mod Decomposition
 pub mod DecompositionLaws
 pub mod First
 pub mod FirstLaws
+pub mod Fragments
+pub mod FragmentsLaws
+pub mod HeathLaws
 pub mod InRange
+pub mod Laws
 pub mod Names
 pub mod Placement
 pub mod PlacementLaws
@@ -16,3 +22,4 @@ pub mod PlainLaws
 pub mod RefusalText
 pub mod Spec
 pub mod Stripes
+pub mod StripesLaws

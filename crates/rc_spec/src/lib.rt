@@ -14,7 +14,11 @@ mod stripes;
 pub use accepted::Accepted;
 pub use call::{Call, Reply, RowList};
 pub use items::{Class, ColKind, Column, Edge, EdgeKind, Name, Node, Op, OpKind, Place};
-pub use laws::{checks_are_rules, refused_is_not_accepted, stripes_are_few};
+pub use laws::{
+    adequacy_loses_no_tuple, checks_are_rules, fragments_are_parts, instances_represent,
+    refused_is_not_accepted, rows_fall_with_tuples, stripes_are_few, stripes_hold_all,
+    stripes_part_tuples,
+};
 pub use lock::{Found, Mode};
 pub use named::Named;
 pub use refusal::{Item, Refusal, Rule, print_refusal};

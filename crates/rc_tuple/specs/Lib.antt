@@ -1,6 +1,7 @@
 pub mod ColSet
 pub mod ColSetLaws
 pub mod GrowthLaws
+pub mod MergeLaws
 pub mod RisingSet
 pub mod RisingSetLaws
 pub mod Relation

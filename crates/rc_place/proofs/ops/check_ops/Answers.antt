@@ -1,11 +1,10 @@
-use Rattle.std.proofs.Common.{ℕ, ◌<◌, List, length, ap, arith}
+use Rattle.std.proofs.Common.{ℕ, ◌<◌, List, length, ap, arith, below_more}
 use Rattle.std.proofs.lemmas.Result.{err_from_is_err_and}
 use Rattle.rc_spec.specs.declared.items.Op.{Op}
 use Rattle.rc_spec.specs.declared.refusal.Item.TheVariants as items
 use Rattle.rc_spec.specs.Acceptance.{IsKept, at_one, at_each, op_rules}
 use Rattle.rc_spec.specs.First.{EachHolds}
 use Rattle.rc_spec.specs.FirstLaws.{each_listed, first_listed, judged_err}
-use Rattle.rc_place.proofs.PlaceLemmas.{one_more}
 use Rattle.rc_place.proofs.ops.check_ops.Goals as goal
 
 pub returns-in_err-check_op : goal.returns-in_err-check_op
@@ -19,7 +18,7 @@ returns-in_err-check_op c =
 
 pub loop-number-preserved : goal.loop-number-preserved
 loop-number-preserved c =
-    one_more (λ n. EachHolds (IsKept c.args.spec.now) (at_one items.Operation op_rules n)) c.loop-number.number c.loop-number.invariant c.in_ok-check_op.ensures
+    below_more (λ n. EachHolds (IsKept c.args.spec.now) (at_one items.Operation op_rules n)) c.loop-number.number c.loop-number.invariant c.in_ok-check_op.ensures
 
 pub returns : goal.returns
 returns c =

@@ -1,4 +1,4 @@
-use Rattle.std.proofs.Common.{ℕ, ◌<◌, List, length, refl, ap, ◌∙◌, arith}
+use Rattle.std.proofs.Common.{ℕ, ◌<◌, List, length, refl, ap, ◌∙◌, arith, below_more}
 use Rattle.std.proofs.lemmas.Bool.{false≢true}
 use Rattle.std.proofs.lemmas.Result.{err_from_is_err_and}
 use Rattle.rc_spec.specs.declared.items.Edge.{Edge}
@@ -7,7 +7,7 @@ use Rattle.rc_spec.specs.declared.refusal.Rule.TheVariants.{P3}
 use Rattle.rc_spec.specs.Acceptance.{IsKept, check_on}
 use Rattle.rc_spec.specs.Placement.{KeepsP3}
 use Rattle.rc_spec.specs.FirstLaws.{each_numbered}
-use Rattle.rc_place.proofs.PlaceLemmas.{one_more, refused_at}
+use Rattle.rc_place.proofs.PlaceLemmas.{refused_at}
 use Rattle.rc_place.proofs.place.check_p3.Goals as goal
 
 pub returns-in_err-unless : goal.returns-in_err-unless
@@ -19,7 +19,7 @@ returns-in_err-unless c =
     answer.1 (answer.2 ∙ c.in_err-unless.ensures.refusal) (λ k. false≢true (c.in_err-unless.ensures.ok.1 (c.keeps_p3.ensures.1 k)))
 
 pub loop-edge-preserved : goal.loop-edge-preserved
-loop-edge-preserved c = one_more (KeepsP3 c.args.spec.now) c.loop-edge.edge c.loop-edge.invariant (c.keeps_p3.ensures.0 (c.in_ok-unless.ensures.ok.0 refl))
+loop-edge-preserved c = below_more (KeepsP3 c.args.spec.now) c.loop-edge.edge c.loop-edge.invariant (c.keeps_p3.ensures.0 (c.in_ok-unless.ensures.ok.0 refl))
 
 pub returns : goal.returns
 returns c = each_numbered (IsKept c.args.spec.now) (check_on items.Edge P3) (length c.args.spec.now.edges)

@@ -1,4 +1,4 @@
-use Rattle.std.proofs.Common.{◌≡◌, ℕ, ◌<◌, List, length, refl, sym, ap, ◌∙◌, subst, arith}
+use Rattle.std.proofs.Common.{◌≡◌, ℕ, ◌<◌, List, length, refl, sym, ap, ◌∙◌, subst, arith, below_more}
 use Rattle.std.proofs.lemmas.Bool.{false≢true}
 use Rattle.std.proofs.lemmas.Result.{err_from_is_err_and}
 use Rattle.rc_spec.specs.declared.items.Class.{Class}
@@ -8,7 +8,7 @@ use Rattle.rc_spec.specs.Acceptance.{IsKept, check_on}
 use Rattle.rc_spec.specs.Placement.{class_at, no_class, KeepsP4}
 use Rattle.rc_spec.specs.FirstLaws.{each_numbered}
 use Rattle.rc_spec.specs.DecompositionLaws.{at_found}
-use Rattle.rc_place.proofs.PlaceLemmas.{one_more, refused_at}
+use Rattle.rc_place.proofs.PlaceLemmas.{refused_at}
 use Rattle.rc_place.proofs.place.check_p4.Goals as goal
 
 pub returns-in_err-unless : goal.returns-in_err-unless
@@ -28,7 +28,7 @@ loop-number-preserved c =
     let below : n < length c.args.spec.now.classes = subst (λ (l : List Class). n < length l) c.list-class-items.ensures c.loop-number-test.true in
     let same : class_at c.args.spec.now n ≡ c.class-item.result =
     at_found c.list-class-items.result.now c.args.spec.now.classes n no_class c.class-item.result c.list-class-items.ensures below c.class-item.is in
-    one_more (λ m. KeepsP4 (class_at c.args.spec.now m)) n c.loop-number.invariant (subst KeepsP4 (sym same) (c.keeps_p4.ensures.0 (c.in_ok-unless.ensures.ok.0 refl)))
+    below_more (λ m. KeepsP4 (class_at c.args.spec.now m)) n c.loop-number.invariant (subst KeepsP4 (sym same) (c.keeps_p4.ensures.0 (c.in_ok-unless.ensures.ok.0 refl)))
 
 pub returns : goal.returns
 returns c = each_numbered (IsKept c.args.spec.now) (check_on items.Lock P4) (length c.args.spec.now.classes)

@@ -1,4 +1,4 @@
-use Rattle.std.proofs.Common.{◌≡◌, ℕ, ◌+◌, ◌<◌, ◌≤◌, List, length, refl, sym, ap, ◌∙◌, subst, arith}
+use Rattle.std.proofs.Common.{◌≡◌, ℕ, ◌+◌, ◌<◌, ◌≤◌, List, length, refl, sym, ap, ◌∙◌, subst, arith, below_more}
 use Rattle.std.proofs.lemmas.Bool.{false≢true}
 use Rattle.std.proofs.lemmas.Result.{err_from_is_err_and}
 use Rattle.rc_spec.specs.declared.items.Class.{Class}
@@ -7,7 +7,7 @@ use Rattle.rc_spec.specs.declared.refusal.Rule.TheVariants.{P6}
 use Rattle.rc_spec.specs.Acceptance.{IsKept, check_on}
 use Rattle.rc_spec.specs.Placement.{stripes_of_first, KeepsP6}
 use Rattle.rc_spec.specs.FirstLaws.{each_numbered}
-use Rattle.rc_place.proofs.PlaceLemmas.{one_more, refused_at, stripes_of_more}
+use Rattle.rc_place.proofs.PlaceLemmas.{refused_at, stripes_of_more}
 use Rattle.rc_place.proofs.place.check_p6.Goals as goal
 
 pub keeps_p6-requires-clause-stripes : goal.keeps_p6-requires-clause-stripes
@@ -36,7 +36,7 @@ loop-number-preserved c =
     ap (λ k. k + c.class-item.result.stripes) c.loop-number.invariant.sum
     ∙ sym (stripes_of_more spec c.list-class-items.result.now n c.class-item.result c.list-class-items.ensures below c.class-item.is) in
     let kept : KeepsP6 spec n = c.keeps_p6.ensures.0 (c.in_ok-unless.ensures.ok.0 refl) in
-    record { sum = sum; few = subst (λ k. k ≤ 256) (sym sum) kept.few; kept = one_more (KeepsP6 spec) n c.loop-number.invariant.kept kept }
+    record { sum = sum; few = subst (λ k. k ≤ 256) (sym sum) kept.few; kept = below_more (KeepsP6 spec) n c.loop-number.invariant.kept kept }
 
 pub returns : goal.returns
 returns c = each_numbered (IsKept c.args.spec.now) (check_on items.Lock P6) (length c.args.spec.now.classes)
