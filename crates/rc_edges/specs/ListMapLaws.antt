@@ -1,6 +1,7 @@
 -- Laws of a list of entries that rises by its keys: its places, and what a change at a place is to its rows.
 use Rattle.std.specs.Prelude.{◌≡◌, ℕ, zero, suc, ◌+◌, ◌<◌, ◌≤◌, Bool, true, false, cond, not, T, ◌==◌, ◌&&◌, Option, None, Some, IsSome, List, [], ◌∷◌, ◌++◌, map, length, nat_lt, slice_set, slice_index_or, take, drop, insert, remove}
-use Rattle.std.specs.List.{cons_option}
+use Rattle.std.specs.Prelude.{◌⊎◌, Result, Ok, Err, OnOk, OnErr}
+use Rattle.std.specs.List.{cons_option, slice_get}
 use Rattle.std.specs.Option.{option_map, option_and_then, unwrap_or}
 use Rattle.std.specs.declared.cmp.Ordering.{Ordering}
 use Rattle.std.specs.declared.cmp.Ordering.TheVariants.{Less, Equal, Greater}
@@ -9,14 +10,16 @@ use Rattle.std.specs.Cmp.{tied_itself}
 use Rattle.std.specs.FinMap as fin
 use Rattle.std.specs.FinMap.{FinMap, find, put, entries_sorted, get-entries, get-from_entries, len-entries, get-empty}
 use Rattle.std.specs.FinMap.Entries.{below_all, where_key, is_sorted-put, find-put, is_sorted-where_key, find-where_key, same_entries, by_order}
-use Rattle.std.proofs.Common.{refl, sym, ap, subst, ◌∙◌, arith}
-use Rattle.std.proofs.lemmas.Bool.{false≢true, eqb-true, and_parts}
+use Rattle.std.proofs.Common.{refl, sym, ap, subst, ◌∙◌, inl, inr, arith}
+use Rattle.std.proofs.lemmas.Bool.{false≢true, eqb-true, and_parts, and_from, cases_eq, eq-eqb, ltb-false}
 use Rattle.std.proofs.lemmas.List.{drop_more, take_more, append_assoc, append-nil, length-map}
+use Rattle.rc_tuple.specs.RisingSet.{In}
+use Rattle.rc_tuple.specs.RisingSetLaws.{slice_get_in, in_slice_get}
 use Rattle.rc_tuple.specs.Tuple.{Pairs, tuple_cmp, tuple_eq}
 use Rattle.rc_tuple.specs.TupleLaws.{tuple_order, same_from_test, test_from_same}
-use Rattle.rc_edges.specs.EdgeMap.{Counted, Kept, written, listed, count_of, row_of, AreCounted, nothing}
+use Rattle.rc_edges.specs.EdgeMap.{Counted, Kept, Rows, written, listed, count_of, row_of, AreCounted, nothing}
 use Rattle.rc_edges.specs.Entry.{now_of, taken_of, is_gone, parts, keep}
-use Rattle.rc_edges.specs.ListMap.{Items, IsKeyed, kept_in, IsAt, IsGap, SameRows, rows_of}
+use Rattle.rc_edges.specs.ListMap.{Items, AreKeptBut, IsKeyed, IsListed, kept_in, IsAt, IsGap, SameRows, rows_of}
 use Rattle.rc_edges.specs.RowsLaws.{AreCounted-keep, IsCounting-now, IsCounting-taken, total, same_answers, get-written, written_again, get-keep, keep-written, entries-keep, head_below, tail_sorted, below_more, find_below}
 use Rattle.rc_edges.specs.declared.entry.Entry.{Entry}
 
@@ -227,16 +230,100 @@ gone_taken e h =
     let z : e.count_taken ≡ 0 = eqb-true e.count_taken 0 (and_parts (e.count == 0) (e.count_taken == 0) h).1 in
     ap (λ n. cond (nat_lt 0 n) (Some (unwrap_or e.row_taken e.row, n)) None) z
 
+-- ---- entries that are gone
+
+-- an entry with a row is not gone
+pub kept_row : (e : Entry) (c : Counted) → now_of e ≡ Some c → is_gone e ≡ false
+kept_row e c h = go (e.count == 0) refl
+  where
+    go : (b : Bool) → (e.count == 0) ≡ b → (b && e.count_taken == 0) ≡ false
+    go true t =
+        let z : e.count ≡ 0 = eqb-true e.count 0 t in
+        let n : None ≡ Some c = sym (ap (λ n. cond (nat_lt 0 n) (Some (e.row, n)) None) z) ∙ h in absurd (cc)
+    go false t = refl
+
+pub kept_raised : {X E : Type 0} (r : Result X E) (v w : Entry) (c : Counted) → OnOk r (now_of w ≡ Some c) → OnErr r (w ≡ v) → is_gone v ≡ false → is_gone w ≡ false
+kept_raised (Ok x) v w c h k g = kept_row w c h
+kept_raised (Err e) v w c h k g = ap is_gone k ∙ g
+
+in_set : {A : Type 0} (x : A) (xs : List A) (i : ℕ) (y : A) → In x (slice_set xs i y) → (x ≡ y) ⊎ In x xs
+in_set x [] i y h = absurd h
+in_set x (z ∷ xs) zero y (inl e) = inl e
+in_set x (z ∷ xs) zero y (inr m) = inr (inr m)
+in_set x (z ∷ xs) (suc i) y (inl e) = inr (inl e)
+in_set x (z ∷ xs) (suc i) y (inr m) = elim (in_set x xs i y m) [ inl e ↦ inl e | inr n ↦ inr (inr n) ]
+
+in_insert : {A : Type 0} (x : A) (xs : List A) (i : ℕ) (y : A) → In x (insert xs i y) → (x ≡ y) ⊎ In x xs
+in_insert x xs zero y (inl e) = inl e
+in_insert x xs zero y (inr m) = inr m
+in_insert x [] (suc i) y (inl e) = inl e
+in_insert x [] (suc i) y (inr m) = absurd m
+in_insert x (z ∷ xs) (suc i) y (inl e) = inr (inl e)
+in_insert x (z ∷ xs) (suc i) y (inr m) = elim (in_insert x xs i y m) [ inl e ↦ inl e | inr n ↦ inr (inr n) ]
+
+-- what stands elsewhere stands there still
+get_elsewhere : {A : Type 0} (xs : List A) (i : ℕ) (y : A) (k : ℕ) → (k ≡ i → ⊥) → slice_get (slice_set xs i y) k ≡ slice_get xs k
+get_elsewhere [] i y k n = refl
+get_elsewhere (x ∷ xs) zero y zero n = absurd (n refl)
+get_elsewhere (x ∷ xs) zero y (suc k) n = refl
+get_elsewhere (x ∷ xs) (suc i) y zero n = refl
+get_elsewhere (x ∷ xs) (suc i) y (suc k) n = get_elsewhere xs i y k (λ e. n (ap suc e))
+
+in_remove : {A : Type 0} (x : A) (xs : List A) (i : ℕ) → In x (remove xs i) → (k : ℕ) × (slice_get xs k ≡ Some x) × (k ≡ i → ⊥)
+in_remove x [] zero h = absurd h
+in_remove x [] (suc i) h = absurd h
+in_remove x (z ∷ xs) zero h = let q : (k : ℕ) × (slice_get xs k ≡ Some x) = in_slice_get x xs h in (suc q.0, q.1, λ e. absurd (cc))
+in_remove x (z ∷ xs) (suc i) (inl e) = (0, ap Some (sym e), λ f. absurd (cc))
+in_remove x (z ∷ xs) (suc i) (inr m) = let q : (k : ℕ) × (slice_get xs k ≡ Some x) × (k ≡ i → ⊥) = in_remove x xs i m in (suc q.0, q.1, λ e. q.2 (cc))
+
+pub listed_set : (items : Items) (at : ℕ) (x : Pairs × Entry) → IsListed items → IsKeyed (slice_set items at x) → is_gone x.1 ≡ false → IsListed (slice_set items at x)
+listed_set items at x l k g = record { keyed = k; kept = λ i m. elim (in_set i items at x m) [ inl e ↦ ap (λ (z : Pairs × Entry). is_gone z.1) e ∙ g | inr n ↦ l.kept i n ] }
+
+pub listed_insert : (items : Items) (at : ℕ) (x : Pairs × Entry) → IsListed items → IsKeyed (insert items at x) → is_gone x.1 ≡ false → IsListed (insert items at x)
+listed_insert items at x l k g = record { keyed = k; kept = λ i m. elim (in_insert i items at x m) [ inl e ↦ ap (λ (z : Pairs × Entry). is_gone z.1) e ∙ g | inr n ↦ l.kept i n ] }
+
+pub kept_but : (items : Items) (at : ℕ) (x : Pairs × Entry) → IsListed items → AreKeptBut at (slice_set items at x)
+kept_but items at x l k i g n = l.kept i (slice_get_in items k i (sym (get_elsewhere items at x k n) ∙ g))
+
+pub listed_without : (items : Items) (at : ℕ) → AreKeptBut at items → IsKeyed (remove items at) → IsListed (remove items at)
+listed_without items at but k = record { keyed = k; kept = λ i m. let q : (k : ℕ) × (slice_get items k ≡ Some i) × (k ≡ at → ⊥) = in_remove i items at m in but q.0 i q.1 q.2 }
+
+pub listed_with : (items : Items) (at : ℕ) (x : Pairs × Entry) → AreKeptBut at items → IsKeyed items → slice_get items at ≡ Some x → is_gone x.1 ≡ false → IsListed items
+listed_with items at x but k h g = record { keyed = k; kept = λ i m. let q : (n : ℕ) × (slice_get items n ≡ Some i) = in_slice_get i items m in go i q.0 q.1 (cases_eq q.0 at) }
+  where
+    go : (i : Pairs × Entry) (n : ℕ) → slice_get items n ≡ Some i → (n ≡ at) ⊎ (n ≡ at → ⊥) → is_gone i.1 ≡ false
+    go i n q (inl e) = let r : x ≡ i = cc in ap (λ (z : Pairs × Entry). is_gone z.1) (sym r) ∙ g
+    go i n q (inr f) = but n i q f
+
+-- where there are no rows, now or as taken, there is no item
+gone_parts : (e : Entry) → now_of e ≡ None → taken_of e ≡ None → is_gone e ≡ true
+gone_parts e h k = and_from (e.count == 0) (e.count_taken == 0) (zero_count e.count e.row h) (zero_count e.count_taken (unwrap_or e.row_taken e.row) k)
+  where
+    zero_count : (n : ℕ) (row : Pairs) → cond {A = Option Counted} (nat_lt 0 n) (Some (row, n)) None ≡ None → (n == 0) ≡ true
+    zero_count n row h = go (nat_lt 0 n) refl h
+      where
+        go : (b : Bool) → nat_lt 0 n ≡ b → cond {A = Option Counted} b (Some (row, n)) None ≡ None → (n == 0) ≡ true
+        go true t p = absurd (cc)
+        go false t p = eq-eqb n 0 (let l : n ≤ 0 = ltb-false 0 n t in omega arith)
+
+pub none_kept : (m : Kept) (items : Items) → kept_in items ≡ m → IsListed items → (m.now ≡ fin.empty) × (m.taken ≡ fin.empty) → (length items == 0) ≡ true
+none_kept m [] is l h = refl
+none_kept m (i ∷ items) is l h =
+    let f : fin.get (whole (i ∷ items)) i.0 ≡ Some i.1 = got_at i.0 (i ∷ items) 0 i refl refl in
+    let a : now_of i.1 ≡ None = sym (ap (λ (z : Kept). fin.get z.now i.0) (sym is) ∙ get-keep now_of (whole (i ∷ items)) i.0 ∙ ap (option_and_then now_of) f) ∙ ap (λ (z : Rows). fin.get z i.0) h.0 ∙ get-empty tuple_cmp i.0 in
+    let b : taken_of i.1 ≡ None = sym (ap (λ (z : Kept). fin.get z.taken i.0) (sym is) ∙ get-keep taken_of (whole (i ∷ items)) i.0 ∙ ap (option_and_then taken_of) f) ∙ ap (λ (z : Rows). fin.get z i.0) h.1 ∙ get-empty tuple_cmp i.0 in
+    absurd (false≢true (sym (l.kept i (inl refl)) ∙ gone_parts i.1 a b))
+
 -- an entry that is gone is no loss
-pub same_without : (items : Items) (at : ℕ) (i : Pairs × Entry) → IsKeyed items → at < length items → i ≡ slice_index_or items at i → is_gone i.1 ≡ true → SameRows items (remove items at)
-same_without items at i k l e g =
+pub same_without : (items : Items) (at : ℕ) (i : Pairs × Entry) → IsKeyed items → AreKeptBut at items → at < length items → i ≡ slice_index_or items at i → is_gone i.1 ≡ true → SameRows items (remove items at)
+same_without items at i k but l e g =
     let h : IsAt i.0 items at = subst (λ (z : Pairs × Entry). IsAt z.0 items at) (sym e) (own_place items at i k l) in
     let w : Writes items (remove items at) i.0 None = writes_out i.0 items at k h in
     let f : fin.get (whole items) i.0 ≡ Some i.1 = got_at i.0 items at i h e in
     let now : fin.get (keep now_of (whole items)) i.0 ≡ None = get-keep now_of (whole items) i.0 ∙ ap (option_and_then now_of) f ∙ gone_now i.1 g in
     let taken : fin.get (keep taken_of (whole items)) i.0 ≡ None = get-keep taken_of (whole items) i.0 ∙ ap (option_and_then taken_of) f ∙ gone_taken i.1 g in
     record {
-      keyed = w.keyed;
+      listed = listed_without items at but w.keyed;
       now = w.now ∙ written_again (keep now_of (whole items)) i.0 None now;
       taken = w.taken ∙ written_again (keep taken_of (whole items)) i.0 None taken;
     }
@@ -353,3 +440,13 @@ kept-none = λ i. record {
   now = same_answers (keep now_of (whole [])) fin.empty (λ q. get-keep now_of (whole []) q ∙ ap (option_and_then now_of) (get-empty tuple_cmp q) ∙ sym (get-empty tuple_cmp q)) i;
   taken = same_answers (keep taken_of (whole [])) fin.empty (λ q. get-keep taken_of (whole []) q ∙ ap (option_and_then taken_of) (get-empty tuple_cmp q) ∙ sym (get-empty tuple_cmp q)) i;
 }
+
+ne_zero : (n : ℕ) → (suc n == 0) ≡ true → ⊥
+ne_zero n h = let e : suc n ≡ 0 = eqb-true (suc n) 0 h in omega arith
+
+-- and where there is no item there are no rows
+pub gone_kept : (m : Kept) (items : Items) → kept_in items ≡ m → (length items == 0) ≡ true → (m.now ≡ fin.empty) × (m.taken ≡ fin.empty)
+gone_kept m [] is h =
+    let e : nothing ≡ m = sym kept-none ∙ is in
+    (ap (λ (z : Kept). z.now) (sym e), ap (λ (z : Kept). z.taken) (sym e))
+gone_kept m (i ∷ items) is h = absurd (ne_zero (length items) h)

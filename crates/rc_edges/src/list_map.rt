@@ -1,8 +1,9 @@
 //! The container of kind list.
 
 ghost use Rattle.std.specs.Prelude.{◌≡◌, ◌<◌, ◌≤◌, ◌++◌, length, take, IfOk, IfErr, OnOk, OnErr, [], ◌∷◌};
+ghost use Rattle.rc_tuple.specs.Tuple.{tuple_cmp};
 ghost use Rattle.rc_edges.specs.EdgeMap.{nothing};
-ghost use Rattle.rc_edges.specs.ListMap.{IsKeyed, IsAt, IsGap, SameRows, rows_of};
+ghost use Rattle.rc_edges.specs.ListMap.{AreKeptBut, IsKeyed, IsAt, IsGap, SameRows, rows_of};
 
 use crate::{EdgeMap, Entry};
 use rc_tuple::{Memory, Tuple, Tuples};
@@ -25,11 +26,11 @@ impl Model for ListMap {
 
     ghost coded = { kept_code };
 
-    ghost use Rattle.rc_edges.specs.ListMap.{IsKeyed, kept_in};
+    ghost use Rattle.rc_edges.specs.ListMap.{IsListed, kept_in};
 
     ghost view = { λ a. kept_in a.items.items };
 
-    ghost invariant = { λ a. IsKeyed a.items.items };
+    ghost invariant = { λ a. IsListed a.items.items };
 }
 
 impl ListMap {
@@ -51,7 +52,7 @@ impl EdgeMap for ListMap {
     ghost may_take = { λ _ _. Unit {0} };
 
     fn add(&mut self, key: &Tuple, row: &Tuple) -> Result<(), Memory> {
-        match place(&self.items, key) {
+        match place_of(&self.items, key) {
             Ok(at) => {
                 let item = &mut self.items[at];
                 item.1.raise(row)?;
@@ -66,7 +67,7 @@ impl EdgeMap for ListMap {
         }
     }
 
-    fn sub(&mut self, key: &Tuple) {
+    fn sub(&mut self, key: &[(u8, u64)]) {
         let Ok(at) = place(&self.items, key) else {
             unreachable!();
         };
@@ -75,7 +76,7 @@ impl EdgeMap for ListMap {
         sweep(&mut self.items, at);
     }
 
-    fn revert(&mut self, key: &Tuple) {
+    fn revert(&mut self, key: &[(u8, u64)]) {
         let Ok(at) = place(&self.items, key) else {
             return;
         };
@@ -84,7 +85,7 @@ impl EdgeMap for ListMap {
         sweep(&mut self.items, at);
     }
 
-    fn settle(&mut self, key: &Tuple) {
+    fn settle(&mut self, key: &[(u8, u64)]) {
         let Ok(at) = place(&self.items, key) else {
             return;
         };
@@ -93,7 +94,7 @@ impl EdgeMap for ListMap {
         sweep(&mut self.items, at);
     }
 
-    fn get(&self, key: &Tuple) -> Option<&Tuple> {
+    fn get(&self, key: &[(u8, u64)]) -> Option<&Tuple> {
         match place(&self.items, key) {
             Ok(at) => {
                 let item = &self.items[at];
@@ -124,6 +125,10 @@ impl EdgeMap for ListMap {
         count_rows(&self.items)
     }
 
+    fn is_gone(&self) -> bool {
+        self.items.as_slice().is_empty()
+    }
+
     fn copy(&self) -> Result<Self, Memory> {
         let items = copy_of(*self.items.allocator(), &self.items)?;
         Ok(ListMap { items })
@@ -131,14 +136,31 @@ impl EdgeMap for ListMap {
 }
 
 /// The place of the item with the key, or else that where it would go.
-fn place(items: &[(Tuple, Entry)], key: &Tuple) -> Result<usize, usize>
+fn place_of(items: &[(Tuple, Entry)], key: &Tuple) -> Result<usize, usize>
+    ensures found { IfOk result (λ at. IsAt key.now items.now at) }
+    ensures within { IfOk result (λ at. at < length items.now) }
+    ensures gap { IfErr result (λ at. IsGap key.now items.now at) }
+    ensures end { IfErr result (λ at. at ≤ length items.now) }
+{
+    place(items, key.pairs())
+}
+
+/// Compares a key with the pairs of another.
+fn order(key: &Tuple, other: &[(u8, u64)]) -> Ordering
+    ensures { result ≡ tuple_cmp key.now other.now }
+{
+    key.pairs().cmp(&other)
+}
+
+/// The place of the item with the key that has these pairs, or else that where it would go.
+fn place(items: &[(Tuple, Entry)], key: &[(u8, u64)]) -> Result<usize, usize>
     ensures found { IfOk result (λ at. IsAt key.now items.now at) }
     ensures within { IfOk result (λ at. at < length items.now) }
     ensures gap { IfErr result (λ at. IsGap key.now items.now at) }
     ensures end { IfErr result (λ at. at ≤ length items.now) }
 {
     for (at, item) in items.iter().enumerate() {
-        match item.0.order(key) {
+        match order(&item.0, key) {
             Ordering::Less => {}
             Ordering::Equal => return Ok(at),
             Ordering::Greater => return Err(at),
@@ -151,6 +173,7 @@ fn place(items: &[(Tuple, Entry)], key: &Tuple) -> Result<usize, usize>
 fn sweep(items: &mut Vec<(Tuple, Entry)>, at: usize)
     requires within { at < length items.old.items }
     requires keyed { IsKeyed items.old.items }
+    requires kept { AreKeptBut at items.old.items }
     ensures { SameRows items.old.items items.new.items }
 {
     let item = &items[at];

@@ -41,26 +41,26 @@ impl EdgeMap for OneMap {
 
     ghost rows_taken = { λ map. map.taken };
 
-    ghost may_take = { λ rows key. HasNoOther rows key };
+    ghost may_take = { λ map key. HasNoOther map.now key };
 
     fn add(&mut self, key: &Tuple, row: &Tuple) -> Result<(), Memory> {
         self.list.add(key, row)?;
         Ok(())
     }
 
-    fn sub(&mut self, key: &Tuple) {
+    fn sub(&mut self, key: &[(u8, u64)]) {
         self.list.sub(key);
     }
 
-    fn revert(&mut self, key: &Tuple) {
+    fn revert(&mut self, key: &[(u8, u64)]) {
         self.list.revert(key);
     }
 
-    fn settle(&mut self, key: &Tuple) {
+    fn settle(&mut self, key: &[(u8, u64)]) {
         self.list.settle(key);
     }
 
-    fn get(&self, key: &Tuple) -> Option<&Tuple> {
+    fn get(&self, key: &[(u8, u64)]) -> Option<&Tuple> {
         self.list.get(key)
     }
 
@@ -70,6 +70,10 @@ impl EdgeMap for OneMap {
 
     fn len(&self) -> u64 {
         self.list.len()
+    }
+
+    fn is_gone(&self) -> bool {
+        self.list.is_gone()
     }
 
     fn copy(&self) -> Result<Self, Memory> {

@@ -27,7 +27,7 @@ fn edge(alloc: Global, source: u64, node: u64) -> Result<Tuple, Memory>
 fn add_edge<M: EdgeMap>(map: &mut M, alloc: Global, node: u64) -> Result<(), Memory>
     requires room { (key : Pairs) → count_at (M.rows map.old) key < 2 ^ 63 }
     requires edges { (key : Pairs) → IsRowOf (fin.get (M.rows map.old) key) ((0, 7) ∷ key) }
-    requires single { M.may_take (M.rows map.old) ((1, node) ∷ []) }
+    requires single { M.may_take map.old ((1, node) ∷ []) }
     ensures grown { (key : Pairs) → count_at (M.rows map.new) key ≤ count_at (M.rows map.old) key + 1 }
     ensures edges { (key : Pairs) → IsRowOf (fin.get (M.rows map.new) key) ((0, 7) ∷ key) }
     ensures alone { HasNoOther (M.rows map.old) ((1, node) ∷ [])
@@ -46,9 +46,9 @@ fn add_first<M: EdgeMap>(
     key: &Tuple,
     row: &Tuple,
 ) -> Result<(), Memory>
-    requires single { M.may_take (M.rows map.old) key.now }
+    requires single { M.may_take map.old key.now }
 {
-    assert!(rt; map.get(key).is_none());
+    assert!(rt; map.get(key.pairs()).is_none());
     map.add(key, row)?;
     Ok(())
 }
@@ -61,8 +61,8 @@ fn sub_edge<M: EdgeMap>(
     node: u64,
 ) -> Result<(), Memory> {
     let key = target(alloc, node)?;
-    assert!(rt; map.get(&key).is_some());
-    map.sub(&key);
+    assert!(rt; map.get(key.pairs()).is_some());
+    map.sub(key.pairs());
     Ok(())
 }
 
@@ -80,7 +80,7 @@ fn has_edges<M: EdgeMap>(
     for (place, node) in nodes.iter().enumerate() {
         let want = [(0, 7), (1, *node)];
         assert_eq!(rt; rows.list()[place].pairs(), want.as_slice());
-        let found = map.get(&target(alloc, *node)?).ok_or("the edge")?;
+        let found = map.get(target(alloc, *node)?.pairs()).ok_or("the edge")?;
         assert_eq!(rt; found.pairs(), want.as_slice());
     }
     Ok(())
@@ -122,15 +122,15 @@ fn counts_the_row_of_a_singleton(rt: HostRuntime) -> Result<(), Fail> {
 /// Settles an edge, puts another row in its place, and takes that back.
 fn takes_back<M: EdgeMap>(rt: &impl Abort, map: &mut M, alloc: Global) -> Result<(), Fail>
     requires empty { M.rows map.old ≡ fin.empty }
-    requires single { M.may_take fin.empty ((1, 5) ∷ []) }
+    requires single { M.may_take map.old ((1, 5) ∷ []) }
 {
     let key = target(alloc, 5)?;
     let row = edge(alloc, 7, 5)?;
     add_first(rt, map, &key, &row)?;
-    map.settle(&key);
+    map.settle(key.pairs());
     sub_edge(rt, map, alloc, 5)?;
     has_edges(rt, map, alloc, &[])?;
-    map.revert(&key);
+    map.revert(key.pairs());
     has_edges(rt, map, alloc, &[5])
 }
 
@@ -148,11 +148,11 @@ fn keeps_the_row_as_taken(rt: HostRuntime) -> Result<(), Fail> {
     let key = target(alloc, 5)?;
     let rows = [edge(alloc, 7, 5)?, edge(alloc, 8, 5)?];
     add_first(&rt, &mut map, &key, &rows[0])?;
-    map.settle(&key);
+    map.settle(key.pairs());
     sub_edge(&rt, &mut map, alloc, 5)?;
     add_first(&rt, &mut map, &key, &rows[1])?;
-    let now = map.get(&key).ok_or("the new row")?;
+    let now = map.get(key.pairs()).ok_or("the new row")?;
     assert_eq!(rt; now.pairs(), rows[1].pairs());
-    map.revert(&key);
+    map.revert(key.pairs());
     has_edges(&rt, &map, alloc, &[5])
 }

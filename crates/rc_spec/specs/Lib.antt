@@ -5,6 +5,8 @@ pub mod Calls
 pub mod CallsLaws
 pub mod Contents
 pub mod ContentsLaws
+pub mod CountedRows
+pub mod CountedRowsLaws
 pub mod Decomposition
 pub mod DecompositionLaws
 pub mod First

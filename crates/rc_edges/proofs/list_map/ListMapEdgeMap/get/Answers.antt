@@ -23,7 +23,7 @@ returns-in-Err-clause-row c =
     let key : Pairs = c.args.key.now in
     let es = c.self.inside.items.items in
     let h : IsGap key es c.in-Err.field-0 = subst (λ z. IsGap key z c.in-Err.field-0) c.deref.ensures.value c.in-Err.ensures.gap in
-    ap row_of (sym (now_none m key es c.in-Err.field-0 c.self.view_is c.self.invariant h))
+    ap row_of (sym (now_none m key es c.in-Err.field-0 c.self.view_is c.self.invariant.keyed h))
 
 pub returns-in-Err-clause-counted : goal.returns-in-Err-clause-counted
 returns-in-Err-clause-counted c = AreCounted-kept c.args.self.now c.self.inside.items.items c.self.view_is

@@ -6,4 +6,4 @@ use Rattle.rc_edges.specs.ListMapLaws.{len-kept}
 use Rattle.rc_edges.proofs.list_map.ListMapEdgeMap.len.Goals as goal
 
 pub returns : goal.returns
-returns c = c.count_rows.ensures ∙ ap (λ z. length (rows_of z)) c.deref.ensures.value ∙ sym (len-kept c.self.inside.items.items c.self.invariant) ∙ ap (λ (z : Kept). fin.len z.now) c.self.view_is
+returns c = c.count_rows.ensures ∙ ap (λ z. length (rows_of z)) c.deref.ensures.value ∙ sym (len-kept c.self.inside.items.items c.self.invariant.keyed) ∙ ap (λ (z : Kept). fin.len z.now) c.self.view_is

@@ -1,0 +1,250 @@
+-- What a change at one edge, source and key is to the rows of all edges.
+use Rattle.std.specs.Prelude.{◌≡◌, ℕ, zero, suc, ◌+◌, ◌-◌, ◌<◌, Bool, true, false, cond, ◌==◌, ◌&&◌, Option, None, Some, List, [], ◌∷◌, ◌⊎◌, map, length, slice_set, nat_lt}
+use Rattle.std.specs.List.{slice_get}
+use Rattle.std.proofs.Common.{refl, sym, ap, subst, ◌∙◌, inl, inr, arith, get_or}
+use Rattle.std.proofs.lemmas.Bool.{false≢true, and_parts, and_from, eqb-true, eq-eqb, ltb-true}
+use Rattle.std.proofs.lemmas.Option.{slice_get-get_or}
+use Rattle.rc_tuple.specs.RisingSet.{In}
+use Rattle.rc_tuple.specs.RisingSetLaws.{slice_get_in}
+use Rattle.rc_tuple.specs.Tuple.{Pairs, project, tuple_eq}
+use Rattle.rc_tuple.specs.TupleLaws.{same_from_test, test_from_same}
+use Rattle.rc_edges.specs.EdgeMap.{Counted, Rows, IsRowOf, count_of, lowered}
+use Rattle.rc_spec.specs.CountedRows.{count_at, is_row_at, with_count}
+use Rattle.rc_spec.specs.CountedRowsLaws.{same_counts, AreCountedRows-with_count, count-with_count}
+use Rattle.rc_fragment.specs.Container.{now_in, taken_in}
+use Rattle.rc_fragment.specs.Notes.{PlaceBecomes}
+use Rattle.rc_fragment.specs.Sources.{found_at, IsSetAt, Becomes}
+use Rattle.rc_fragment.specs.Listing.{listing, shapes, found_of, found_by, IsFiled, IsStored, AreStored}
+use Rattle.rc_fragment.specs.declared.container.Container.{Container}
+use Rattle.rc_fragment.specs.declared.edge_rows.EdgeRows.{EdgeRows}
+use Rattle.rc_fragment.specs.declared.shape.EdgeShape.{EdgeShape}
+use Rattle.rc_fragment.proofs.ListingLemmas.{count_of_row, count_of_edge, AreCountedRows-listing, count_listed}
+
+-- ---- a place of a list set
+
+pub get_set_same : {A : Type 0} (xs : List A) (i : ℕ) (x y : A) → slice_get xs i ≡ Some x → slice_get (slice_set xs i y) i ≡ Some y
+get_set_same [] i x y h = absurd (cc)
+get_set_same (z ∷ xs) zero x y h = refl
+get_set_same (z ∷ xs) (suc i) x y h = get_set_same xs i x y h
+
+pub get_set_other : {A : Type 0} (xs : List A) (i : ℕ) (y : A) (d : ℕ) → (d ≡ i → ⊥) → slice_get (slice_set xs i y) d ≡ slice_get xs d
+get_set_other [] i y d n = refl
+get_set_other (x ∷ xs) zero y zero n = absurd (n refl)
+get_set_other (x ∷ xs) zero y (suc d) n = refl
+get_set_other (x ∷ xs) (suc i) y zero n = refl
+get_set_other (x ∷ xs) (suc i) y (suc d) n = get_set_other xs i y d (λ e. n (ap suc e))
+
+in_set : {A : Type 0} (z : A) (xs : List A) (i : ℕ) (y : A) → In z (slice_set xs i y) → (z ≡ y) ⊎ In z xs
+in_set z [] i y h = absurd h
+in_set z (x ∷ xs) zero y (inl e) = inl e
+in_set z (x ∷ xs) zero y (inr m) = inr (inr m)
+in_set z (x ∷ xs) (suc i) y (inl e) = inr (inl e)
+in_set z (x ∷ xs) (suc i) y (inr m) = elim (in_set z xs i y m) [ inl e ↦ inl e | inr n ↦ inr (inr n) ]
+
+map_set : {A B : Type 0} (f : A → B) (xs : List A) (i : ℕ) (x y : A) → slice_get xs i ≡ Some x → f y ≡ f x → map f (slice_set xs i y) ≡ map f xs
+map_set f [] i x y g h = refl
+map_set f (z ∷ xs) zero x y g h = let p : z ≡ x = cc in ap (λ w. w ∷ map f xs) (h ∙ ap f (sym p))
+map_set f (z ∷ xs) (suc i) x y g h = ap (λ w. f z ∷ w) (map_set f xs i x y g h)
+
+abbrev pub AreFiled : (Container → Rows) → List EdgeRows → Type 0
+AreFiled part edges = (n : ℕ) (x : EdgeRows) → slice_get edges n ≡ Some x → IsFiled part x
+
+-- ---- lists of rows that are found alike
+
+same_shape : (new old : List EdgeRows) → shapes new ≡ shapes old → (d : ℕ) (y z : EdgeRows) → slice_get new d ≡ Some y → slice_get old d ≡ Some z → y.shape ≡ z.shape
+same_shape [] old e d y z g h = absurd (cc)
+same_shape (a ∷ new) [] e d y z g h = absurd (cc)
+same_shape (a ∷ new) (b ∷ old) e zero y z g h = let p : a ≡ y = cc in let q : b ≡ z = cc in let r : a.shape ≡ b.shape = cc in ap (λ (w : EdgeRows). w.shape) (sym p) ∙ r ∙ ap (λ (w : EdgeRows). w.shape) q
+same_shape (a ∷ new) (b ∷ old) e (suc d) y z g h = same_shape new old (cc) d y z g h
+
+-- an edge's counts are determined by what is found in it
+edge_count : (part other : Container → Rows) (o p : Option EdgeRows) (row : Pairs) → ((y z : EdgeRows) → o ≡ Some y → p ≡ Some z → y.shape ≡ z.shape) → ((s k : Pairs) → found_of part o s k ≡ found_of other p s k)
+    → count_of_edge part o row ≡ count_of_edge other p row
+edge_count part other None None row s f = refl
+edge_count part other None (Some z) row s f = ap (count_of_row row) (f (project z.shape.source row) (project z.shape.key row))
+edge_count part other (Some y) None row s f = ap (count_of_row row) (f (project y.shape.source row) (project y.shape.key row))
+edge_count part other (Some y) (Some z) row s f =
+    ap (count_of_row row) (f (project y.shape.source row) (project y.shape.key row) ∙ ap (λ (t : EdgeShape). found_at other z.sources.entries (project t.source row) (project t.key row)) (s y z refl refl))
+
+module _ (part other : Container → Rows) (new old : List EdgeRows) (a : AreFiled part new) (b : AreFiled other old) (same : shapes new ≡ shapes old) where
+  pub same_listing : ((d : ℕ) (s k : Pairs) → found_by part new d s k ≡ found_by other old d s k) → listing part new ≡ listing other old
+  same_listing f = same_counts (listing part new) (listing other old) (AreCountedRows-listing part new a) (AreCountedRows-listing other old b)
+      (λ d row. count_listed part new a d row ∙ edge_count part other (slice_get new d) (slice_get old d) row (same_shape new old same d) (f d) ∙ sym (count_listed other old b d row))
+
+-- ---- a change at one edge, source and key
+
+module _ (edges new : List EdgeRows) (e : ℕ) (x y : EdgeRows) (number : slice_get edges e ≡ Some x) (set : new ≡ slice_set edges e y) where
+  get_new : (d : ℕ) → slice_get new d ≡ cond (d == e) (Some y) (slice_get edges d)
+  get_new d = ap (λ z. slice_get z d) set ∙ go (d == e) refl
+    where
+      go : (b : Bool) → (d == e) ≡ b → slice_get (slice_set edges e y) d ≡ cond b (Some y) (slice_get edges d)
+      go true h = ap (slice_get (slice_set edges e y)) (eqb-true d e h) ∙ get_set_same edges e x y number
+      go false h = get_set_other edges e y d (λ p. false≢true (sym h ∙ eq-eqb d e p))
+
+  pub shapes_set : y.shape ≡ x.shape → shapes new ≡ shapes edges
+  shapes_set s = ap shapes set ∙ map_set (λ (z : EdgeRows). z.shape) edges e x y number s
+
+  pub stored_set : AreStored edges → IsStored y → AreStored new
+  stored_set all here z m = elim (in_set z edges e y (subst (In z) set m)) [ inl p ↦ subst IsStored (sym p) here | inr n ↦ all z n ]
+
+  pub found_set : (part : Container → Rows) (source key : Pairs) (w : Option Counted) → IsSetAt (found_at part x.sources.entries) (found_at part y.sources.entries) source key w
+      → (d : ℕ) (s k : Pairs) → found_by part new d s k ≡ cond (d == e && (tuple_eq s source && tuple_eq k key)) w (found_by part edges d s k)
+  found_set part source key w is d s k = ap (λ o. found_of part o s k) (get_new d) ∙ go (d == e) refl
+    where
+      go : (b : Bool) → (d == e) ≡ b → found_of part (cond b (Some y) (slice_get edges d)) s k ≡ cond (b && (tuple_eq s source && tuple_eq k key)) w (found_by part edges d s k)
+      go true h = is s k ∙ ap (cond (tuple_eq s source && tuple_eq k key) w) (sym (ap (λ o. found_of part o s k) (ap (slice_get edges) (eqb-true d e h) ∙ number)))
+      go false h = refl
+
+-- what is kept at a source and a key, if anything, is a row of them
+pub record IsOfPlace (x : EdgeRows) (source key : Pairs) (w : Option Counted) : Type 0 where
+  pub source_of : (c : Counted) → w ≡ Some c → project x.shape.source c.0 ≡ source
+  pub key_of : (c : Counted) → w ≡ Some c → project x.shape.key c.0 ≡ key
+  pub count : (c : Counted) → w ≡ Some c → 0 < c.1
+
+pub place_of_filed : (part : Container → Rows) (x : EdgeRows) → IsFiled part x → (source key : Pairs) → IsOfPlace x source key (found_at part x.sources.entries source key)
+place_of_filed part x f source key = record { source_of = f.source source key; key_of = f.key source key; count = f.counts source key }
+
+pub filed_set : (part : Container → Rows) (x y : EdgeRows) → y.shape ≡ x.shape → IsFiled part x → (source key : Pairs) (w : Option Counted) → IsOfPlace x source key w
+    → IsSetAt (found_at part x.sources.entries) (found_at part y.sources.entries) source key w → IsFiled part y
+filed_set part x y shape f source key w p is = record {
+  source = λ s k c h. ap (λ (z : EdgeShape). project z.source c.0) shape ∙ go (λ s k. project x.shape.source c.0 ≡ s) s k c h (p.source_of c) (f.source s k c);
+  key = λ s k c h. ap (λ (z : EdgeShape). project z.key c.0) shape ∙ go (λ s k. project x.shape.key c.0 ≡ k) s k c h (p.key_of c) (f.key s k c);
+  counts = λ s k c h. go (λ s k. 0 < c.1) s k c h (p.count c) (f.counts s k c);
+}
+  where
+    cases : (P : Pairs → Pairs → Type 0) (s k : Pairs) (c : Counted) (b : Bool) → (tuple_eq s source && tuple_eq k key) ≡ b → cond b w (found_at part x.sources.entries s k) ≡ Some c
+        → (w ≡ Some c → P source key) → (found_at part x.sources.entries s k ≡ Some c → P s k) → P s k
+    cases P s k c true t h here there =
+        let q : (tuple_eq s source ≡ true) × (tuple_eq k key ≡ true) = and_parts (tuple_eq s source) (tuple_eq k key) t in
+        subst (λ z. P z k) (sym (same_from_test s source q.0)) (subst (P source) (sym (same_from_test k key q.1)) (here h))
+    cases P s k c false t h here there = there h
+
+    go : (P : Pairs → Pairs → Type 0) (s k : Pairs) (c : Counted) → found_at part y.sources.entries s k ≡ Some c → (w ≡ Some c → P source key) → (found_at part x.sources.entries s k ≡ Some c → P s k) → P s k
+    go P s k c h here there = cases P s k c (tuple_eq s source && tuple_eq k key) refl (sym (is s k) ∙ h) here there
+
+-- a change of one edge's rows at a source and a key is one at a place of all edges
+pub place_becomes : (edges new : List EdgeRows) (e : ℕ) (x y : EdgeRows) → slice_get edges e ≡ Some x → new ≡ slice_set edges e y → AreStored edges
+    → (source key : Pairs) (v w : Option Counted) → Becomes x y source key v w → IsOfPlace x source key v → IsOfPlace x source key w → PlaceBecomes edges new (e, source, key) v w
+place_becomes edges new e x y number set all source key v w b p q =
+    let s : IsStored x = all x (slice_get_in edges e x number) in
+    record {
+      now = found_set edges new e x y number set now_in source key v b.now;
+      taken = found_set edges new e x y number set taken_in source key w b.taken;
+      stored = stored_set edges new e x y number set all record {
+        now = filed_set now_in x y b.shape s.now source key v p b.now;
+        taken = filed_set taken_in x y b.shape s.taken source key w q b.taken;
+        kinds = b.kinds;
+      };
+      shapes = shapes_set edges new e x y number set b.shape;
+    }
+
+-- an edge that was found by its number
+pub found_edge : (edges : List EdgeRows) (e : ℕ) (x : EdgeRows) → e < length edges → x ≡ get_or edges e x → slice_get edges e ≡ Some x
+found_edge edges e x l is = slice_get-get_or edges e x l ∙ ap Some (sym is)
+
+-- what is found at a place of it
+pub found_there : (part : Container → Rows) (edges : List EdgeRows) (e : ℕ) (x : EdgeRows) → slice_get edges e ≡ Some x → (source key : Pairs) → found_at part x.sources.entries source key ≡ found_by part edges e source key
+found_there part edges e x number source key = sym (ap (λ o. found_of part o source key) number)
+
+pub place_of_row : (x : EdgeRows) (source key row : Pairs) (n : ℕ) → project x.shape.source row ≡ source → project x.shape.key row ≡ key → IsOfPlace x source key (Some (row, n + 1))
+place_of_row x source key row n a b = record {
+  source_of = λ c h. let q : (row, n + 1) ≡ c = cc in ap (λ (z : Counted). project x.shape.source z.0) (sym q) ∙ a;
+  key_of = λ c h. let q : (row, n + 1) ≡ c = cc in ap (λ (z : Counted). project x.shape.key z.0) (sym q) ∙ b;
+  count = λ c h. let q : (row, n + 1) ≡ c = cc in subst (λ (z : Counted). 0 < z.1) q (omega arith);
+}
+
+pub place_of_lowered : (x : EdgeRows) (source key : Pairs) (o : Option Counted) → IsOfPlace x source key o → IsOfPlace x source key (lowered o)
+place_of_lowered x source key None p = p
+place_of_lowered x source key (Some d) p = record {
+  source_of = λ c h. go (λ c. project x.shape.source c.0 ≡ source) (nat_lt 1 d.1) refl c h (λ n. p.source_of d refl);
+  key_of = λ c h. go (λ c. project x.shape.key c.0 ≡ key) (nat_lt 1 d.1) refl c h (λ n. p.key_of d refl);
+  count = λ c h. go (λ c. 0 < c.1) (nat_lt 1 d.1) refl c h (λ (n : 1 < d.1). omega arith);
+}
+  where
+    go : (P : Counted → Type 0) (b : Bool) → nat_lt 1 d.1 ≡ b → (c : Counted) → cond b (Some (d.0, d.1 - 1)) None ≡ Some c → (1 < d.1 → P (d.0, d.1 - 1)) → P c
+    go P true t c h f = let q : (d.0, d.1 - 1) ≡ c = cc in subst P q (f (ltb-true 1 d.1 t))
+    go P false t c h f = absurd (cc)
+
+-- ---- a row's count set
+
+not_true : (b : Bool) → (b ≡ true → ⊥) → b ≡ false
+not_true true h = absurd (h refl)
+not_true false h = refl
+
+-- what is found, if anything, is the row, and its count is the row's
+row_count : (row : Pairs) (o : Option Counted) → IsRowOf o row → count_of_row row o ≡ count_of o
+row_count row None h = refl
+row_count row (Some c) h = ap (λ b. cond b c.1 0) (test_from_same c.0 row h)
+
+-- another row has no count there
+other_count : (row q : Pairs) (o : Option Counted) → IsRowOf o row → tuple_eq row q ≡ false → count_of_row q o ≡ 0
+other_count row q None h t = refl
+other_count row q (Some c) h t = ap (λ z. cond (tuple_eq z q) c.1 0) h ∙ ap (λ b. cond b c.1 0) t
+
+-- a row's count is that of what is found at its place, where this is the row
+pub row_count_at : (part : Container → Rows) (edges : List EdgeRows) → AreFiled part edges → (e : ℕ) (x : EdgeRows) → slice_get edges e ≡ Some x → (row : Pairs)
+    → IsRowOf (found_at part x.sources.entries (project x.shape.source row) (project x.shape.key row)) row
+    → count_at e row (listing part edges) ≡ count_of (found_at part x.sources.entries (project x.shape.source row) (project x.shape.key row))
+row_count_at part edges a e x number row was =
+    count_listed part edges a e row ∙ ap (λ o. count_of_edge part o row) number ∙ row_count row (found_at part x.sources.entries (project x.shape.source row) (project x.shape.key row)) was
+
+module _ (part : Container → Rows) (edges new : List EdgeRows) (e : ℕ) (x : EdgeRows) (number : slice_get edges e ≡ Some x) (a : AreFiled part edges) (b : AreFiled part new) (same : shapes new ≡ shapes edges)
+    (row : Pairs) (w : Option Counted) (mine : IsRowOf w row) (was : IsRowOf (found_at part x.sources.entries (project x.shape.source row) (project x.shape.key row)) row)
+    (set : (d : ℕ) (s k : Pairs) → found_by part new d s k ≡ cond (d == e && (tuple_eq s (project x.shape.source row) && tuple_eq k (project x.shape.key row))) w (found_by part edges d s k)) where
+  at_edge : (q : Pairs) → count_of_row q (found_by part new e (project x.shape.source q) (project x.shape.key q)) ≡ cond (tuple_eq row q) (count_of w) (count_of_row q (found_by part edges e (project x.shape.source q) (project x.shape.key q)))
+  at_edge q = ap (count_of_row q) (set e (project x.shape.source q) (project x.shape.key q)) ∙ by_row (tuple_eq row q) refl
+    where
+      here : (e == e) ≡ true
+      here = eq-eqb e e refl
+
+      by_row : (t : Bool) → tuple_eq row q ≡ t
+          → count_of_row q (cond (e == e && (tuple_eq (project x.shape.source q) (project x.shape.source row) && tuple_eq (project x.shape.key q) (project x.shape.key row))) w (found_by part edges e (project x.shape.source q) (project x.shape.key q)))
+          ≡ cond t (count_of w) (count_of_row q (found_by part edges e (project x.shape.source q) (project x.shape.key q)))
+      by_row true t =
+          let p : q ≡ row = sym (same_from_test row q t) in
+          let s : tuple_eq (project x.shape.source q) (project x.shape.source row) ≡ true = test_from_same (project x.shape.source q) (project x.shape.source row) (ap (project x.shape.source) p) in
+          let k : tuple_eq (project x.shape.key q) (project x.shape.key row) ≡ true = test_from_same (project x.shape.key q) (project x.shape.key row) (ap (project x.shape.key) p) in
+          ap (λ z. count_of_row q (cond z w (found_by part edges e (project x.shape.source q) (project x.shape.key q))))
+          (and_from (e == e) (tuple_eq (project x.shape.source q) (project x.shape.source row) && tuple_eq (project x.shape.key q) (project x.shape.key row)) here
+          (and_from (tuple_eq (project x.shape.source q) (project x.shape.source row)) (tuple_eq (project x.shape.key q) (project x.shape.key row)) s k))
+          ∙ ap (λ z. count_of_row z w) p ∙ row_count row w mine
+      by_row false t = by_place (e == e && (tuple_eq (project x.shape.source q) (project x.shape.source row) && tuple_eq (project x.shape.key q) (project x.shape.key row))) refl
+        where
+          by_place : (z : Bool) → (e == e && (tuple_eq (project x.shape.source q) (project x.shape.source row) && tuple_eq (project x.shape.key q) (project x.shape.key row))) ≡ z
+              → count_of_row q (cond z w (found_by part edges e (project x.shape.source q) (project x.shape.key q))) ≡ count_of_row q (found_by part edges e (project x.shape.source q) (project x.shape.key q))
+          by_place true h =
+              let c : (tuple_eq (project x.shape.source q) (project x.shape.source row) && tuple_eq (project x.shape.key q) (project x.shape.key row)) ≡ true =
+              (and_parts (e == e) (tuple_eq (project x.shape.source q) (project x.shape.source row) && tuple_eq (project x.shape.key q) (project x.shape.key row)) h).1 in
+              let p : (tuple_eq (project x.shape.source q) (project x.shape.source row) ≡ true) × (tuple_eq (project x.shape.key q) (project x.shape.key row) ≡ true) =
+              and_parts (tuple_eq (project x.shape.source q) (project x.shape.source row)) (tuple_eq (project x.shape.key q) (project x.shape.key row)) c in
+              let s : project x.shape.source q ≡ project x.shape.source row = same_from_test (project x.shape.source q) (project x.shape.source row) p.0 in
+              let k : project x.shape.key q ≡ project x.shape.key row = same_from_test (project x.shape.key q) (project x.shape.key row) p.1 in
+              let old : found_by part edges e (project x.shape.source q) (project x.shape.key q) ≡ found_at part x.sources.entries (project x.shape.source row) (project x.shape.key row) =
+              ap (λ o. found_of part o (project x.shape.source q) (project x.shape.key q)) number ∙ (λ i. found_at part x.sources.entries (s i) (k i)) in
+              other_count row q w mine t ∙ sym (ap (count_of_row q) old ∙ other_count row q (found_at part x.sources.entries (project x.shape.source row) (project x.shape.key row)) was t)
+          by_place false h = refl
+
+  -- the rows with this count for the row
+  pub listing_set : listing part new ≡ with_count e row (count_of w) (listing part edges)
+  listing_set = same_counts (listing part new) (with_count e row (count_of w) (listing part edges)) (AreCountedRows-listing part new b)
+      (AreCountedRows-with_count e row (count_of w) (listing part edges) (AreCountedRows-listing part edges a))
+      (λ d q. count_listed part new b d q ∙ by_edge d q (e == d) refl
+      ∙ ap (cond (is_row_at d q (e, row, count_of w)) (count_of w)) (sym (count_listed part edges a d q))
+      ∙ sym (count-with_count e row (count_of w) (listing part edges) (AreCountedRows-listing part edges a) d q))
+    where
+      with_shape : (q : Pairs) (o : Option EdgeRows) → ((y : EdgeRows) → o ≡ Some y → y.shape ≡ x.shape) → count_of_edge part o q ≡ count_of_row q (found_of part o (project x.shape.source q) (project x.shape.key q))
+      with_shape q None s = refl
+      with_shape q (Some y) s = ap (λ (t : EdgeShape). count_of_row q (found_at part y.sources.entries (project t.source q) (project t.key q))) (s y refl)
+
+      apart : (d : ℕ) → (e == d) ≡ false → (d == e) ≡ false
+      apart d t = not_true (d == e) (λ h. false≢true (sym t ∙ eq-eqb e d (sym (eqb-true d e h))))
+
+      by_edge : (d : ℕ) (q : Pairs) (z : Bool) → (e == d) ≡ z → count_of_edge part (slice_get new d) q ≡ cond (z && tuple_eq row q) (count_of w) (count_of_edge part (slice_get edges d) q)
+      by_edge d q true t =
+          let p : e ≡ d = eqb-true e d t in
+          subst (λ n. count_of_edge part (slice_get new n) q ≡ cond (tuple_eq row q) (count_of w) (count_of_edge part (slice_get edges n) q)) p
+          (with_shape q (slice_get new e) (λ y g. same_shape new edges same e y x g number) ∙ at_edge q
+          ∙ ap (cond (tuple_eq row q) (count_of w)) (sym (with_shape q (slice_get edges e) (λ y g. let r : y ≡ x = cc in ap (λ (v : EdgeRows). v.shape) r))))
+      by_edge d q false t =
+          edge_count part part (slice_get new d) (slice_get edges d) q (same_shape new edges same d)
+          (λ s k. set d s k ∙ ap (λ z. cond (z && (tuple_eq s (project x.shape.source row) && tuple_eq k (project x.shape.key row))) w (found_by part edges d s k)) (apart d t))

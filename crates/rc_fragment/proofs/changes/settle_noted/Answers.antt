@@ -1,0 +1,34 @@
+use Rattle.std.proofs.Common.{◌<◌, [], length, sym, subst, ◌∙◌}
+use Rattle.std.specs.Prelude.{List}
+use Rattle.rc_tuple.specs.RisingSet.{In}
+use Rattle.rc_fragment.specs.Container.{now_in, taken_in}
+use Rattle.rc_fragment.specs.Notes.{IsFragment, IsNoteWithin}
+use Rattle.rc_fragment.specs.declared.edge_rows.EdgeRows.{EdgeRows}
+use Rattle.rc_fragment.proofs.ChangeLemmas.{same_listing}
+use Rattle.rc_fragment.proofs.PlaceLemmas.{fragment_clear}
+use Rattle.rc_fragment.proofs.RowLemmas.{filed_now, filed_taken}
+use Rattle.rc_fragment.proofs.changes.settle_noted.Goals as goal
+
+pub settle_places-requires-clause-within : goal.settle_places-requires-clause-within
+settle_places-requires-clause-within c = λ m h.
+    let a : In m c.args.notes.now.items = subst (In m) c.deref.ensures.value h in
+    let w : (m.edge < length c.args.edges.now.items) × IsNoteWithin (length c.args.pairs.now.items) m = c.requires.within m a in
+    (w.0, subst (λ z. IsNoteWithin (length z) m) (sym c.deref-2.ensures.value) w.1)
+
+pub returns-clause-fragment : goal.returns-clause-fragment
+returns-clause-fragment c =
+    let new : List EdgeRows = c.settle_places.new.edges.items in
+    subst (λ z. IsFragment new z c.clear-2.new.self.items) (sym c.clear.ensures.items) (subst (IsFragment new []) (sym c.clear-2.ensures.items)
+    (fragment_clear new c.settle_places.ensures.stored (λ e s k. c.settle_places.ensures.now e s k ∙ sym (c.settle_places.ensures.taken e s k))))
+
+pub returns-clause-now : goal.returns-clause-now
+returns-clause-now c =
+    let edges : List EdgeRows = c.args.edges.now.items in
+    let new : List EdgeRows = c.settle_places.new.edges.items in
+    same_listing now_in now_in new edges (filed_now new c.settle_places.ensures.stored) (filed_now edges c.requires.stored) c.settle_places.ensures.shapes c.settle_places.ensures.now
+
+pub returns-clause-taken : goal.returns-clause-taken
+returns-clause-taken c =
+    let edges : List EdgeRows = c.args.edges.now.items in
+    let new : List EdgeRows = c.settle_places.new.edges.items in
+    same_listing taken_in now_in new edges (filed_taken new c.settle_places.ensures.stored) (filed_now edges c.requires.stored) c.settle_places.ensures.shapes c.settle_places.ensures.taken

@@ -1,0 +1,60 @@
+-- What a fragment's calls promise.
+use Rattle.std.specs.Prelude.{◌≡◌, ℕ, ◌++◌, List, Option, None, Some, map}
+use Rattle.std.specs.List.{slice_get}
+use Rattle.rc_tuple.specs.RisingSet.{In, IsRising}
+use Rattle.rc_tuple.specs.Tuple.{Pairs, project, tuple_cmp}
+use Rattle.rc_spec.specs.Decomposition.{bound}
+use Rattle.rc_spec.specs.Fragments.{EdgeRow}
+use Rattle.rc_spec.specs.declared.items.Edge.{Edge}
+use Rattle.rc_spec.specs.declared.items.EdgeKind.TheVariants.{Singleton}
+use Rattle.rc_spec.specs.declared.spec.Spec.{Spec}
+use Rattle.rc_fragment.specs.Container.{now_in, taken_in}
+use Rattle.rc_fragment.specs.FragmentRows.{FragmentRows}
+use Rattle.rc_fragment.specs.Listing.{listing}
+use Rattle.rc_fragment.specs.Notes.{room_in}
+use Rattle.rc_fragment.specs.declared.edge_rows.EdgeRows.{EdgeRows}
+use Rattle.rc_fragment.specs.declared.fragment.Fragment.TheInside.{Inside}
+use Rattle.rc_fragment.specs.declared.shape.EdgeShape.{EdgeShape}
+
+abbrev pub seen : Inside → FragmentRows
+seen a = record { table = map (λ (edge : EdgeRows). edge.shape) a.edges.items; now = listing now_in a.edges.items; taken = listing taken_in a.edges.items; room = room_in a.notes a.pairs }
+
+abbrev pub shape_of : Spec → Edge → EdgeShape
+shape_of spec e = record { source = bound spec e.from; key = e.key; target = bound spec e.to; kind = e.kind }
+
+-- the edge table of a specification
+abbrev pub edge_table : Spec → List EdgeShape
+edge_table spec = map (shape_of spec) spec.edges
+
+abbrev pub HasShape : List EdgeShape → ℕ → EdgeShape → Type 0
+HasShape table e shape = slice_get table e ≡ Some shape
+
+-- the edge has the row, with some count
+abbrev pub IsThere : List EdgeRow → ℕ → Pairs → Type 0
+IsThere rows e t = (n : ℕ) × In {A = EdgeRow} (e, t, n) rows
+
+-- no other row of the edge has the row's source and key
+abbrev pub HasAlone : List EdgeShape → List EdgeRow → ℕ → Pairs → Type 0
+HasAlone table rows e t = (shape : EdgeShape) → HasShape table e shape → (u : Pairs) → IsThere rows e u
+    → project shape.source u ≡ project shape.source t → project shape.key u ≡ project shape.key t → u ≡ t
+
+-- in a singleton no row with the row's source has another key
+abbrev pub HasSingle : List EdgeShape → List EdgeRow → ℕ → Pairs → Type 0
+HasSingle table rows e t = (shape : EdgeShape) → HasShape table e shape → shape.kind ≡ Singleton → (u : Pairs) → IsThere rows e u
+    → project shape.source u ≡ project shape.source t → project shape.key u ≡ project shape.key t
+
+-- what a look-up by source and key answers: the one row of the edge that has them, and none only where the edge has none
+abbrev pub IsLookedUp : EdgeShape → List EdgeRow → ℕ → Pairs → Pairs → Option Pairs → Type 0
+IsLookedUp shape rows e source key None = (u : Pairs) → IsThere rows e u → project shape.source u ≡ source → project shape.key u ≡ key → ⊥
+IsLookedUp shape rows e source key (Some t) =
+    IsThere rows e t × (project shape.source t ≡ source) × (project shape.key t ≡ key) × ((u : Pairs) → IsThere rows e u → project shape.source u ≡ source → project shape.key u ≡ key → u ≡ t)
+
+-- what a scan by source answers: the edge's rows that have it, rising by their keys
+pub record IsScan (shape : EdgeShape) (rows : List EdgeRow) (e : ℕ) (source : Pairs) (ts : List Pairs) : Type 0 where
+  pub rising : IsRising (λ t u. tuple_cmp (project shape.key t) (project shape.key u)) ts
+  pub only : (t : Pairs) → In t ts → IsThere rows e t × (project shape.source t ≡ source)
+  pub each : (t : Pairs) → IsThere rows e t → project shape.source t ≡ source → In t ts
+
+-- the list has what a scan answers at its end
+abbrev pub HasScanned : EdgeShape → List EdgeRow → ℕ → Pairs → List Pairs → List Pairs → Type 0
+HasScanned shape rows e source old new = (ts : List Pairs) × (new ≡ old ++ ts) × IsScan shape rows e source ts

@@ -1,0 +1,8 @@
+pub mod Container
+pub mod Fragment
+pub mod FragmentRows
+pub mod Holder
+pub mod HolderLaws
+pub mod Listing
+pub mod Notes
+pub mod Sources

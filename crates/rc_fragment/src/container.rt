@@ -1,0 +1,149 @@
+//! A container of one of the four kinds.
+
+ghost use Rattle.std.specs.Prelude.{◌≡◌, ◌<◌, ◌^◌, ◌++◌, ◌↔◌, IsTrue, OnOk, OnErr, IfOk, IsSome, option_copied};
+ghost use Rattle.std.specs.FinMap as fin;
+ghost use Rattle.rc_edges.specs.EdgeMap.{IsRowOf, count_at, listed, once_less, once_more, row_of, with_key_of};
+ghost use Rattle.rc_fragment.specs.Container.{kind_in, now_in, takes, taken_in};
+
+use rc_edges::{EdgeMap, ListMap, OneMap};
+use rc_maps::{HashEdge, OrderedEdge};
+use rc_spec::EdgeKind;
+use rc_tuple::{Memory, Tuple, Tuples};
+use std::alloc::Global;
+
+/// The rows of an edge at one row of its source, in a container of the edge's kind.
+#[derive(Drop, Debug)]
+pub enum Container {
+    Hash(HashEdge),
+    Ordered(OrderedEdge),
+    List(ListMap),
+    Singleton(OneMap),
+}
+
+impl Container {
+    /// The container of the kind with no row, which takes no memory.
+    pub fn new(alloc: Global, kind: EdgeKind) -> Self
+        ensures now { now_in result ≡ fin.empty }
+        ensures taken { taken_in result ≡ fin.empty }
+        ensures kind { kind_in result ≡ kind }
+    {
+        match kind {
+            EdgeKind::Hash => Container::Hash(HashEdge::new(alloc)),
+            EdgeKind::Ordered => Container::Ordered(OrderedEdge::new(alloc)),
+            EdgeKind::List => Container::List(ListMap::new(alloc)),
+            EdgeKind::Singleton => Container::Singleton(OneMap::new(alloc)),
+        }
+    }
+
+    /// Adds the row at the key with the count 1, or raises its count by 1.
+    pub fn add(&mut self, key: &Tuple, row: &Tuple) -> Result<(), Memory>
+        requires room { count_at (now_in self.old) key.now < 2 ^ 63 }
+        requires same { IsRowOf (fin.get (now_in self.old) key.now) row.now }
+        requires single { takes self.old key.now }
+        ensures ok { OnOk result (now_in self.new ≡ once_more (now_in self.old) key.now row.now) }
+        ensures err { OnErr result (now_in self.new ≡ now_in self.old) }
+        ensures taken { taken_in self.new ≡ taken_in self.old }
+        ensures kind { kind_in self.new ≡ kind_in self.old }
+    {
+        match self {
+            Container::Hash(map) => map.add(key, row),
+            Container::Ordered(map) => map.add(key, row),
+            Container::List(map) => map.add(key, row),
+            Container::Singleton(map) => map.add(key, row),
+        }
+    }
+
+    /// Lowers the count at the key by 1, and takes the row out at 0.
+    pub fn sub(&mut self, key: &[(u8, u64)])
+        requires { IsSome (fin.get (now_in self.old) key.now) }
+        ensures now { now_in self.new ≡ once_less (now_in self.old) key.now }
+        ensures taken { taken_in self.new ≡ taken_in self.old }
+        ensures kind { kind_in self.new ≡ kind_in self.old }
+    {
+        match self {
+            Container::Hash(map) => map.sub(key),
+            Container::Ordered(map) => map.sub(key),
+            Container::List(map) => map.sub(key),
+            Container::Singleton(map) => map.sub(key),
+        }
+    }
+
+    /// Makes the row and the count at the key what they were as taken.
+    pub fn revert(&mut self, key: &[(u8, u64)])
+        ensures now { now_in self.new ≡ with_key_of (now_in self.old) key.now (taken_in self.old) }
+        ensures taken { taken_in self.new ≡ taken_in self.old }
+        ensures kind { kind_in self.new ≡ kind_in self.old }
+    {
+        match self {
+            Container::Hash(map) => map.revert(key),
+            Container::Ordered(map) => map.revert(key),
+            Container::List(map) => map.revert(key),
+            Container::Singleton(map) => map.revert(key),
+        }
+    }
+
+    /// Makes the row and the count at the key count as taken.
+    pub fn settle(&mut self, key: &[(u8, u64)])
+        ensures now { now_in self.new ≡ now_in self.old }
+        ensures taken { taken_in self.new ≡ with_key_of (taken_in self.old) key.now (now_in self.old) }
+        ensures kind { kind_in self.new ≡ kind_in self.old }
+    {
+        match self {
+            Container::Hash(map) => map.settle(key),
+            Container::Ordered(map) => map.settle(key),
+            Container::List(map) => map.settle(key),
+            Container::Singleton(map) => map.settle(key),
+        }
+    }
+
+    /// The row at the key, if there is one.
+    pub fn get(&self, key: &[(u8, u64)]) -> Option<&Tuple>
+        ensures { option_copied result ≡ row_of (fin.get (now_in self.now) key.now) }
+    {
+        match self {
+            Container::Hash(map) => map.get(key),
+            Container::Ordered(map) => map.get(key),
+            Container::List(map) => map.get(key),
+            Container::Singleton(map) => map.get(key),
+        }
+    }
+
+    /// Adds the rows at the end of the list, rising by their keys.
+    pub fn scan(&self, out: &mut Tuples) -> Result<(), Memory>
+        ensures ok { OnOk result (out.new ≡ out.old ++ listed (now_in self.now)) }
+        ensures err { OnErr result (out.new ≡ out.old) }
+    {
+        match self {
+            Container::Hash(map) => map.scan(out),
+            Container::Ordered(map) => map.scan(out),
+            Container::List(map) => map.scan(out),
+            Container::Singleton(map) => map.scan(out),
+        }
+    }
+
+    /// Whether nothing is kept: there is no row, neither now nor as taken.
+    pub fn is_gone(&self) -> bool
+        ensures { IsTrue result ↔ (now_in self.now ≡ fin.empty) × (taken_in self.now ≡ fin.empty) }
+    {
+        match self {
+            Container::Hash(map) => map.is_gone(),
+            Container::Ordered(map) => map.is_gone(),
+            Container::List(map) => map.is_gone(),
+            Container::Singleton(map) => map.is_gone(),
+        }
+    }
+
+    /// Another container with the same rows, now and as taken.
+    pub fn copy(&self) -> Result<Self, Memory>
+        ensures now { IfOk result (λ copy. now_in copy ≡ now_in self.now) }
+        ensures taken { IfOk result (λ copy. taken_in copy ≡ taken_in self.now) }
+        ensures kind { IfOk result (λ copy. kind_in copy ≡ kind_in self.now) }
+    {
+        match self {
+            Container::Hash(map) => Ok(Container::Hash(map.copy()?)),
+            Container::Ordered(map) => Ok(Container::Ordered(map.copy()?)),
+            Container::List(map) => Ok(Container::List(map.copy()?)),
+            Container::Singleton(map) => Ok(Container::Singleton(map.copy()?)),
+        }
+    }
+}

@@ -1,0 +1,175 @@
+//! The fragment of a stripe.
+
+ghost use Rattle.std.specs.Prelude.{◌≡◌, ◌<◌, ◌≤◌, ◌+◌, ◌^◌, [], length, OnOk, OnErr, IfOk, option_copied};
+ghost use Rattle.rc_spec.specs.CountedRows.{count_at, lowered, raised};
+ghost use Rattle.rc_spec.specs.CountedRowsLaws.{AreCountedRows};
+ghost use Rattle.rc_fragment.specs.Fragment.{HasAlone, HasScanned, HasShape, HasSingle, IsLookedUp, IsThere, edge_table, shape_of};
+ghost use Rattle.rc_fragment.specs.Listing.{AreEmpty, shapes};
+ghost use Rattle.rc_fragment.specs.declared.shape.EdgeShape.{EdgeShape};
+
+use crate::EdgeShape;
+use crate::changes::{add_noted, revert_noted, settle_noted, sub_noted};
+use crate::edge_rows::EdgeRows;
+use crate::note::{Note, PAIRS_OF_NOTE};
+use rc_spec::{Accepted, Edge, Spec};
+use rc_tuple::{Memory, Tuple, Tuples};
+use std::alloc::Global;
+use std::marker::Model;
+
+/// The rows of all edges that fall on one lock stripe (PLDI 2012, lock striping): each edge and source
+/// has its rows in a container of the edge's kind.
+///
+/// A fragment also keeps its rows as they were taken. Changes are made in place and noted; `revert`
+/// takes them back and `settle` makes them count as taken. Both cost the rows that changed, whatever
+/// the fragment's size, and take no memory.
+#[derive(Drop, Debug)]
+pub struct Fragment {
+    edges: Vec<EdgeRows>,
+    notes: Vec<Note>,
+    pairs: Vec<(u8, u64)>,
+}
+
+impl Model for Fragment {
+    ghost use Rattle.rc_fragment.specs.FragmentRows.{FragmentRows};
+
+    ghost Value = { FragmentRows };
+
+    ghost use Rattle.rc_fragment.specs.Fragment.{seen};
+    ghost use Rattle.rc_fragment.specs.Notes.{IsFragment};
+
+    ghost view = { seen };
+
+    ghost invariant = { λ a. IsFragment a.edges.items a.notes.items a.pairs.items };
+}
+
+impl Fragment {
+    /// The fragment of an accepted specification's stripe with no row. It has the edge table of the
+    /// specification; no call changes the table.
+    pub fn empty(alloc: Global, accepted: &Accepted) -> Result<Fragment, Memory>
+        ensures table { IfOk result (λ fragment. fragment.table ≡ edge_table accepted.now) }
+        ensures now { IfOk result (λ fragment. fragment.now ≡ []) }
+        ensures taken { IfOk result (λ fragment. fragment.taken ≡ []) }
+    {
+        Ok(Fragment {
+            edges: empty_edges(alloc, accepted)?,
+            notes: Vec::new(alloc),
+            pairs: Vec::new(alloc),
+        })
+    }
+
+    /// Makes room for so many changes. Where memory is wanted nothing changes.
+    pub fn own(&mut self, changes: u16) -> Result<(), Memory>
+        ensures table { self.new.table ≡ self.old.table }
+        ensures now { self.new.now ≡ self.old.now }
+        ensures taken { self.new.taken ≡ self.old.taken }
+        ensures room { OnOk result (changes ≤ self.new.room) }
+        ensures kept { self.old.room ≤ self.new.room }
+    {
+        self.notes.reserve(changes as usize)?;
+        self.pairs.reserve(changes as usize * PAIRS_OF_NOTE)?;
+        Ok(())
+    }
+
+    /// Adds the row to the edge with the count 1, or raises its count by 1. Where memory is wanted
+    /// nothing changes. Costs a look-up of the source and one of the key.
+    pub fn add_row(&mut self, edge: u8, row: &Tuple) -> Result<(), Memory>
+        requires known { edge < length self.old.table }
+        requires owned { 0 < self.old.room }
+        requires room { count_at edge row.now self.old.now < 2 ^ 63 }
+        requires alone { HasAlone self.old.table self.old.now edge row.now }
+        requires single { HasSingle self.old.table self.old.now edge row.now }
+        ensures table { self.new.table ≡ self.old.table }
+        ensures ok { OnOk result (self.new.now ≡ raised edge row.now self.old.now) }
+        ensures err { OnErr result (self.new.now ≡ self.old.now) }
+        ensures kept { OnErr result (self.old.room ≤ self.new.room) }
+        ensures taken { self.new.taken ≡ self.old.taken }
+        ensures left { self.old.room ≤ self.new.room + 1 }
+    {
+        add_noted(&mut self.edges, &mut self.notes, &mut self.pairs, edge, row)
+    }
+
+    /// Lowers the row's count in the edge by 1, and takes the row out at 0. Takes no memory. Costs a
+    /// look-up of the source and one of the key.
+    pub fn sub_row(&mut self, edge: u8, row: &Tuple)
+        requires known { edge < length self.old.table }
+        requires owned { 0 < self.old.room }
+        requires there { IsThere self.old.now edge row.now }
+        ensures table { self.new.table ≡ self.old.table }
+        ensures now { self.new.now ≡ lowered edge row.now self.old.now }
+        ensures taken { self.new.taken ≡ self.old.taken }
+        ensures left { self.old.room ≤ self.new.room + 1 }
+    {
+        sub_noted(&mut self.edges, &mut self.notes, &mut self.pairs, edge, row);
+    }
+
+    /// Makes the rows what they were as taken. Takes no memory. Costs the changes since then.
+    pub fn revert(&mut self)
+        ensures table { self.new.table ≡ self.old.table }
+        ensures now { self.new.now ≡ self.old.taken }
+        ensures taken { self.new.taken ≡ self.old.taken }
+        ensures kept { self.old.room ≤ self.new.room }
+    {
+        revert_noted(&mut self.edges, &mut self.notes, &mut self.pairs);
+    }
+
+    /// Makes the rows now count as taken. Takes no memory. Costs the changes since they were taken.
+    pub fn settle(&mut self)
+        ensures table { self.new.table ≡ self.old.table }
+        ensures now { self.new.now ≡ self.old.now }
+        ensures taken { self.new.taken ≡ self.old.now }
+        ensures kept { self.old.room ≤ self.new.room }
+    {
+        settle_noted(&mut self.edges, &mut self.notes, &mut self.pairs);
+    }
+
+    /// The row of the edge with these pairs at the source's and at the key's columns; `None` exactly
+    /// where there is none. Costs a hash look-up of the source and a look-up of the key: one of a hash
+    /// in an edge of kind hash, logarithmic in one of kind ordered, and linear in the rows of the
+    /// source in one of kind list. Takes no memory.
+    pub fn lookup(&self, edge: u8, source: &[(u8, u64)], key: &[(u8, u64)]) -> Option<&Tuple>
+        requires { edge < length self.now.table }
+        ensures row { (shape : EdgeShape) → HasShape self.now.table edge shape → IsLookedUp shape self.now.now edge source.now key.now (option_copied result) }
+        ensures counted { AreCountedRows self.now.now × AreCountedRows self.now.taken }
+    {
+        let rows = &self.edges[edge as usize];
+        rows.get(source, key)
+    }
+
+    /// Adds the rows of the edge with these pairs at the source's columns at the end of the list,
+    /// rising by their keys. Where memory is wanted the list stays as it was.
+    pub fn scan(&self, edge: u8, source: &[(u8, u64)], out: &mut Tuples) -> Result<(), Memory>
+        requires { edge < length self.now.table }
+        ensures ok { OnOk result ((shape : EdgeShape) → HasShape self.now.table edge shape → HasScanned shape self.now.now edge source.now out.old out.new) }
+        ensures err { OnErr result (out.new ≡ out.old) }
+    {
+        let rows = &self.edges[edge as usize];
+        rows.scan(source, out)
+    }
+}
+
+/// The edges of a specification with no row.
+fn empty_edges(alloc: Global, accepted: &Accepted) -> Result<Vec<EdgeRows>, Memory>
+    ensures shapes { IfOk result (λ edges. shapes edges.items ≡ edge_table accepted.now) }
+    ensures empty { IfOk result (λ edges. AreEmpty edges.items) }
+{
+    let spec = accepted.spec();
+    let mut edges = Vec::new(alloc);
+    for edge in spec.edges.list() {
+        edges.push(EdgeRows::new(alloc, shape_of(spec, edge)))?;
+    }
+    Ok(edges)
+}
+
+/// What a fragment knows of an edge.
+fn shape_of(spec: &Spec, edge: &Edge) -> EdgeShape
+    requires from { edge.now.from < length spec.now.nodes }
+    requires to { edge.now.to < length spec.now.nodes }
+    ensures { result ≡ shape_of spec.now edge.now }
+{
+    EdgeShape {
+        source: spec.bound(edge.from),
+        key: edge.key,
+        target: spec.bound(edge.to),
+        kind: edge.kind,
+    }
+}

@@ -1,0 +1,18 @@
+use rc_spec::Found;
+
+/// Why a stripe was not taken: the stripe that was asked for, and what was found in the way.
+#[derive(Clone, Copy, Debug, PartialEq, Eq)]
+pub struct Held {
+    /// The number of the physical stripe.
+    pub stripe: u32,
+    pub found: Found,
+}
+
+/// Why a take was refused. Nothing was taken.
+#[derive(Clone, Copy, Debug, PartialEq, Eq)]
+pub enum TakeStop {
+    /// Memory was wanted.
+    Memory,
+    /// The stripe is held by another.
+    Held(Held),
+}

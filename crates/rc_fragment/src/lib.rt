@@ -1,0 +1,19 @@
+//! The fragment of a lock stripe: the rows of all edges that fall on it, in containers.
+#![tactic(auto)]
+
+mod changes;
+mod container;
+mod edge_rows;
+mod fragment;
+mod held;
+mod holder;
+mod laws;
+mod note;
+mod places;
+mod shape;
+
+pub use fragment::Fragment;
+pub use held::{Held, TakeStop};
+pub use holder::Holder;
+pub use laws::fragments_are_readable;
+pub use shape::EdgeShape;

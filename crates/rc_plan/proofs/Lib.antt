@@ -1,0 +1,3 @@
+mod Example
+mod ExamplePlans
+mod TextLemmas

@@ -1,0 +1,128 @@
+-- What a plan does on a list of rows: its reply, the stripes that it names, and the rows after it. (PLDI 2011 and PLDI 2012, evaluation of query plans.)
+use Rattle.std.specs.Prelude.{ℕ, ◌-◌, Bool, true, false, List, [], ◌∷◌, ◌++◌, Option, None, Some, map, not, is_some, if◌then◌else◌, get_or}
+use Rattle.std.specs.List.{list_any, range_with_len}
+use Rattle.rc_tuple.specs.RisingSet.{gather}
+use Rattle.rc_tuple.specs.Tuple.{Pairs, project, agree_on}
+use Rattle.rc_tuple.specs.declared.dep.Dep.{Dep}
+use Rattle.rc_spec.specs.declared.call.Call.{Call}
+use Rattle.rc_spec.specs.declared.call.Reply.{Reply}
+use Rattle.rc_spec.specs.declared.call.Reply.TheVariants.{Rows, Many, Inserted, Present, Conflict, Removed, Absent}
+use Rattle.rc_spec.specs.declared.items.OpKind.{OpKind}
+use Rattle.rc_spec.specs.declared.items.OpKind.TheVariants.{Query, Insert, Remove}
+use Rattle.rc_spec.specs.declared.lock.Mode.{Mode}
+use Rattle.rc_spec.specs.declared.spec.Spec.{Spec}
+use Rattle.rc_spec.specs.Contents.{join}
+use Rattle.rc_spec.specs.Fragments.{EdgeRow, tuples_of_edge, all_rows}
+use Rattle.rc_spec.specs.Placement.{class_at, op_at}
+use Rattle.rc_spec.specs.Plain.{at_most_256, rows_of}
+use Rattle.rc_spec.specs.Stripes.{band_start, physical_stripe}
+use Rattle.rc_plan.specs.declared.statement.Statement.{Statement}
+use Rattle.rc_plan.specs.declared.statement.Statement.TheVariants.{Lock, Probe, Read, CheckAbsent, CheckDep, Apply, Emit, Commit, Release}
+use Rattle.rc_plan.specs.declared.statement.Which.{Which}
+use Rattle.rc_plan.specs.declared.statement.Which.TheVariants as which
+use Rattle.rc_spec.specs.CountedRows.{with_rows, without_rows}
+use Rattle.rc_plan.specs.StripeLocks.{StripeLock, stripe_lock_cmp}
+
+-- where a run stands
+pub record RunState : Type 0 where
+  -- tuples over the columns known so far, rising
+  pub bindings : List Pairs
+  -- the stripes that the Locks named, each with its Lock's mode, rising
+  pub named : List StripeLock
+  pub reply : Option Reply
+  pub rows : List EdgeRow
+
+-- ---- what the statements speak of
+
+-- all physical stripes of a class
+abbrev pub band : Spec → ℕ → List ℕ
+band spec c = range_with_len (band_start spec c) (class_at spec c).stripes
+
+-- the stripes of a class that a Lock takes: those on which the bindings fall, or all
+abbrev pub stripes_locked : Spec → ℕ → Which → List Pairs → List ℕ
+stripes_locked spec c which.Keyed bindings = map (physical_stripe spec c) bindings
+stripes_locked spec c which.All bindings = band spec c
+
+abbrev pub named_by : Spec → ℕ → Which → Mode → List Pairs → List StripeLock
+named_by spec c choice mode bindings = map (λ stripe. (stripe, mode)) (stripes_locked spec c choice bindings)
+
+-- what stands where there is no dependency
+abbrev pub no_dep : Dep
+no_dep = record { left = []; right = [] }
+
+-- dependencies are numbered from 1
+abbrev pub dep_at : Spec → ℕ → Dep
+dep_at spec dep = get_or spec.deps (dep - 1) no_dep
+
+abbrev pub some_left : List Pairs → Bool
+some_left [] = false
+some_left (b ∷ bindings) = true
+
+-- a binding differs from the call's tuple on the dependency's right side
+abbrev pub some_differs : Spec → ℕ → Pairs → List Pairs → Bool
+some_differs spec dep args bindings = list_any (λ b. not (agree_on (dep_at spec dep).right b args)) bindings
+
+-- what a query answers from tuples: the distinct rows of the outputs
+abbrev pub answer : List ℕ → List Pairs → Reply
+answer outs tuples = at_most_256 (rows_of outs tuples)
+
+-- ---- the statements
+
+-- the least of the bindings goes, with its rows
+abbrev pub remove_least : Spec → List Pairs → RunState → RunState
+remove_least spec [] state = record state { reply = Some Absent }
+remove_least spec (b ∷ bindings) state = record state { reply = Some (Removed b); rows = without_rows spec b state.rows }
+
+abbrev pub apply : Spec → OpKind → Pairs → RunState → RunState
+apply spec (Query outs) args state = state
+apply spec Insert args state = record state { reply = Some Inserted; rows = with_rows spec args state.rows }
+apply spec Remove args state = remove_least spec state.bindings state
+
+abbrev pub emit : OpKind → RunState → RunState
+emit (Query outs) state = record state { reply = Some (answer outs state.bindings) }
+emit Insert state = state
+emit Remove state = state
+
+-- one statement, where there is no reply yet
+abbrev pub run_one : Spec → OpKind → Pairs → RunState → Statement → RunState
+run_one spec kind args state (Lock c choice mode) = record state { named = gather stripe_lock_cmp (state.named ++ named_by spec c choice mode state.bindings) }
+run_one spec kind args state (Probe cols) = record state { bindings = project cols args ∷ [] }
+run_one spec kind args state (Read e mode) = record state { bindings = join state.bindings (tuples_of_edge e state.rows) }
+run_one spec kind args state CheckAbsent = if some_left state.bindings then record state { reply = Some Present } else state
+run_one spec kind args state (CheckDep dep) = if some_differs spec dep args state.bindings then record state { reply = Some (Conflict dep) } else state
+run_one spec kind args state Apply = apply spec kind args state
+run_one spec kind args state Emit = emit kind state
+run_one spec kind args state Commit = state
+run_one spec kind args state (Release c) = state
+
+-- after the reply nothing changes
+abbrev pub run_next : Spec → OpKind → Pairs → RunState → Statement → RunState
+run_next spec kind args state x = if is_some state.reply then state else run_one spec kind args state x
+
+abbrev pub run : Spec → OpKind → Pairs → List Statement → RunState → RunState
+run spec kind args [] state = state
+run spec kind args (x ∷ plan) state = run spec kind args plan (run_next spec kind args state x)
+
+-- ---- evaluation
+
+-- a run begins with the call's tuple as its one binding
+abbrev pub begun : Pairs → List EdgeRow → RunState
+begun args rows = record { bindings = args ∷ []; named = []; reply = None; rows = rows }
+
+-- the plan of the call's operation, on these rows
+abbrev pub eval : Spec → List Statement → Call → List EdgeRow → RunState
+eval spec plan call rows = run spec (op_at spec call.op).kind call.args plan (begun call.args rows)
+
+-- the stripes that a call touches, each with its mode: those that evaluation on all rows names
+abbrev pub touched : Spec → List Statement → Call → List Pairs → List StripeLock
+touched spec plan call r = (eval spec plan call (all_rows spec r)).named
+
+-- the rows with the effect of a reply to a call with these arguments taken back
+abbrev pub rows_as_taken : Spec → Pairs → Reply → List EdgeRow → List EdgeRow
+rows_as_taken spec args (Rows found) rows = rows
+rows_as_taken spec args (Many count) rows = rows
+rows_as_taken spec args Inserted rows = without_rows spec args rows
+rows_as_taken spec args Present rows = rows
+rows_as_taken spec args (Conflict dep) rows = rows
+rows_as_taken spec args (Removed t) rows = with_rows spec t rows
+rows_as_taken spec args Absent rows = rows

@@ -1,0 +1,304 @@
+-- The rules that an accepted plan keeps, and the first that is broken. Statements are tested in order, each by K1 to K7, on what is known of the run before it. (PLDI 2012, well-locked query plans and the order of locks; PLDI 2011, valid query plans.)
+use Rattle.std.specs.Prelude.{◌≡◌, ℕ, ◌<◌, ◌≤◌, Bool, true, false, List, [], ◌∷◌, ◌++◌, ◌⊎◌, Option, None, Some, map, length, IfSome, take, fold}
+use Rattle.std.specs.List.{flat_map, range_with_len, slice_get}
+use Rattle.std.specs.Ordering.{nat_cmp}
+use Rattle.rc_tuple.specs.RisingSet.{In, gather}
+use Rattle.rc_tuple.specs.ColSet.{Within, union}
+use Rattle.rc_spec.specs.declared.items.Op.{Op}
+use Rattle.rc_spec.specs.declared.items.OpKind.{OpKind}
+use Rattle.rc_spec.specs.declared.items.OpKind.TheVariants.{Query, Insert, Remove}
+use Rattle.rc_spec.specs.declared.lock.Mode.{Mode}
+use Rattle.rc_spec.specs.declared.lock.Mode.TheVariants.{Exclusive}
+use Rattle.rc_spec.specs.declared.spec.Spec.{Spec}
+use Rattle.rc_spec.specs.Adequacy.{IsLossless}
+use Rattle.rc_spec.specs.Calls.{all_columns, value_columns}
+use Rattle.rc_spec.specs.Decomposition.{bound, edge_at}
+use Rattle.rc_spec.specs.First.{IsFirstFailing}
+use Rattle.rc_spec.specs.Placement.{class_at, class_of}
+use Rattle.rc_plan.specs.declared.refusal.PlanRefusal.{PlanRefusal}
+use Rattle.rc_plan.specs.declared.refusal.PlanRule.{PlanRule}
+use Rattle.rc_plan.specs.declared.refusal.PlanRule.TheVariants.{K1, K2, K3, K4, K5, K6, K7}
+use Rattle.rc_plan.specs.declared.statement.ReadMode.{ReadMode}
+use Rattle.rc_plan.specs.declared.statement.ReadMode.TheVariants.{Lookup, Scan}
+use Rattle.rc_plan.specs.declared.statement.Statement.{Statement}
+use Rattle.rc_plan.specs.declared.statement.Statement.TheVariants.{Lock, Probe, Read, CheckAbsent, CheckDep, Apply, Emit, Commit, Release}
+use Rattle.rc_plan.specs.declared.statement.Which.{Which}
+use Rattle.rc_plan.specs.declared.statement.Which.TheVariants as which
+use Rattle.rc_plan.specs.Evaluation.{dep_at}
+
+-- ---- what is known of a run before a statement
+
+-- before the write or the answer, between it and the commit, and after the commit
+pub data Phase : Type 0 where
+  Searching : Phase
+  Decided : Phase
+  Committed : Phase
+
+pub record Progress : Type 0 where
+  pub phase : Phase
+  -- the columns that the bindings have at least
+  pub columns : List ℕ
+  -- the columns visited since the start or the last Probe, and the targets of the edges read since then
+  pub visited : List ℕ
+  pub reached : List ℕ
+  -- the classes locked so far, the last of them first, and those released
+  pub locked : List (ℕ × Which)
+  pub released : List ℕ
+  -- the last Probe's columns
+  pub probe : Option (List ℕ)
+  -- whether CheckAbsent has come, and the dependencies checked
+  pub absent : Bool
+  pub checked : List ℕ
+
+-- the pattern's columns, as a set
+abbrev pub pattern_columns : Op → List ℕ
+pattern_columns op = gather nat_cmp op.pattern
+
+-- the columns of a call's tuple: an insert has all, a query and a remove have the pattern's
+abbrev pub given_columns : Spec → Op → List ℕ
+given_columns spec op = gather nat_cmp (value_columns spec op.pattern op.kind)
+
+-- the columns that the target of an edge binds
+abbrev pub target_columns : Spec → ℕ → List ℕ
+target_columns spec e = bound spec (edge_at spec e).to
+
+abbrev pub at_start : Spec → Op → Progress
+at_start spec op = record {
+  phase = Phase.Searching;
+  columns = given_columns spec op;
+  visited = [];
+  reached = [];
+  locked = [];
+  released = [];
+  probe = None;
+  absent = false;
+  checked = [];
+}
+
+abbrev pub after : Spec → Progress → Statement → Progress
+after spec p (Lock c choice mode) = record p { locked = (c, choice) ∷ p.locked }
+after spec p (Probe cols) = record p { columns = cols; visited = []; reached = []; probe = Some cols }
+after spec p (Read e mode) = record p { columns = union p.columns (target_columns spec e); visited = union p.visited (target_columns spec e); reached = (edge_at spec e).to ∷ p.reached }
+after spec p CheckAbsent = record p { absent = true }
+after spec p (CheckDep dep) = record p { checked = dep ∷ p.checked }
+after spec p Apply = record p { phase = Phase.Decided }
+after spec p Emit = record p { phase = Phase.Decided }
+after spec p Commit = record p { phase = Phase.Committed }
+after spec p (Release c) = record p { released = c ∷ p.released }
+
+abbrev pub IsLocked : Progress → ℕ → Type 0
+IsLocked p c = (choice : Which) × In (c, choice) p.locked
+
+abbrev pub HasProbed : Progress → Type 0
+HasProbed p = (cols : List ℕ) × (p.probe ≡ Some cols)
+
+-- ---- the numbers of a statement are the specification's
+
+abbrev pub IsKnown : Spec → Statement → Type 0
+IsKnown spec (Lock c choice mode) = c < length spec.classes
+IsKnown spec (Probe cols) = Within cols (all_columns spec)
+IsKnown spec (Read e mode) = e < length spec.edges
+IsKnown spec CheckAbsent = Unit {0}
+IsKnown spec (CheckDep dep) = (0 < dep) × (dep ≤ length spec.deps)
+IsKnown spec Apply = Unit {0}
+IsKnown spec Emit = Unit {0}
+IsKnown spec Commit = Unit {0}
+IsKnown spec (Release c) = c < length spec.classes
+
+abbrev pub AreKnown : Spec → List Statement → Type 0
+AreKnown spec plan = (x : Statement) → In x plan → IsKnown spec x
+
+-- ---- K1: phases
+
+-- a query's Locks have either mode, the others' are Exclusive
+abbrev pub HasLockMode : OpKind → Mode → Type 0
+HasLockMode (Query outs) mode = Unit {0}
+HasLockMode Insert mode = mode ≡ Exclusive
+HasLockMode Remove mode = mode ≡ Exclusive
+
+-- an insert reads behind a Probe
+abbrev pub MayRead : OpKind → Progress → Type 0
+MayRead (Query outs) p = Unit {0}
+MayRead Insert p = HasProbed p
+MayRead Remove p = Unit {0}
+
+-- a query applies nothing, an insert behind a Probe
+abbrev pub MayApply : OpKind → Progress → Type 0
+MayApply (Query outs) p = ⊥
+MayApply Insert p = HasProbed p
+MayApply Remove p = Unit {0}
+
+abbrev pub IsInsert : OpKind → Type 0
+IsInsert (Query outs) = ⊥
+IsInsert Insert = Unit {0}
+IsInsert Remove = ⊥
+
+abbrev pub IsQuery : OpKind → Type 0
+IsQuery (Query outs) = Unit {0}
+IsQuery Insert = ⊥
+IsQuery Remove = ⊥
+
+-- a query has Locks and Reads, and then one Emit; a remove Exclusive Locks and Reads, and then one Apply; an insert Exclusive Locks, then Probes, Reads and checks, of which the first is a Probe, and then one Apply. Then comes one Commit, and then one Release of each locked class.
+abbrev pub KeepsK1 : OpKind → Progress → Statement → Type 0
+KeepsK1 kind p (Lock c choice mode) = (p.phase ≡ Phase.Searching) × (p.probe ≡ None) × HasLockMode kind mode
+KeepsK1 kind p (Probe cols) = (p.phase ≡ Phase.Searching) × IsInsert kind
+KeepsK1 kind p (Read e mode) = (p.phase ≡ Phase.Searching) × MayRead kind p
+KeepsK1 kind p CheckAbsent = (p.phase ≡ Phase.Searching) × IsInsert kind × HasProbed p
+KeepsK1 kind p (CheckDep dep) = (p.phase ≡ Phase.Searching) × IsInsert kind × HasProbed p
+KeepsK1 kind p Apply = (p.phase ≡ Phase.Searching) × MayApply kind p
+KeepsK1 kind p Emit = (p.phase ≡ Phase.Searching) × IsQuery kind
+KeepsK1 kind p Commit = p.phase ≡ Phase.Decided
+KeepsK1 kind p (Release c) = (p.phase ≡ Phase.Committed) × IsLocked p c × (In c p.released → ⊥)
+
+-- at a plan's end the commit has come, and each locked class is released
+abbrev pub IsComplete : Progress → Type 0
+IsComplete p = (p.phase ≡ Phase.Committed) × ((c : ℕ) → IsLocked p c → In c p.released)
+
+-- ---- K2: order
+
+-- a Lock's class is after every class locked before
+abbrev pub KeepsK2 : Progress → Statement → Type 0
+KeepsK2 p (Lock c choice mode) = (x : ℕ × Which) → In x p.locked → x.0 < c
+KeepsK2 p _ = Unit {0}
+
+-- ---- K3: cover of reads
+
+-- the columns that choose a stripe are bound, where a Lock takes those of the bindings
+abbrev pub IsKeyBound : Spec → ℕ → Which → List ℕ → Type 0
+IsKeyBound spec c which.Keyed columns = Within (class_at spec c).cols columns
+IsKeyBound spec c which.All columns = Unit {0}
+
+-- what is locked keyed covers a search behind a Probe whose columns choose the stripe
+abbrev pub Covers : Spec → Progress → ℕ → Which → Type 0
+Covers spec p c which.Keyed = IfSome p.probe (λ cols. Within (class_at spec c).cols cols)
+Covers spec p c which.All = Unit {0}
+
+abbrev pub KeepsK3 : Spec → Progress → Statement → Type 0
+KeepsK3 spec p (Lock c choice mode) = IsKeyBound spec c choice p.columns
+KeepsK3 spec p (Read e mode) = (choice : Which) × In (class_of spec e, choice) p.locked × Covers spec p (class_of spec e) choice
+KeepsK3 spec p _ = Unit {0}
+
+-- ---- K4: cover of writes
+
+-- each class that has an edge is locked
+abbrev pub KeepsK4 : Spec → Progress → Statement → Type 0
+KeepsK4 spec p Apply = (e : ℕ) → e < length spec.edges → IsLocked p (class_of spec e)
+KeepsK4 spec p _ = Unit {0}
+
+-- ---- K5: steps of reads
+
+-- a look-up has the key's values
+abbrev pub IsFindable : ReadMode → List ℕ → List ℕ → Type 0
+IsFindable Lookup key columns = Within key columns
+IsFindable Scan key columns = Unit {0}
+
+-- the source is the root or was reached, a look-up has its key, and the join with the rows loses no tuple
+abbrev pub KeepsK5 : Spec → Progress → Statement → Type 0
+KeepsK5 spec p (Read e mode) =
+    (((edge_at spec e).from ≡ 0) ⊎ In (edge_at spec e).from p.reached)
+    × IsFindable mode (edge_at spec e).key p.columns
+    × IsLossless spec p.visited (target_columns spec e)
+KeepsK5 spec p _ = Unit {0}
+
+-- ---- K6: what is found
+
+abbrev pub OutputsAreVisited : OpKind → List ℕ → Type 0
+OutputsAreVisited (Query outs) visited = Within outs visited
+OutputsAreVisited Insert visited = Unit {0}
+OutputsAreVisited Remove visited = Unit {0}
+
+-- a remove finds whole tuples
+abbrev pub FindsTuples : Spec → OpKind → List ℕ → Type 0
+FindsTuples spec (Query outs) visited = Unit {0}
+FindsTuples spec Insert visited = Unit {0}
+FindsTuples spec Remove visited = Within (all_columns spec) visited
+
+-- what a statement speaks of was visited: at Emit the pattern and the outputs; at a check the last Probe's columns, which are the pattern or the dependency's left side, and its right side; at a remove's Apply all columns
+abbrev pub KeepsK6 : Spec → Op → Progress → Statement → Type 0
+KeepsK6 spec op p Emit = Within (pattern_columns op) p.visited × OutputsAreVisited op.kind p.visited
+KeepsK6 spec op p CheckAbsent = (p.probe ≡ Some (pattern_columns op)) × Within (pattern_columns op) p.visited
+KeepsK6 spec op p (CheckDep dep) = (p.probe ≡ Some (dep_at spec dep).left) × Within (dep_at spec dep).left p.visited × Within (dep_at spec dep).right p.visited
+KeepsK6 spec op p Apply = FindsTuples spec op.kind p.visited
+KeepsK6 spec op p _ = Unit {0}
+
+-- ---- K7: checks
+
+-- a tuple that no other has the pattern values of can break the dependency: its left side doesn't hold the whole pattern
+abbrev pub IsAtRisk : Spec → Op → ℕ → Type 0
+IsAtRisk spec op dep = Within (pattern_columns op) (dep_at spec dep).left → ⊥
+
+-- all checks that an insert needs have come
+abbrev pub ChecksAreDone : Spec → Op → OpKind → Progress → Type 0
+ChecksAreDone spec op (Query outs) p = Unit {0}
+ChecksAreDone spec op Insert p = (p.absent ≡ true) × ((dep : ℕ) → 0 < dep → dep ≤ length spec.deps → IsAtRisk spec op dep → In dep p.checked)
+ChecksAreDone spec op Remove p = Unit {0}
+
+-- a dependency is checked after CheckAbsent and after those with smaller numbers; at an insert's Apply the checks are done
+abbrev pub KeepsK7 : Spec → Op → Progress → Statement → Type 0
+KeepsK7 spec op p (CheckDep dep) = (p.absent ≡ true) × ((d : ℕ) → In d p.checked → d < dep)
+KeepsK7 spec op p Apply = ChecksAreDone spec op op.kind p
+KeepsK7 spec op p _ = Unit {0}
+
+-- ---- all rules
+
+-- the statement keeps the rule
+abbrev pub Keeps : Spec → Op → PlanRule → Progress → Statement → Type 0
+Keeps spec op K1 p x = KeepsK1 op.kind p x
+Keeps spec op K2 p x = KeepsK2 p x
+Keeps spec op K3 p x = KeepsK3 spec p x
+Keeps spec op K4 p x = KeepsK4 spec p x
+Keeps spec op K5 p x = KeepsK5 spec p x
+Keeps spec op K6 p x = KeepsK6 spec op p x
+Keeps spec op K7 p x = KeepsK7 spec op p x
+
+-- the statement keeps all rules
+pub record KeepsAll (spec : Spec) (op : Op) (p : Progress) (x : Statement) : Type 0 where
+  pub k1 : KeepsK1 op.kind p x
+  pub k2 : KeepsK2 p x
+  pub k3 : KeepsK3 spec p x
+  pub k4 : KeepsK4 spec p x
+  pub k5 : KeepsK5 spec p x
+  pub k6 : KeepsK6 spec op p x
+  pub k7 : KeepsK7 spec op p x
+
+-- the statements in turn keep all rules, and at the end the plan is complete
+abbrev pub KeepsFrom : Spec → Op → Progress → List Statement → Type 0
+KeepsFrom spec op p [] = IsComplete p
+KeepsFrom spec op p (x ∷ plan) = KeepsAll spec op p x × KeepsFrom spec op (after spec p x) plan
+
+-- the plan keeps K1 to K7 for the operation
+abbrev pub KeepsPlanRules : Spec → Op → List Statement → Type 0
+KeepsPlanRules spec op plan = KeepsFrom spec op (at_start spec op) plan
+
+-- ---- the first broken rule
+
+-- what is known before the statement with this number
+abbrev pub progress_at : Spec → Op → List Statement → ℕ → Progress
+progress_at spec op plan n = fold (after spec) (at_start spec op) (take n plan)
+
+-- the end of the plan is tested by K1 alone
+abbrev pub KeepsThere : Spec → Op → PlanRule → Progress → Option Statement → Type 0
+KeepsThere spec op rule p (Some x) = Keeps spec op rule p x
+KeepsThere spec op rule p None = IsComplete p
+
+-- A refusal speaks of a rule and a statement: the statement keeps the rule. A check is written as the refusal that its failure gives.
+abbrev pub IsKept : Spec → Op → List Statement → PlanRefusal → Type 0
+IsKept spec op plan check = KeepsThere spec op check.rule (progress_at spec op plan check.at) (slice_get plan check.at)
+
+abbrev pub plan_rules : List PlanRule
+plan_rules = K1 ∷ K2 ∷ K3 ∷ K4 ∷ K5 ∷ K6 ∷ K7 ∷ []
+
+abbrev pub check_at : ℕ → PlanRule → PlanRefusal
+check_at n rule = record { rule = rule; at = n }
+
+-- the rules at a statement
+abbrev pub checks_at : ℕ → List PlanRefusal
+checks_at n = map (check_at n) plan_rules
+
+-- the statements in order, each by its rules, and then the end
+abbrev pub plan_checks : List Statement → List PlanRefusal
+plan_checks plan = flat_map checks_at (range_with_len 0 (length plan)) ++ check_at (length plan) K1 ∷ []
+
+-- the first broken rule, with the number of the first statement that breaks it
+abbrev pub IsFirstBrokenPlanRule : Spec → Op → List Statement → PlanRefusal → Type 0
+IsFirstBrokenPlanRule spec op plan refusal = IsFirstFailing (IsKept spec op plan) (plan_checks plan) refusal

@@ -1,0 +1,82 @@
+-- The law of accepted plans, for queries.
+use Rattle.std.specs.Prelude.{◌≡◌, ℕ, ◌<◌, nat_le, Bool, true, false, List, [], ◌∷◌, ◌++◌, Some, cond, filter, length}
+use Rattle.std.specs.Ordering.{nat_cmp}
+use Rattle.std.proofs.Common.{inl, inr, refl, sym, ap, subst, ◌∙◌}
+use Rattle.rc_tuple.specs.RisingSet.{In, IsRising, gather}
+use Rattle.rc_tuple.specs.ColSet.{Within}
+use Rattle.rc_tuple.specs.ColSetLaws.{rising_range}
+use Rattle.rc_tuple.specs.Tuple.{Pairs, cols_of, pair_cmp, matches}
+use Rattle.rc_tuple.specs.Relation.{IsRelation, Satisfies}
+use Rattle.rc_spec.specs.declared.call.Reply.TheVariants.{Rows, Many}
+use Rattle.rc_spec.specs.declared.items.Op.{Op}
+use Rattle.rc_spec.specs.declared.items.OpKind.TheVariants.{Query}
+use Rattle.rc_spec.specs.declared.spec.Spec.{Spec}
+use Rattle.rc_spec.specs.Adequacy.{IsAdequate}
+use Rattle.rc_spec.specs.Calls.{all_columns}
+use Rattle.rc_spec.specs.Contents.{join}
+use Rattle.rc_spec.specs.Fragments.{EdgeRow, all_rows, tuples_of_edge, fragments_of}
+use Rattle.rc_spec.specs.HeathLaws.{IsReached}
+use Rattle.rc_spec.specs.InRange.{IsInRange}
+use Rattle.rc_spec.specs.Placement.{IsPlaced}
+use Rattle.rc_spec.specs.Plain.{plain_by, rows_of}
+use Rattle.rc_plan.specs.declared.statement.Statement.{Statement}
+use Rattle.rc_plan.specs.declared.statement.Statement.TheVariants.{Lock, Probe, Read, CheckAbsent, CheckDep, Apply, Emit, Commit, Release}
+use Rattle.rc_plan.specs.Evaluation.{RunState, named_by, answer, run, rows_as_taken}
+use Rattle.rc_plan.specs.MatchLaws.{answer-seen}
+use Rattle.rc_plan.specs.PlanRules.{Phase, Progress, after, AreKnown, KeepsFrom}
+use Rattle.rc_plan.specs.RunLaws.{EndsAs, searching, IsSearching, run-replied, stripes_grow, lock_keeps, read_keeps, read_same}
+use Rattle.rc_plan.specs.StripeLocks.{StripeLock, stripe_lock_cmp, stripes_of}
+
+-- a query takes nothing back
+taken_answer : (spec : Spec) (args : Pairs) (rows : List (List ℕ)) (b : Bool) (before : List EdgeRow) → rows_as_taken spec args (cond b (Rows rows) (Many (length rows))) before ≡ before
+taken_answer spec args rows true before = refl
+taken_answer spec args rows false before = refl
+
+no_outputs : (outs : List ℕ) → (outs ≡ [] → ⊥) → Within outs [] → ⊥
+no_outputs [] n w = n refl
+no_outputs (o ∷ outs) n w = w o (inl refl)
+
+abbrev pub query_op : List ℕ → List ℕ → List ℕ → Op
+query_op name pattern outs = record { name = name; pattern = pattern; kind = Query outs }
+
+module _ (spec : Spec) (range : IsInRange spec) (ok : IsAdequate spec) (placed : IsPlaced spec) (r : List Pairs) (i : IsRelation (all_columns spec) r) (h : Satisfies r spec.deps)
+    (s : Pairs) (up : IsRising pair_cmp s) (name pattern outs : List ℕ) (inside : Within (cols_of s) (all_columns spec)) (fits : cols_of s ≡ gather nat_cmp pattern) (some : outs ≡ [] → ⊥) (stripes : List ℕ) where
+  emitted : (xs : List ℕ) (bs : List Pairs) → IsReached r s xs bs → Within (gather nat_cmp pattern) xs → Within outs xs → answer outs bs ≡ answer outs (filter (matches s) r)
+  emitted xs bs (inl e) w v = absurd (no_outputs outs some (subst (Within outs) e.0 v))
+  emitted xs bs (inr seen) w v = answer-seen (all_columns spec) (rising_range 0 (length spec.columns)) r i s up inside xs outs bs seen (λ c m. w c (subst (In c) fits m)) v
+
+  abbrev QueryEnds : RunState → RunState → Type 0
+  QueryEnds one two = EndsAs spec s one two r (plain_by (Query outs) pattern spec.deps s r) stripes
+
+  pub query_runs : (plan : List Statement) (p : Progress) (bs : List Pairs) (ns : List StripeLock) → IsSearching spec r s p bs ns → AreKnown spec plan → KeepsFrom spec (query_op name pattern outs) p plan
+      → Within (stripes_of (run spec (Query outs) s plan (searching bs ns (fragments_of spec r stripes))).named) stripes
+      → QueryEnds (run spec (Query outs) s plan (searching bs ns (fragments_of spec r stripes))) (run spec (Query outs) s plan (searching bs ns (all_rows spec r)))
+  query_runs [] p bs ns f known keeps v = let e : Phase.Searching ≡ Phase.Committed = sym f.phase ∙ keeps.0 in cc
+  query_runs (Lock c choice mode ∷ plan) p bs ns f known keeps v =
+      query_runs plan (after spec p (Lock c choice mode)) bs (gather stripe_lock_cmp (ns ++ named_by spec c choice mode bs))
+      (lock_keeps spec range ok placed r i h s up p bs ns c choice mode f (known (Lock c choice mode) (inl refl)) keeps.0.k3) (λ x m. known x (inr m)) keeps.1 v
+  query_runs (Read e mode ∷ plan) p bs ns f known keeps v =
+      let l : e < length spec.edges = known (Read e mode) (inl refl) in
+      let all : List Pairs = join bs (tuples_of_edge e (all_rows spec r)) in
+      let same : join bs (tuples_of_edge e (fragments_of spec r stripes)) ≡ all =
+      read_same spec range ok placed r i h s up p bs ns stripes e mode f l keeps.0.k3
+      (λ c n. v c (stripes_grow spec (Query outs) s (Read e mode ∷ plan) (searching bs ns (fragments_of spec r stripes)) c n)) in
+      subst (λ z. QueryEnds (run spec (Query outs) s plan (searching z ns (fragments_of spec r stripes))) (run spec (Query outs) s plan (searching all ns (all_rows spec r)))) (sym same)
+      (query_runs plan (after spec p (Read e mode)) all ns (read_keeps spec range ok placed r i h s up p bs ns e mode f l keeps.0.k5) (λ x m. known x (inr m)) keeps.1
+      (subst (λ z. Within (stripes_of (run spec (Query outs) s plan (searching z ns (fragments_of spec r stripes))).named) stripes) same v))
+  query_runs (Emit ∷ plan) p bs ns f known keeps v =
+      let one = run-replied spec (Query outs) s plan bs ns (answer outs bs) (fragments_of spec r stripes) in
+      let two = run-replied spec (Query outs) s plan bs ns (answer outs bs) (all_rows spec r) in
+      record {
+        reply = ap (λ (z : RunState). z.reply) one ∙ ap Some (emitted p.visited bs f.reached keeps.0.k6.0 keeps.0.k6.1);
+        named = ap (λ (z : RunState). z.named) one ∙ sym (ap (λ (z : RunState). z.named) two);
+        rows = ap (λ (z : RunState). z.rows) one;
+        taken = taken_answer spec s (rows_of outs (filter (matches s) r)) (nat_le (length (rows_of outs (filter (matches s) r))) 256) (fragments_of spec r stripes);
+        others = λ stripe g. refl;
+      }
+  query_runs (Probe cols ∷ plan) p bs ns f known keeps v = absurd keeps.0.k1.1
+  query_runs (CheckAbsent ∷ plan) p bs ns f known keeps v = absurd keeps.0.k1.1
+  query_runs (CheckDep dep ∷ plan) p bs ns f known keeps v = absurd keeps.0.k1.1
+  query_runs (Apply ∷ plan) p bs ns f known keeps v = absurd keeps.0.k1.1
+  query_runs (Commit ∷ plan) p bs ns f known keeps v = let e : Phase.Searching ≡ Phase.Decided = sym f.phase ∙ keeps.0.k1 in cc
+  query_runs (Release c ∷ plan) p bs ns f known keeps v = let e : Phase.Searching ≡ Phase.Committed = sym f.phase ∙ keeps.0.k1.0 in cc

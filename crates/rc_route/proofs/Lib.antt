@@ -1,0 +1,4 @@
+pub mod BestLemmas
+pub mod EdgeLemmas
+pub mod GoodLemmas
+pub mod PassLemmas

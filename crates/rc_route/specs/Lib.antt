@@ -1,0 +1,10 @@
+pub mod GoodRoutes
+pub mod GoodRoutesLaws
+pub mod ImpliedLaws
+pub mod LeastPathLaws
+pub mod Paths
+pub mod PathsLaws
+pub mod PrunedWalk
+pub mod PrunedWalkLaws
+pub mod Search
+pub mod SearchLaws
