@@ -6,7 +6,7 @@ use Rattle.std.proofs.lemmas.Bool.{false≢true, and_parts, and_from, eqb-true, 
 use Rattle.std.proofs.lemmas.Option.{slice_get-get_or}
 use Rattle.rc_tuple.specs.RisingSet.{In}
 use Rattle.rc_tuple.specs.RisingSetLaws.{slice_get_in}
-use Rattle.rc_tuple.specs.Tuple.{Pairs, project, tuple_eq}
+use Rattle.rc_tuple.specs.Tuple.{Pairs, cols_of, project, tuple_eq}
 use Rattle.rc_tuple.specs.TupleLaws.{same_from_test, test_from_same}
 use Rattle.rc_edges.specs.EdgeMap.{Counted, Rows, IsRowOf, count_of, lowered}
 use Rattle.rc_spec.specs.CountedRows.{count_at, is_row_at, with_count}
@@ -99,16 +99,18 @@ module _ (edges new : List EdgeRows) (e : ℕ) (x y : EdgeRows) (number : slice_
 pub record IsOfPlace (x : EdgeRows) (source key : Pairs) (w : Option Counted) : Type 0 where
   pub source_of : (c : Counted) → w ≡ Some c → project x.shape.source c.0 ≡ source
   pub key_of : (c : Counted) → w ≡ Some c → project x.shape.key c.0 ≡ key
+  pub columns_of : (c : Counted) → w ≡ Some c → cols_of c.0 ≡ x.shape.target
   pub count : (c : Counted) → w ≡ Some c → 0 < c.1
 
 pub place_of_filed : (part : Container → Rows) (x : EdgeRows) → IsFiled part x → (source key : Pairs) → IsOfPlace x source key (found_at part x.sources.entries source key)
-place_of_filed part x f source key = record { source_of = f.source source key; key_of = f.key source key; count = f.counts source key }
+place_of_filed part x f source key = record { source_of = f.source source key; key_of = f.key source key; columns_of = f.columns source key; count = f.counts source key }
 
 pub filed_set : (part : Container → Rows) (x y : EdgeRows) → y.shape ≡ x.shape → IsFiled part x → (source key : Pairs) (w : Option Counted) → IsOfPlace x source key w
     → IsSetAt (found_at part x.sources.entries) (found_at part y.sources.entries) source key w → IsFiled part y
 filed_set part x y shape f source key w p is = record {
   source = λ s k c h. ap (λ (z : EdgeShape). project z.source c.0) shape ∙ go (λ s k. project x.shape.source c.0 ≡ s) s k c h (p.source_of c) (f.source s k c);
   key = λ s k c h. ap (λ (z : EdgeShape). project z.key c.0) shape ∙ go (λ s k. project x.shape.key c.0 ≡ k) s k c h (p.key_of c) (f.key s k c);
+  columns = λ s k c h. go (λ s k. cols_of c.0 ≡ x.shape.target) s k c h (p.columns_of c) (f.columns s k c) ∙ ap (λ (z : EdgeShape). z.target) (sym shape);
   counts = λ s k c h. go (λ s k. 0 < c.1) s k c h (p.count c) (f.counts s k c);
 }
   where
@@ -146,10 +148,11 @@ found_edge edges e x l is = slice_get-get_or edges e x l ∙ ap Some (sym is)
 pub found_there : (part : Container → Rows) (edges : List EdgeRows) (e : ℕ) (x : EdgeRows) → slice_get edges e ≡ Some x → (source key : Pairs) → found_at part x.sources.entries source key ≡ found_by part edges e source key
 found_there part edges e x number source key = sym (ap (λ o. found_of part o source key) number)
 
-pub place_of_row : (x : EdgeRows) (source key row : Pairs) (n : ℕ) → project x.shape.source row ≡ source → project x.shape.key row ≡ key → IsOfPlace x source key (Some (row, n + 1))
-place_of_row x source key row n a b = record {
+pub place_of_row : (x : EdgeRows) (source key row : Pairs) (n : ℕ) → project x.shape.source row ≡ source → project x.shape.key row ≡ key → cols_of row ≡ x.shape.target → IsOfPlace x source key (Some (row, n + 1))
+place_of_row x source key row n a b d = record {
   source_of = λ c h. let q : (row, n + 1) ≡ c = cc in ap (λ (z : Counted). project x.shape.source z.0) (sym q) ∙ a;
   key_of = λ c h. let q : (row, n + 1) ≡ c = cc in ap (λ (z : Counted). project x.shape.key z.0) (sym q) ∙ b;
+  columns_of = λ c h. let q : (row, n + 1) ≡ c = cc in ap (λ (z : Counted). cols_of z.0) (sym q) ∙ d;
   count = λ c h. let q : (row, n + 1) ≡ c = cc in subst (λ (z : Counted). 0 < z.1) q (omega arith);
 }
 
@@ -158,6 +161,7 @@ place_of_lowered x source key None p = p
 place_of_lowered x source key (Some d) p = record {
   source_of = λ c h. go (λ c. project x.shape.source c.0 ≡ source) (nat_lt 1 d.1) refl c h (λ n. p.source_of d refl);
   key_of = λ c h. go (λ c. project x.shape.key c.0 ≡ key) (nat_lt 1 d.1) refl c h (λ n. p.key_of d refl);
+  columns_of = λ c h. go (λ c. cols_of c.0 ≡ x.shape.target) (nat_lt 1 d.1) refl c h (λ n. p.columns_of d refl);
   count = λ c h. go (λ c. 0 < c.1) (nat_lt 1 d.1) refl c h (λ (n : 1 < d.1). omega arith);
 }
   where

@@ -5,3 +5,5 @@ mod NoteLemmas
 mod PlaceLemmas
 mod RowLemmas
 mod LookupLemmas
+mod CopyLemmas
+mod WalkLemmas

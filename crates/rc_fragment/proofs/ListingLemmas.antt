@@ -51,7 +51,7 @@ in_find [] e h i = absurd i
 in_find (d ∷ es) e h (inl p) = ap (λ b. cond b (Some d.1) (find tuple_cmp e.0 es)) (test_from_same e.0 d.0 (ap (λ (z : Pairs × _). z.0) p)) ∙ ap (λ (z : Pairs × _). Some z.1) (sym p)
 in_find (d ∷ es) e h (inr p) = ap (λ b. cond b (Some d.1) (find tuple_cmp e.0 es)) (lt_apart d.0 e.0 (below_in d.0 es e (t_first _ _ h) p)) ∙ in_find es e (t_second _ _ h) p
 
-find_in : {X : Type 0} (q : Pairs) (es : List (Pairs × X)) (v : X) → find tuple_cmp q es ≡ Some v → In (q, v) es
+pub find_in : {X : Type 0} (q : Pairs) (es : List (Pairs × X)) (v : X) → find tuple_cmp q es ≡ Some v → In (q, v) es
 find_in q [] v h = cc
 find_in q (d ∷ es) v h = go (tuple_eq q d.0) refl h (find_in q es v)
   where

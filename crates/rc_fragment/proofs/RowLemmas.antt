@@ -1,5 +1,5 @@
 -- A row of the list of all rows and the place at which it is kept.
-use Rattle.std.specs.Prelude.{◌≡◌, ℕ, zero, suc, pred, ◌-◌, ◌≤◌, Bool, true, false, cond, Option, None, Some, IsSome, List, [], ◌∷◌, nat_lt}
+use Rattle.std.specs.Prelude.{◌≡◌, ℕ, zero, suc, pred, ◌-◌, ◌<◌, ◌≤◌, Bool, true, false, cond, Option, None, Some, IsSome, List, [], ◌∷◌, length, nat_lt}
 use Rattle.std.specs.List.{slice_get}
 use Rattle.std.specs.FinMap as fin
 use Rattle.std.specs.FinMap.{FinMap, get-empty}
@@ -11,14 +11,15 @@ use Rattle.rc_tuple.specs.Tuple.{Pairs, project, tuple_cmp}
 use Rattle.rc_edges.specs.EdgeMap.{Counted, Rows, IsRowOf, count_of, lowered}
 use Rattle.rc_spec.specs.CountedRows.{count_at, with_count}
 use Rattle.rc_fragment.specs.Container.{now_in, taken_in}
-use Rattle.rc_fragment.specs.Fragment.{HasAlone, HasSingle, IsThere}
+use Rattle.rc_fragment.specs.Fragment.{AreRowsOf, HasAlone, HasSingle, IsThere}
 use Rattle.rc_fragment.specs.Listing.{listing, shapes, found_of, found_by, IsFiled, AreStored, AreEmpty}
 use Rattle.rc_fragment.specs.Notes.{IsFragment, Place, PlaceBecomes, now_at_place}
 use Rattle.rc_fragment.specs.Sources.{by_source, found_in, found_at, IsSingle}
 use Rattle.rc_fragment.specs.declared.container.Container.{Container}
 use Rattle.rc_fragment.specs.declared.edge_rows.EdgeRows.{EdgeRows}
+use Rattle.rc_fragment.specs.declared.shape.EdgeShape.{EdgeShape}
 use Rattle.rc_fragment.proofs.ChangeLemmas.{AreFiled, found_there, same_listing, listing_set, row_count_at}
-use Rattle.rc_fragment.proofs.ListingLemmas.{IsFoundRow, listed_row, row_listed, own_place}
+use Rattle.rc_fragment.proofs.ListingLemmas.{AreCountedRows-listing, IsFoundRow, listed_row, row_listed, own_place}
 use Rattle.rc_fragment.proofs.PlaceLemmas.{set_as_it_was}
 
 pub filed_now : (edges : List EdgeRows) → AreStored edges → AreFiled now_in edges
@@ -152,10 +153,31 @@ empty_fragment edges h = record {
       let g : (n : ℕ) × (slice_get edges n ≡ Some x) = in_slice_get x edges m in
       let none : (part : Container → Rows) (s k : Pairs) (c : Counted) → found_at part x.sources.entries s k ≡ Some c → ⊥ = λ part s k c f. let z : None ≡ Some c = sym (none_at part edges h g.0 x g.1 s k) ∙ f in absurd (cc) in
       record {
-        now = record { source = λ s k c f. absurd (none now_in s k c f); key = λ s k c f. absurd (none now_in s k c f); counts = λ s k c f. absurd (none now_in s k c f) };
-        taken = record { source = λ s k c f. absurd (none taken_in s k c f); key = λ s k c f. absurd (none taken_in s k c f); counts = λ s k c f. absurd (none taken_in s k c f) };
+        now = record { source = λ s k c f. absurd (none now_in s k c f); key = λ s k c f. absurd (none now_in s k c f); columns = λ s k c f. absurd (none now_in s k c f); counts = λ s k c f. absurd (none now_in s k c f) };
+        taken = record { source = λ s k c f. absurd (none taken_in s k c f); key = λ s k c f. absurd (none taken_in s k c f); columns = λ s k c f. absurd (none taken_in s k c f); counts = λ s k c f. absurd (none taken_in s k c f) };
         kinds = λ s v f. let z : None ≡ Some v = sym (ap (λ (m : FinMap tuple_cmp Container). fin.get m s) (h x m) ∙ get-empty tuple_cmp s) ∙ f in absurd (cc);
       };
   noted = λ e s k. inl (none_found now_in edges h e s k ∙ sym (none_found taken_in edges h e s k));
   within = λ n m. absurd m;
+}
+
+-- ---- what is so of every fragment's rows
+
+shape_is : (edges : List EdgeRows) (e : ℕ) (x : EdgeRows) (shape : EdgeShape) → slice_get edges e ≡ Some x → slice_get (shapes edges) e ≡ Some shape → x.shape ≡ shape
+shape_is edges e x shape n h = let p : Some x.shape ≡ Some shape = sym (shape_there edges e x n) ∙ h in cc
+
+known_there : {A : Type 0} (xs : List A) (i : ℕ) (x : A) → slice_get xs i ≡ Some x → i < length xs
+known_there [] i x g = absurd (cc)
+known_there (y ∷ xs) zero x g = omega arith
+known_there (y ∷ xs) (suc i) x g = let l : i < length xs = known_there xs i x g in omega arith
+
+pub rows_of_table : (part : Container → Rows) (edges : List EdgeRows) → AreFiled part edges → AreRowsOf (shapes edges) (listing part edges)
+rows_of_table part edges filed = record {
+  counted = AreCountedRows-listing part edges filed;
+  known = λ w m.
+      let q : IsFoundRow part edges w w.0 = listed_row part edges w m in
+      known_there (shapes edges) w.0 q.edge.shape (shape_there edges w.0 q.edge q.number);
+  columns = λ w m shape h.
+      let q : IsFoundRow part edges w w.0 = listed_row part edges w m in
+      (filed w.0 q.edge q.number).columns q.source q.key (w.1, w.2) q.there ∙ ap (λ (z : EdgeShape). z.target) (shape_is edges w.0 q.edge shape q.number h);
 }

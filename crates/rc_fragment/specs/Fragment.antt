@@ -1,8 +1,9 @@
 -- What a fragment's calls promise.
-use Rattle.std.specs.Prelude.{◌≡◌, ℕ, ◌++◌, List, Option, None, Some, map}
+use Rattle.std.specs.Prelude.{◌≡◌, ℕ, ◌<◌, ◌++◌, List, Option, None, Some, length, map}
 use Rattle.std.specs.List.{slice_get}
 use Rattle.rc_tuple.specs.RisingSet.{In, IsRising}
-use Rattle.rc_tuple.specs.Tuple.{Pairs, project, tuple_cmp}
+use Rattle.rc_tuple.specs.Tuple.{Pairs, cols_of, project, tuple_cmp}
+use Rattle.rc_spec.specs.CountedRowsLaws.{AreCountedRows}
 use Rattle.rc_spec.specs.Decomposition.{bound}
 use Rattle.rc_spec.specs.Fragments.{EdgeRow}
 use Rattle.rc_spec.specs.declared.items.Edge.{Edge}
@@ -29,6 +30,16 @@ edge_table spec = map (shape_of spec) spec.edges
 abbrev pub HasShape : List EdgeShape → ℕ → EdgeShape → Type 0
 HasShape table e shape = slice_get table e ≡ Some shape
 
+-- the row has the columns of its edge's target
+abbrev pub HasColumns : List EdgeShape → ℕ → Pairs → Type 0
+HasColumns table e t = (shape : EdgeShape) → HasShape table e shape → cols_of t ≡ shape.target
+
+-- the rows are counted, each is of an edge of the table, and each has its edge's columns
+pub record AreRowsOf (table : List EdgeShape) (rows : List EdgeRow) : Type 0 where
+  pub counted : AreCountedRows rows
+  pub known : (w : EdgeRow) → In w rows → w.0 < length table
+  pub columns : (w : EdgeRow) → In w rows → HasColumns table w.0 w.1
+
 -- the edge has the row, with some count
 abbrev pub IsThere : List EdgeRow → ℕ → Pairs → Type 0
 IsThere rows e t = (n : ℕ) × In {A = EdgeRow} (e, t, n) rows
@@ -42,6 +53,11 @@ HasAlone table rows e t = (shape : EdgeShape) → HasShape table e shape → (u 
 abbrev pub HasSingle : List EdgeShape → List EdgeRow → ℕ → Pairs → Type 0
 HasSingle table rows e t = (shape : EdgeShape) → HasShape table e shape → shape.kind ≡ Singleton → (u : Pairs) → IsThere rows e u
     → project shape.source u ≡ project shape.source t → project shape.key u ≡ project shape.key t
+
+-- these are the rows of the edge
+pub record AreAllRows (rows : List EdgeRow) (e : ℕ) (ts : List Pairs) : Type 0 where
+  pub only : (t : Pairs) → In t ts → IsThere rows e t
+  pub each : (t : Pairs) → IsThere rows e t → In t ts
 
 -- what a look-up by source and key answers: the one row of the edge that has them, and none only where the edge has none
 abbrev pub IsLookedUp : EdgeShape → List EdgeRow → ℕ → Pairs → Pairs → Option Pairs → Type 0

@@ -3,7 +3,7 @@ use Rattle.std.specs.Prelude.{◌≡◌, ℕ, suc, ◌<◌, List, [], ◌∷◌,
 use Rattle.std.specs.List.{flat_map, slice_get}
 use Rattle.std.specs.FinMap as fin
 use Rattle.rc_tuple.specs.RisingSet.{In, gather}
-use Rattle.rc_tuple.specs.Tuple.{Pairs, project}
+use Rattle.rc_tuple.specs.Tuple.{Pairs, cols_of, project}
 use Rattle.rc_edges.specs.EdgeMap.{Counted, Rows}
 use Rattle.rc_spec.specs.Fragments.{EdgeRow, edge_row_cmp}
 use Rattle.rc_fragment.specs.Container.{now_in, taken_in}
@@ -33,10 +33,11 @@ found_of part (Some edge) source key = found_at part edge.sources.entries source
 abbrev pub found_by : (Container → Rows) → List EdgeRows → ℕ → Pairs → Pairs → Option Counted
 found_by part edges e source key = found_of part (slice_get edges e) source key
 
--- each row is kept at its own source and key, with a count of at least 1
+-- each row is kept at its own source and key, has the edge's columns, and a count of at least 1
 pub record IsFiled (part : Container → Rows) (edge : EdgeRows) : Type 0 where
   pub source : (s k : Pairs) (c : Counted) → found_at part edge.sources.entries s k ≡ Some c → project edge.shape.source c.0 ≡ s
   pub key : (s k : Pairs) (c : Counted) → found_at part edge.sources.entries s k ≡ Some c → project edge.shape.key c.0 ≡ k
+  pub columns : (s k : Pairs) (c : Counted) → found_at part edge.sources.entries s k ≡ Some c → cols_of c.0 ≡ edge.shape.target
   pub counts : (s k : Pairs) (c : Counted) → found_at part edge.sources.entries s k ≡ Some c → 0 < c.1
 
 pub record IsStored (edge : EdgeRows) : Type 0 where

@@ -3,7 +3,7 @@ use Rattle.std.specs.Prelude.{◌≡◌, ℕ, ◌-◌, ◌/◌, ◌<◌, ◌≤�
 use Rattle.std.specs.List.{slice_get}
 use Rattle.std.specs.Vec.{vec_len, vec_capacity}
 use Rattle.std.proofs.Common.{Vec, Global}
-use Rattle.rc_tuple.specs.Tuple.{Pairs, project, tuple_eq}
+use Rattle.rc_tuple.specs.Tuple.{Pairs, cols_of, project, tuple_eq}
 use Rattle.rc_tuple.specs.RisingSet.{In}
 use Rattle.rc_edges.specs.EdgeMap.{Counted, IsRowOf}
 use Rattle.rc_fragment.specs.Container.{now_in, taken_in}
@@ -65,10 +65,11 @@ now_at_place edges place = found_by now_in edges place.0 place.1 place.2
 abbrev pub taken_at_place : List EdgeRows → Place → Option Counted
 taken_at_place edges place = found_by taken_in edges place.0 place.1 place.2
 
--- the place is the row's, and what is found there, if anything, is the row
+-- the place is the row's, the row has the edge's columns, and what is found there, if anything, is the row
 pub record IsRowAt (edges : List EdgeRows) (e : ℕ) (source key row : Pairs) : Type 0 where
   pub source_is : (x : EdgeRows) → slice_get edges e ≡ Some x → project x.shape.source row ≡ source
   pub key_is : (x : EdgeRows) → slice_get edges e ≡ Some x → project x.shape.key row ≡ key
+  pub columns_are : (x : EdgeRows) → slice_get edges e ≡ Some x → cols_of row ≡ x.shape.target
   pub same : IsRowOf (found_by now_in edges e source key) row
 
 -- what a fragment's parts keep: each row in its own place, and every changed place noted

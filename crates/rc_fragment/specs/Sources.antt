@@ -65,9 +65,27 @@ abbrev pub listed_in : Option Container → List Pairs
 listed_in None = []
 listed_in (Some c) = listed (now_in c)
 
+-- the row is kept at some source and key
+abbrev pub IsKept : EdgeRows → Pairs → Type 0
+IsKept rows t = (source : Pairs) × (key : Pairs) × (n : ℕ) × (now_at rows source key ≡ Some (t, n))
+
 -- two edges' rows that are the same
 pub record AreSame (old new : EdgeRows) : Type 0 where
   pub now : (s k : Pairs) → now_at new s k ≡ now_at old s k
   pub taken : (s k : Pairs) → taken_at new s k ≡ taken_at old s k
   pub kinds : AreOfKind new
   pub shape : new.shape ≡ old.shape
+
+-- all that is seen of a container
+abbrev pub Faces : Type 0
+Faces = Rows × Rows × EdgeKind
+
+abbrev pub faces : Container → Faces
+faces c = (now_in c, taken_in c, kind_in c)
+
+-- the same of all containers, by their sources
+abbrev pub faces_in : Sources → List (Pairs × Faces)
+faces_in es = map (λ e. (e.0.items, faces e.1)) es
+
+abbrev pub faces_of : Sources → FinMap tuple_cmp Faces
+faces_of es = fin.from_entries (faces_in es)

@@ -3,7 +3,7 @@
 ghost use Rattle.std.specs.Prelude.{◌≡◌, ◌+◌, ◌<◌, ◌≤◌, ◌^◌, length, OnOk, OnErr};
 ghost use Rattle.rc_fragment.specs.Container.{now_in, taken_in};
 ghost use Rattle.rc_spec.specs.CountedRows.{count_at, lowered, raised};
-ghost use Rattle.rc_fragment.specs.Fragment.{HasAlone, HasSingle, IsThere};
+ghost use Rattle.rc_fragment.specs.Fragment.{HasAlone, HasColumns, HasSingle, IsThere};
 ghost use Rattle.rc_fragment.specs.Listing.{listing, shapes};
 ghost use Rattle.rc_fragment.specs.Notes.{IsFragment, room_in};
 
@@ -24,6 +24,7 @@ pub fn add_noted(
     requires known { edge < length edges.old.items }
     requires owned { 0 < room_in notes.old pairs.old }
     requires room { count_at edge row.now (listing now_in edges.old.items) < 2 ^ 63 }
+    requires columns { HasColumns (shapes edges.old.items) edge row.now }
     requires alone { HasAlone (shapes edges.old.items) (listing now_in edges.old.items) edge row.now }
     requires single { HasSingle (shapes edges.old.items) (listing now_in edges.old.items) edge row.now }
     ensures fragment { IsFragment edges.new.items notes.new.items pairs.new.items }

@@ -2,8 +2,10 @@
 
 ghost use Rattle.std.specs.Prelude.{◌≡◌, ◌+◌, ◌<◌, ◌^◌, ◌++◌, Some, None, OnOk, OnErr, IfOk, IsSome, option_copied};
 ghost use Rattle.std.specs.FinMap as fin;
+ghost use Rattle.rc_tuple.specs.RisingSet.{In};
+ghost use Rattle.rc_tuple.specs.Tuple.{Pairs};
 ghost use Rattle.rc_edges.specs.EdgeMap.{IsRowOf, count_of, lowered, row_of, written};
-ghost use Rattle.rc_fragment.specs.Sources.{AreOfKind, AreSame, Becomes, IsSingle, by_source, listed_in, now_at, taken_at};
+ghost use Rattle.rc_fragment.specs.Sources.{AreOfKind, AreSame, Becomes, IsKept, IsSingle, by_source, faces_of, listed_in, now_at, taken_at};
 
 use crate::EdgeShape;
 use crate::container::Container;
@@ -48,7 +50,7 @@ impl EdgeRows {
         }
         let mut container = Container::new(self.alloc, self.shape.kind);
         container.add(key, row)?;
-        put(&mut self.sources, self.alloc, source, container)
+        put(&mut self.sources, self.alloc, source.pairs(), container)
     }
 
     /// Lowers the count at the source and the key by 1, and takes the row out at 0.
@@ -112,19 +114,43 @@ impl EdgeRows {
             None => Ok(()),
         }
     }
+
+    /// All rows, in no particular order.
+    pub fn all(&self) -> Result<Tuples, Memory>
+        ensures only { IfOk result (λ rows. (t : Pairs) → In t rows → IsKept self.now t) }
+        ensures each { IfOk result (λ rows. (t : Pairs) → IsKept self.now t → In t rows) }
+    {
+        let mut rows = Tuples::new(self.alloc);
+        for (_, container) in &self.sources {
+            container.scan(&mut rows)?;
+        }
+        Ok(rows)
+    }
+
+    /// The same rows once more, now and as taken. Costs all rows.
+    pub fn copy(&self) -> Result<Self, Memory>
+        requires { AreOfKind self.now }
+        ensures { IfOk result (λ copy. AreSame self.now copy) }
+    {
+        Ok(EdgeRows {
+            shape: self.shape,
+            sources: copy_of(self.alloc, &self.sources)?,
+            alloc: self.alloc,
+        })
+    }
 }
 
 /// Gives a source a container. Where memory is wanted nothing changes.
 fn put(
     sources: &mut HashMap<Vec<(u8, u64)>, Container>,
     alloc: Global,
-    source: &Tuple,
+    source: &[(u8, u64)],
     container: Container,
 ) -> Result<(), Memory>
     ensures ok { OnOk result (by_source sources.new.entries ≡ written (by_source sources.old.entries) source.now (Some container)) }
     ensures err { OnErr result (sources.new.entries ≡ sources.old.entries) }
 {
-    let pairs = Vec::from_slice(alloc, source.pairs())?;
+    let pairs = Vec::from_slice(alloc, source)?;
     sources.insert(pairs, container)?;
     Ok(())
 }
@@ -134,4 +160,18 @@ fn take_out(sources: &mut HashMap<Vec<(u8, u64)>, Container>, source: &[(u8, u64
     ensures { by_source sources.new.entries ≡ written (by_source sources.old.entries) source.now None }
 {
     let _ = sources.remove(source);
+}
+
+/// The same containers once more, by the same sources.
+fn copy_of(
+    alloc: Global,
+    sources: &HashMap<Vec<(u8, u64)>, Container>,
+) -> Result<HashMap<Vec<(u8, u64)>, Container>, Memory>
+    ensures { IfOk result (λ copy. faces_of copy.entries ≡ faces_of sources.now.entries) }
+{
+    let mut copy = HashMap::new(alloc);
+    for (source, container) in sources {
+        put(&mut copy, alloc, source.as_slice(), container.copy()?)?;
+    }
+    Ok(copy)
 }

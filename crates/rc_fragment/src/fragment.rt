@@ -2,9 +2,9 @@
 
 ghost use Rattle.std.specs.Prelude.{◌≡◌, ◌<◌, ◌≤◌, ◌+◌, ◌^◌, [], length, OnOk, OnErr, IfOk, option_copied};
 ghost use Rattle.rc_spec.specs.CountedRows.{count_at, lowered, raised};
-ghost use Rattle.rc_spec.specs.CountedRowsLaws.{AreCountedRows};
-ghost use Rattle.rc_fragment.specs.Fragment.{HasAlone, HasScanned, HasShape, HasSingle, IsLookedUp, IsThere, edge_table, shape_of};
-ghost use Rattle.rc_fragment.specs.Listing.{AreEmpty, shapes};
+ghost use Rattle.rc_fragment.specs.Fragment.{AreAllRows, AreRowsOf, HasAlone, HasColumns, HasScanned, HasShape, HasSingle, IsLookedUp, IsThere, edge_table, shape_of};
+ghost use Rattle.rc_fragment.specs.Listing.{AreEmpty, AreStored, found_by, shapes};
+ghost use Rattle.rc_fragment.specs.Container.{now_in, taken_in};
 ghost use Rattle.rc_fragment.specs.declared.shape.EdgeShape.{EdgeShape};
 
 use crate::EdgeShape;
@@ -76,6 +76,7 @@ impl Fragment {
         requires known { edge < length self.old.table }
         requires owned { 0 < self.old.room }
         requires room { count_at edge row.now self.old.now < 2 ^ 63 }
+        requires columns { HasColumns self.old.table edge row.now }
         requires alone { HasAlone self.old.table self.old.now edge row.now }
         requires single { HasSingle self.old.table self.old.now edge row.now }
         ensures table { self.new.table ≡ self.old.table }
@@ -128,8 +129,7 @@ impl Fragment {
     /// source in one of kind list. Takes no memory.
     pub fn lookup(&self, edge: u8, source: &[(u8, u64)], key: &[(u8, u64)]) -> Option<&Tuple>
         requires { edge < length self.now.table }
-        ensures row { (shape : EdgeShape) → HasShape self.now.table edge shape → IsLookedUp shape self.now.now edge source.now key.now (option_copied result) }
-        ensures counted { AreCountedRows self.now.now × AreCountedRows self.now.taken }
+        ensures { (shape : EdgeShape) → HasShape self.now.table edge shape → IsLookedUp shape self.now.now edge source.now key.now (option_copied result) }
     {
         let rows = &self.edges[edge as usize];
         rows.get(source, key)
@@ -145,6 +145,52 @@ impl Fragment {
         let rows = &self.edges[edge as usize];
         rows.scan(source, out)
     }
+
+    /// What is so of every fragment: its rows are counted, each is of an edge of the table, and each
+    /// has its edge's columns.
+    pub fn rows_fit_the_table(&self)
+        ensures now { AreRowsOf self.now.table self.now.now }
+        ensures taken { AreRowsOf self.now.table self.now.taken }
+    {
+        let _ = &self.edges;
+    }
+
+    /// All rows of the edge, in no particular order.
+    pub fn rows(&self, edge: u8) -> Result<Tuples, Memory>
+        requires { edge < length self.now.table }
+        ensures { IfOk result (λ rows. AreAllRows self.now.now edge rows) }
+    {
+        let rows = &self.edges[edge as usize];
+        rows.all()
+    }
+
+    /// Another fragment with the same rows, now and as taken, and no room. Costs all rows.
+    pub fn copy(&self, alloc: Global) -> Result<Fragment, Memory>
+        ensures table { IfOk result (λ copy. copy.table ≡ self.now.table) }
+        ensures now { IfOk result (λ copy. copy.now ≡ self.now.now) }
+        ensures taken { IfOk result (λ copy. copy.taken ≡ self.now.taken) }
+    {
+        Ok(Fragment {
+            edges: copy_edges(alloc, &self.edges)?,
+            notes: Vec::from_slice(alloc, self.notes.as_slice())?,
+            pairs: Vec::from_slice(alloc, self.pairs.as_slice())?,
+        })
+    }
+}
+
+/// The same edges once more.
+fn copy_edges(alloc: Global, edges: &Vec<EdgeRows>) -> Result<Vec<EdgeRows>, Memory>
+    requires { AreStored edges.now.items }
+    ensures shapes { IfOk result (λ copy. shapes copy.items ≡ shapes edges.now.items) }
+    ensures stored { IfOk result (λ copy. AreStored copy.items) }
+    ensures now { IfOk result (λ copy. (e : _) (s k : _) → found_by now_in copy.items e s k ≡ found_by now_in edges.now.items e s k) }
+    ensures taken { IfOk result (λ copy. (e : _) (s k : _) → found_by taken_in copy.items e s k ≡ found_by taken_in edges.now.items e s k) }
+{
+    let mut copy = Vec::new(alloc);
+    for edge in edges {
+        copy.push(edge.copy()?)?;
+    }
+    Ok(copy)
 }
 
 /// The edges of a specification with no row.

@@ -6,7 +6,7 @@ ghost use Rattle.rc_spec.specs.Fragments.{EdgeRow};
 ghost use Rattle.rc_spec.specs.Stripes.{stripe_total};
 ghost use Rattle.rc_spec.specs.declared.spec.Spec.{Spec};
 ghost use Rattle.rc_spec.specs.CountedRows.{count_at, lowered, raised};
-ghost use Rattle.rc_fragment.specs.Fragment.{HasAlone, HasSingle, IsThere, edge_table};
+ghost use Rattle.rc_fragment.specs.Fragment.{HasAlone, HasColumns, HasSingle, IsThere, edge_table};
 ghost use Rattle.rc_fragment.specs.Holder.{AreOfOneRelation, HasRisen, HasTaken, HeldStripe, IsAbove, IsHeld, IsHeldExclusive, IsRefusal, RefusedTake, changed_at, reverted};
 ghost use Rattle.rc_fragment.specs.declared.held.Held.{Held};
 ghost use Rattle.rc_fragment.specs.declared.held.TakeStop.TheVariants as stop;
@@ -87,6 +87,7 @@ pub trait Holder {
         requires owned { 0 < room self.old stripe }
         requires known { edge < length (table self.old) }
         requires room { (h : HeldStripe) → In h (held self.old) → h.stripe ≡ stripe → count_at edge row.now h.now < 2 ^ 63 }
+        requires columns { HasColumns (table self.old) edge row.now }
         requires alone { (h : HeldStripe) → In h (held self.old) → h.stripe ≡ stripe → HasAlone (table self.old) h.now edge row.now }
         requires single { (h : HeldStripe) → In h (held self.old) → h.stripe ≡ stripe → HasSingle (table self.old) h.now edge row.now }
         ensures ok { OnOk result (held self.new ≡ changed_at stripe (raised edge row.now) (held self.old)) }

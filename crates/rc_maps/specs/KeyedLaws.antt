@@ -1,17 +1,19 @@
 -- Laws of maps whose keys stand for tuples: what a look-up finds, and what a change of one key is to the rows.
-use Rattle.std.specs.Prelude.{◌≡◌, ℕ, ◌<◌, ◌≤◌, Bool, true, false, cond, ◌==◌, Option, None, Some, IsSome, List, [], ◌∷◌, map, length, nat_lt}
+use Rattle.std.specs.Prelude.{◌≡◌, ℕ, ◌≤◌, Bool, true, false, cond, ◌==◌, Option, None, Some, IsSome, List, [], ◌∷◌, map, length, nat_lt}
 use Rattle.std.specs.Map.{lookup, KeepsOthers, IsKeyTest, AreApart}
 use Rattle.std.specs.Option.{option_and_then, unwrap_or}
 use Rattle.std.specs.FinMap as fin
 use Rattle.std.specs.FinMap.{FinMap, find, get-from_entries, get-empty}
 use Rattle.std.proofs.Common.{refl, sym, ap, subst, ◌∙◌, arith}
+use Rattle.std.proofs.lemmas.List.{length-map}
 use Rattle.std.proofs.lemmas.Option.{none-some}
 use Rattle.std.proofs.lemmas.Bool.{false≢true, eqb-true, eq-eqb, ltb-false, and_parts, and_from}
 use Rattle.rc_tuple.specs.Tuple.{Pairs, tuple_cmp, tuple_eq}
 use Rattle.rc_tuple.specs.TupleLaws.{same_from_test, test_from_same}
-use Rattle.rc_edges.specs.EdgeMap.{Counted, Kept, AreCounted, written, count_of, nothing}
+use Rattle.rc_edges.specs.EdgeMap.{Counted, Kept, written}
 use Rattle.rc_edges.specs.Entry.{now_of, taken_of, is_gone, keep, rows_in}
-use Rattle.rc_edges.specs.RowsLaws.{total, get-written, same_answers, written_again, get-keep, keep-written, AreCounted-keep, IsCounting-now, IsCounting-taken}
+use Rattle.rc_edges.specs.ListMapLaws.{gone_kept}
+use Rattle.rc_edges.specs.RowsLaws.{total, get-written, same_answers, written_again, get-keep, keep-written}
 use Rattle.rc_edges.specs.declared.entry.Entry.{Entry}
 use Rattle.rc_maps.specs.Keyed.{Entries, NoneIsGone, items_of, kept_by, whole_of}
 
@@ -123,27 +125,8 @@ module _ (m : Kept) (old : FinMap tuple_cmp Entry) (is : rows_in old ≡ m) wher
   pub none_taken : (key : Pairs) → fin.get old key ≡ None → m.taken ≡ written m.taken key (fin.get m.now key)
   none_taken key h = sym (ap (written m.taken key) (got_now key None h) ∙ written_again m.taken key None (got_taken key None h))
 
-  pub AreCounted-rows : AreCounted m.now × AreCounted m.taken
-  AreCounted-rows = subst (λ (z : Kept). AreCounted z.now × AreCounted z.taken) is
-      (AreCounted-keep now_of IsCounting-now old, AreCounted-keep taken_of IsCounting-taken old)
-
-  -- what is there has a count of at least 1
-  pub count_there : (key : Pairs) (e : Entry) → fin.get old key ≡ Some e → IsSome (fin.get m.now key) → 0 < count_of (now_of e)
-  count_there key e h there = go (now_of e) (got_now key (Some e) h) (subst IsSome (got_now key (Some e) h) there)
-    where
-      go : (o : Option Counted) → fin.get m.now key ≡ o → IsSome o → 0 < count_of o
-      go None g s = absurd (false≢true s)
-      go (Some c) g s = AreCounted-rows.0 key c g
-
   pub not_there : (key : Pairs) → fin.get old key ≡ None → IsSome (fin.get m.now key) → ⊥
   not_there key h there = false≢true (subst IsSome (got_now key None h) there)
-
--- the container of no entries has no rows
-pub rows-none : rows_in fin.empty ≡ nothing
-rows-none = λ i. record {
-  now = same_answers (keep now_of fin.empty) fin.empty (λ q. get-keep now_of fin.empty q ∙ ap (option_and_then now_of) (get-empty tuple_cmp q) ∙ sym (get-empty tuple_cmp q)) i;
-  taken = same_answers (keep taken_of fin.empty) fin.empty (λ q. get-keep taken_of fin.empty q ∙ ap (option_and_then taken_of) (get-empty tuple_cmp q) ∙ sym (get-empty tuple_cmp q)) i;
-}
 
 -- ---- no entry is gone
 
@@ -156,13 +139,6 @@ no_count n row h = go (nat_lt 0 n) refl h
 
 gone_without : (e : Entry) → now_of e ≡ None → taken_of e ≡ None → is_gone e ≡ true
 gone_without e now taken = and_from (e.count == 0) (e.count_taken == 0) (no_count e.count e.row now) (no_count e.count_taken (unwrap_or e.row_taken e.row) taken)
-
-pub stays_with_row : (e : Entry) (c : Counted) → now_of e ≡ Some c → is_gone e ≡ false
-stays_with_row e c h = go (is_gone e) refl
-  where
-    go : (b : Bool) → is_gone e ≡ b → b ≡ false
-    go true g = absurd (none-some c (sym (gone_now e g) ∙ h))
-    go false g = refl
 
 pub NoneIsGone-empty : NoneIsGone fin.empty
 NoneIsGone-empty key e h = absurd (none-some e (sym (get-empty tuple_cmp key) ∙ h))
@@ -184,10 +160,7 @@ NoneIsGone-out old set new key w all h out q e f =
 
 -- where there are no entries there are no rows, and where no entry is gone the other way round
 pub gone_rows : (m : Kept) (es : Entries) → kept_by es ≡ m → length es ≡ 0 → (m.now ≡ fin.empty) × (m.taken ≡ fin.empty)
-gone_rows m [] is h =
-    let e : nothing ≡ m = sym rows-none ∙ is in
-    (ap (λ (z : Kept). z.now) (sym e), ap (λ (z : Kept). z.taken) (sym e))
-gone_rows m (e ∷ es) is h = absurd (omega arith)
+gone_rows m es is h = gone_kept m (items_of es) is (eq-eqb (length (items_of es)) 0 (length-map es (λ e. (e.0.items, e.1)) ∙ h))
 
 pub gone_entries : (m : Kept) (es : Entries) → kept_by es ≡ m → NoneIsGone (whole_of es) → (m.now ≡ fin.empty) × (m.taken ≡ fin.empty) → length es ≡ 0
 gone_entries m [] is all h = refl

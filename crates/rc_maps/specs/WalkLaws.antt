@@ -23,12 +23,12 @@ use Rattle.rc_tuple.specs.TupleLaws.{tuple_order, same_from_test}
 use Rattle.rc_edges.specs.EdgeMap.{Counted, Kept, written, listed, row_of}
 use Rattle.rc_edges.specs.Entry.{now_of, parts, keep, rows_in}
 use Rattle.rc_edges.specs.ListMap.{Items, IsKeyed}
-use Rattle.rc_edges.specs.ListMapLaws.{listed-kept}
+use Rattle.rc_edges.specs.ListMapLaws.{kept-none, listed-kept}
 use Rattle.rc_edges.specs.RowsLaws.{total, get-written, same_answers, written_again, get-keep, keep-written, entries-keep, sorted_parts}
 use Rattle.rc_edges.specs.declared.entry.Entry.{Entry}
 use Rattle.rc_maps.specs.declared.keyed_row.KeyedRow.{KeyedRow}
 use Rattle.rc_maps.specs.Keyed.{row_now, has_row, pair_of, rows_of}
-use Rattle.rc_maps.specs.KeyedLaws.{by_tuples, rows-none}
+use Rattle.rc_maps.specs.KeyedLaws.{by_tuples}
 
 -- ---- distinct keys, and keys that rise
 
@@ -211,7 +211,7 @@ scanned-sort es old new h is p s = sym (values_of-pairs new) ∙ listed-sort es 
 -- ---- how many rows
 
 pub len-walk : (es : Items) → IsDistinct tuple_eq (keys_of es) → fin.len (rows_in (fin.from_entries es)).now ≡ count_by has_row (values_of es)
-len-walk [] h = ap (λ (z : Kept). fin.len z.now) rows-none ∙ len-empty tuple_cmp Counted
+len-walk [] h = ap (λ (z : Kept). fin.len z.now) kept-none ∙ len-empty tuple_cmp Counted
 len-walk (e ∷ es) h =
     ap fin.len (keep-written now_of (fin.from_entries es) e.0 (Some e.1)) ∙ go (now_of e.1) (len-walk es (IsDistinct-tail tuple_eq e.0 (keys_of es) h))
     ∙ sym (sum_by-cons (λ v. cond (has_row v) 1 0) e.1 (values_of es))
@@ -238,21 +238,21 @@ len-walk (e ∷ es) h =
 -- ---- a copy
 
 -- what is left and else what is copied is the whole, at each key
-pub record IsCopied (all left copy : Items) : Type 0 where
+pub record IsCopied {X : Type 0} (all left copy : List (Pairs × X)) : Type 0 where
   pub apart : IsDistinct tuple_eq (keys_of left)
   pub same : (q : Pairs) → option_or (find tuple_cmp q left) (find tuple_cmp q copy) ≡ find tuple_cmp q all
 
-pub IsCopied-none : (all left copy : Items) → left ≡ all → copy ≡ [] → IsDistinct tuple_eq (keys_of all) → IsCopied all left copy
-IsCopied-none all left copy l c h = record {
+pub IsCopied-none : {X : Type 0} (all left copy : List (Pairs × X)) → left ≡ all → copy ≡ [] → IsDistinct tuple_eq (keys_of all) → IsCopied all left copy
+IsCopied-none {X} all left copy l c h = record {
   apart = subst (λ z. IsDistinct tuple_eq (keys_of z)) (sym l) h;
   same = λ q. (λ i. option_or (find tuple_cmp q (l i)) (find tuple_cmp q (c i))) ∙ go (find tuple_cmp q all);
 }
   where
-    go : (o : Option Entry) → option_or o None ≡ o
+    go : (o : Option X) → option_or o None ≡ o
     go None = refl
     go (Some e) = refl
 
-pub IsCopied-more : (all left copy new : Items) (e : Pairs × Entry) → IsCopied all (e ∷ left) copy → fin.from_entries {R = tuple_cmp} new ≡ written (fin.from_entries copy) e.0 (Some e.1) → IsCopied all left new
+pub IsCopied-more : {X : Type 0} (all left copy new : List (Pairs × X)) (e : Pairs × X) → IsCopied all (e ∷ left) copy → fin.from_entries {R = tuple_cmp} new ≡ written (fin.from_entries copy) e.0 (Some e.1) → IsCopied all left new
 IsCopied-more all left copy new e h w = record {
   apart = IsDistinct-tail tuple_eq e.0 (keys_of left) h.apart;
   same = λ q. ap (option_or (find tuple_cmp q left)) (found q) ∙ go q (tuple_eq q e.0) refl ∙ h.same q;
@@ -265,5 +265,5 @@ IsCopied-more all left copy new e h w = record {
     go q true t = ap (λ o. option_or o (Some e.1)) (ap (λ z. find tuple_cmp z left) (same_from_test q e.0 t) ∙ find_later e left h.apart)
     go q false t = refl
 
-pub IsCopied-all : (all copy : Items) → IsCopied all [] copy → fin.from_entries {R = tuple_cmp} copy ≡ fin.from_entries all
+pub IsCopied-all : {X : Type 0} (all copy : List (Pairs × X)) → IsCopied all [] copy → fin.from_entries {R = tuple_cmp} copy ≡ fin.from_entries all
 IsCopied-all all copy h = same_answers (fin.from_entries copy) (fin.from_entries all) (λ q. get-from_entries total copy q ∙ h.same q ∙ sym (get-from_entries total all q))

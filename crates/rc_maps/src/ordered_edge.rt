@@ -1,7 +1,6 @@
 //! The container of kind ordered.
 
-ghost use Rattle.std.specs.Prelude.{◌≡◌, ◌↔◌, IsTrue, map, IfOk, OnOk, OnErr};
-ghost use Rattle.std.specs.FinMap as fin;
+ghost use Rattle.std.specs.Prelude.{◌≡◌, map, IfOk, OnOk, OnErr};
 ghost use Rattle.rc_edges.specs.EdgeMap.{nothing, written};
 ghost use Rattle.rc_edges.specs.Entry.{parts};
 ghost use Rattle.rc_edges.specs.ListMap.{IsKeyed};
@@ -118,10 +117,7 @@ impl EdgeMap for OrderedEdge {
         self.table.values().filter(|entry| has_row(entry)).count() as u64
     }
 
-    /// Whether there is no row, neither now nor as taken.
-    fn is_gone(&self) -> bool
-        ensures { IsTrue result ↔ (self.now.now ≡ fin.empty) × (self.now.taken ≡ fin.empty) }
-    {
+    fn is_gone(&self) -> bool {
         self.table.is_empty()
     }
 

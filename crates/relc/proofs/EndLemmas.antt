@@ -11,10 +11,10 @@ use Rattle.rc_spec.specs.Acceptance.{IsAccepted}
 use Rattle.rc_spec.specs.AcceptanceLaws.{refused_not_accepted}
 use Rattle.rc_work.specs.declared.work.Work.{Work}
 use Rattle.rc_work.specs.Ranking.{work_reading}
-use Rattle.relc.specs.Answers.{Answers, AnswersCheck, AnswersRules, AnswersRun, AnswersWork, IsAcceptedText, IsAnswer, IsGoodReading, IsGoodSpec, IsGoodWork, IsReport, IsSizeRefusal, KeepsRules, place_after}
+use Rattle.relc.specs.Answers.{Answers, AnswersAlone, AnswersRules, AnswersRun, AnswersWork, IsAcceptedText, IsAnswer, IsGoodReading, IsGoodSpec, IsGoodWork, IsPlansText, IsReport, IsSizeRefusal, KeepsRules, place_after}
 use Rattle.relc.specs.Ends.{Ends, Writes, status_of}
 use Rattle.relc.specs.declared.command.Command.{Command}
-use Rattle.relc.specs.declared.command.Command.TheVariants.{Check, Run}
+use Rattle.relc.specs.declared.command.Command.TheVariants.{Check, Plan, Run}
 use Rattle.relc.specs.declared.status.Status.{Status}
 use Rattle.relc.specs.declared.status.Status.TheVariants.{Done, Usage, Refused, SourceFailed, SinkFailed, OutOfMemory}
 use Rattle.relc.specs.declared.status.Stop.{Stop}
@@ -63,9 +63,20 @@ written_rules : (spec : Spec) (IfAccepted : List ℕ → Status → Type 0) (tex
 written_rules spec IfAccepted text status written (inl (accepted, is)) = written is
 written_rules spec IfAccepted text status written (inr (refusal, first, is)) = inr is.1
 
-written_check : (reading : Result Spec Broken) (text : List ℕ) (status : Status) → AnswersCheck reading text status → IsWritten status
-written_check (Err broken) text status is = inr is.1
-written_check (Ok spec) text status is = written_rules spec IsAcceptedText text status (λ h. inl h.1) is
+-- what is written of an accepted specification ends well
+abbrev EndsDone : (Spec → List ℕ → Status → Type 0) → Type 0
+EndsDone OfAccepted = (spec : Spec) (text : List ℕ) (status : Status) → OfAccepted spec text status → status ≡ Done
+
+accepted_done : EndsDone (λ spec. IsAcceptedText)
+accepted_done spec text status (printed, done) = done
+
+plans_done : EndsDone IsPlansText
+plans_done spec text status (plans, planned, printed, done) = done
+
+written_alone : (OfAccepted : Spec → List ℕ → Status → Type 0) (reading : Result Spec Broken) (text : List ℕ) (status : Status) → EndsDone OfAccepted
+    → AnswersAlone OfAccepted reading text status → IsWritten status
+written_alone OfAccepted (Err broken) text status done is = inr is.1
+written_alone OfAccepted (Ok spec) text status done is = written_rules spec (OfAccepted spec) text status (λ h. inl (done spec text status h)) is
 
 written_run : (input : List ℕ) (reading : Result Reading Broken) (text : List ℕ) (status : Status) → AnswersRun input reading text status → IsWritten status
 written_run input (Err broken) text status is = inr is.1
@@ -74,7 +85,8 @@ written_run input (Ok reading) text status is =
     written_rules reading.spec (AnswersWork reading.spec work) text status (written_work reading.spec work text status) is
 
 written : (command : Command) (input text : List ℕ) (status : Status) → Answers command input text status → IsWritten status
-written Check input text status is = written_check (spec_of input) text status is
+written Check input text status is = written_alone (λ spec. IsAcceptedText) (spec_of input) text status accepted_done is
+written Plan input text status is = written_alone IsPlansText (spec_of input) text status plans_done is
 written Run input text status is = written_run input (spec_reading input) text status is
 
 -- told bytes that were read whole are answered
@@ -125,9 +137,10 @@ refused_rules : (spec : Spec) (IfAccepted : List ℕ → Status → Type 0) (tex
 refused_rules spec IfAccepted text good other (inl (accepted, is)) = other is
 refused_rules spec IfAccepted text good other (inr (refusal, first, is)) = refused_not_accepted spec refusal first good
 
-refused_check : (reading : Result Spec Broken) (text : List ℕ) → IsGoodSpec reading → AnswersCheck reading text Refused → ⊥
-refused_check (Err broken) text good is = absurd good
-refused_check (Ok spec) text good is = refused_rules spec IsAcceptedText text good (λ h. let e : Refused ≡ Done = h.1 in cc) is
+refused_alone : (OfAccepted : Spec → List ℕ → Status → Type 0) (reading : Result Spec Broken) (text : List ℕ) → EndsDone OfAccepted → IsGoodSpec reading
+    → AnswersAlone OfAccepted reading text Refused → ⊥
+refused_alone OfAccepted (Err broken) text done good is = absurd good
+refused_alone OfAccepted (Ok spec) text done good is = refused_rules spec (OfAccepted spec) text good (λ h. let e : Refused ≡ Done = done spec text Refused h in cc) is
 
 refused_run : (input : List ℕ) (reading : Result Reading Broken) (text : List ℕ) → IsGoodReading input reading → AnswersRun input reading text Refused → ⊥
 refused_run input (Err broken) text good is = absurd good
@@ -136,7 +149,8 @@ refused_run input (Ok reading) text good is =
     refused_rules reading.spec (AnswersWork reading.spec work) text good.0 (refused_work work reading.spec text good.1) is
 
 refused_text : (command : Command) (input text : List ℕ) → KeepsRules command input → Answers command input text Refused → ⊥
-refused_text Check input text good is = refused_check (spec_of input) text good is
+refused_text Check input text good is = refused_alone (λ spec. IsAcceptedText) (spec_of input) text accepted_done good is
+refused_text Plan input text good is = refused_alone IsPlansText (spec_of input) text plans_done good is
 refused_text Run input text good is = refused_run input (spec_reading input) text good is
 
 -- a text that keeps all rules is answered, where nothing fails
@@ -149,7 +163,7 @@ answered command input old new SourceFailed short good ends usage source sink = 
 answered command input old new SinkFailed short good ends usage source sink = absurd (sink refl)
 answered command input old new OutOfMemory short good ends usage source sink = inr refl
 
--- ---- what a run writes
+-- ---- what is written of an accepted specification
 
 pub writes_wider : (A B : List ℕ → Status → Type 0) (old new : Option (List ℕ)) (r : Result Status Stop) → ((text : List ℕ) (status : Status) → A text status → B text status)
     → Writes A old new r → Writes B old new r
@@ -157,6 +171,12 @@ writes_wider A B old new (Ok status) wider (text, is, adds) = (text, wider text 
 writes_wider A B old new (Err Memory) wider (inl same) = inl same
 writes_wider A B old new (Err Memory) wider (inr (text, status, is, part)) = inr (text, status, wider text status is, part)
 writes_wider A B old new (Err Sink) wider (text, status, is, part) = (text, status, wider text status is, part)
+
+-- what is written of an accepted specification that stands alone answers its text
+pub alone_answers : (OfAccepted : Spec → List ℕ → Status → Type 0) (reading : Result Spec Broken) (spec accepted : Spec) → reading ≡ Ok spec → accepted ≡ spec → IsAccepted spec
+    → (text : List ℕ) (status : Status) → OfAccepted accepted text status → AnswersAlone OfAccepted reading text status
+alone_answers OfAccepted reading spec accepted read same is text status written =
+    subst (λ (found : Result Spec Broken). AnswersAlone OfAccepted found text status) (sym read) (inl (is, subst (λ (s : Spec). OfAccepted s text status) same written))
 
 -- the report of a workload behind an accepted specification is what `run` may write
 pub report_answers : (input : List ℕ) (reading : Reading) (spec : Spec) (rest : Rest) (work : Work) → spec_reading input ≡ Ok reading → IsRead input spec rest reading → IsAccepted spec

@@ -1,4 +1,5 @@
 pub mod EndLemmas
 pub mod InTurnLemmas
+pub mod PlanLemmas
 pub mod WriteLemmas
 pub mod WordLemmas

@@ -79,42 +79,46 @@ differs xs ys e = go (bytes_eq xs ys) refl
         let flipped : bytes_eq ys xs ≡ true = (bytes_eq-Decides ys xs).1 (sym ((bytes_eq-Decides xs ys).0 t)) in
         cc
 
-no_name : (word : Text) → bytes_eq word (codes "check") ≡ false → bytes_eq word (codes "run") ≡ false → subcommand_met names idle word ≡ None
-no_name word not_check not_run = rw (differs (codes "check") word not_check, differs (codes "run") word not_run) refl
-
--- a name is one of the two
+-- a name is one of the three
 abbrev IsName : Text → Type 0
-IsName word = (word ≡ codes "check") ⊎ (word ≡ codes "run")
+IsName word = (word ≡ codes "check") ⊎ ((word ≡ codes "plan") ⊎ (word ≡ codes "run"))
+
+-- another word is none of them
+abbrev IsOther : Text → Type 0
+IsOther word = (bytes_eq word (codes "check") ≡ false) × (bytes_eq word (codes "plan") ≡ false) × (bytes_eq word (codes "run") ≡ false)
+
+no_name : (word : Text) → IsOther word → subcommand_met names idle word ≡ None
+no_name word (not_check, not_plan, not_run) = rw (differs (codes "check") word not_check, differs (codes "plan") word not_plan, differs (codes "run") word not_run) refl
 
 -- clap leaves the words after a name to the name's subcommand
 rest_is_left : (name word : Text) (words : List Text) → IsName name → stop_at (name ∷ word ∷ words) ≡ Some (name, word ∷ words)
 unfolding clap_on_literals
 rest_is_left name word words (inl e) = rw e (ap (λ w. w.stopped) (sym (walk_stopped [] names (walk_from nothing_held) (codes "check") [] (word ∷ words))))
-rest_is_left name word words (inr e) = rw e (ap (λ w. w.stopped) (sym (walk_stopped [] names (walk_from nothing_held) (codes "run") [] (word ∷ words))))
+rest_is_left name word words (inr (inl e)) = rw e (ap (λ w. w.stopped) (sym (walk_stopped [] names (walk_from nothing_held) (codes "plan") [] (word ∷ words))))
+rest_is_left name word words (inr (inr e)) = rw e (ap (λ w. w.stopped) (sym (walk_stopped [] names (walk_from nothing_held) (codes "run") [] (word ∷ words))))
 
 -- and that takes no word
 rest_fails : (name word : Text) (words : List Text) → IsName name → is_flag word ≡ false → entered_fault (built grammar) (Some (name, word ∷ words)) ≡ [] → ⊥
 rest_fails name word words (inl e) plain h = stray_word _ [] word words false [] refl refl plain (rw e at h)
-rest_fails name word words (inr e) plain h = stray_word _ [] word words false [] refl refl plain (rw e at h)
+rest_fails name word words (inr (inl e)) plain h = stray_word _ [] word words false [] refl refl plain (rw e at h)
+rest_fails name word words (inr (inr e)) plain h = stray_word _ [] word words false [] refl refl plain (rw e at h)
 
 several_words : (program name word : Text) (words : List Text) → IsName name → is_flag word ≡ false → fault_of grammar (program ∷ name ∷ word ∷ words) ≡ [] → ⊥
 several_words program name word words known plain e =
     let below_is : entered_fault (built grammar) (stop_at (name ∷ word ∷ words)) ≡ [] = (both_empty _ _ (both_empty _ _ e).1).0 in
     rest_fails name word words known plain (rw (rest_is_left name word words known) at below_is)
 
-abbrev IsOther : Text → Type 0
-IsOther word = (bytes_eq word (codes "check") ≡ false) × (bytes_eq word (codes "run") ≡ false)
-
 name_or_other : (word : Text) → IsName word ⊎ IsOther word
-name_or_other word = go (bytes_eq word (codes "check")) (bytes_eq word (codes "run")) refl refl
+name_or_other word = go (bytes_eq word (codes "check")) (bytes_eq word (codes "plan")) (bytes_eq word (codes "run")) refl refl refl
   where
-    go : (check run : Bool) → bytes_eq word (codes "check") ≡ check → bytes_eq word (codes "run") ≡ run → IsName word ⊎ IsOther word
-    go true run c r = inl (inl ((bytes_eq-Decides word (codes "check")).0 c))
-    go false true c r = inl (inr ((bytes_eq-Decides word (codes "run")).0 r))
-    go false false c r = inr (c, r)
+    go : (check plan run : Bool) → bytes_eq word (codes "check") ≡ check → bytes_eq word (codes "plan") ≡ plan → bytes_eq word (codes "run") ≡ run → IsName word ⊎ IsOther word
+    go true plan run c p r = inl (inl ((bytes_eq-Decides word (codes "check")).0 c))
+    go false true run c p r = inl (inr (inl ((bytes_eq-Decides word (codes "plan")).0 p)))
+    go false false true c p r = inl (inr (inr ((bytes_eq-Decides word (codes "run")).0 r)))
+    go false false false c p r = inr (c, p, r)
 
 other_fails : (program word : Text) (words : List Text) → IsOther word → is_flag word ≡ false → fault_of grammar (program ∷ word ∷ words) ≡ [] → ⊥
-other_fails program word words other plain e = stray_word top names word words _ _ refl (no_name word other.0 other.1) plain e
+other_fails program word words other plain e = stray_word top names word words _ _ refl (no_name word other) plain e
 
 plain_head : (word : Text) (words : List Text) → list_any is_flag (word ∷ words) ≡ false → (is_flag word ≡ false) × (list_any is_flag words ≡ false)
 plain_head word words e = go (is_flag word) refl e
@@ -135,7 +139,8 @@ taken_is_command (program ∷ word ∷ []) plain e = go (name_or_other word)
   where
     go : IsName word ⊎ IsOther word → read (program ∷ word ∷ []) ≡ command_of (program ∷ word ∷ [])
     go (inl (inl same)) = rw same refl
-    go (inl (inr same)) = rw same refl
+    go (inl (inr (inl same))) = rw same refl
+    go (inl (inr (inr same))) = rw same refl
     go (inr other) = absurd (other_fails program word [] other (plain_head word [] plain).0 e)
 taken_is_command (program ∷ word ∷ second ∷ words) plain e = absurd (go (name_or_other word))
   where
@@ -155,8 +160,9 @@ refused_is_none (program ∷ word ∷ []) kind h = go (name_or_other word)
   where
     go : IsName word ⊎ IsOther word → None ≡ command_of (program ∷ word ∷ [])
     go (inl (inl same)) = absurd (rw same at h)
-    go (inl (inr same)) = absurd (rw same at h)
-    go (inr other) = rw (other.0, other.1) refl
+    go (inl (inr (inl same))) = absurd (rw same at h)
+    go (inl (inr (inr same))) = absurd (rw same at h)
+    go (inr (not_check, not_plan, not_run)) = rw (not_check, not_plan, not_run) refl
 refused_is_none (program ∷ word ∷ other ∷ words) kind h = refl
 
 -- the same of a command whose grammar is the program's

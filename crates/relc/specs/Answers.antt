@@ -5,6 +5,7 @@ use Rattle.rc_spec.specs.declared.refusal.Refusal.{Refusal}
 use Rattle.rc_spec.specs.declared.spec.Spec.{Spec}
 use Rattle.rc_spec.specs.Acceptance.{IsAccepted, IsFirstBroken}
 use Rattle.rc_spec.specs.RefusalText as rules
+use Rattle.rc_plan.specs.declared.statement.Statement.{Statement}
 use Rattle.rc_rel.specs.declared.entry.Entry.{Entry}
 use Rattle.rc_rel.specs.History.{replay}
 use Rattle.rc_reader.specs.Grammar.{Broken, Reading, spec_reading, spec_of}
@@ -14,8 +15,9 @@ use Rattle.rc_work.specs.Printed.{words_text}
 use Rattle.rc_work.specs.Ranking.{work_reading}
 use Rattle.rc_work.specs.Report.{report}
 use Rattle.rc_work.specs.Runs.{Runs, HasSingleSteps}
+use Rattle.relc.specs.Plans.{ArePlanned, plans_and_end}
 use Rattle.relc.specs.declared.command.Command.{Command}
-use Rattle.relc.specs.declared.command.Command.TheVariants.{Check, Run}
+use Rattle.relc.specs.declared.command.Command.TheVariants.{Check, Plan, Run}
 use Rattle.relc.specs.declared.status.Status.{Status}
 use Rattle.relc.specs.declared.status.Status.TheVariants.{Done, Refused}
 
@@ -48,14 +50,19 @@ abbrev pub AnswersRules : Spec → (List ℕ → Status → Type 0) → List ℕ
 AnswersRules spec IfAccepted text status =
     (IsAccepted spec × IfAccepted text status) ⊎ ((refusal : Refusal) × IsFirstBroken spec refusal × IsRuleRefusal spec refusal text status)
 
--- ---- check
+-- ---- check and plan
 
 abbrev pub IsAcceptedText : List ℕ → Status → Type 0
 IsAcceptedText text status = (text ≡ accepted_text) × (status ≡ Done)
 
-abbrev pub AnswersCheck : Result Spec Broken → List ℕ → Status → Type 0
-AnswersCheck (Err broken) text status = IsRefusal broken text status
-AnswersCheck (Ok spec) text status = AnswersRules spec IsAcceptedText text status
+-- the planned plan of each operation, and then `end`
+abbrev pub IsPlansText : Spec → List ℕ → Status → Type 0
+IsPlansText spec text status = (plans : List (List Statement)) × ArePlanned spec plans × (text ≡ plans_and_end spec plans) × (status ≡ Done)
+
+-- what is written of a specification that stands alone, where it is accepted, and else its refusal
+abbrev pub AnswersAlone : (Spec → List ℕ → Status → Type 0) → Result Spec Broken → List ℕ → Status → Type 0
+AnswersAlone OfAccepted (Err broken) text status = IsRefusal broken text status
+AnswersAlone OfAccepted (Ok spec) text status = AnswersRules spec (OfAccepted spec) text status
 
 -- ---- run
 
@@ -77,13 +84,14 @@ abbrev pub AnswersRun : List ℕ → Result Reading Broken → List ℕ → Stat
 AnswersRun input (Err broken) text status = IsRefusal broken text status
 AnswersRun input (Ok reading) text status = AnswersRules reading.spec (AnswersWork reading.spec (work_reading reading.spec (place_after input reading))) text status
 
--- ---- both
+-- ---- all commands
 
--- What an input that is not too long may have written. `check` reads a specification alone: the refusal of its first broken line
--- rule, then of its first broken rule of acceptance, else `accepted`. `run` reads a workload behind it, and refuses by its line
--- rules last; else it writes the report of a run.
+-- What an input that is not too long may have written. `check` and `plan` read a specification alone: the refusal of its first
+-- broken line rule, then of its first broken rule of acceptance, else `accepted` or the plans. `run` reads a workload behind it,
+-- and refuses by its line rules last; else it writes the report of a run.
 abbrev pub Answers : Command → List ℕ → List ℕ → Status → Type 0
-Answers Check input text status = AnswersCheck (spec_of input) text status
+Answers Check input text status = AnswersAlone (λ spec. IsAcceptedText) (spec_of input) text status
+Answers Plan input text status = AnswersAlone IsPlansText (spec_of input) text status
 Answers Run input text status = AnswersRun input (spec_reading input) text status
 
 -- a workload was read
@@ -102,6 +110,7 @@ IsGoodSpec (Ok spec) = IsAccepted spec
 -- an input that breaks no rule of the command
 abbrev pub KeepsRules : Command → List ℕ → Type 0
 KeepsRules Check input = IsGoodSpec (spec_of input)
+KeepsRules Plan input = IsGoodSpec (spec_of input)
 KeepsRules Run input = IsGoodReading input (spec_reading input)
 
 -- an input that is too long

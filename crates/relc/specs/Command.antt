@@ -2,12 +2,13 @@
 use Rattle.std.specs.Prelude.{ℕ, List, [], ◌∷◌, Option, Some, None, codes, if◌then◌else◌}
 use Rattle.std.specs.Str.{bytes_eq}
 use Rattle.relc.specs.declared.command.Command.{Command}
-use Rattle.relc.specs.declared.command.Command.TheVariants.{Check, Run}
+use Rattle.relc.specs.declared.command.Command.TheVariants.{Check, Plan, Run}
 
 -- the command of a name
 abbrev pub command_named : List ℕ → Option Command
 command_named name = if bytes_eq name (codes "check") then Some Check
-    else (if bytes_eq name (codes "run") then Some Run else None)
+    else (if bytes_eq name (codes "plan") then Some Plan
+    else (if bytes_eq name (codes "run") then Some Run else None))
 
 -- the program's name and one word
 abbrev pub command_of : List (List ℕ) → Option Command

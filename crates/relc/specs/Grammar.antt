@@ -16,7 +16,7 @@ program = let app = new_app (codes "relc") in record app {
 
 -- the program with its commands
 abbrev pub grammar : App
-grammar = with_subcommand (with_subcommand program (new_app (codes "check")).top) (new_app (codes "run")).top
+grammar = with_subcommand (with_subcommand (with_subcommand program (new_app (codes "check")).top) (new_app (codes "plan")).top) (new_app (codes "run")).top
 
 -- the word begins with a hyphen, 45
 abbrev pub is_flag : List ℕ → Bool

@@ -1,7 +1,9 @@
 pub mod Answers
+pub mod Asked
 pub mod Command
 pub mod Ends
 pub mod Grammar
 pub mod InTurn
+pub mod Plans
 pub mod Refusals
 pub mod Statuses

@@ -51,10 +51,10 @@ end
 ";
 
 /// A part of a text, and what stands in its place.
-type Change<'a> = (&'a str, &'a str);
+pub(crate) type Change<'a> = (&'a str, &'a str);
 
 /// The text with each change made once; one whose part is not there adds a line that has no form.
-fn changed(alloc: Global, text: &str, changes: &[Change]) -> Result<String, Memory> {
+pub(crate) fn changed(alloc: Global, text: &str, changes: &[Change]) -> Result<String, Memory> {
     let mut result = text.to_string(alloc)?;
     for &(old, new) in changes {
         result = match result.split_once(old) {

@@ -14,6 +14,8 @@ use std::alloc::{AllocError, Global};
 pub enum Command {
     /// Reads a specification alone, and says whether it is accepted.
     Check,
+    /// Reads a specification alone, and prints the plans of its operations.
+    Plan,
     /// Reads a specification and a workload, makes the calls, and prints the journal.
     Run,
 }
@@ -46,12 +48,14 @@ fn reader<'a>(alloc: Global) -> Result<clap::Command<'a>, AllocError>
     ensures { IfOk result (λ c. app_of c ≡ grammar) }
 {
     let check = clap::Command::new(alloc, "check");
+    let plan = clap::Command::new(alloc, "plan");
     let run = clap::Command::new(alloc, "run");
     clap::Command::new(alloc, "relc")
         .subcommand_required(true)
         .disable_help_flag(true)
         .disable_help_subcommand(true)
         .subcommand(check)?
+        .subcommand(plan)?
         .subcommand(run)
 }
 
@@ -79,6 +83,7 @@ fn command_named(name: Option<&str>) -> Option<Command>
 {
     match name {
         Some("check") => Some(Command::Check),
+        Some("plan") => Some(Command::Plan),
         Some("run") => Some(Command::Run),
         _ => None,
     }

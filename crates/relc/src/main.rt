@@ -12,6 +12,9 @@ use std::{env, io};
 mod check_tests;
 mod command;
 mod performing;
+#[cfg(test)]
+mod plan_tests;
+mod planning;
 mod refusing;
 mod running;
 mod status;

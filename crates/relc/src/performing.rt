@@ -1,14 +1,18 @@
-//! Answers a text: reads it, tests its rules, makes its calls, and writes what the command asks or a refusal.
+//! Answers a text: reads it, tests its rules, plans its operations or makes its calls, and writes what the command asks
+//! or a refusal.
 
 ghost use Rattle.std.specs.Prelude.{◌≡◌, ◌≤◌, ◌^◌, length, IsErrOf};
 ghost use Rattle.rc_io.specs.Counts.{Rose};
+ghost use Rattle.rc_reader.specs.Grammar.{spec_of};
 ghost use Rattle.rc_spec.specs.InRange.{IsInRange};
 ghost use Rattle.rc_work.specs.Fitting.{RoundsFit, HasThreads};
-ghost use Rattle.relc.specs.Answers.{Answers, IsReport};
+ghost use Rattle.relc.specs.Answers.{Answers, AnswersAlone, IsReport};
+ghost use Rattle.relc.specs.Asked.{IsAskedText};
 ghost use Rattle.relc.specs.Ends.{Writes};
 ghost use Rattle.relc.specs.declared.command.Command.TheVariants as commands;
 
 use crate::command::Command;
+use crate::planning::write_planned;
 use crate::refusing::{refuse, refuse_spec};
 use crate::running::run_work;
 use crate::status::{Status, Stop};
@@ -16,7 +20,7 @@ use crate::writing::{write_accepted, write_report};
 use rc_io::Sink;
 use rc_place::accept;
 use rc_reader::{read_spec, read_spec_only};
-use rc_spec::Spec;
+use rc_spec::{Accepted, Spec};
 use rc_work::{Report, Work, read_work};
 use std::alloc::Global;
 
@@ -40,10 +44,41 @@ fn perform<K: Sink>(alloc: Global, sink: &mut K, spec: &Spec, work: &Work) -> Re
     Ok(Status::Done)
 }
 
-/// Answers a specification that stands alone: whether it is accepted.
-fn check<K: Sink>(alloc: Global, text: &[u8], sink: &mut K) -> Result<Status, Stop>
+/// What is asked of a specification that stands alone, where it is accepted.
+#[derive(Clone, Copy)]
+enum Asked {
+    /// That it is.
+    Acceptance,
+    /// The plans of its operations.
+    Plans,
+}
+
+/// Writes what is asked of an accepted specification.
+fn write_asked<K: Sink>(
+    alloc: Global,
+    asked: Asked,
+    accepted: Accepted,
+    sink: &mut K,
+) -> Result<Status, Stop>
+    ensures written { Writes (IsAskedText asked accepted) (K.held sink.old) (K.held sink.new) result }
+    ensures failed { IsErrOf result Stop.Sink → Rose (K.faults sink.old) (K.faults sink.new) }
+    ensures count { K.faults sink.old ≤ K.faults sink.new }
+{
+    match asked {
+        Asked::Acceptance => write_accepted(sink),
+        Asked::Plans => write_planned(alloc, sink, accepted),
+    }
+}
+
+/// Answers a specification that stands alone: writes what is asked of it, or its refusal.
+fn answer_alone<K: Sink>(
+    alloc: Global,
+    asked: Asked,
+    text: &[u8],
+    sink: &mut K,
+) -> Result<Status, Stop>
     requires { length text.now ≤ 2 ^ 24 }
-    ensures written { Writes (Answers commands.Check text.now) (K.held sink.old) (K.held sink.new) result }
+    ensures written { Writes (AnswersAlone (IsAskedText asked) (spec_of text.now)) (K.held sink.old) (K.held sink.new) result }
     ensures failed { IsErrOf result Stop.Sink → Rose (K.faults sink.old) (K.faults sink.new) }
     ensures count { K.faults sink.old ≤ K.faults sink.new }
 {
@@ -52,7 +87,7 @@ fn check<K: Sink>(alloc: Global, text: &[u8], sink: &mut K) -> Result<Status, St
         Err(refusal) => return refuse(alloc, sink, refusal),
     };
     match accept(alloc, spec) {
-        Ok(_) => write_accepted(sink),
+        Ok(accepted) => write_asked(alloc, asked, accepted, sink),
         Err(fault) => refuse_spec(alloc, sink, fault),
     }
 }
@@ -93,7 +128,8 @@ pub(crate) fn answer<K: Sink>(
     ensures count { K.faults sink.old ≤ K.faults sink.new }
 {
     match command {
-        Command::Check => check(alloc, text, sink),
+        Command::Check => answer_alone(alloc, Asked::Acceptance, text, sink),
+        Command::Plan => answer_alone(alloc, Asked::Plans, text, sink),
         Command::Run => run(alloc, text, sink),
     }
 }

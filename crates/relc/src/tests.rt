@@ -32,7 +32,7 @@ op find query src dst -> weight
 end
 ";
 
-const EXAMPLE_GRAPH: &str =
+pub(crate) const EXAMPLE_GRAPH: &str =
     "# A directed graph with weighted edges: at most one edge from src to dst.
 relc 1
 col src num
@@ -89,7 +89,7 @@ final 1
 end
 ";
 
-const EXAMPLE_SCHEDULER: &str =
+pub(crate) const EXAMPLE_SCHEDULER: &str =
     "# The processes of a scheduler: each is known by its namespace and its number, and has a state and a processor.
 relc 1
 col ns num
@@ -140,7 +140,7 @@ final 1
 end
 ";
 
-const EXAMPLE_SEATS: &str =
+pub(crate) const EXAMPLE_SEATS: &str =
     "# A seat table: a guest has one name and one seat, and a seat has one guest.
 relc 1
 col id num
@@ -193,9 +193,9 @@ pub(crate) struct End {
 /// Streams by the bytes that they pass at most in a call, and by the calls that fail.
 #[derive(Clone, Copy)]
 pub(crate) struct Streams<'a> {
-    piece: usize,
-    failed_reads: &'a [u64],
-    failed_writes: &'a [u64],
+    pub(crate) piece: usize,
+    pub(crate) failed_reads: &'a [u64],
+    pub(crate) failed_writes: &'a [u64],
 }
 
 pub(crate) const WHOLE: Streams<'static> = Streams {

@@ -9,6 +9,7 @@ fn reads_words(rt: HostRuntime) -> Result<(), Fail> {
         (&[], None),
         (&["relc"], None),
         (&["relc", "check"], Some(Command::Check)),
+        (&["relc", "plan"], Some(Command::Plan)),
         (&["relc", "run"], Some(Command::Run)),
         (&["", "run"], Some(Command::Run)),
         (&["--help", "check"], Some(Command::Check)),
@@ -21,7 +22,6 @@ fn reads_words(rt: HostRuntime) -> Result<(), Fail> {
         (&["relc", "help"], None),
         (&["relc", "ru"], None),
         (&["relc", "frob"], None),
-        (&["relc", "plan"], None),
         (&["relc", ""], None),
     ];
     for (words, command) in rows {

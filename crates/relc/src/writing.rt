@@ -1,10 +1,10 @@
 //! Writes lines to a sink, each with its line feed at a time.
 
-ghost use Rattle.std.specs.Prelude.{◌≡◌, ◌≤◌, ◌∷◌, [], OnOk, OnErr, IsErrOf};
+ghost use Rattle.std.specs.Prelude.{◌≡◌, ◌<◌, ◌≤◌, ◌∷◌, [], length, take, drop, OnOk, OnErr, IsErrOf};
 ghost use Rattle.rc_io.specs.Bytes.{Adds, AddsPrefix};
 ghost use Rattle.rc_io.specs.Counts.{Rose};
 ghost use Rattle.rc_rel.specs.History.{AllFit};
-ghost use Rattle.rc_text.specs.Lines.{printed_lines};
+ghost use Rattle.rc_text.specs.Lines.{lines_of, printed_lines};
 ghost use Rattle.rc_work.specs.Report.{report};
 ghost use Rattle.relc.specs.Answers.{IsAcceptedText};
 ghost use Rattle.relc.specs.Ends.{Writes};
@@ -25,6 +25,36 @@ pub(crate) fn write_line<K: Sink>(sink: &mut K, mut line: Vec<u8>) -> Result<(),
         return Err(Stop::Memory);
     }
     write_all(sink, &line)?;
+    Ok(())
+}
+
+/// How long the first line of a text is, with its line feed.
+fn first_line_length(text: &[u8]) -> usize
+    requires { 0 < length text.now }
+    ensures within { (0 < result) × (result ≤ length text.now) }
+    ensures first { lines_of text.now ≡ take result text.now ∷ lines_of (drop result text.now) }
+{
+    for (place, byte) in text.iter().enumerate() {
+        if *byte == b'\n' {
+            return place + 1;
+        }
+    }
+    text.len()
+}
+
+/// Writes a text line by line.
+pub(crate) fn write_text<K: Sink>(sink: &mut K, text: &[u8]) -> Result<(), Stop>
+    ensures ok { OnOk result (Adds (K.held sink.old) text.now (K.held sink.new)) }
+    ensures prefix { OnErr result (AddsPrefix (K.held sink.old) text.now (K.held sink.new)) }
+    ensures failed { IsErrOf result Stop.Sink → Rose (K.faults sink.old) (K.faults sink.new) }
+    ensures count { K.faults sink.old ≤ K.faults sink.new }
+{
+    let mut rest = text;
+    while !rest.is_empty() {
+        let (line, others) = rest.split_at(first_line_length(rest));
+        write_all(sink, line)?;
+        rest = others;
+    }
     Ok(())
 }
 

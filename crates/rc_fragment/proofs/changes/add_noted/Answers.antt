@@ -12,7 +12,7 @@ use Rattle.rc_fragment.specs.declared.edge_rows.EdgeRows.{EdgeRows}
 use Rattle.rc_fragment.specs.declared.note.Note.{Note}
 use Rattle.rc_fragment.proofs.ChangeLemmas.{found_edge}
 use Rattle.rc_fragment.proofs.PlaceLemmas.{fragment_noted, fragment_same}
-use Rattle.rc_fragment.proofs.RowLemmas.{alone_found, single_found, count_found_row, listing_becomes, listing_stays_now, listing_stays_taken}
+use Rattle.rc_fragment.proofs.RowLemmas.{alone_found, shape_there, single_found, count_found_row, listing_becomes, listing_stays_now, listing_stays_taken}
 use Rattle.rc_fragment.proofs.SourcesLemmas.{on_err}
 use Rattle.rc_fragment.proofs.changes.add_noted.Goals as goal
 
@@ -29,6 +29,7 @@ add_place-requires-clause-row c =
     record {
       source_is = λ y g. let p : x ≡ y = cc in ap (λ (z : EdgeRows). project z.shape.source row) (sym p) ∙ sym s;
       key_is = λ y g. let p : x ≡ y = cc in ap (λ (z : EdgeRows). project z.shape.key row) (sym p) ∙ sym k;
+      columns_are = λ y g. c.requires.columns y.shape (shape_there edges e y g);
       same = subst (λ z. IsRowOf (found_by now_in edges e z c.in_ok-key.key) row) (sym s) (subst (λ z. IsRowOf (found_by now_in edges e (project x.shape.source row) z) row) (sym k) alone);
     }
 

@@ -60,7 +60,7 @@ returns-clause-ok c =
     on_ok_from _ _ c.add.result c.add.ensures.ok (λ b.
     let r : PlaceBecomes edges set (e, s, k) (f (now_at x s k)) (taken_at x s k) =
     place_becomes edges set e x y n refl c.requires.stored s k (f (now_at x s k)) (taken_at x s k) b
-    (place_of_row x s k c.args.row.now (count_of (now_at x s k)) (c.requires.row.source_is x n) (c.requires.row.key_is x n)) q in
+    (place_of_row x s k c.args.row.now (count_of (now_at x s k)) (c.requires.row.source_is x n) (c.requires.row.key_is x n) (c.requires.row.columns_are x n)) q in
     subst (λ z. PlaceBecomes edges set (e, s, k) (f z) (found_by taken_in edges e s k)) now (subst (λ z. PlaceBecomes edges set (e, s, k) (f (now_at x s k)) z) taken r))
 
 pub returns-clause-err : goal.returns-clause-err

@@ -90,7 +90,7 @@ returns-clause-ok c =
     let no_now : (k : Pairs) → fin.get (now_in b) k ≡ None = none_there (now_in b) c.new-container.ensures.now in
     let no_taken : (k : Pairs) → fin.get (taken_in b) k ≡ None = none_there (taken_in b) c.new-container.ensures.taken in
     on_ok_from _ _ c.put.result c.put.ensures.ok (λ p.
-    let e : by_source set ≡ written (by_source es) source (Some w) = p ∙ ap (λ z. written (by_source z.entries) source (Some w)) c.get_mut.follows.holds-at-none in
+    let e : by_source set ≡ written (by_source es) source (Some w) = p ∙ (λ i. written (by_source (c.get_mut.follows.holds-at-none i).entries) (c.pairs-2.ensures.pairs i) (Some w)) in
     record {
       now = set_by es set source None w f e now_in (now_in b) key (g (fin.get (by_source es) source))
           (c.in_ok-add-2.ensures.ok ∙ ap (λ z. written (now_in b) key (Some (c.args.row.now, count_of z + 1))) (no_now key) ∙ ap (λ z. written (now_in b) key (g z)) (sym f)) no_now;

@@ -8,15 +8,11 @@ use Rattle.rc_fragment.specs.Listing.{shapes}
 use Rattle.rc_fragment.specs.declared.edge_rows.EdgeRows.{EdgeRows}
 use Rattle.rc_fragment.specs.declared.shape.EdgeShape.{EdgeShape}
 use Rattle.rc_fragment.proofs.ChangeLemmas.{found_edge}
-use Rattle.rc_fragment.specs.Container.{now_in, taken_in}
-use Rattle.rc_spec.specs.CountedRowsLaws.{AreCountedRows}
-use Rattle.rc_fragment.proofs.ListingLemmas.{AreCountedRows-listing}
-use Rattle.rc_fragment.proofs.RowLemmas.{filed_now, filed_taken}
 use Rattle.rc_fragment.proofs.LookupLemmas.{lookup_law}
 use Rattle.rc_fragment.proofs.fragment.Fragment.lookup.Goals as goal
 
-pub returns-clause-row : goal.returns-clause-row
-returns-clause-row c =
+pub returns : goal.returns
+returns c =
     let edges : List EdgeRows = c.self.inside.edges.items in
     let e : ℕ = c.args.edge in
     let x : EdgeRows = c.index-rows.result.now in
@@ -25,9 +21,3 @@ returns-clause-row c =
     let n : slice_get edges e ≡ Some x = found_edge edges e x (omega arith) c.index-rows.ensures in
     subst (λ (z : FragmentRows). (shape : EdgeShape) → HasShape z.table e shape → IsLookedUp shape z.now e c.args.source.now c.args.key.now (option_copied c.get.result)) c.self.view_is
     (lookup_law edges c.self.invariant.stored e x n c.args.source.now c.args.key.now (option_copied c.get.result) c.get.ensures)
-
-pub returns-clause-counted : goal.returns-clause-counted
-returns-clause-counted c =
-    let edges : List EdgeRows = c.self.inside.edges.items in
-    subst (λ (z : FragmentRows). AreCountedRows z.now × AreCountedRows z.taken) c.self.view_is
-    (AreCountedRows-listing now_in edges (filed_now edges c.self.invariant.stored), AreCountedRows-listing taken_in edges (filed_taken edges c.self.invariant.stored))

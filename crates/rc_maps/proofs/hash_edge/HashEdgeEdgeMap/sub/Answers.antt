@@ -1,10 +1,13 @@
-use Rattle.std.proofs.Common.{◌≡◌, Some, None, rules, sym, ap, ◌∙◌}
+use Rattle.std.proofs.Common.{◌≡◌, Some, None, rules, sym, ap, subst, ◌∙◌}
+use Rattle.std.specs.Prelude.{IsSome}
 use Rattle.std.specs.FinMap as fin
 use Rattle.rc_tuple.specs.Tuple.{Pairs}
 use Rattle.rc_edges.specs.EdgeMap.{Kept, written, lowered}
+use Rattle.rc_edges.specs.Entry.{now_of}
+use Rattle.rc_edges.specs.ListMapLaws.{count_there}
 use Rattle.rc_edges.specs.declared.entry.Entry.{Entry}
-use Rattle.rc_maps.specs.Keyed.{Entries, whole_of}
-use Rattle.rc_maps.specs.KeyedLaws.{HasRowsOf, HasRowsOf-set, HasRowsOf-out, NoneIsGone-set, NoneIsGone-out, got_now, set_now, stays_taken, count_there, not_there}
+use Rattle.rc_maps.specs.Keyed.{Entries, items_of, whole_of}
+use Rattle.rc_maps.specs.KeyedLaws.{HasRowsOf, HasRowsOf-set, HasRowsOf-out, NoneIsGone-set, NoneIsGone-out, got_now, set_now, stays_taken, not_there}
 use Rattle.rc_maps.specs.HashedLaws.{found, changed}
 use Rattle.rc_maps.proofs.hash_edge.HashEdgeEdgeMap.sub.Goals as goal
 
@@ -17,7 +20,8 @@ pub lower-requires : goal.lower-requires
 lower-requires c =
     let es : Entries = c.self.inside.table.entries in
     let v : Entry = c.in-Some.entry.now in
-    count_there c.args.self.now (whole_of es) c.self.view_is c.args.key.now v (found c.args.key.now (Some v) es c.in-Some.ensures.value) c.requires
+    let e : fin.get c.args.self.now.now c.args.key.now ≡ now_of v = got_now c.args.self.now (whole_of es) c.self.view_is c.args.key.now (Some v) (found c.args.key.now (Some v) es c.in-Some.ensures.value) in
+    count_there c.args.self.now (items_of es) c.args.key.now (now_of v) c.self.view_is e (subst IsSome e c.requires)
 
 pub invariant_of-self : goal.invariant_of-self
 invariant_of-self c =

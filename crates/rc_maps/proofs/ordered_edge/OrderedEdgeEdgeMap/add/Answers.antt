@@ -5,9 +5,10 @@ use Rattle.rc_edges.specs.EdgeMap.{Kept, IsRowOf, count_of, count_at, once_more,
 use Rattle.rc_edges.specs.Entry.{now_of, is_gone}
 use Rattle.rc_edges.specs.declared.entry.Entry.{Entry}
 use Rattle.rc_maps.specs.Keyed.{Entries, NoneIsGone, kept_by, whole_of}
-use Rattle.rc_maps.specs.KeyedLaws.{HasRowsOf, HasRowsOf-set, NoneIsGone-set, stays_with_row, got_now, set_now, stays_now, stays_taken}
+use Rattle.rc_maps.specs.KeyedLaws.{HasRowsOf, HasRowsOf-set, NoneIsGone-set, got_now, set_now, stays_now, stays_taken}
 use Rattle.rc_maps.specs.OrderedLaws.{found, changed}
 use Rattle.std.proofs.lemmas.Result.{err_from_is_err_and}
+use Rattle.rc_edges.specs.ListMapLaws.{kept_row}
 use Rattle.rc_maps.proofs.ordered_edge.OrderedEdgeEdgeMap.add.Goals as goal
 
 pub raise-requires-clause-room : goal.raise-requires-clause-room
@@ -52,14 +53,14 @@ invariant_of-self-in-Some c =
     let u = (c.get_mut.follows.holds w).3 (search rules) in
     let set : Entries = (c.get_mut.follows.lender w).entries in
     let e : whole_of set ≡ written (whole_of es) key (Some w) = changed key (Some w) es set u.3 u.1 in
-    NoneIsGone-set (whole_of es) (whole_of set) key w c.self.invariant e (stays_with_row w (c.args.row.now, count_of (now_of v) + 1) c.in_ok-raise.ensures.ok)
+    NoneIsGone-set (whole_of es) (whole_of set) key w c.self.invariant e (kept_row w (c.args.row.now, count_of (now_of v) + 1) c.in_ok-raise.ensures.ok)
 
 pub invariant_of-self-2 : goal.invariant_of-self-2
 invariant_of-self-2 c =
     let key : Pairs = c.pairs-2.result.now in
     let old : Entries = c.get_mut.follows.lender-at-none.entries in
     let kept : NoneIsGone (whole_of old) = subst (λ z. NoneIsGone (whole_of z.entries)) (sym c.get_mut.follows.holds-at-none) c.self.invariant in
-    NoneIsGone-set (whole_of old) (whole_of c.put.new.table.entries) key c.in_ok-entry.entry kept c.in_ok-put.ensures.ok (stays_with_row c.in_ok-entry.entry (c.args.row.now, 1) c.in_ok-entry.ensures.now)
+    NoneIsGone-set (whole_of old) (whole_of c.put.new.table.entries) key c.in_ok-entry.entry kept c.in_ok-put.ensures.ok (kept_row c.in_ok-entry.entry (c.args.row.now, 1) c.in_ok-entry.ensures.now)
 
 pub returns-in_err-raise-clause-err : goal.returns-in_err-raise-clause-err
 returns-in_err-raise-clause-err c =

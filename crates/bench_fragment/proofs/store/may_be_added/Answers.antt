@@ -1,0 +1,19 @@
+use Rattle.std.specs.Prelude.{◌==◌, None, option_copied}
+use Rattle.std.proofs.Common.{◌≡◌, [], length, rules, sym, subst, ap, ◌∙◌}
+use Rattle.std.proofs.lemmas.Bool.{false≢true}
+use Rattle.rc_fragment.specs.Fragment.{IsLookedUp}
+use Rattle.bench_fragment.proofs.StoreLemmas.{free_from_lookup, free_from_scan, no_answer, nothing}
+use Rattle.bench_fragment.proofs.store.may_be_added.Goals as goal
+
+pub returns-then-is_singleton : goal.returns-then-is_singleton
+returns-then-is_singleton c h =
+    let none : c.scan.new.out ≡ [] = nothing c.scan.new.out (ap (λ ts. length ts == 0) (sym c.list.ensures) ∙ sym c.is_empty.ensures ∙ h) in
+    free_from_scan c.args.accepted.now c.args.fragment.now.table c.args.fragment.now.now c.args.edge c.args.row.now c.requires.table c.requires.known
+    c.pairs.result.now c.scan.new.out (search rules) none (search rules)
+
+pub returns : goal.returns
+returns c h =
+    let none : option_copied c.lookup.result ≡ None = no_answer (λ t. t.now) c.lookup.result c.is_none.result h c.is_none.ensures in
+    free_from_lookup c.args.accepted.now c.args.fragment.now.table c.args.fragment.now.now c.args.edge c.args.row.now c.requires.table c.requires.known
+    c.pairs-2.result.now c.pairs-3.result.now (search rules) (search rules) (λ k. false≢true (sym c.if-is_singleton.false ∙ c.is_singleton.ensures k))
+    (λ s has. subst (IsLookedUp s c.args.fragment.now.now c.args.edge c.pairs-2.result.now c.pairs-3.result.now) none (c.lookup.ensures s has))

@@ -1,0 +1,81 @@
+//! Measures fragments of 1,000, 10,000 and 100,000 tuples on one stripe. It prints what was done, and with the word
+//! `time` also how long it took.
+#![tactic(auto)]
+
+mod fault;
+mod measure;
+mod store;
+mod texts;
+
+use crate::fault::Fault;
+use crate::measure::{Measure, STEPS, measure_fragment};
+use crate::texts::{CASES, Case};
+use rc_place::accept;
+use rc_reader::read_spec_only;
+use std::alloc::Global;
+use std::process::ExitCode;
+use std::{env, io};
+
+/// How many tuples are on the stripe.
+const SIZES: [u64; 3] = [1_000, 10_000, 100_000];
+
+/// The most bytes that a specification may have.
+const MAX_BYTES: usize = 1 << 24;
+
+/// Measures each kind at each size; the status is 1 where it could not be done.
+fn main(rt: HostRuntime) -> ExitCode {
+    let alloc = rt.alloc();
+    match measure_all(&rt, alloc) {
+        Ok(()) => ExitCode::from(0),
+        Err(_) => ExitCode::from(1),
+    }
+}
+
+/// Whether the word `time` is given.
+fn is_timed(rt: &HostRuntime, alloc: Global) -> io::Result<bool> {
+    let words: Vec<String> = env::args(rt)?.collect(alloc)?;
+    Ok(words.iter().any(|word| word.as_str() == "time"))
+}
+
+fn measure_all(rt: &HostRuntime, alloc: Global) -> Result<(), Fault> {
+    let timed = is_timed(rt, alloc)?;
+    for case in &CASES {
+        for size in SIZES {
+            measure_case(rt, alloc, case, size, timed)?;
+        }
+    }
+    Ok(())
+}
+
+/// Measures a fragment of one kind and size, and prints a line on it.
+fn measure_case(
+    rt: &HostRuntime,
+    alloc: Global,
+    case: &Case,
+    size: u64,
+    timed: bool,
+) -> Result<(), Fault> {
+    let text = case.text.as_bytes();
+    if text.len() > MAX_BYTES {
+        return Err(Fault::Refused);
+    }
+    let spec = read_spec_only(alloc, text)?;
+    let accepted = accept(alloc, spec)?;
+    let all = measure_fragment(alloc, rt, &accepted, size)?;
+    println!(rt; "{}: {size} tuples", case.kinds)?;
+    print_measure(rt, "look-ups", all.look_ups, timed)?;
+    print_measure(rt, "inserts", all.inserts, timed)?;
+    print_measure(rt, "removes", all.removes, timed)?;
+    print_measure(rt, "reverts", all.reverts, timed)
+}
+
+/// Prints how many steps were made, and how many nanoseconds each took.
+fn print_measure(rt: &HostRuntime, what: &str, measure: Measure, timed: bool) -> Result<(), Fault> {
+    if timed {
+        let nanos = measure.time.as_nanos() / STEPS as u128;
+        println!(rt; "  {} {what}, {nanos} ns each", measure.made)?;
+    } else {
+        println!(rt; "  {} {what}", measure.made)?;
+    }
+    Ok(())
+}

@@ -1,0 +1,143 @@
+//! How long look-ups and changes take in a fragment of some size.
+
+ghost use Rattle.std.specs.Prelude.{◌≡◌, IfOk, OnOk};
+ghost use Rattle.rc_fragment.specs.Fragment.{edge_table};
+
+use crate::fault::Fault;
+use crate::store::{has, insert, remove};
+use rc_fragment::Fragment;
+use rc_spec::Accepted;
+use rc_tuple::{Memory, Tuple};
+use std::alloc::Global;
+use std::time::{Clock, Duration, Instant};
+
+/// How many tuples are looked up, inserted and removed.
+pub const STEPS: u64 = 1000;
+
+/// How many of the steps were made, and how long they took together.
+#[derive(Clone, Copy)]
+pub struct Measure {
+    pub made: u64,
+    pub time: Duration,
+}
+
+/// The measures of a fragment.
+#[derive(Clone, Copy)]
+pub struct Measures {
+    /// Look-ups of the three rows of a tuple that is there.
+    pub look_ups: Measure,
+    /// Reverts of three rows that were added.
+    pub reverts: Measure,
+    /// Inserts of three rows, with the look-ups before them and a settle after.
+    pub inserts: Measure,
+    /// Removes of three rows, with the look-ups before them and a settle after.
+    pub removes: Measure,
+}
+
+/// The tuples of some numbers, each with a source, a target and a weight of its own.
+fn tuples(alloc: Global, first: u64, step: u64, count: u64) -> Result<Vec<Tuple>, Memory> {
+    let mut tuples = Vec::new(alloc);
+    for place in 0..count {
+        let number = first.wrapping_add(place.wrapping_mul(step));
+        tuples.push(Tuple::from_columns(alloc, &[0, 1, 2], &[number, number % 7, number])?)?;
+    }
+    Ok(tuples)
+}
+
+/// Inserts the tuples, one by one, and says how many of them.
+fn insert_all(fragment: &mut Fragment, accepted: &Accepted, tuples: &[Tuple]) -> Result<u64, Memory>
+    requires { fragment.old.table ≡ edge_table accepted.now }
+    ensures { fragment.new.table ≡ fragment.old.table }
+{
+    let mut made: u64 = 0;
+    for tuple in tuples {
+        if insert(fragment, accepted, tuple)? {
+            made = made.wrapping_add(1);
+        }
+        fragment.settle();
+    }
+    Ok(made)
+}
+
+/// Removes the tuples, one by one, and says how many of them.
+fn remove_all(fragment: &mut Fragment, accepted: &Accepted, tuples: &[Tuple]) -> Result<u64, Memory>
+    requires { fragment.old.table ≡ edge_table accepted.now }
+    ensures { fragment.new.table ≡ fragment.old.table }
+{
+    let mut made: u64 = 0;
+    for tuple in tuples {
+        if remove(fragment, accepted, tuple)? {
+            made = made.wrapping_add(1);
+        }
+        fragment.settle();
+    }
+    Ok(made)
+}
+
+/// Looks the tuples up, and says how many are there.
+fn count(fragment: &Fragment, accepted: &Accepted, tuples: &[Tuple]) -> Result<u64, Memory>
+    requires { fragment.now.table ≡ edge_table accepted.now }
+{
+    let mut found: u64 = 0;
+    for tuple in tuples {
+        if has(fragment, accepted, tuple)? {
+            found = found.wrapping_add(1);
+        }
+    }
+    Ok(found)
+}
+
+/// Inserts each tuple and takes it back, and measures the latter alone.
+fn revert_all<C: Clock>(
+    clock: &C,
+    fragment: &mut Fragment,
+    accepted: &Accepted,
+    tuples: &[Tuple],
+) -> Result<Measure, Fault>
+    requires { fragment.old.table ≡ edge_table accepted.now }
+    ensures { fragment.new.table ≡ fragment.old.table }
+{
+    let mut made: u64 = 0;
+    let mut time = Duration::ZERO;
+    for tuple in tuples {
+        if insert(fragment, accepted, tuple)? {
+            made = made.wrapping_add(1);
+        }
+        let start = Instant::now(clock)?;
+        fragment.revert();
+        time = time.saturating_add(start.elapsed(clock)?);
+    }
+    Ok(Measure { made, time })
+}
+
+/// Measures a fragment with so many tuples.
+pub fn measure_fragment<C: Clock>(
+    alloc: Global,
+    clock: &C,
+    accepted: &Accepted,
+    size: u64,
+) -> Result<Measures, Fault> {
+    let mut fragment = Fragment::empty(alloc, accepted)?;
+    insert_all(&mut fragment, accepted, &tuples(alloc, 0, 1, size)?)?;
+    let present = tuples(alloc, 0, size / STEPS, STEPS)?;
+    let fresh = tuples(alloc, size, 1, STEPS)?;
+    let start = Instant::now(clock)?;
+    let made = count(&fragment, accepted, &present)?;
+    let time = start.elapsed(clock)?;
+    let look_ups = Measure { made, time };
+    let reverts = revert_all(clock, &mut fragment, accepted, &fresh)?;
+    let start = Instant::now(clock)?;
+    let made = insert_all(&mut fragment, accepted, &fresh)?;
+    let time = start.elapsed(clock)?;
+    let inserts = Measure { made, time };
+    let start = Instant::now(clock)?;
+    let made = remove_all(&mut fragment, accepted, &fresh)?;
+    let time = start.elapsed(clock)?;
+    let removes = Measure { made, time };
+    Ok(Measures {
+        look_ups,
+        reverts,
+        inserts,
+        removes,
+    })
+}

@@ -1,0 +1,76 @@
+//! The specifications that are measured: a tuple has a row in each of three edges, all on one stripe.
+
+/// A relation whose edges are of some kinds.
+pub struct Case {
+    /// The kinds of the first and the second edge; the third is a singleton.
+    pub kinds: &'static str,
+    /// The specification.
+    pub text: &'static str,
+}
+
+/// The kinds that are measured.
+pub const CASES: [Case; 3] = [
+    Case {
+        kinds: "hash, hash",
+        text: "relc 1
+col src num
+col dst num
+col weight num
+fd src -> dst weight
+node root
+node u src
+node w src dst
+node z src dst weight
+edge e1 root u hash src
+edge e2 u w hash dst
+edge e3 w z singleton weight
+lock k 1
+place e1 k
+place e2 k
+place e3 k
+end
+",
+    },
+    Case {
+        kinds: "ordered, ordered",
+        text: "relc 1
+col src num
+col dst num
+col weight num
+fd src -> dst weight
+node root
+node u src
+node w src dst
+node z src dst weight
+edge e1 root u ordered src
+edge e2 u w ordered dst
+edge e3 w z singleton weight
+lock k 1
+place e1 k
+place e2 k
+place e3 k
+end
+",
+    },
+    Case {
+        kinds: "hash, list",
+        text: "relc 1
+col src num
+col dst num
+col weight num
+fd src -> dst weight
+node root
+node u src
+node w src dst
+node z src dst weight
+edge e1 root u hash src
+edge e2 u w list dst
+edge e3 w z singleton weight
+lock k 1
+place e1 k
+place e2 k
+place e3 k
+end
+",
+    },
+];

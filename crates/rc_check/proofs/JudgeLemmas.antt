@@ -1,0 +1,80 @@
+-- The answer to the checks of a plan.
+use Rattle.std.proofs.Common.{◌≡◌, ℕ, ◌<◌, ◌↔◌, List, [], ◌∷◌, ◌++◌, length, get_or, Bool, true, false, Option, None, Some, Result, Ok, Err, refl, sym, ap, subst, ◌∙◌, arith}
+use Rattle.std.specs.List.{flat_map, range_with_len, slice_get}
+use Rattle.std.specs.Result.{IsOk, IfErr}
+use Rattle.std.proofs.lemmas.Bool.{false≢true}
+use Rattle.std.proofs.lemmas.Option.{slice_get_past}
+use Rattle.rc_tuple.specs.RisingSetLaws.{slice_get_in, get_or_in}
+use Rattle.rc_spec.specs.declared.items.Op.{Op}
+use Rattle.rc_spec.specs.declared.spec.Spec.{Spec}
+use Rattle.rc_spec.specs.First.{EachHolds, IsFirstFailing, Judges}
+use Rattle.rc_spec.specs.FirstLaws.{each_listed, first_here, first_listed, first_left, judged_append, judged_err, judged_one}
+use Rattle.rc_spec.specs.DecompositionLaws.{at_found}
+use Rattle.rc_spec.specs.InRange.{IsInRange, IsOpAmong}
+use Rattle.rc_spec.specs.Placement.{no_op, op_at}
+use Rattle.rc_plan.specs.declared.refusal.PlanRefusal.{PlanRefusal}
+use Rattle.rc_plan.specs.declared.refusal.PlanRule.{PlanRule}
+use Rattle.rc_plan.specs.declared.refusal.PlanRule.TheVariants.{K1}
+use Rattle.rc_plan.specs.declared.statement.Statement.{Statement}
+use Rattle.rc_plan.specs.PlanRules.{AreKnown, IsComplete, IsFirstBrokenPlanRule, IsKept, IsKnown, Keeps, KeepsPlanRules, KeepsThere, check_at, checks_at, plan_checks, progress_at}
+use Rattle.rc_plan.specs.PlanRulesLaws.{refused_law, rules_from_checks}
+
+-- an answer to all checks says whether the plan keeps the rules
+pub ok_judged : {B : Type 0} (spec : Spec) (op : Op) (plan : List Statement) (answer : Result B PlanRefusal) → Judges (IsKept spec op plan) (plan_checks plan) answer
+    → IsOk answer ↔ KeepsPlanRules spec op plan
+ok_judged spec op plan (Ok value) j = ((λ h. rules_from_checks spec op plan j), λ k. refl)
+ok_judged spec op plan (Err refusal) j = ((λ h. absurd (false≢true h)), λ k. absurd (refused_law spec op plan refusal j k))
+
+pub err_judged : {B : Type 0} (spec : Spec) (op : Op) (plan : List Statement) (answer : Result B PlanRefusal) → Judges (IsKept spec op plan) (plan_checks plan) answer
+    → IfErr answer (IsFirstBrokenPlanRule spec op plan)
+err_judged spec op plan (Ok value) j = tt
+err_judged spec op plan (Err refusal) j = j
+
+-- ---- the rules at a statement
+
+-- a statement that was found keeps a rule exactly where the test for it says so
+pub rule_kept : (spec others : Spec) (op same : Op) (plan : List Statement) (n : ℕ) (x : Statement) (rule : PlanRule) (b : Bool) → others ≡ spec → same ≡ op → slice_get plan n ≡ Some x
+    → (b ≡ true) ↔ Keeps others same rule (progress_at spec op plan n) x → (b ≡ true) ↔ IsKept spec op plan (check_at n rule)
+rule_kept spec others op same plan n x rule b s o there test =
+    let at_spec : (b ≡ true) ↔ Keeps spec same rule (progress_at spec op plan n) x = subst (λ (z : Spec). (b ≡ true) ↔ Keeps z same rule (progress_at spec op plan n) x) s test in
+    let at_op : (b ≡ true) ↔ Keeps spec op rule (progress_at spec op plan n) x = subst (λ (z : Op). (b ≡ true) ↔ Keeps spec z rule (progress_at spec op plan n) x) o at_spec in
+    subst (λ (z : Option Statement). (b ≡ true) ↔ KeepsThere spec op rule (progress_at spec op plan n) z) (sym there) at_op
+
+-- the first check that fails, behind some that hold
+pub refused_behind : {B : Type 0} (P : PlanRefusal → Type 0) (before after : List PlanRefusal) (x : PlanRefusal) (answer : Result B PlanRefusal) (y : PlanRefusal) (b : Bool) → EachHolds P before
+    → (b ≡ true) ↔ P x → (false ≡ true) ↔ (b ≡ true) → answer ≡ Err y → y ≡ x → Judges P (before ++ x ∷ after) answer
+refused_behind P before after x answer y b holds test ok e same =
+    judged_append P before (x ∷ after) answer holds (judged_err P (x ∷ after) answer y x e same (first_here P x after (λ k. false≢true (ok.1 (test.1 k)))))
+
+-- the statement that was found by its number
+pub known_at : (spec : Spec) (plan : List Statement) (n : ℕ) (x : Statement) → AreKnown spec plan → slice_get plan n ≡ Some x → IsKnown spec x
+known_at spec plan n x known there = known x (slice_get_in plan n x there)
+
+-- the operation that was found by its number
+pub op_found : (spec others : Spec) (ops : List Op) (n : ℕ) (op : Op) → others ≡ spec → ops ≡ others.ops → n < length spec.ops → op ≡ get_or ops n op → op_at spec n ≡ op
+op_found spec others ops n op same list l found = at_found ops spec.ops n no_op op (list ∙ ap (λ (s : Spec). s.ops) same) l found
+
+pub op_known : (spec : Spec) (n : ℕ) → IsInRange spec → n < length spec.ops → IsOpAmong (length spec.columns) (op_at spec n)
+op_known spec n range l = range.known_ops (op_at spec n) (get_or_in spec.ops n no_op l)
+
+-- ---- the statements in order
+
+-- a statement is refused, and those before it keep all rules
+pub refused_statement : {B : Type 0} (spec : Spec) (op : Op) (plan : List Statement) (n : ℕ) (answer : Result B PlanRefusal) (y : PlanRefusal) → n < length plan
+    → ((k : ℕ) → k < n → EachHolds (IsKept spec op plan) (checks_at k)) → answer ≡ Err y → IsFirstFailing (IsKept spec op plan) (checks_at n) y
+    → Judges (IsKept spec op plan) (plan_checks plan) answer
+refused_statement spec op plan n answer y l before e first =
+    judged_err (IsKept spec op plan) (plan_checks plan) answer y y e refl
+    (first_left (IsKept spec op plan) (flat_map checks_at (range_with_len 0 (length plan))) (check_at (length plan) K1 ∷ []) y
+    (first_listed (IsKept spec op plan) checks_at (length plan) n y l before first))
+
+-- all statements keep all rules, and the end is tested
+pub judged_end : {B : Type 0} (spec : Spec) (op : Op) (plan : List Statement) (answer : Result B PlanRefusal) (b : Bool) → ((k : ℕ) → k < length plan → EachHolds (IsKept spec op plan) (checks_at k))
+    → (b ≡ true) ↔ IsComplete (progress_at spec op plan (length plan)) → IsOk answer ↔ (b ≡ true) → IfErr answer (λ y. y ≡ check_at (length plan) K1)
+    → Judges (IsKept spec op plan) (plan_checks plan) answer
+judged_end spec op plan answer b all test ok err =
+    let there : slice_get plan (length plan) ≡ None = slice_get_past plan (length plan) (omega arith) in
+    let kept : (b ≡ true) ↔ IsKept spec op plan (check_at (length plan) K1) =
+    subst (λ (z : Option Statement). (b ≡ true) ↔ KeepsThere spec op K1 (progress_at spec op plan (length plan)) z) (sym there) test in
+    judged_append (IsKept spec op plan) (flat_map checks_at (range_with_len 0 (length plan))) (check_at (length plan) K1 ∷ []) answer
+    (each_listed (IsKept spec op plan) checks_at (length plan) all) (judged_one (IsKept spec op plan) (check_at (length plan) K1) answer b kept ok err)

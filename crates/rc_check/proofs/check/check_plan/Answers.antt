@@ -1,0 +1,80 @@
+use Rattle.std.proofs.Common.{◌≡◌, ℕ, ◌<◌, ◌↔◌, true, List, length, Some, Err, refl, sym, ap, subst, ◌∙◌, arith, below_more}
+use Rattle.std.specs.List.{slice_get}
+use Rattle.std.specs.Result.{IfErr}
+use Rattle.std.proofs.lemmas.Option.{slice_get_read}
+use Rattle.std.proofs.lemmas.Result.{err_from_is_err_and}
+use Rattle.rc_spec.specs.declared.items.Op.{Op}
+use Rattle.rc_spec.specs.declared.spec.Spec.{Spec}
+use Rattle.rc_spec.specs.First.{EachHolds, Judges}
+use Rattle.rc_spec.specs.InRange.{IsOpAmong}
+use Rattle.rc_spec.specs.Placement.{op_at}
+use Rattle.rc_plan.specs.declared.refusal.PlanRefusal.{PlanRefusal}
+use Rattle.rc_plan.specs.declared.refusal.PlanRule.TheVariants.{K1}
+use Rattle.rc_plan.specs.declared.statement.Statement.{Statement}
+use Rattle.rc_plan.specs.PlanRules.{IsComplete, IsKept, IsKnown, after, at_start, check_at, checks_at, plan_checks, progress_at}
+use Rattle.rc_plan.specs.PlanRulesLaws.{progress_more}
+use Rattle.rc_check.specs.Sets.{sets_of}
+use Rattle.rc_check.proofs.JudgeLemmas.{err_judged, judged_end, known_at, ok_judged, op_found, op_known, refused_statement}
+use Rattle.rc_check.proofs.check.check_plan.Goals as goal
+
+pub at_start-known-requires-clause-known : goal.at_start-known-requires-clause-known
+at_start-known-requires-clause-known c =
+    let spec : Spec = c.args.accepted.now in
+    let same = op_found spec c.spec-spec.result.now c.list.result.now c.args.op c.index-list-op.result c.spec-spec.ensures.value c.list.ensures c.requires.operation c.index-list-op.is in
+    subst (λ (s : Spec). IsOpAmong (length s.columns) c.index-list-op.result) (sym c.spec-spec.ensures.value)
+    (subst (IsOpAmong (length spec.columns)) same (op_known spec c.args.op c.spec-spec.ensures.sealed.in_range c.requires.operation))
+
+pub returns-in_err-check_statement : goal.returns-in_err-check_statement
+returns-in_err-check_statement c =
+    let spec : Spec = c.args.accepted.now in
+    let op : Op = op_at spec c.args.op in
+    let plan : List Statement = c.args.plan.now in
+    let n : ℕ = c.loop-at.at in
+    let below : n < length plan = omega (arith, c.loop-at-test.true, ap (λ (l : List Statement). length l) c.list-statements.ensures) in
+    let answer = err_from_is_err_and c.from_residual.result c.from_residual.ensures.1 in
+    let judged : Judges (IsKept spec op plan) (plan_checks plan) c.from_residual.result =
+    refused_statement spec op plan n c.from_residual.result answer.0 below c.loop-at.invariant.kept answer.1
+    (subst (λ (y : PlanRefusal). Judges {B = Unit {0}} (IsKept spec op plan) (checks_at n) (Err y)) (sym answer.2) c.in_err-check_statement.ensures) in
+    record { accepted = ok_judged spec op plan c.from_residual.result judged; first = err_judged spec op plan c.from_residual.result judged }
+
+pub after-known-requires-clause-known : goal.after-known-requires-clause-known
+after-known-requires-clause-known c =
+    let plan : List Statement = c.args.plan.now in
+    let n : ℕ = c.loop-at.at in
+    let x : Statement = c.index-statements-at.result in
+    let there : slice_get plan n ≡ Some x =
+    ap (λ l. slice_get l n) (sym c.list-statements.ensures)
+    ∙ slice_get_read c.list-statements.result.now (length c.list-statements.result.now) n x refl c.loop-at-test.true c.index-statements-at.is in
+    subst (λ (s : Spec). IsKnown s x) (sym c.spec-spec.ensures.value) (known_at c.args.accepted.now plan n x c.requires.known there)
+
+pub loop-at-preserved : goal.loop-at-preserved
+loop-at-preserved c =
+    let spec : Spec = c.args.accepted.now in
+    let op : Op = op_at spec c.args.op in
+    let plan : List Statement = c.args.plan.now in
+    let n : ℕ = c.loop-at.at in
+    let x : Statement = c.index-statements-at.result in
+    let there : slice_get plan n ≡ Some x =
+    ap (λ l. slice_get l n) (sym c.list-statements.ensures)
+    ∙ slice_get_read c.list-statements.result.now (length c.list-statements.result.now) n x refl c.loop-at-test.true c.index-statements-at.is in
+    record {
+      known =
+          c.after-known.ensures (progress_at spec op plan n) c.loop-at.invariant.known
+          ∙ ap (λ (s : Spec). sets_of (after s (progress_at spec op plan n) x)) c.spec-spec.ensures.value
+          ∙ ap sets_of (sym (progress_more spec (at_start spec op) plan n x there));
+      kept = below_more (λ k. EachHolds (IsKept spec op plan) (checks_at k)) n c.loop-at.invariant.kept c.in_ok-check_statement.ensures;
+    }
+
+pub returns : goal.returns
+returns c =
+    let spec : Spec = c.args.accepted.now in
+    let op : Op = op_at spec c.args.op in
+    let plan : List Statement = c.args.plan.now in
+    let n : ℕ = c.loop-at.at in
+    let all : length c.list-statements.result.now ≡ length plan = ap (λ (l : List Statement). length l) c.list-statements.ensures in
+    let end : n ≡ length plan = omega arith in
+    let complete = subst (λ k. (c.is_complete.result ≡ true) ↔ IsComplete (progress_at spec op plan k)) end (c.is_complete.ensures (progress_at spec op plan n) c.loop-at.invariant.known) in
+    let refusal = subst (λ k. IfErr c.unless.result (λ (y : PlanRefusal). y ≡ check_at k K1)) all c.unless.ensures.refusal in
+    let judged : Judges (IsKept spec op plan) (plan_checks plan) c.unless.result =
+    judged_end spec op plan c.unless.result c.is_complete.result (λ k l. c.loop-at.invariant.kept k (omega arith)) complete c.unless.ensures.ok refusal in
+    record { accepted = ok_judged spec op plan c.unless.result judged; first = err_judged spec op plan c.unless.result judged }

@@ -1,0 +1,8 @@
+use Rattle.std.proofs.Common.{ℕ, ◌+◌, ◌<◌, ◌⊎◌}
+use Rattle.rc_tuple.specs.RisingSet.{In}
+use Rattle.rc_tuple.specs.ColSet.{Within}
+use Rattle.rc_plan.specs.Evaluation.{dep_at}
+use Rattle.rc_check.proofs.checks.all_are_checked.Given as goal
+
+abbrev pub invariant-loop-place : goal.invariant-loop-place
+invariant-loop-place l = (k : ℕ) → k < l.place → Within l.pattern (dep_at l.spec (k + 1)).left ⊎ In k l.before.checked

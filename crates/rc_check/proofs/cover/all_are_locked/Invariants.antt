@@ -1,0 +1,8 @@
+use Rattle.std.proofs.Common.{◌≡◌, ℕ, ◌<◌}
+use Rattle.rc_spec.specs.Placement.{class_of}
+use Rattle.rc_plan.specs.PlanRules.{Progress, IsLocked}
+use Rattle.rc_check.specs.Sets.{sets_of}
+use Rattle.rc_check.proofs.cover.all_are_locked.Given as goal
+
+abbrev pub invariant-loop-edge : goal.invariant-loop-edge
+invariant-loop-edge l = (p : Progress) → l.before ≡ sets_of p → (e : ℕ) → e < l.edge → IsLocked p (class_of l.accepted e)

@@ -1,0 +1,23 @@
+use Rattle.std.proofs.Common.{◌≡◌, ◌<◌, ℕ, length, Some, sym, subst, arith}
+use Rattle.std.specs.Prelude.{List}
+use Rattle.std.specs.List.{slice_get}
+use Rattle.std.proofs.lemmas.List.{length-map}
+use Rattle.rc_fragment.specs.Fragment.{AreAllRows}
+use Rattle.rc_fragment.specs.FragmentRows.{FragmentRows}
+use Rattle.rc_fragment.specs.Listing.{shapes}
+use Rattle.rc_fragment.specs.declared.edge_rows.EdgeRows.{EdgeRows}
+use Rattle.rc_fragment.proofs.ChangeLemmas.{found_edge}
+use Rattle.rc_fragment.proofs.LookupLemmas.{all_rows}
+use Rattle.rc_fragment.proofs.SourcesLemmas.{if_ok_both}
+use Rattle.rc_fragment.proofs.fragment.Fragment.rows.Goals as goal
+
+pub returns : goal.returns
+returns c =
+    let edges : List EdgeRows = c.self.inside.edges.items in
+    let e : ℕ = c.args.edge in
+    let x : EdgeRows = c.index-rows.result.now in
+    let l : e < length (shapes edges) = subst (λ (z : FragmentRows). e < length z.table) (sym c.self.view_is) c.requires in
+    let m : length (shapes edges) ≡ length edges = length-map edges (λ (z : EdgeRows). z.shape) in
+    let n : slice_get edges e ≡ Some x = found_edge edges e x (omega arith) c.index-rows.ensures in
+    if_ok_both c.all.result c.all.ensures.only c.all.ensures.each (λ ts only each.
+    subst (λ (z : FragmentRows). AreAllRows z.now e ts) c.self.view_is (all_rows edges c.self.invariant.stored e x n ts only each))

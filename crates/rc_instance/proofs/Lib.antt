@@ -1,0 +1,7 @@
+mod AlikeLemmas
+mod ChangeLemmas
+mod EmptyLemmas
+mod FreeLemmas
+mod RepresentLemmas
+mod RevertLemmas
+mod StripeLemmas

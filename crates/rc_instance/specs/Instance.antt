@@ -1,0 +1,110 @@
+-- What an instance keeps: one fragment for each physical stripe, and which stripes are held.
+use Rattle.std.specs.Prelude.{◌≡◌, ℕ, suc, ◌<◌, ◌^◌, List, [], ◌∷◌, ◌++◌, Option, None, Some, length}
+use Rattle.std.specs.List.{flat_map, slice_get}
+use Rattle.rc_tuple.specs.RisingSet.{In}
+use Rattle.rc_tuple.specs.Tuple.{Pairs}
+use Rattle.rc_tuple.specs.Relation.{IsRelation, Satisfies}
+use Rattle.rc_spec.specs.Calls.{all_columns}
+use Rattle.rc_spec.specs.Fragments.{EdgeRow, fragment_of}
+use Rattle.rc_spec.specs.Stripes.{stripe_total}
+use Rattle.rc_spec.specs.declared.lock.Mode.{Mode}
+use Rattle.rc_spec.specs.declared.spec.Spec.{Spec}
+use Rattle.rc_fragment.specs.Fragment.{edge_table}
+use Rattle.rc_fragment.specs.FragmentRows.{FragmentRows}
+use Rattle.rc_fragment.specs.Holder.{HeldStripe, IsHeld}
+use Rattle.rc_fragment.specs.declared.shape.EdgeShape.{EdgeShape}
+use Rattle.rc_instance.specs.declared.stripe.Stripe.{Stripe}
+
+-- ---- what is seen of the stripes
+
+-- the edge table of all fragments
+abbrev pub table_of : List Stripe → List EdgeShape
+table_of [] = []
+table_of (s ∷ ss) = s.fragment.table
+
+-- a stripe as a plan has it, if it is held
+abbrev pub held_part : ℕ → FragmentRows → Option Mode → List HeldStripe
+held_part n f None = []
+held_part n f (Some mode) = record { stripe = n; mode = mode; now = f.now; taken = f.taken } ∷ []
+
+-- the held ones of several stripes, the first of which has this number
+abbrev pub held_from : ℕ → List Stripe → List HeldStripe
+held_from n [] = []
+held_from n (s ∷ ss) = held_part n s.fragment s.held ++ held_from (suc n) ss
+
+-- the rows as taken, which are offered where the stripe is free
+abbrev pub taken_in : Option Stripe → Option (List EdgeRow)
+taken_in None = None
+taken_in (Some s) = Some s.fragment.taken
+
+abbrev pub room_in : Option Stripe → ℕ
+room_in None = 0
+room_in (Some s) = s.fragment.room
+
+abbrev pub offered_at : List Stripe → ℕ → Option (List EdgeRow)
+offered_at ss n = taken_in (slice_get ss n)
+
+abbrev pub room_at : List Stripe → ℕ → ℕ
+room_at ss n = room_in (slice_get ss n)
+
+-- the rows now of all stripes, one stripe after the other
+abbrev pub rows_of : List Stripe → List EdgeRow
+rows_of ss = flat_map (λ s. s.fragment.now) ss
+
+-- all fragments have one edge table, and the rows of a free stripe are as taken
+pub record IsInstance (ss : List Stripe) : Type 0 where
+  pub table : (s : Stripe) → In s ss → s.fragment.table ≡ table_of ss
+  pub free : (s : Stripe) → In s ss → s.held ≡ None → s.fragment.now ≡ s.fragment.taken
+
+-- ---- instances that are made
+
+-- each stripe is free, has no row and offers none
+pub record IsEmpty (ss : List Stripe) : Type 0 where
+  pub held : held_from 0 ss ≡ []
+  pub rows : rows_of ss ≡ []
+  pub offered : (n : ℕ) → n < length ss → offered_at ss n ≡ Some []
+
+abbrev pub table_of_fragments : List FragmentRows → List EdgeShape
+table_of_fragments [] = []
+table_of_fragments (f ∷ fs) = f.table
+
+-- all fragments have one edge table
+abbrev pub HaveOneTable : List FragmentRows → Type 0
+HaveOneTable fs = (f : FragmentRows) → In f fs → f.table ≡ table_of_fragments fs
+
+abbrev pub now_in : Option FragmentRows → Option (List EdgeRow)
+now_in None = None
+now_in (Some f) = Some f.now
+
+-- the instance's stripes are these fragments: all are free, and each offers the rows that its fragment has now
+pub record IsMadeOf (fs : List FragmentRows) (ss : List Stripe) : Type 0 where
+  pub held : held_from 0 ss ≡ []
+  pub rows : rows_of ss ≡ flat_map (λ (f : FragmentRows). f.now) fs
+  pub offered : (n : ℕ) → offered_at ss n ≡ now_in (slice_get fs n)
+  pub stripes : length ss ≡ length fs
+  pub table : table_of ss ≡ table_of_fragments fs
+
+-- ---- stripes that are released
+
+-- no stripe is held any more: each that was offers the rows that it had, and each other what it did
+pub record AreReleased (old new : List Stripe) : Type 0 where
+  pub held : held_from 0 new ≡ []
+  pub rows : rows_of new ≡ rows_of old
+  pub settled : (h : HeldStripe) → In h (held_from 0 old) → offered_at new h.stripe ≡ Some h.now
+  pub others : (n : ℕ) → (IsHeld (held_from 0 old) n → ⊥) → offered_at new n ≡ offered_at old n
+  pub stripes : length new ≡ length old
+  pub table : table_of new ≡ table_of old
+
+-- ---- soundness
+
+-- the stripes as taken are the fragments of this relation, which satisfies the dependencies and has fewer than 2^63 tuples
+pub record IsOfRelation (spec : Spec) (ss : List Stripe) (r : List Pairs) : Type 0 where
+  pub relation : IsRelation (all_columns spec) r
+  pub satisfies : Satisfies r spec.deps
+  pub few : length r < 2 ^ 63
+  pub stripes : length ss ≡ stripe_total spec
+  pub rows : (n : ℕ) → n < stripe_total spec → offered_at ss n ≡ Some (fragment_of spec r n)
+
+-- the instance is one of the specification: it has its edge table, and its stripes as taken are the fragments of one relation
+abbrev pub is_of_one_relation : List Stripe → Spec → Type 0
+is_of_one_relation ss spec = (table_of ss ≡ edge_table spec) × ((r : List Pairs) × IsOfRelation spec ss r)

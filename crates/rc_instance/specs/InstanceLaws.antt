@@ -1,0 +1,176 @@
+-- Laws of instances: what they hold and offer, and what they represent.
+use Rattle.std.specs.Prelude.{◌≡◌, ℕ, zero, suc, ◌+◌, ◌<◌, ◌^◌, ◌⊎◌, ◌==◌, Bool, true, false, List, [], ◌∷◌, Option, None, Some, length}
+use Rattle.std.specs.List.{slice_get}
+use Rattle.std.proofs.Common.{inl, inr, refl, sym, ap, subst, ◌∙◌, arith}
+use Rattle.std.proofs.lemmas.Bool.{eqb-true, eq-eqb, false≢true}
+use Rattle.rc_tuple.specs.RisingSet.{In}
+use Rattle.rc_tuple.specs.RisingSetLaws.{in_append, append_in_left, append_in_right}
+use Rattle.rc_tuple.specs.Relation.{IsRelation, Satisfies}
+use Rattle.rc_tuple.specs.Tuple.{Pairs}
+use Rattle.rc_spec.specs.Calls.{all_columns}
+use Rattle.rc_spec.specs.Fragments.{fragment_of}
+use Rattle.rc_spec.specs.Stripes.{stripe_total}
+use Rattle.rc_spec.specs.declared.lock.Mode.{Mode}
+use Rattle.rc_spec.specs.declared.spec.Spec.{Spec}
+use Rattle.rc_fragment.specs.Fragment.{edge_table}
+use Rattle.rc_fragment.specs.FragmentRows.{FragmentRows}
+use Rattle.rc_fragment.specs.Holder.{HeldStripe, AreOfOneRelation, IsHeld}
+use Rattle.rc_instance.specs.Instance.{held_part, held_from, is_of_one_relation, now_in, offered_at, table_of, table_of_fragments, taken_in, AreReleased, IsMadeOf}
+use Rattle.rc_instance.specs.declared.stripe.Stripe.{Stripe}
+
+-- ---- places of a list
+
+pub slice_get_below : {A : Type 0} (xs : List A) (n : ℕ) (x : A) → slice_get xs n ≡ Some x → n < length xs
+slice_get_below [] n x e = cc
+slice_get_below (y ∷ xs) zero x e = omega arith
+slice_get_below (y ∷ xs) (suc n) x e = let k : n < length xs = slice_get_below xs n x e in omega (arith, k)
+
+pub same_some : {A : Type 0} (x y : A) → Some x ≡ Some y → x ≡ y
+same_some x y e = cc
+
+-- ---- held stripes
+
+-- a held stripe of those from a number on
+pub record IsHeldFrom (n : ℕ) (ss : List Stripe) (h : HeldStripe) : Type 0 where
+  pub place : ℕ
+  pub stripe : Stripe
+  pub there : slice_get ss place ≡ Some stripe
+  pub numbered : h.stripe ≡ n + place
+  pub held : stripe.held ≡ Some h.mode
+  pub now : h.now ≡ stripe.fragment.now
+  pub taken : h.taken ≡ stripe.fragment.taken
+
+in_held_part : (n : ℕ) (s : Stripe) (rest : List Stripe) (m : Option Mode) → s.held ≡ m → (h : HeldStripe) → In h (held_part n s.fragment m) → IsHeldFrom n (s ∷ rest) h
+in_held_part n s rest None e h i = absurd i
+in_held_part n s rest (Some mode) e h (inl p) = record {
+  place = 0;
+  stripe = s;
+  there = refl;
+  numbered = ap (λ (z : HeldStripe). z.stripe) p ∙ omega arith;
+  held = e ∙ ap (λ (z : HeldStripe). Some z.mode) (sym p);
+  now = ap (λ (z : HeldStripe). z.now) p;
+  taken = ap (λ (z : HeldStripe). z.taken) p;
+}
+in_held_part n s rest (Some mode) e h (inr i) = absurd i
+
+pub in_held_from : (n : ℕ) (ss : List Stripe) (h : HeldStripe) → In h (held_from n ss) → IsHeldFrom n ss h
+in_held_from n [] h i = absurd i
+in_held_from n (s ∷ ss) h i = elim (in_append h (held_part n s.fragment s.held) (held_from (suc n) ss) i) [
+  | inl a ↦ in_held_part n s ss s.held refl h a
+  | inr b ↦
+      let w : IsHeldFrom (suc n) ss h = in_held_from (suc n) ss h b in
+      record {
+        place = suc w.place;
+        stripe = w.stripe;
+        there = w.there;
+        numbered = omega (arith, w.numbered);
+        held = w.held;
+        now = w.now;
+        taken = w.taken;
+      }
+]
+
+-- a stripe that is held, as a plan has it
+abbrev pub as_held : ℕ → Mode → FragmentRows → HeldStripe
+as_held n mode f = record { stripe = n; mode = mode; now = f.now; taken = f.taken }
+
+-- and each stripe that is held stands among them
+pub held_from_in : (n : ℕ) (ss : List Stripe) (k m : ℕ) (s : Stripe) (mode : Mode) → slice_get ss k ≡ Some s → m ≡ n + k → s.held ≡ Some mode
+    → In (as_held m mode s.fragment) (held_from n ss)
+held_from_in n [] k m s mode e l h = cc
+held_from_in n (x ∷ ss) zero m s mode e l h =
+    let w : HeldStripe = as_held m mode s.fragment in
+    let here : s ≡ x = sym (same_some _ _ e) in
+    let at : m ≡ n = omega (arith, l) in
+    let own : In w (held_part m s.fragment (Some mode)) = inl refl in
+    let part : In w (held_part m s.fragment s.held) = subst (λ z. In w (held_part m s.fragment z)) (sym h) own in
+    let moved : In w (held_part n s.fragment s.held) = subst (λ z. In w (held_part z s.fragment s.held)) at part in
+    append_in_left w (held_part n x.fragment x.held) (held_from (suc n) ss) (subst (λ (z : Stripe). In w (held_part n z.fragment z.held)) here moved)
+held_from_in n (x ∷ ss) (suc k) m s mode e l h =
+    append_in_right (as_held m mode s.fragment) (held_part n x.fragment x.held) (held_from (suc n) ss) (held_from_in (suc n) ss k m s mode e (omega (arith, l)) h)
+
+-- ---- soundness
+
+pub sound_table : (ss : List Stripe) (spec : Spec) → is_of_one_relation ss spec → (table_of ss ≡ edge_table spec) × (length ss ≡ stripe_total spec)
+sound_table ss spec o = (o.0, o.1.1.stripes)
+
+pub sound_rows : (ss : List Stripe) (spec : Spec) → is_of_one_relation ss spec → AreOfOneRelation spec (held_from 0 ss)
+sound_rows ss spec o = (
+  o.1.0,
+  record {
+    relation = o.1.1.relation;
+    satisfies = o.1.1.satisfies;
+    few = o.1.1.few;
+    rows = λ h i.
+        let w : IsHeldFrom 0 ss h = in_held_from 0 ss h i in
+        let l : w.place < length ss = slice_get_below ss w.place w.stripe w.there in
+        let e : h.stripe ≡ w.place = omega (arith, w.numbered) in
+        let f : Some w.stripe.fragment.taken ≡ Some (fragment_of spec o.1.0 w.place) = ap taken_in (sym w.there) ∙ o.1.1.rows w.place (omega (arith, l, o.1.1.stripes)) in
+        w.taken ∙ same_some _ _ f ∙ ap (fragment_of spec o.1.0) (sym e);
+  },
+)
+
+-- ---- new soundness
+
+-- stripes made of fragments that are those of one relation are sound
+abbrev pub MadeOfRelation : Type 0
+MadeOfRelation = (spec : Spec) (fs : List FragmentRows) (ss : List Stripe) → IsMadeOf fs ss → table_of_fragments fs ≡ edge_table spec → length fs ≡ stripe_total spec
+    → (r : List Pairs) → IsRelation (all_columns spec) r → Satisfies r spec.deps → length r < 2 ^ 63
+    → ((n : ℕ) (f : FragmentRows) → slice_get fs n ≡ Some f → f.now ≡ fragment_of spec r n) → is_of_one_relation ss spec
+
+-- released stripes are sound where each that was held had its fragment of one relation, and each other offered it
+abbrev pub ReleasedToRelation : Type 0
+ReleasedToRelation = (spec : Spec) (old new : List Stripe) → AreReleased old new → table_of old ≡ edge_table spec → length old ≡ stripe_total spec
+    → (r : List Pairs) → IsRelation (all_columns spec) r → Satisfies r spec.deps → length r < 2 ^ 63
+    → ((h : HeldStripe) → In h (held_from 0 old) → h.now ≡ fragment_of spec r h.stripe)
+    → ((n : ℕ) → n < stripe_total spec → (IsHeld (held_from 0 old) n → ⊥) → offered_at old n ≡ Some (fragment_of spec r n)) → is_of_one_relation new spec
+
+place_in : {A : Type 0} (xs : List A) (n : ℕ) → n < length xs → (x : A) × (slice_get xs n ≡ Some x)
+place_in [] n l = absurd (let f : n < 0 = l in omega (arith, f))
+place_in (x ∷ xs) zero l = (x, refl)
+place_in (x ∷ xs) (suc n) l = place_in xs n (let f : suc n < suc (length xs) = l in omega (arith, f))
+
+pub made_law : MadeOfRelation
+made_law spec fs ss made t l r i h few rows = (
+  made.table ∙ t,
+  (
+    r,
+    record {
+      relation = i;
+      satisfies = h;
+      few = few;
+      stripes = made.stripes ∙ l;
+      rows = λ n k.
+          let p : (f : FragmentRows) × (slice_get fs n ≡ Some f) = place_in fs n (omega (arith, k, l)) in
+          made.offered n ∙ ap now_in p.1 ∙ ap Some (rows n p.0 p.1);
+    },
+  ),
+)
+
+-- a stripe is held or it is not
+held_or_not : (held : List HeldStripe) (n : ℕ) → IsHeld held n ⊎ (IsHeld held n → ⊥)
+held_or_not [] n = inr (λ q. q.1)
+held_or_not (h ∷ held) n = go (h.stripe == n) refl (held_or_not held n)
+  where
+    go : (b : Bool) → (h.stripe == n) ≡ b → IsHeld held n ⊎ (IsHeld held n → ⊥) → IsHeld (h ∷ held) n ⊎ (IsHeld (h ∷ held) n → ⊥)
+    go true e rest = inl (h, inl refl, eqb-true h.stripe n e)
+    go false e (inl q) = inl (q.0, inr q.1, q.2)
+    go false e (inr d) = inr (λ q. elim q.1 [ inl p ↦ false≢true (sym e ∙ eq-eqb h.stripe n (ap (λ (z : HeldStripe). z.stripe) (sym p) ∙ q.2)) | inr m ↦ d (q.0, m, q.2) ])
+
+pub released_law : ReleasedToRelation
+released_law spec old new a t l r i h few held others = (
+  a.table ∙ t,
+  (
+    r,
+    record {
+      relation = i;
+      satisfies = h;
+      few = few;
+      stripes = a.stripes ∙ l;
+      rows = λ n k. elim (held_or_not (held_from 0 old) n) [
+        | inl q ↦ ap (offered_at new) (sym q.2) ∙ a.settled q.0 q.1 ∙ ap Some (held q.0 q.1 ∙ ap (fragment_of spec r) q.2)
+        | inr d ↦ a.others n d ∙ others n k d
+      ];
+    },
+  ),
+)

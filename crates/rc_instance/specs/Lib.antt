@@ -1,0 +1,4 @@
+pub mod Instance
+pub mod InstanceLaws
+pub mod RelationLaws
+pub mod Stripes

@@ -1,0 +1,2 @@
+mod DistinctLemmas
+mod IndexLemmas

@@ -1,0 +1,7 @@
+use Rattle.std.proofs.Common.{◌≡◌}
+use Rattle.std.specs.List.{range_with_len}
+use Rattle.rc_query.specs.Planned.{classes_of_edges}
+use Rattle.rc_mutate.proofs.classes.written_classes.Given as goal
+
+abbrev pub invariant-loop-edge : goal.invariant-loop-edge
+invariant-loop-edge l = l.classes ≡ classes_of_edges l.spec (range_with_len 0 l.edge)

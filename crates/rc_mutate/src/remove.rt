@@ -1,0 +1,58 @@
+//! The plans of removes.
+
+ghost use Rattle.std.specs.Prelude.{◌≡◌, ◌++◌, ◌<◌, length, IfOk, OnOk};
+ghost use Rattle.rc_tuple.specs.ColSet.{Within};
+ghost use Rattle.rc_spec.specs.Calls.{all_columns};
+ghost use Rattle.rc_spec.specs.Placement.{op_at};
+ghost use Rattle.rc_spec.specs.declared.items.OpKind.TheVariants.{Remove};
+ghost use Rattle.rc_plan.specs.Compiled.{IsPlanOf};
+ghost use Rattle.rc_plan.specs.declared.statement.Which.TheVariants as which;
+ghost use Rattle.rc_query.specs.Planned.{ChoosesRoutes, IsPlanned, Routing, locks, remove_plan};
+
+use crate::classes::written_classes;
+use rc_plan::{Plan, Statement, Which};
+use rc_query::{ClassSet, pattern_of, push_ending, push_locks_and_reads};
+use rc_route::route_for;
+use rc_spec::{Accepted, Mode};
+use rc_tuple::{ColSet, Memory};
+use std::alloc::Global;
+
+/// Appends a keyed lock of each class, rising.
+fn push_keyed_locks(plan: &mut Plan, classes: ClassSet) -> Result<(), Memory>
+    ensures { OnOk result (plan.new ≡ plan.old ++ locks (λ c. which.Keyed) classes) }
+{
+    for place in 0..classes.len() {
+        let class = classes.nth(place).unwrap();
+        let which = Which::Keyed;
+        let mode = Mode::Exclusive;
+        plan.push(Statement::Lock { class, which, mode })?;
+    }
+    Ok(())
+}
+
+/// The plan of a remove over the chosen route for all columns.
+fn plan_removal(alloc: Global, accepted: &Accepted, pattern: ColSet) -> Result<Plan, Memory>
+    ensures { IfOk result (λ plan. (route : Routing) → ChoosesRoutes accepted.now route
+        → plan ≡ remove_plan accepted.now pattern (route pattern (all_columns accepted.now))) }
+{
+    let spec = accepted.spec();
+    let route = route_for(alloc, accepted, pattern, spec.all_columns())?;
+    let classes = written_classes(spec);
+    let mut plan = Plan::new(alloc);
+    let left = push_locks_and_reads(&mut plan, spec, pattern, classes, route.list())?;
+    push_keyed_locks(&mut plan, left)?;
+    push_ending(&mut plan, Statement::Apply, classes)?;
+    Ok(plan)
+}
+
+/// The plan of a remove, by the number of its operation. It reads the chosen route for all columns as a query does, and
+/// locks all classes that have an edge: those that are left after its reads keyed, since all columns are bound then.
+/// (PLDI 2011, removal; PLDI 2012, locks of mutations.)
+pub fn plan_remove(alloc: Global, accepted: &Accepted, op: u8) -> Result<Plan, Memory>
+    requires known { op < length accepted.now.ops }
+    requires remove { (op_at accepted.now op).kind ≡ Remove }
+    ensures planned { IfOk result (IsPlanned accepted.now (op_at accepted.now op)) }
+    ensures accepted { IfOk result (IsPlanOf accepted.now op) }
+{
+    plan_removal(alloc, accepted, pattern_of(accepted, op))
+}

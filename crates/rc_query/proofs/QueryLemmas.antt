@@ -1,0 +1,46 @@
+-- The plan of a query as it was made.
+use Rattle.std.proofs.Common.{◌≡◌, ℕ, List, [], ◌++◌, length, sym, ap, subst, ◌∙◌}
+use Rattle.std.specs.Ordering.{nat_cmp}
+use Rattle.rc_tuple.specs.RisingSet.{gather}
+use Rattle.rc_tuple.specs.ColSet.{union}
+use Rattle.rc_spec.specs.declared.items.Op.{Op}
+use Rattle.rc_spec.specs.declared.items.OpKind.TheVariants.{Query}
+use Rattle.rc_spec.specs.declared.spec.Spec.{Spec}
+use Rattle.rc_spec.specs.Acceptance.{IsSealed}
+use Rattle.rc_spec.specs.InRange.{AreBelow, HasOutsAmong}
+use Rattle.rc_spec.specs.Placement.{op_at}
+use Rattle.rc_plan.specs.declared.statement.Statement.{Statement}
+use Rattle.rc_plan.specs.declared.statement.Statement.TheVariants.{Emit}
+use Rattle.rc_plan.specs.PlanRules.{pattern_columns}
+use Rattle.rc_query.specs.OpLaws.{IsOpFound, op_among}
+use Rattle.rc_query.specs.Planned.{Routing, ChoosesRoutes, IsPlanned, classes_of_edges, locks_and_reads, ending, query_plan, plan_for}
+use Rattle.rc_query.specs.PlannedLaws.{chosen_routing, routing_chooses}
+
+pub outs_among : (spec : Spec) → IsSealed spec → (number : ℕ) (op : Op) → IsOpFound spec number op → (outs : List ℕ) → op.kind ≡ Query outs → AreBelow (length spec.columns) outs
+outs_among spec s number op f outs e = subst (HasOutsAmong (length spec.columns)) e (op_among spec s number op f).outs
+
+-- ---- the plan of a query
+
+pub query_made : (spec given : Spec) (pattern classes route first second : List ℕ) (begun reads plan : List Statement) → given ≡ spec → first ≡ route → second ≡ route
+    → classes ≡ classes_of_edges given first → begun ≡ [] → reads ≡ begun ++ locks_and_reads given pattern classes second → plan ≡ reads ++ ending Emit classes
+    → plan ≡ query_plan spec pattern route
+query_made spec given pattern classes route first second begun reads plan same one two of none read end =
+    let wanted : classes ≡ classes_of_edges spec route = of ∙ ap (λ (s : Spec). classes_of_edges s first) same ∙ ap (classes_of_edges spec) one in
+    let made : reads ≡ locks_and_reads spec pattern (classes_of_edges spec route) route =
+    read ∙ ap (λ z. z ++ locks_and_reads given pattern classes second) none ∙ ap (λ (s : Spec). locks_and_reads s pattern classes second) same
+    ∙ ap (locks_and_reads spec pattern classes) two ∙ ap (λ z. locks_and_reads spec pattern z route) wanted in
+    end ∙ ap (λ z. z ++ ending Emit classes) made ∙ ap (λ z. locks_and_reads spec pattern (classes_of_edges spec route) route ++ ending Emit z) wanted
+
+pub query_planned : (spec : Spec) → IsSealed spec → (number : ℕ) (op : Op) → IsOpFound spec number op → (outs pattern need : List ℕ) (plan : List Statement) → op.kind ≡ Query outs
+    → pattern ≡ pattern_columns (op_at spec number) → need ≡ gather nat_cmp outs
+    → ((route : Routing) → ChoosesRoutes spec route → plan ≡ query_plan spec pattern (route pattern (union pattern need)))
+    → IsPlanned spec (op_at spec number) plan
+query_planned spec s number op f outs pattern need plan kind given found made =
+    let route : Routing = chosen_routing spec s in
+    let bound : List ℕ = pattern_columns (op_at spec number) in
+    record {
+      route = route;
+      chosen = routing_chooses spec s;
+      value = made route (routing_chooses spec s) ∙ ap (λ z. query_plan spec z (route z (union z need))) given
+          ∙ ap (λ z. query_plan spec bound (route bound (union bound z))) found ∙ ap (plan_for spec route bound) (sym kind ∙ ap (λ (o : Op). o.kind) (sym f.same));
+    }

@@ -1,0 +1,59 @@
+use Rattle.std.proofs.Common.{◌≡◌, ◌∙◌, ℕ, List, sym, subst, ap}
+use Rattle.std.specs.Ordering.{nat_cmp}
+use Rattle.std.proofs.lemmas.Result.{IfOk-weaker}
+use Rattle.rc_tuple.specs.RisingSet.{In, gather}
+use Rattle.rc_tuple.specs.ColSet.{Within, union}
+use Rattle.rc_tuple.specs.ColSetLaws.{union_within}
+use Rattle.rc_spec.specs.declared.items.Op.{Op}
+use Rattle.rc_spec.specs.Calls.{all_columns}
+use Rattle.rc_spec.specs.Placement.{op_at}
+use Rattle.rc_plan.specs.declared.statement.Statement.{Statement}
+use Rattle.rc_plan.specs.Compiled.{IsPlanOf}
+use Rattle.rc_query.specs.OpLaws.{IsOpFound, op_found, op_keeps, below_32, columns_known, gather_some, union_some}
+use Rattle.rc_query.specs.Planned.{Routing, ChoosesRoutes, IsPlanned, query_plan}
+use Rattle.rc_query.specs.PlannedLaws.{planned_accepted}
+use Rattle.rc_query.proofs.QueryLemmas.{outs_among, query_planned}
+use Rattle.rc_query.proofs.query.plan_query.Goals as goal
+
+pub from_list-requires : goal.from_list-requires
+from_list-requires c = λ k m.
+    let spec = c.args.accepted.now in
+    let op : Op = c.index-list-op.result in
+    let found : IsOpFound spec c.args.op op = op_found spec c.spec.result.now c.list.result.now c.args.op op c.spec.ensures.value c.list.ensures c.requires.known c.index-list-op.is in
+    below_32 spec c.spec.ensures.sealed c.in-Query.outs (outs_among spec c.spec.ensures.sealed c.args.op op found c.in-Query.outs c.in-Query.is) k (subst (In k) c.list-in-Query.ensures m)
+
+pub plan_search-requires-clause-some : goal.plan_search-requires-clause-some
+plan_search-requires-clause-some c =
+    let spec = c.args.accepted.now in
+    let op : Op = c.index-list-op.result in
+    let found : IsOpFound spec c.args.op op = op_found spec c.spec.result.now c.list.result.now c.args.op op c.spec.ensures.value c.list.ensures c.requires.known c.index-list-op.is in
+    let outs : c.from_list.result ≡ gather nat_cmp c.in-Query.outs = c.from_list.ensures.value ∙ ap (gather nat_cmp) c.list-in-Query.ensures in
+    union_some c.pattern_of-pattern.result c.from_list.result
+    (λ e. gather_some c.in-Query.outs ((op_keeps spec c.spec.ensures.sealed c.args.op op found).o3 c.in-Query.outs c.in-Query.is).some (sym outs ∙ e))
+
+pub plan_search-requires-clause-known : goal.plan_search-requires-clause-known
+plan_search-requires-clause-known c =
+    let spec = c.args.accepted.now in
+    let op : Op = c.index-list-op.result in
+    let found : IsOpFound spec c.args.op op = op_found spec c.spec.result.now c.list.result.now c.args.op op c.spec.ensures.value c.list.ensures c.requires.known c.index-list-op.is in
+    let outs : c.from_list.result ≡ gather nat_cmp c.in-Query.outs = c.from_list.ensures.value ∙ ap (gather nat_cmp) c.list-in-Query.ensures in
+    union_within c.pattern_of-pattern.result c.from_list.result (all_columns spec) c.pattern_of-pattern.ensures.known
+    (subst (λ z. Within z (all_columns spec)) (sym outs) (columns_known spec c.in-Query.outs (outs_among spec c.spec.ensures.sealed c.args.op op found c.in-Query.outs c.in-Query.is)))
+
+pub returns-clause-planned : goal.returns-clause-planned
+returns-clause-planned c =
+    let spec = c.args.accepted.now in
+    let op : Op = c.index-list-op.result in
+    let found : IsOpFound spec c.args.op op = op_found spec c.spec.result.now c.list.result.now c.args.op op c.spec.ensures.value c.list.ensures c.requires.known c.index-list-op.is in
+    let pattern : List ℕ = c.pattern_of-pattern.result in
+    let outs : c.from_list.result ≡ gather nat_cmp c.in-Query.outs = c.from_list.ensures.value ∙ ap (gather nat_cmp) c.list-in-Query.ensures in
+    IfOk-weaker c.plan_search.result
+    (λ (plan : List Statement). (route : Routing) → ChoosesRoutes spec route → plan ≡ query_plan spec pattern (route pattern (union pattern c.from_list.result)))
+    (IsPlanned spec (op_at spec c.args.op))
+    (λ plan made. query_planned spec c.spec.ensures.sealed c.args.op op found c.in-Query.outs pattern c.from_list.result plan c.in-Query.is c.pattern_of-pattern.ensures.value outs made)
+    c.plan_search.ensures
+
+pub returns-clause-accepted : goal.returns-clause-accepted
+returns-clause-accepted c =
+    let spec = c.args.accepted.now in
+    IfOk-weaker c.plan_search.result (IsPlanned spec (op_at spec c.args.op)) (IsPlanOf spec c.args.op) (planned_accepted spec c.spec.ensures.sealed c.args.op c.requires.known) (returns-clause-planned c)

@@ -1,0 +1,51 @@
+-- Laws of an operation found by its number, and of columns that it names.
+use Rattle.std.proofs.Common.{◌≡◌, ℕ, ◌<◌, ◌≤◌, List, [], ◌∷◌, length, get_or, inl, refl, ap, subst, ◌∙◌, arith}
+use Rattle.std.specs.Ordering.{nat_cmp}
+use Rattle.rc_tuple.specs.RisingSet.{In, gather}
+use Rattle.rc_tuple.specs.RisingSetLaws.{nat_order, get_or_in, in_gather, gather_in}
+use Rattle.rc_tuple.specs.ColSet.{Within, union}
+use Rattle.rc_tuple.specs.ColSetLaws.{union_right, in_range_below}
+use Rattle.rc_spec.specs.declared.items.Op.{Op}
+use Rattle.rc_spec.specs.declared.spec.Spec.{Spec}
+use Rattle.rc_spec.specs.Acceptance.{IsSealed}
+use Rattle.rc_spec.specs.Calls.{all_columns}
+use Rattle.rc_spec.specs.DecompositionLaws.{at_found}
+use Rattle.rc_spec.specs.InRange.{AreBelow, IsOpAmong}
+use Rattle.rc_spec.specs.Placement.{op_at, no_op, KeepsO}
+
+-- ---- an operation that was found
+
+-- the operation with a number, as it was found in the list of a specification
+pub record IsOpFound (spec : Spec) (number : ℕ) (op : Op) : Type 0 where
+  pub known : number < length spec.ops
+  pub same : op_at spec number ≡ op
+
+pub op_found : (spec given : Spec) (ops : List Op) (number : ℕ) (op : Op) → given ≡ spec → ops ≡ given.ops → number < length spec.ops → op ≡ get_or ops number op → IsOpFound spec number op
+op_found spec given ops number op same list l found =
+    record { known = l; same = at_found ops spec.ops number no_op op (list ∙ ap (λ (s : Spec). s.ops) same) l found }
+
+pub op_among : (spec : Spec) → IsSealed spec → (number : ℕ) (op : Op) → IsOpFound spec number op → IsOpAmong (length spec.columns) op
+op_among spec s number op f = subst (IsOpAmong (length spec.columns)) f.same (s.in_range.known_ops (op_at spec number) (get_or_in spec.ops number no_op f.known))
+
+pub op_keeps : (spec : Spec) → IsSealed spec → (number : ℕ) (op : Op) → IsOpFound spec number op → KeepsO spec op
+op_keeps spec s number op f = subst (KeepsO spec) f.same (s.accepted.ops number f.known)
+
+pub below_32 : (spec : Spec) → IsSealed spec → (cols : List ℕ) → AreBelow (length spec.columns) cols → (c : ℕ) → In c cols → c < 32
+below_32 spec s cols b c m =
+    let below : c < length spec.columns = b c m in
+    let few : length spec.columns ≤ 32 = s.in_range.columns in omega arith
+
+pub columns_known : (spec : Spec) (cols : List ℕ) → AreBelow (length spec.columns) cols → Within (gather nat_cmp cols) (all_columns spec)
+columns_known spec cols b c m = in_range_below (length spec.columns) c (b c (in_gather nat_cmp nat_order c cols m))
+
+-- ---- columns
+
+some_in : (xs : List ℕ) → (xs ≡ [] → ⊥) → (x : ℕ) × In x xs
+some_in [] f = absurd (f refl)
+some_in (x ∷ xs) f = (x, inl refl)
+
+pub gather_some : (xs : List ℕ) → (xs ≡ [] → ⊥) → gather nat_cmp xs ≡ [] → ⊥
+gather_some xs f e = let m : (x : ℕ) × In x xs = some_in xs f in subst (In m.0) e (gather_in nat_cmp nat_order m.0 xs m.1)
+
+pub union_some : (xs ys : List ℕ) → (ys ≡ [] → ⊥) → union xs ys ≡ [] → ⊥
+union_some xs ys f e = let m : (x : ℕ) × In x ys = some_in ys f in subst (In m.0) e (union_right xs ys m.0 m.1)

@@ -1,0 +1,57 @@
+//! The plans of queries.
+
+ghost use Rattle.std.specs.Prelude.{◌≡◌, ◌<◌, [], length, IfOk};
+ghost use Rattle.rc_tuple.specs.ColSet.{Within, union};
+ghost use Rattle.rc_spec.specs.Calls.{all_columns};
+ghost use Rattle.rc_spec.specs.Placement.{op_at};
+ghost use Rattle.rc_plan.specs.Compiled.{IsPlanOf};
+ghost use Rattle.rc_plan.specs.PlanRules.{IsQuery};
+ghost use Rattle.rc_query.specs.Planned.{ChoosesRoutes, IsPlanned, Routing, query_plan};
+
+use crate::operation::pattern_of;
+use crate::statements::{classes_of_edges, push_ending, push_locks_and_reads};
+use rc_plan::{Plan, Statement};
+use rc_route::route_for;
+use rc_spec::{Accepted, OpKind};
+use rc_tuple::{ColSet, Memory};
+use std::alloc::Global;
+
+/// The plan of a query over the chosen route for its pattern and its outputs.
+fn plan_search(
+    alloc: Global,
+    accepted: &Accepted,
+    pattern: ColSet,
+    outs: ColSet,
+) -> Result<Plan, Memory>
+    requires some { union pattern outs ≡ [] → ⊥ }
+    requires known { Within (union pattern outs) (all_columns accepted.now) }
+    ensures { IfOk result (λ plan. (route : Routing) → ChoosesRoutes accepted.now route
+        → plan ≡ query_plan accepted.now pattern (route pattern (union pattern outs))) }
+{
+    let spec = accepted.spec();
+    let route = route_for(alloc, accepted, pattern, pattern.union(outs))?;
+    let classes = classes_of_edges(spec, route.list());
+    let mut plan = Plan::new(alloc);
+    push_locks_and_reads(&mut plan, spec, pattern, classes, route.list())?;
+    push_ending(&mut plan, Statement::Emit, classes)?;
+    Ok(plan)
+}
+
+/// The plan of a query, by the number of its operation. It reads the chosen route for the pattern and the outputs, each
+/// edge by look-up where its key is bound, and locks the classes of those edges: before a read each that isn't after
+/// its edge's class, keyed where its columns are bound. (PLDI 2011, query planning; PLDI 2012, locks in query plans.)
+pub fn plan_query(alloc: Global, accepted: &Accepted, op: u8) -> Result<Plan, Memory>
+    requires known { op < length accepted.now.ops }
+    requires query { IsQuery (op_at accepted.now op).kind }
+    ensures planned { IfOk result (IsPlanned accepted.now (op_at accepted.now op)) }
+    ensures accepted { IfOk result (IsPlanOf accepted.now op) }
+{
+    let pattern = pattern_of(accepted, op);
+    let query = &accepted.spec().ops.list()[op as usize];
+    match &query.kind {
+        OpKind::Query { outs } => {
+            plan_search(alloc, accepted, pattern, ColSet::from_list(outs.list()))
+        }
+        OpKind::Insert | OpKind::Remove => unreachable!(),
+    }
+}

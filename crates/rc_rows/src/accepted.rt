@@ -1,0 +1,30 @@
+// Accepted specifications, and sets of their columns.
+use rc_place::{AcceptFault, accept};
+use rc_reader::read_spec_only;
+use rc_spec::Accepted;
+use rc_tuple::{ColSet, Memory};
+use std::alloc::Global;
+use std::process::Abort;
+
+/// The specification of a text.
+pub(crate) fn accepted_of(rt: &impl Abort, alloc: Global, text: &str) -> Result<Accepted, Memory> {
+    assert!(rt; text.len() <= 1 << 24);
+    let Ok(spec) = read_spec_only(alloc, text.as_bytes()) else {
+        panic!(rt; "not read");
+    };
+    match accept(alloc, spec) {
+        Ok(accepted) => Ok(accepted),
+        Err(AcceptFault::Memory) => Err(Memory),
+        Err(AcceptFault::Refused(_, _)) => panic!(rt; "not accepted"),
+    }
+}
+
+/// The set of these columns.
+pub(crate) fn set_of(rt: &impl Abort, cols: &[u8]) -> ColSet {
+    let mut set = ColSet::empty();
+    for col in cols {
+        assert!(rt; *col < 32);
+        set = set.with(*col);
+    }
+    set
+}
