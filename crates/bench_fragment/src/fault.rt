@@ -27,13 +27,19 @@ impl From<io::Error> for Fault {
 }
 
 impl From<ReadRefusal> for Fault {
-    fn from(_: ReadRefusal) -> Fault {
-        Fault::Refused
+    fn from(refusal: ReadRefusal) -> Fault {
+        match refusal {
+            ReadRefusal::Memory => Fault::Memory,
+            _ => Fault::Refused,
+        }
     }
 }
 
 impl From<AcceptFault> for Fault {
-    fn from(_: AcceptFault) -> Fault {
-        Fault::Refused
+    fn from(fault: AcceptFault) -> Fault {
+        match fault {
+            AcceptFault::Memory => Fault::Memory,
+            AcceptFault::Refused(..) => Fault::Refused,
+        }
     }
 }

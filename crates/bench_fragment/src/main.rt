@@ -8,7 +8,7 @@ mod store;
 mod texts;
 
 use crate::fault::Fault;
-use crate::measure::{Measure, STEPS, measure_fragment};
+use crate::measure::{Measure, measure_fragment};
 use crate::texts::{CASES, Case};
 use rc_place::accept;
 use rc_reader::read_spec_only;
@@ -41,7 +41,9 @@ fn measure_all(rt: &HostRuntime, alloc: Global) -> Result<(), Fault> {
     let timed = is_timed(rt, alloc)?;
     for case in &CASES {
         for size in SIZES {
-            measure_case(rt, alloc, case, size, timed)?;
+            if size <= case.most {
+                measure_case(rt, alloc, case, size, timed)?;
+            }
         }
     }
     Ok(())
@@ -62,20 +64,21 @@ fn measure_case(
     let spec = read_spec_only(alloc, text)?;
     let accepted = accept(alloc, spec)?;
     let all = measure_fragment(alloc, rt, &accepted, size)?;
-    println!(rt; "{}: {size} tuples", case.kinds)?;
+    println!(rt; "{}: {} tuples", case.kinds, all.size)?;
     print_measure(rt, "look-ups", all.look_ups, timed)?;
+    print_measure(rt, "reverts", all.reverts, timed)?;
     print_measure(rt, "inserts", all.inserts, timed)?;
-    print_measure(rt, "removes", all.removes, timed)?;
-    print_measure(rt, "reverts", all.reverts, timed)
+    print_measure(rt, "removes", all.removes, timed)
 }
 
-/// Prints how many steps were made, and how many nanoseconds each took.
+/// Prints how many steps were made, how many nanoseconds each took, and how many rows there were after them.
 fn print_measure(rt: &HostRuntime, what: &str, measure: Measure, timed: bool) -> Result<(), Fault> {
-    if timed {
-        let nanos = measure.time.as_nanos() / STEPS as u128;
-        println!(rt; "  {} {what}, {nanos} ns each", measure.made)?;
+    let Measure { made, time, rows } = measure;
+    if timed && made > 0 {
+        let nanos = time.as_nanos() / made as u128;
+        println!(rt; "  {made} {what}, {nanos} ns each, then {rows} rows")?;
     } else {
-        println!(rt; "  {} {what}", measure.made)?;
+        println!(rt; "  {made} {what}, then {rows} rows")?;
     }
     Ok(())
 }

@@ -4,7 +4,7 @@ ghost use Rattle.std.specs.Prelude.{◌≡◌, IfOk, OnOk};
 ghost use Rattle.rc_fragment.specs.Fragment.{edge_table};
 
 use crate::fault::Fault;
-use crate::store::{has, insert, remove};
+use crate::store::{has, insert, remove, row_count};
 use rc_fragment::Fragment;
 use rc_spec::Accepted;
 use rc_tuple::{Memory, Tuple};
@@ -14,16 +14,19 @@ use std::time::{Clock, Duration, Instant};
 /// How many tuples are looked up, inserted and removed.
 pub const STEPS: u64 = 1000;
 
-/// How many of the steps were made, and how long they took together.
+/// How many of the steps were made, how long they took together, and how many rows there were after them.
 #[derive(Clone, Copy)]
 pub struct Measure {
     pub made: u64,
     pub time: Duration,
+    pub rows: u64,
 }
 
 /// The measures of a fragment.
 #[derive(Clone, Copy)]
 pub struct Measures {
+    /// How many tuples were inserted first.
+    pub size: u64,
     /// Look-ups of the three rows of a tuple that is there.
     pub look_ups: Measure,
     /// Reverts of three rows that were added.
@@ -34,7 +37,7 @@ pub struct Measures {
     pub removes: Measure,
 }
 
-/// The tuples of some numbers, each with a source, a target and a weight of its own.
+/// Tuples numbered from the first on, each with its number as source and as weight.
 fn tuples(alloc: Global, first: u64, step: u64, count: u64) -> Result<Vec<Tuple>, Memory> {
     let mut tuples = Vec::new(alloc);
     for place in 0..count {
@@ -107,10 +110,61 @@ fn revert_all<C: Clock>(
         fragment.revert();
         time = time.saturating_add(start.elapsed(clock)?);
     }
-    Ok(Measure { made, time })
+    let rows = row_count(fragment, accepted)?;
+    Ok(Measure { made, time, rows })
 }
 
-/// Measures a fragment with so many tuples.
+/// Measures look-ups of the tuples.
+fn measure_look_ups<C: Clock>(
+    clock: &C,
+    fragment: &Fragment,
+    accepted: &Accepted,
+    tuples: &[Tuple],
+) -> Result<Measure, Fault>
+    requires { fragment.now.table ≡ edge_table accepted.now }
+{
+    let start = Instant::now(clock)?;
+    let made = count(fragment, accepted, tuples)?;
+    let time = start.elapsed(clock)?;
+    let rows = row_count(fragment, accepted)?;
+    Ok(Measure { made, time, rows })
+}
+
+/// Measures inserts of the tuples.
+fn measure_inserts<C: Clock>(
+    clock: &C,
+    fragment: &mut Fragment,
+    accepted: &Accepted,
+    tuples: &[Tuple],
+) -> Result<Measure, Fault>
+    requires { fragment.old.table ≡ edge_table accepted.now }
+    ensures { fragment.new.table ≡ fragment.old.table }
+{
+    let start = Instant::now(clock)?;
+    let made = insert_all(fragment, accepted, tuples)?;
+    let time = start.elapsed(clock)?;
+    let rows = row_count(fragment, accepted)?;
+    Ok(Measure { made, time, rows })
+}
+
+/// Measures removes of the tuples.
+fn measure_removes<C: Clock>(
+    clock: &C,
+    fragment: &mut Fragment,
+    accepted: &Accepted,
+    tuples: &[Tuple],
+) -> Result<Measure, Fault>
+    requires { fragment.old.table ≡ edge_table accepted.now }
+    ensures { fragment.new.table ≡ fragment.old.table }
+{
+    let start = Instant::now(clock)?;
+    let made = remove_all(fragment, accepted, tuples)?;
+    let time = start.elapsed(clock)?;
+    let rows = row_count(fragment, accepted)?;
+    Ok(Measure { made, time, rows })
+}
+
+/// Measures a fragment into which so many tuples are inserted first.
 pub fn measure_fragment<C: Clock>(
     alloc: Global,
     clock: &C,
@@ -118,26 +172,14 @@ pub fn measure_fragment<C: Clock>(
     size: u64,
 ) -> Result<Measures, Fault> {
     let mut fragment = Fragment::empty(alloc, accepted)?;
-    insert_all(&mut fragment, accepted, &tuples(alloc, 0, 1, size)?)?;
+    let size = insert_all(&mut fragment, accepted, &tuples(alloc, 0, 1, size)?)?;
     let present = tuples(alloc, 0, size / STEPS, STEPS)?;
     let fresh = tuples(alloc, size, 1, STEPS)?;
-    let start = Instant::now(clock)?;
-    let made = count(&fragment, accepted, &present)?;
-    let time = start.elapsed(clock)?;
-    let look_ups = Measure { made, time };
-    let reverts = revert_all(clock, &mut fragment, accepted, &fresh)?;
-    let start = Instant::now(clock)?;
-    let made = insert_all(&mut fragment, accepted, &fresh)?;
-    let time = start.elapsed(clock)?;
-    let inserts = Measure { made, time };
-    let start = Instant::now(clock)?;
-    let made = remove_all(&mut fragment, accepted, &fresh)?;
-    let time = start.elapsed(clock)?;
-    let removes = Measure { made, time };
     Ok(Measures {
-        look_ups,
-        reverts,
-        inserts,
-        removes,
+        size,
+        look_ups: measure_look_ups(clock, &fragment, accepted, &present)?,
+        reverts: revert_all(clock, &mut fragment, accepted, &fresh)?,
+        inserts: measure_inserts(clock, &mut fragment, accepted, &fresh)?,
+        removes: measure_removes(clock, &mut fragment, accepted, &fresh)?,
     })
 }

@@ -46,8 +46,7 @@ fn row_of(accepted: &Accepted, edge: u8, tuple: &Tuple) -> Result<Option<Tuple>,
     }
 }
 
-/// Whether a row has its edge's columns and no other is in its way: none of the edge has its source and its key, and in
-/// a singleton none has its source.
+/// Whether the edge has no row with the row's source and key, and, where it is a singleton, none with its source.
 fn may_be_added(
     fragment: &Fragment,
     accepted: &Accepted,
@@ -168,4 +167,16 @@ pub fn has(fragment: &Fragment, accepted: &Accepted, tuple: &Tuple) -> Result<bo
         }
     }
     Ok(true)
+}
+
+/// How many rows the fragment has.
+pub fn row_count(fragment: &Fragment, accepted: &Accepted) -> Result<u64, Memory>
+    requires { fragment.now.table ≡ edge_table accepted.now }
+{
+    let mut count: u64 = 0;
+    for edge in 0..accepted.spec().edges.list().len() {
+        let rows = fragment.rows(edge as u8)?;
+        count = count.wrapping_add(rows.list().len() as u64);
+    }
+    Ok(count)
 }

@@ -14,7 +14,7 @@ use Rattle.rc_maps.specs.HashedLaws.{key_eq, pointwise_same}
 use Rattle.rc_maps.specs.WalkLaws.{apart_by_tuples}
 use Rattle.rc_spec.specs.declared.items.EdgeKind.{EdgeKind}
 use Rattle.rc_fragment.specs.Container.{kind_in, now_in, taken_in}
-use Rattle.rc_fragment.specs.Sources.{AreSame, Faces, HaveKind, Key, Sources, by_source, faces, faces_in, faces_of, found_at, found_in}
+use Rattle.rc_fragment.specs.Sources.{AreSame, SeenContainer, HaveKind, Key, Sources, by_source, seen_container, seen_in, seen_of, found_at, found_in}
 use Rattle.rc_fragment.specs.Listing.{AreStored, IsFiled, IsStored, found_by, shapes}
 use Rattle.rc_fragment.specs.Notes.{AreWithin, IsFragment}
 use Rattle.rc_fragment.specs.declared.container.Container.{Container}
@@ -22,61 +22,61 @@ use Rattle.rc_fragment.specs.declared.edge_rows.EdgeRows.{EdgeRows}
 use Rattle.rc_fragment.specs.declared.note.Note.{Note}
 use Rattle.rc_fragment.specs.declared.shape.EdgeShape.{EdgeShape}
 
--- the faces of what a look-up finds
-pub get-faces : (es : Sources) (source : Pairs) → fin.get (faces_of es) source ≡ option_map faces (fin.get (by_source es) source)
-get-faces es source = get-from_entries total (faces_in es) source ∙ go es ∙ ap (option_map faces) (sym (get-from_entries total (map (λ (e : Key × Container). (e.0.items, e.1)) es) source))
+-- the seen_container of what a look-up finds
+pub get-seen : (es : Sources) (source : Pairs) → fin.get (seen_of es) source ≡ option_map seen_container (fin.get (by_source es) source)
+get-seen es source = get-from_entries total (seen_in es) source ∙ go es ∙ ap (option_map seen_container) (sym (get-from_entries total (map (λ (e : Key × Container). (e.0.items, e.1)) es) source))
   where
-    go : (es : Sources) → find tuple_cmp source (faces_in es) ≡ option_map faces (find tuple_cmp source (map (λ (e : Key × Container). (e.0.items, e.1)) es))
+    go : (es : Sources) → find tuple_cmp source (seen_in es) ≡ option_map seen_container (find tuple_cmp source (map (λ (e : Key × Container). (e.0.items, e.1)) es))
     go [] = refl
-    go (e ∷ es) = ap (cond (tuple_eq source e.0.items) (Some (faces e.1))) (go es) ∙ pick (tuple_eq source e.0.items) (find tuple_cmp source (map (λ (e : Key × Container). (e.0.items, e.1)) es))
+    go (e ∷ es) = ap (cond (tuple_eq source e.0.items) (Some (seen_container e.1))) (go es) ∙ pick (tuple_eq source e.0.items) (find tuple_cmp source (map (λ (e : Key × Container). (e.0.items, e.1)) es))
       where
-        pick : (b : Bool) (o : Option Container) → cond b (Some (faces e.1)) (option_map faces o) ≡ option_map faces (cond b (Some e.1) o)
+        pick : (b : Bool) (o : Option Container) → cond b (Some (seen_container e.1)) (option_map seen_container o) ≡ option_map seen_container (cond b (Some e.1) o)
         pick true o = refl
         pick false o = refl
 
--- where one source gets a container, it gets its faces
-pub faces_written : (old new : Sources) (source : Pairs) (w : Container) → by_source new ≡ written (by_source old) source (Some w) → faces_of new ≡ written (faces_of old) source (Some (faces w))
-faces_written old new source w e = same_answers (faces_of new) (written (faces_of old) source (Some (faces w))) (λ q.
-    get-faces new q ∙ ap (λ (z : FinMap tuple_cmp Container). option_map faces (fin.get z q)) e ∙ ap (option_map faces) (get-written (by_source old) source (Some w) q)
-    ∙ go q (tuple_eq q source) ∙ sym (get-written (faces_of old) source (Some (faces w)) q))
+-- where one source gets a container, it gets its seen_container
+pub seen_written : (old new : Sources) (source : Pairs) (w : Container) → by_source new ≡ written (by_source old) source (Some w) → seen_of new ≡ written (seen_of old) source (Some (seen_container w))
+seen_written old new source w e = same_answers (seen_of new) (written (seen_of old) source (Some (seen_container w))) (λ q.
+    get-seen new q ∙ ap (λ (z : FinMap tuple_cmp Container). option_map seen_container (fin.get z q)) e ∙ ap (option_map seen_container) (get-written (by_source old) source (Some w) q)
+    ∙ go q (tuple_eq q source) ∙ sym (get-written (seen_of old) source (Some (seen_container w)) q))
   where
-    go : (q : Pairs) (b : Bool) → option_map faces (cond b (Some w) (fin.get (by_source old) q)) ≡ cond b (Some (faces w)) (fin.get (faces_of old) q)
+    go : (q : Pairs) (b : Bool) → option_map seen_container (cond b (Some w) (fin.get (by_source old) q)) ≡ cond b (Some (seen_container w)) (fin.get (seen_of old) q)
     go q true = refl
-    go q false = sym (get-faces old q)
+    go q false = sym (get-seen old q)
 
 -- no two sources are equal
-pub apart_faces : (es : Sources) → IsDistinct key_eq (keys_of es) → IsDistinct tuple_eq (keys_of (faces_in es))
-apart_faces es h = subst (IsDistinct tuple_eq) (go es) (apart_by_tuples (λ (k : Key). k.items) key_eq (λ x y. pointwise_same x.items y.items) es h)
+pub apart_seen : (es : Sources) → IsDistinct key_eq (keys_of es) → IsDistinct tuple_eq (keys_of (seen_in es))
+apart_seen es h = subst (IsDistinct tuple_eq) (go es) (apart_by_tuples (λ (k : Key). k.items) key_eq (λ x y. pointwise_same x.items y.items) es h)
   where
-    go : (es : Sources) → keys_of (map (λ (e : Key × Container). (e.0.items, e.1)) es) ≡ keys_of (faces_in es)
+    go : (es : Sources) → keys_of (map (λ (e : Key × Container). (e.0.items, e.1)) es) ≡ keys_of (seen_in es)
     go [] = refl
     go (e ∷ es) = ap (λ z. e.0.items ∷ z) (go es)
 
--- ---- with the same faces the same is found
+-- ---- with the same seen_container the same is found
 
-module _ (old new : Sources) (h : faces_of new ≡ faces_of old) where
-  same_faces : (source : Pairs) → option_map faces (fin.get (by_source new) source) ≡ option_map faces (fin.get (by_source old) source)
-  same_faces source = sym (get-faces new source) ∙ ap (λ (z : FinMap tuple_cmp Faces). fin.get z source) h ∙ get-faces old source
+module _ (old new : Sources) (h : seen_of new ≡ seen_of old) where
+  same_seen : (source : Pairs) → option_map seen_container (fin.get (by_source new) source) ≡ option_map seen_container (fin.get (by_source old) source)
+  same_seen source = sym (get-seen new source) ∙ ap (λ (z : FinMap tuple_cmp SeenContainer). fin.get z source) h ∙ get-seen old source
 
-  abbrev seen_at : (face : Faces → Rows) → Option Faces → Pairs → Option Counted
+  abbrev seen_at : (face : SeenContainer → Rows) → Option SeenContainer → Pairs → Option Counted
   seen_at face None k = None
   seen_at face (Some f) k = fin.get (face f) k
 
-  pub found_same : (part : Container → Rows) (face : Faces → Rows) → ((c : Container) → face (faces c) ≡ part c) → (s k : Pairs) → found_at part new s k ≡ found_at part old s k
-  found_same part face is s k = sym (go (fin.get (by_source new) s)) ∙ ap (λ o. seen_at face o k) (same_faces s) ∙ go (fin.get (by_source old) s)
+  pub found_same : (part : Container → Rows) (face : SeenContainer → Rows) → ((c : Container) → face (seen_container c) ≡ part c) → (s k : Pairs) → found_at part new s k ≡ found_at part old s k
+  found_same part face is s k = sym (go (fin.get (by_source new) s)) ∙ ap (λ o. seen_at face o k) (same_seen s) ∙ go (fin.get (by_source old) s)
     where
-      go : (o : Option Container) → seen_at face (option_map faces o) k ≡ found_in part o k
+      go : (o : Option Container) → seen_at face (option_map seen_container o) k ≡ found_in part o k
       go None = refl
       go (Some c) = ap (λ (z : Rows). fin.get z k) (is c)
 
   pub kinds_same : (kind : EdgeKind) → HaveKind kind old → HaveKind kind new
-  kinds_same kind all s c there = go (fin.get (by_source old) s) refl (sym (ap (option_map faces) there) ∙ same_faces s)
+  kinds_same kind all s c there = go (fin.get (by_source old) s) refl (sym (ap (option_map seen_container) there) ∙ same_seen s)
     where
-      go : (o : Option Container) → fin.get (by_source old) s ≡ o → Some (faces c) ≡ option_map faces o → kind_in c ≡ kind
+      go : (o : Option Container) → fin.get (by_source old) s ≡ o → Some (seen_container c) ≡ option_map seen_container o → kind_in c ≡ kind
       go None f p = absurd (cc)
       go (Some d) f p =
-          let q : faces c ≡ faces d = cc in
-          ap (λ (z : Faces). z.2) q ∙ all s d f
+          let q : seen_container c ≡ seen_container d = cc in
+          ap (λ (z : SeenContainer). z.2) q ∙ all s d f
 
 -- ---- copied edges
 

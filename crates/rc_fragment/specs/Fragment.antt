@@ -17,9 +17,11 @@ use Rattle.rc_fragment.specs.declared.edge_rows.EdgeRows.{EdgeRows}
 use Rattle.rc_fragment.specs.declared.fragment.Fragment.TheInside.{Inside}
 use Rattle.rc_fragment.specs.declared.shape.EdgeShape.{EdgeShape}
 
+-- what is seen of a fragment
 abbrev pub seen : Inside → FragmentRows
 seen a = record { table = map (λ (edge : EdgeRows). edge.shape) a.edges.items; now = listing now_in a.edges.items; taken = listing taken_in a.edges.items; room = room_in a.notes a.pairs }
 
+-- the shape of an edge
 abbrev pub shape_of : Spec → Edge → EdgeShape
 shape_of spec e = record { source = bound spec e.from; key = e.key; target = bound spec e.to; kind = e.kind }
 
@@ -27,6 +29,7 @@ shape_of spec e = record { source = bound spec e.from; key = e.key; target = bou
 abbrev pub edge_table : Spec → List EdgeShape
 edge_table spec = map (shape_of spec) spec.edges
 
+-- the table has the shape at the number of the edge
 abbrev pub HasShape : List EdgeShape → ℕ → EdgeShape → Type 0
 HasShape table e shape = slice_get table e ≡ Some shape
 
@@ -54,7 +57,7 @@ abbrev pub HasSingle : List EdgeShape → List EdgeRow → ℕ → Pairs → Typ
 HasSingle table rows e t = (shape : EdgeShape) → HasShape table e shape → shape.kind ≡ Singleton → (u : Pairs) → IsThere rows e u
     → project shape.source u ≡ project shape.source t → project shape.key u ≡ project shape.key t
 
--- these are the rows of the edge
+-- these are the rows of the edge, each at least once
 pub record AreAllRows (rows : List EdgeRow) (e : ℕ) (ts : List Pairs) : Type 0 where
   pub only : (t : Pairs) → In t ts → IsThere rows e t
   pub each : (t : Pairs) → IsThere rows e t → In t ts

@@ -25,7 +25,7 @@ pub record HeldStripe : Type 0 where
 abbrev pub IsHeld : List HeldStripe → ℕ → Type 0
 IsHeld held stripe = (h : HeldStripe) × In h held × (h.stripe ≡ stripe)
 
--- the stripe is held for a change
+-- the stripe is held Exclusive
 abbrev pub IsHeldExclusive : List HeldStripe → ℕ → Type 0
 IsHeldExclusive held stripe = (h : HeldStripe) × In h held × (h.stripe ≡ stripe) × (h.mode ≡ Exclusive)
 

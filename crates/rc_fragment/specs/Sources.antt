@@ -77,15 +77,15 @@ pub record AreSame (old new : EdgeRows) : Type 0 where
   pub shape : new.shape ≡ old.shape
 
 -- all that is seen of a container
-abbrev pub Faces : Type 0
-Faces = Rows × Rows × EdgeKind
+abbrev pub SeenContainer : Type 0
+SeenContainer = Rows × Rows × EdgeKind
 
-abbrev pub faces : Container → Faces
-faces c = (now_in c, taken_in c, kind_in c)
+abbrev pub seen_container : Container → SeenContainer
+seen_container c = (now_in c, taken_in c, kind_in c)
 
 -- the same of all containers, by their sources
-abbrev pub faces_in : Sources → List (Pairs × Faces)
-faces_in es = map (λ e. (e.0.items, faces e.1)) es
+abbrev pub seen_in : Sources → List (Pairs × SeenContainer)
+seen_in es = map (λ e. (e.0.items, seen_container e.1)) es
 
-abbrev pub faces_of : Sources → FinMap tuple_cmp Faces
-faces_of es = fin.from_entries (faces_in es)
+abbrev pub seen_of : Sources → FinMap tuple_cmp SeenContainer
+seen_of es = fin.from_entries (seen_in es)

@@ -5,7 +5,7 @@ ghost use Rattle.std.specs.FinMap as fin;
 ghost use Rattle.rc_tuple.specs.RisingSet.{In};
 ghost use Rattle.rc_tuple.specs.Tuple.{Pairs};
 ghost use Rattle.rc_edges.specs.EdgeMap.{IsRowOf, count_of, lowered, row_of, written};
-ghost use Rattle.rc_fragment.specs.Sources.{AreOfKind, AreSame, Becomes, IsKept, IsSingle, by_source, faces_of, listed_in, now_at, taken_at};
+ghost use Rattle.rc_fragment.specs.Sources.{AreOfKind, AreSame, Becomes, IsKept, IsSingle, by_source, seen_of, listed_in, now_at, taken_at};
 
 use crate::EdgeShape;
 use crate::container::Container;
@@ -167,7 +167,7 @@ fn copy_of(
     alloc: Global,
     sources: &HashMap<Vec<(u8, u64)>, Container>,
 ) -> Result<HashMap<Vec<(u8, u64)>, Container>, Memory>
-    ensures { IfOk result (λ copy. faces_of copy.entries ≡ faces_of sources.now.entries) }
+    ensures { IfOk result (λ copy. seen_of copy.entries ≡ seen_of sources.now.entries) }
 {
     let mut copy = HashMap::new(alloc);
     for (source, container) in sources {

@@ -57,7 +57,7 @@ impl Fragment {
         })
     }
 
-    /// Makes room for so many changes. Where memory is wanted nothing changes.
+    /// Makes room for so many changes; it may be called again. Where memory is wanted the rows stay.
     pub fn own(&mut self, changes: u16) -> Result<(), Memory>
         ensures table { self.new.table ≡ self.old.table }
         ensures now { self.new.now ≡ self.old.now }
@@ -70,8 +70,10 @@ impl Fragment {
         Ok(())
     }
 
-    /// Adds the row to the edge with the count 1, or raises its count by 1. Where memory is wanted
-    /// nothing changes. Costs a look-up of the source and one of the key.
+    /// Adds the row to the edge with the count 1, or raises its count by 1, where there is room for a
+    /// change. The row has the columns of the edge's target, no other row of the edge has its source
+    /// and key, and in a singleton none with its source has another key. Where memory is wanted the
+    /// rows stay. Costs a look-up of the source and one of the key.
     pub fn add_row(&mut self, edge: u8, row: &Tuple) -> Result<(), Memory>
         requires known { edge < length self.old.table }
         requires owned { 0 < self.old.room }
@@ -89,8 +91,8 @@ impl Fragment {
         add_noted(&mut self.edges, &mut self.notes, &mut self.pairs, edge, row)
     }
 
-    /// Lowers the row's count in the edge by 1, and takes the row out at 0. Takes no memory. Costs a
-    /// look-up of the source and one of the key.
+    /// Lowers the count of a row that is in the edge by 1, and takes it out at 0, where there is room
+    /// for a change. Takes no memory. Costs a look-up of the source and one of the key.
     pub fn sub_row(&mut self, edge: u8, row: &Tuple)
         requires known { edge < length self.old.table }
         requires owned { 0 < self.old.room }
@@ -146,8 +148,8 @@ impl Fragment {
         rows.scan(source, out)
     }
 
-    /// What is so of every fragment: its rows are counted, each is of an edge of the table, and each
-    /// has its edge's columns.
+    /// A law, in the form of a call that does nothing: the rows of every fragment are counted, each is
+    /// of an edge of the table, and each has its edge's columns.
     pub fn rows_fit_the_table(&self)
         ensures now { AreRowsOf self.now.table self.now.now }
         ensures taken { AreRowsOf self.now.table self.now.taken }
@@ -155,7 +157,7 @@ impl Fragment {
         let _ = &self.edges;
     }
 
-    /// All rows of the edge, in no particular order.
+    /// The rows of the edge, each at least once, in no particular order.
     pub fn rows(&self, edge: u8) -> Result<Tuples, Memory>
         requires { edge < length self.now.table }
         ensures { IfOk result (λ rows. AreAllRows self.now.now edge rows) }
@@ -164,7 +166,7 @@ impl Fragment {
         rows.all()
     }
 
-    /// Another fragment with the same rows, now and as taken, and no room. Costs all rows.
+    /// Another fragment with the same rows, now and as taken. Costs all rows.
     pub fn copy(&self, alloc: Global) -> Result<Fragment, Memory>
         ensures table { IfOk result (λ copy. copy.table ≡ self.now.table) }
         ensures now { IfOk result (λ copy. copy.now ≡ self.now.now) }
@@ -178,7 +180,7 @@ impl Fragment {
     }
 }
 
-/// The same edges once more.
+/// A copy of the edges, with their rows now and as taken.
 fn copy_edges(alloc: Global, edges: &Vec<EdgeRows>) -> Result<Vec<EdgeRows>, Memory>
     requires { AreStored edges.now.items }
     ensures shapes { IfOk result (λ copy. shapes copy.items ≡ shapes edges.now.items) }

@@ -5,6 +5,7 @@ use rc_spec::Found;
 pub struct Held {
     /// The number of the physical stripe.
     pub stripe: u32,
+    /// What was found in the way.
     pub found: Found,
 }
 

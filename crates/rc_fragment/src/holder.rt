@@ -38,7 +38,7 @@ pub trait Holder {
     /// The rows that are offered of a stripe that isn't held, where they are told.
     ghost offered: { Self → ℕ → Option (List EdgeRow) };
 
-    /// How many takes were refused.
+    /// How many takes were refused, by a counter that stays at 2^64 - 1.
     ghost refusals: { Self → ℕ };
 
     /// The last refused take.
@@ -48,7 +48,8 @@ pub trait Holder {
     ghost is_sound: { Self → Spec → Type 0 };
 
     /// Takes a stripe above all that are held. `Held` comes only where the count of refused takes
-    /// rose in this call, and is then the last refused take's. After either refusal nothing is taken.
+    /// rose in this call, and is then the last refused take's; where the count stays, so does the last
+    /// refused take. After either refusal nothing is taken.
     fn take(&mut self, stripe: u32, mode: Mode) -> Result<(), TakeStop>
         requires known { stripe < stripes self.old }
         requires above { IsAbove (held self.old) stripe }
@@ -56,13 +57,15 @@ pub trait Holder {
         ensures err { OnErr result (held self.new ≡ held self.old) }
         ensures refused { (h : Held) → result ≡ Err (stop.Held h) → HasRisen (refusals self.old) (refusals self.new) × IsRefusal (last_refusal self.new) h stripe mode (held self.old) }
         ensures refusals { refusals self.old ≤ refusals self.new }
+        ensures last_refusal { refusals self.new ≡ refusals self.old → last_refusal self.new ≡ last_refusal self.old }
         ensures kept { (p : ℕ) → IsHeld (held self.old) p → room self.old p ≤ room self.new p }
         ensures offers { (p : ℕ) → (IsHeld (held self.new) p → ⊥) → offered self.new p ≡ offered self.old p }
         ensures stripes { stripes self.new ≡ stripes self.old }
         ensures table { table self.new ≡ table self.old }
         ensures sound { (spec : Spec) → is_sound self.old spec → is_sound self.new spec };
 
-    /// Makes room for so many changes of a stripe that is held Exclusive.
+    /// Makes room for so many changes of a stripe that is held Exclusive; it may be called again.
+    /// Where memory is wanted no row changes.
     fn own(&mut self, stripe: u32, changes: u16) -> Result<(), Memory>
         requires { IsHeldExclusive (held self.old) stripe }
         ensures room { OnOk result (changes ≤ room self.new stripe) }

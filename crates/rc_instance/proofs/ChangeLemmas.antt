@@ -9,7 +9,7 @@ use Rattle.rc_spec.specs.Fragments.{EdgeRow}
 use Rattle.rc_spec.specs.declared.lock.Mode.{Mode}
 use Rattle.rc_spec.specs.declared.spec.Spec.{Spec}
 use Rattle.rc_fragment.specs.Holder.{HeldStripe, AreOffered, HasTaken, IsAbove, IsHeld, changed_at, just_taken}
-use Rattle.rc_instance.specs.Instance.{held_from, offered_at, room_at, table_of, taken_in, is_of_one_relation, IsInstance}
+use Rattle.rc_instance.specs.Instance.{held_from, offered_at, room_at, table_of, taken_in, IsOfOneRelation, IsInstance}
 use Rattle.rc_instance.specs.InstanceLaws.{as_held}
 use Rattle.rc_instance.specs.declared.stripe.Stripe.{Stripe}
 use Rattle.rc_instance.proofs.StripeLemmas.{IsHeldAs, above_is_free, held_as, held_below, held_from-taken, held_from-changed, held_from-same, held_not_free, instance-set, offered_at-set, room_at-kept, room_at-less, room_at-other, room_at-same, room_at-there, sound-set, stripe_at}
@@ -42,7 +42,7 @@ module _ (ss v : List Stripe) (view : ss ≡ v) (k : ℕ) (s : Stripe) (q : IsHe
     pub offers : (p : ℕ) → offered_at (set ss k t) p ≡ offered_at v p
     offers p = offered_at-set ss k s t there taken p ∙ ap (λ z. offered_at z p) view
 
-    pub sound : (spec : Spec) → is_of_one_relation v spec → is_of_one_relation (set ss k t) spec
+    pub sound : (spec : Spec) → IsOfOneRelation v spec → IsOfOneRelation (set ss k t) spec
     sound = sound-set ss v k s t view there table taken
 
     pub room_here : room_at (set ss k t) k ≡ t.fragment.room
@@ -82,7 +82,7 @@ module _ (ss v : List Stripe) (view : ss ≡ v) (k : ℕ) (s : Stripe) (l : k < 
   pub taken_offers : (p : ℕ) → offered_at (set ss k taken_stripe) p ≡ offered_at v p
   taken_offers p = offered_at-set ss k s taken_stripe at refl p ∙ ap (λ z. offered_at z p) view
 
-  pub taken_sound : (spec : Spec) → is_of_one_relation v spec → is_of_one_relation (set ss k taken_stripe) spec
+  pub taken_sound : (spec : Spec) → IsOfOneRelation v spec → IsOfOneRelation (set ss k taken_stripe) spec
   taken_sound = sound-set ss v k s taken_stripe view at refl refl
 
   pub taken_room : (p : ℕ) → room_at v p ≤ room_at (set ss k taken_stripe) p

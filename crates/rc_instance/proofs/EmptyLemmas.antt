@@ -13,7 +13,7 @@ use Rattle.rc_spec.specs.declared.items.Edge.{Edge}
 use Rattle.rc_spec.specs.declared.spec.Spec.{Spec}
 use Rattle.rc_fragment.specs.Fragment.{edge_table, shape_of}
 use Rattle.rc_fragment.specs.declared.shape.EdgeShape.{EdgeShape}
-use Rattle.rc_instance.specs.Instance.{held_part, held_from, is_of_one_relation, offered_at, rows_of, table_of, IsEmpty, IsInstance}
+use Rattle.rc_instance.specs.Instance.{held_part, held_from, offered_at, rows_of, table_of, IsEmpty, IsInstance, IsOfRelation}
 use Rattle.rc_instance.specs.Stripes.{IsEmptyStripe}
 use Rattle.rc_instance.specs.declared.stripe.Stripe.{Stripe}
 
@@ -73,17 +73,12 @@ no_member (w ∷ ws) f = absurd (f w (inl refl))
 pub fragment_of-none : (spec : Spec) (n : ℕ) → fragment_of spec [] n ≡ []
 fragment_of-none spec n = no_member (fragment_of spec [] n) (λ w m. (in_all_rows spec [] w (in_fragments spec [] (n ∷ []) w m).0).projected.1)
 
-pub empty_sound : (spec : Spec) (ss : List Stripe) → table_of ss ≡ edge_table spec → length ss ≡ stripe_total spec → ((s : Stripe) → In s ss → IsEmptyStripe (edge_table spec) s) → is_of_one_relation ss spec
-empty_sound spec ss t l each = (
-  t,
-  (
-    [],
-    record {
-      relation = record { rising = tt; each = λ u m. absurd m };
-      satisfies = satisfies_none spec.deps;
-      few = omega arith;
-      stripes = l;
-      rows = λ n k. none_offered (edge_table spec) ss each n (omega (arith, k, l)) ∙ ap Some (sym (fragment_of-none spec n));
-    },
-  ),
-)
+pub empty_relation : (spec : Spec) (ss : List Stripe) → table_of ss ≡ edge_table spec → length ss ≡ stripe_total spec → ((s : Stripe) → In s ss → IsEmptyStripe (edge_table spec) s) → IsOfRelation spec ss []
+empty_relation spec ss t l each = record {
+  table = t;
+  relation = record { rising = tt; each = λ u m. absurd m };
+  satisfies = satisfies_none spec.deps;
+  few = omega arith;
+  stripes = l;
+  rows = λ n k. none_offered (edge_table spec) ss each n (omega (arith, k, l)) ∙ ap Some (sym (fragment_of-none spec n));
+}

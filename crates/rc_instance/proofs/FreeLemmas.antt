@@ -1,5 +1,5 @@
 -- What all stripes are once each is free and has its rows now as taken.
-use Rattle.std.specs.Prelude.{◌≡◌, ℕ, zero, suc, List, [], ◌∷◌, ◌++◌, Option, None, Some, length}
+use Rattle.std.specs.Prelude.{◌≡◌, ℕ, zero, suc, ◌≤◌, List, [], ◌∷◌, ◌++◌, Option, None, Some, length, option_map}
 use Rattle.std.specs.List.{flat_map, slice_get}
 use Rattle.std.proofs.Common.{inl, inr, refl, sym, ap, subst, ◌∙◌, arith}
 use Rattle.rc_tuple.specs.RisingSet.{In}
@@ -9,7 +9,7 @@ use Rattle.rc_spec.specs.declared.lock.Mode.{Mode}
 use Rattle.rc_fragment.specs.FragmentRows.{FragmentRows}
 use Rattle.rc_fragment.specs.Holder.{IsHeld}
 use Rattle.rc_fragment.specs.declared.shape.EdgeShape.{EdgeShape}
-use Rattle.rc_instance.specs.Instance.{held_part, held_from, now_in, offered_at, rows_of, table_of, table_of_fragments, taken_in, AreReleased, HaveOneTable, IsInstance, IsMadeOf}
+use Rattle.rc_instance.specs.Instance.{held_part, held_from, now_in, offered_at, room_at, room_in, rows_of, table_of, table_of_fragments, taken_in, AreReleased, HaveOneTable, IsInstance, IsMadeOf}
 use Rattle.rc_instance.specs.InstanceLaws.{IsHeldFrom, in_held_from, as_held, held_from_in}
 use Rattle.rc_instance.specs.Stripes.{AreAlike, IsFree, IsReleased}
 use Rattle.rc_instance.specs.declared.stripe.Stripe.{Stripe}
@@ -67,6 +67,17 @@ module _ {X : Type 0} (f : X → FragmentRows) where
     free = λ s m n. let r : (x : X) × In x xs × IsFree (f x) s = free_in xs ss a s m in r.2.now ∙ sym r.2.taken;
   }
 
+abbrev room_of : Option FragmentRows → ℕ
+room_of None = 0
+room_of (Some f) = f.room
+
+free_room : {X : Type 0} (f : X → FragmentRows) (xs : List X) (ss : List Stripe) → AreAlike (λ x s. IsFree (f x) s) xs ss → (n : ℕ) → room_of (option_map f (slice_get xs n)) ≤ room_at ss n
+free_room f [] [] a n = omega arith
+free_room f [] (t ∷ ss) a n = absurd a
+free_room f (x ∷ xs) [] a n = absurd a
+free_room f (x ∷ xs) (t ∷ ss) a zero = a.0.room
+free_room f (x ∷ xs) (t ∷ ss) a (suc n) = free_room f xs ss a.1 n
+
 -- ---- made of fragments
 
 abbrev itself : FragmentRows → FragmentRows
@@ -116,6 +127,10 @@ free_offers old i n d = go (slice_get old n) refl
     go None e = ap taken_in (sym e)
     go (Some s) e = ap Some (i.free s (slice_get_in old n s e) (free s e s.held refl)) ∙ ap taken_in (sym e)
 
+room_in_old : (o : Option Stripe) → room_of (option_map fragment_in o) ≡ room_in o
+room_in_old None = refl
+room_in_old (Some s) = refl
+
 pub released : (old new : List Stripe) → IsInstance old → AreAlike IsReleased old new → AreReleased old new
 released old new i a = record {
   held = free_held fragment_in 0 old new a;
@@ -125,6 +140,7 @@ released old new i a = record {
       let n : h.stripe ≡ w.place = omega (arith, w.numbered) in
       free_offered fragment_in old new a h.stripe ∙ ap (λ z. now_from fragment_in (slice_get old z)) n ∙ ap (now_from fragment_in) w.there ∙ ap Some (sym w.now);
   others = λ n d. free_offered fragment_in old new a n ∙ free_offers old i n d;
+  room = λ n. subst (λ z. z ≤ room_at new n) (room_in_old (slice_get old n)) (free_room fragment_in old new a n);
   stripes = free_length fragment_in old new a;
   table = free_table fragment_in old new a ∙ same_table_of old;
 }

@@ -6,7 +6,7 @@ use Rattle.rc_tuple.specs.RisingSet.{In}
 use Rattle.rc_spec.specs.declared.lock.Mode.{Mode}
 use Rattle.rc_spec.specs.declared.spec.Spec.{Spec}
 use Rattle.rc_fragment.specs.Holder.{reverted}
-use Rattle.rc_instance.specs.Instance.{held_part, held_from, is_of_one_relation, offered_at, room_at, table_of, IsInstance}
+use Rattle.rc_instance.specs.Instance.{held_part, held_from, IsOfOneRelation, offered_at, room_at, table_of, IsInstance}
 use Rattle.rc_instance.specs.Stripes.{AreAlike, IsReverted}
 use Rattle.rc_instance.specs.declared.stripe.Stripe.{Stripe}
 use Rattle.rc_instance.proofs.StripeLemmas.{same_sound}
@@ -63,5 +63,5 @@ reverted_instance old new i a = record {
   free = λ t m n. let r : (s : Stripe) × In s old × IsReverted s t = reverted_in old new a t m in r.2.now ∙ sym r.2.taken;
 }
 
-pub reverted_sound : (old new : List Stripe) → AreAlike IsReverted old new → (spec : Spec) → is_of_one_relation old spec → is_of_one_relation new spec
+pub reverted_sound : (old new : List Stripe) → AreAlike IsReverted old new → (spec : Spec) → IsOfOneRelation old spec → IsOfOneRelation new spec
 reverted_sound old new a = same_sound old new (reverted_table old new a) (reverted_length old new a) (reverted_offers old new a)

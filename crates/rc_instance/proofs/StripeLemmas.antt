@@ -12,7 +12,7 @@ use Rattle.rc_spec.specs.declared.lock.Mode.{Mode}
 use Rattle.rc_spec.specs.declared.spec.Spec.{Spec}
 use Rattle.rc_fragment.specs.FragmentRows.{FragmentRows}
 use Rattle.rc_fragment.specs.Holder.{HeldStripe, IsHeld, IsHeldExclusive, IsAbove, changed_at, with_now}
-use Rattle.rc_instance.specs.Instance.{held_part, held_from, offered_at, room_at, table_of, is_of_one_relation, IsInstance}
+use Rattle.rc_instance.specs.Instance.{held_part, held_from, offered_at, room_at, table_of, IsOfOneRelation, IsInstance}
 use Rattle.rc_instance.specs.InstanceLaws.{IsHeldFrom, in_held_from, as_held, held_from_in, slice_get_below, same_some}
 use Rattle.rc_instance.specs.declared.stripe.Stripe.{Stripe}
 
@@ -146,25 +146,23 @@ room_at-kept ss k s t e q p =
 -- ---- what soundness rests on
 
 pub same_sound : (old new : List Stripe) → table_of new ≡ table_of old → length new ≡ length old → ((p : ℕ) → offered_at new p ≡ offered_at old p)
-    → (spec : Spec) → is_of_one_relation old spec → is_of_one_relation new spec
+    → (spec : Spec) → IsOfOneRelation old spec → IsOfOneRelation new spec
 same_sound old new t l f spec o = (
-  t ∙ o.0,
-  (
-    o.1.0,
-    record {
-      relation = o.1.1.relation;
-      satisfies = o.1.1.satisfies;
-      few = o.1.1.few;
-      stripes = l ∙ o.1.1.stripes;
-      rows = λ n m. f n ∙ o.1.1.rows n m;
-    },
-  ),
+  o.0,
+  record {
+    table = t ∙ o.1.table;
+    relation = o.1.relation;
+    satisfies = o.1.satisfies;
+    few = o.1.few;
+    stripes = l ∙ o.1.stripes;
+    rows = λ n m. f n ∙ o.1.rows n m;
+  },
 )
 
 pub sound-set : (ss v : List Stripe) (k : ℕ) (s t : Stripe) → ss ≡ v → slice_get ss k ≡ Some s → t.fragment.table ≡ s.fragment.table → t.fragment.taken ≡ s.fragment.taken
-    → (spec : Spec) → is_of_one_relation v spec → is_of_one_relation (set ss k t) spec
+    → (spec : Spec) → IsOfOneRelation v spec → IsOfOneRelation (set ss k t) spec
 sound-set ss v k s t a e p q spec o =
-    same_sound ss (set ss k t) (table_of-set ss k s t e p) (length-set-stripe ss k t) (offered_at-set ss k s t e q) spec (subst (λ z. is_of_one_relation z spec) (sym a) o)
+    same_sound ss (set ss k t) (table_of-set ss k s t e p) (length-set-stripe ss k t) (offered_at-set ss k s t e q) spec (subst (λ z. IsOfOneRelation z spec) (sym a) o)
 
 -- ---- what is held
 

@@ -1,5 +1,5 @@
 -- What an instance keeps: one fragment for each physical stripe, and which stripes are held.
-use Rattle.std.specs.Prelude.{◌≡◌, ℕ, suc, ◌<◌, ◌^◌, List, [], ◌∷◌, ◌++◌, Option, None, Some, length}
+use Rattle.std.specs.Prelude.{◌≡◌, ℕ, suc, ◌<◌, ◌≤◌, ◌^◌, List, [], ◌∷◌, ◌++◌, Option, None, Some, length}
 use Rattle.std.specs.List.{flat_map, slice_get}
 use Rattle.rc_tuple.specs.RisingSet.{In}
 use Rattle.rc_tuple.specs.Tuple.{Pairs}
@@ -92,19 +92,21 @@ pub record AreReleased (old new : List Stripe) : Type 0 where
   pub rows : rows_of new ≡ rows_of old
   pub settled : (h : HeldStripe) → In h (held_from 0 old) → offered_at new h.stripe ≡ Some h.now
   pub others : (n : ℕ) → (IsHeld (held_from 0 old) n → ⊥) → offered_at new n ≡ offered_at old n
+  pub room : (n : ℕ) → room_at old n ≤ room_at new n
   pub stripes : length new ≡ length old
   pub table : table_of new ≡ table_of old
 
 -- ---- soundness
 
--- the stripes as taken are the fragments of this relation, which satisfies the dependencies and has fewer than 2^63 tuples
+-- the instance is one of the specification, with its edge table and as many stripes, and the stripes as taken are the fragments of this relation, which satisfies the dependencies and has fewer than 2^63 tuples
 pub record IsOfRelation (spec : Spec) (ss : List Stripe) (r : List Pairs) : Type 0 where
+  pub table : table_of ss ≡ edge_table spec
   pub relation : IsRelation (all_columns spec) r
   pub satisfies : Satisfies r spec.deps
   pub few : length r < 2 ^ 63
   pub stripes : length ss ≡ stripe_total spec
   pub rows : (n : ℕ) → n < stripe_total spec → offered_at ss n ≡ Some (fragment_of spec r n)
 
--- the instance is one of the specification: it has its edge table, and its stripes as taken are the fragments of one relation
-abbrev pub is_of_one_relation : List Stripe → Spec → Type 0
-is_of_one_relation ss spec = (table_of ss ≡ edge_table spec) × ((r : List Pairs) × IsOfRelation spec ss r)
+-- the same of some relation
+abbrev pub IsOfOneRelation : List Stripe → Spec → Type 0
+IsOfOneRelation ss spec = (r : List Pairs) × IsOfRelation spec ss r

@@ -15,7 +15,7 @@ use Rattle.rc_spec.specs.declared.spec.Spec.{Spec}
 use Rattle.rc_fragment.specs.Fragment.{edge_table}
 use Rattle.rc_fragment.specs.FragmentRows.{FragmentRows}
 use Rattle.rc_fragment.specs.Holder.{HeldStripe, AreOfOneRelation, IsHeld}
-use Rattle.rc_instance.specs.Instance.{held_part, held_from, is_of_one_relation, now_in, offered_at, table_of, table_of_fragments, taken_in, AreReleased, IsMadeOf}
+use Rattle.rc_instance.specs.Instance.{held_part, held_from, IsOfOneRelation, now_in, offered_at, table_of, table_of_fragments, taken_in, AreReleased, IsMadeOf, IsOfRelation}
 use Rattle.rc_instance.specs.declared.stripe.Stripe.{Stripe}
 
 -- ---- places of a list
@@ -91,39 +91,39 @@ held_from_in n (x ∷ ss) (suc k) m s mode e l h =
 
 -- ---- soundness
 
-pub sound_table : (ss : List Stripe) (spec : Spec) → is_of_one_relation ss spec → (table_of ss ≡ edge_table spec) × (length ss ≡ stripe_total spec)
-sound_table ss spec o = (o.0, o.1.1.stripes)
+pub sound_table : (ss : List Stripe) (spec : Spec) → IsOfOneRelation ss spec → (table_of ss ≡ edge_table spec) × (length ss ≡ stripe_total spec)
+sound_table ss spec o = (o.1.table, o.1.stripes)
 
-pub sound_rows : (ss : List Stripe) (spec : Spec) → is_of_one_relation ss spec → AreOfOneRelation spec (held_from 0 ss)
+pub sound_rows : (ss : List Stripe) (spec : Spec) → IsOfOneRelation ss spec → AreOfOneRelation spec (held_from 0 ss)
 sound_rows ss spec o = (
-  o.1.0,
+  o.0,
   record {
-    relation = o.1.1.relation;
-    satisfies = o.1.1.satisfies;
-    few = o.1.1.few;
+    relation = o.1.relation;
+    satisfies = o.1.satisfies;
+    few = o.1.few;
     rows = λ h i.
         let w : IsHeldFrom 0 ss h = in_held_from 0 ss h i in
         let l : w.place < length ss = slice_get_below ss w.place w.stripe w.there in
         let e : h.stripe ≡ w.place = omega (arith, w.numbered) in
-        let f : Some w.stripe.fragment.taken ≡ Some (fragment_of spec o.1.0 w.place) = ap taken_in (sym w.there) ∙ o.1.1.rows w.place (omega (arith, l, o.1.1.stripes)) in
-        w.taken ∙ same_some _ _ f ∙ ap (fragment_of spec o.1.0) (sym e);
+        let f : Some w.stripe.fragment.taken ≡ Some (fragment_of spec o.0 w.place) = ap taken_in (sym w.there) ∙ o.1.rows w.place (omega (arith, l, o.1.stripes)) in
+        w.taken ∙ same_some _ _ f ∙ ap (fragment_of spec o.0) (sym e);
   },
 )
 
 -- ---- new soundness
 
--- stripes made of fragments that are those of one relation are sound
+-- stripes made of fragments that are those of a relation are of it
 abbrev pub MadeOfRelation : Type 0
 MadeOfRelation = (spec : Spec) (fs : List FragmentRows) (ss : List Stripe) → IsMadeOf fs ss → table_of_fragments fs ≡ edge_table spec → length fs ≡ stripe_total spec
     → (r : List Pairs) → IsRelation (all_columns spec) r → Satisfies r spec.deps → length r < 2 ^ 63
-    → ((n : ℕ) (f : FragmentRows) → slice_get fs n ≡ Some f → f.now ≡ fragment_of spec r n) → is_of_one_relation ss spec
+    → ((n : ℕ) (f : FragmentRows) → slice_get fs n ≡ Some f → f.now ≡ fragment_of spec r n) → IsOfRelation spec ss r
 
--- released stripes are sound where each that was held had its fragment of one relation, and each other offered it
+-- released stripes are of a relation where each that was held had its fragment, and each other offered it
 abbrev pub ReleasedToRelation : Type 0
 ReleasedToRelation = (spec : Spec) (old new : List Stripe) → AreReleased old new → table_of old ≡ edge_table spec → length old ≡ stripe_total spec
     → (r : List Pairs) → IsRelation (all_columns spec) r → Satisfies r spec.deps → length r < 2 ^ 63
     → ((h : HeldStripe) → In h (held_from 0 old) → h.now ≡ fragment_of spec r h.stripe)
-    → ((n : ℕ) → n < stripe_total spec → (IsHeld (held_from 0 old) n → ⊥) → offered_at old n ≡ Some (fragment_of spec r n)) → is_of_one_relation new spec
+    → ((n : ℕ) → n < stripe_total spec → (IsHeld (held_from 0 old) n → ⊥) → offered_at old n ≡ Some (fragment_of spec r n)) → IsOfRelation spec new r
 
 place_in : {A : Type 0} (xs : List A) (n : ℕ) → n < length xs → (x : A) × (slice_get xs n ≡ Some x)
 place_in [] n l = absurd (let f : n < 0 = l in omega (arith, f))
@@ -131,21 +131,16 @@ place_in (x ∷ xs) zero l = (x, refl)
 place_in (x ∷ xs) (suc n) l = place_in xs n (let f : suc n < suc (length xs) = l in omega (arith, f))
 
 pub made_law : MadeOfRelation
-made_law spec fs ss made t l r i h few rows = (
-  made.table ∙ t,
-  (
-    r,
-    record {
-      relation = i;
-      satisfies = h;
-      few = few;
-      stripes = made.stripes ∙ l;
-      rows = λ n k.
-          let p : (f : FragmentRows) × (slice_get fs n ≡ Some f) = place_in fs n (omega (arith, k, l)) in
-          made.offered n ∙ ap now_in p.1 ∙ ap Some (rows n p.0 p.1);
-    },
-  ),
-)
+made_law spec fs ss made t l r i h few rows = record {
+  table = made.table ∙ t;
+  relation = i;
+  satisfies = h;
+  few = few;
+  stripes = made.stripes ∙ l;
+  rows = λ n k.
+      let p : (f : FragmentRows) × (slice_get fs n ≡ Some f) = place_in fs n (omega (arith, k, l)) in
+      made.offered n ∙ ap now_in p.1 ∙ ap Some (rows n p.0 p.1);
+}
 
 -- a stripe is held or it is not
 held_or_not : (held : List HeldStripe) (n : ℕ) → IsHeld held n ⊎ (IsHeld held n → ⊥)
@@ -158,19 +153,14 @@ held_or_not (h ∷ held) n = go (h.stripe == n) refl (held_or_not held n)
     go false e (inr d) = inr (λ q. elim q.1 [ inl p ↦ false≢true (sym e ∙ eq-eqb h.stripe n (ap (λ (z : HeldStripe). z.stripe) (sym p) ∙ q.2)) | inr m ↦ d (q.0, m, q.2) ])
 
 pub released_law : ReleasedToRelation
-released_law spec old new a t l r i h few held others = (
-  a.table ∙ t,
-  (
-    r,
-    record {
-      relation = i;
-      satisfies = h;
-      few = few;
-      stripes = a.stripes ∙ l;
-      rows = λ n k. elim (held_or_not (held_from 0 old) n) [
-        | inl q ↦ ap (offered_at new) (sym q.2) ∙ a.settled q.0 q.1 ∙ ap Some (held q.0 q.1 ∙ ap (fragment_of spec r) q.2)
-        | inr d ↦ a.others n d ∙ others n k d
-      ];
-    },
-  ),
-)
+released_law spec old new a t l r i h few held others = record {
+  table = a.table ∙ t;
+  relation = i;
+  satisfies = h;
+  few = few;
+  stripes = a.stripes ∙ l;
+  rows = λ n k. elim (held_or_not (held_from 0 old) n) [
+    | inl q ↦ ap (offered_at new) (sym q.2) ∙ a.settled q.0 q.1 ∙ ap Some (held q.0 q.1 ∙ ap (fragment_of spec r) q.2)
+    | inr d ↦ a.others n d ∙ others n k d
+  ];
+}

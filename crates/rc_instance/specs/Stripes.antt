@@ -24,8 +24,9 @@ pub record IsFree (f : FragmentRows) (s : Stripe) : Type 0 where
   pub table : s.fragment.table ≡ f.table
   pub now : s.fragment.now ≡ f.now
   pub taken : s.fragment.taken ≡ f.now
+  pub room : f.room ≤ s.fragment.room
 
--- the same for a stripe that may have been held
+-- the same of a stripe, which may have been held
 abbrev pub IsReleased : Stripe → Stripe → Type 0
 IsReleased old new = IsFree old.fragment new
 

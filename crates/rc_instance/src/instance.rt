@@ -1,11 +1,13 @@
 //! An instance: one fragment for each physical stripe.
 
-ghost use Rattle.std.specs.Prelude.{◌≡◌, List, [], None, IfOk, length};
+ghost use Rattle.std.specs.Prelude.{◌≡◌, ℕ, ◌<◌, ◌≤◌, List, [], None, IfOk, IsOk, OnOk, length};
 ghost use Rattle.rc_tuple.specs.Tuple.{Pairs};
 ghost use Rattle.rc_spec.specs.Fragments.{represented_by};
 ghost use Rattle.rc_spec.specs.Stripes.{stripe_total};
+ghost use Rattle.rc_spec.specs.declared.spec.Spec.{Spec};
 ghost use Rattle.rc_fragment.specs.Fragment.{edge_table};
-ghost use Rattle.rc_instance.specs.Instance.{AreReleased, HaveOneTable, IsEmpty, IsMadeOf, IsOfRelation, held_from, is_of_one_relation, offered_at, room_at, rows_of, table_of};
+ghost use Rattle.rc_fragment.specs.Holder.{HasTaken, IsAbove, IsHeld};
+ghost use Rattle.rc_instance.specs.Instance.{AreReleased, HaveOneTable, IsEmpty, IsMadeOf, IsOfOneRelation, IsOfRelation, held_from, offered_at, room_at, rows_of, table_of};
 
 use crate::Stripe;
 use crate::represent::joined_rows;
@@ -38,12 +40,12 @@ impl Model for Instance {
 
 impl Instance {
     /// The instance of an accepted specification with no tuple: each stripe is free and has no row.
-    /// It is sound for the specification.
+    /// It is of the empty relation, and so sound for the specification.
     pub fn empty(alloc: Global, accepted: &Accepted) -> Result<Instance, Memory>
         ensures stripes { IfOk result (λ instance. length instance ≡ stripe_total accepted.now) }
         ensures table { IfOk result (λ instance. table_of instance ≡ edge_table accepted.now) }
         ensures empty { IfOk result (λ instance. IsEmpty instance) }
-        ensures sound { IfOk result (λ instance. is_of_one_relation instance accepted.now) }
+        ensures relation { IfOk result (λ instance. IsOfRelation accepted.now instance []) }
     {
         let stripes = empty_stripes(alloc, accepted)?;
         Ok(Instance { stripes })
@@ -68,8 +70,9 @@ impl Instance {
     }
 
     /// The tuples that the instance represents, rising: the join of the rows now of all edges. Where no
-    /// stripe is held and the instance is of a relation, they are that relation. (The natural join of a
-    /// decomposition's contents, PLDI 2011.)
+    /// stripe is held and the instance is of a relation, they are that relation. Costs all rows, for each
+    /// edge a hash of them and of the tuples joined so far. (The natural join of a decomposition's
+    /// contents, PLDI 2011.)
     pub fn represents(&self, alloc: Global, accepted: &Accepted) -> Result<Tuples, Memory>
         requires { table_of self.now ≡ edge_table accepted.now }
         ensures rows { IfOk result (λ tuples. tuples ≡ represented_by accepted.now (rows_of self.now)) }
@@ -94,7 +97,7 @@ impl Holder for Instance {
 
     ghost last_refusal = { λ _. None };
 
-    ghost is_sound = { is_of_one_relation };
+    ghost is_sound = { IsOfOneRelation };
 
     ghost use Rattle.rc_instance.specs.InstanceLaws.{sound_rows, sound_table};
 
@@ -102,8 +105,18 @@ impl Holder for Instance {
 
     ghost sound_rows = { sound_rows };
 
-    /// Takes the stripe. It is never refused.
-    fn take(&mut self, stripe: u32, mode: Mode) -> Result<(), TakeStop> {
+    /// Takes the stripe. It always succeeds.
+    fn take(&mut self, stripe: u32, mode: Mode) -> Result<(), TakeStop>
+        requires known { stripe < length self.old }
+        requires above { IsAbove (held_from 0 self.old) stripe }
+        ensures always { IsOk result }
+        ensures ok { OnOk result (HasTaken (held_from 0 self.old) (held_from 0 self.new) stripe mode (offered_at self.old stripe)) }
+        ensures kept { (p : ℕ) → IsHeld (held_from 0 self.old) p → room_at self.old p ≤ room_at self.new p }
+        ensures offers { (p : ℕ) → (IsHeld (held_from 0 self.new) p → ⊥) → offered_at self.new p ≡ offered_at self.old p }
+        ensures stripes { length self.new ≡ length self.old }
+        ensures table { table_of self.new ≡ table_of self.old }
+        ensures sound { (spec : Spec) → IsOfOneRelation self.old spec → IsOfOneRelation self.new spec }
+    {
         self.stripes[stripe as usize].held = Some(mode);
         Ok(())
     }

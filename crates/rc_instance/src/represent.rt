@@ -15,7 +15,7 @@ use rc_tuple::{ColSet, Memory, Tuple, Tuples, Vals};
 use std::alloc::Global;
 
 /// The join of the rows of all edges over all stripes, begun with the one tuple without columns.
-pub fn joined_rows(alloc: Global, stripes: &[Stripe], spec: &Spec) -> Result<Tuples, Memory>
+pub(crate) fn joined_rows(alloc: Global, stripes: &[Stripe], spec: &Spec) -> Result<Tuples, Memory>
     requires range { IsInRange spec.now }
     requires table { (s : Stripe) → In s stripes.now → s.fragment.table ≡ edge_table spec.now }
     ensures { IfOk result (λ tuples. tuples ≡ represented_by spec.now (rows_of stripes.now)) }

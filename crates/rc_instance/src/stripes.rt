@@ -15,7 +15,7 @@ use rc_tuple::Memory;
 use std::alloc::Global;
 
 /// The stripes of an accepted specification, each free and with no row.
-pub fn empty_stripes(alloc: Global, accepted: &Accepted) -> Result<Vec<Stripe>, Memory>
+pub(crate) fn empty_stripes(alloc: Global, accepted: &Accepted) -> Result<Vec<Stripe>, Memory>
     ensures stripes { IfOk result (λ stripes. length stripes.items ≡ stripe_total accepted.now) }
     ensures table { IfOk result (λ stripes. table_of stripes.items ≡ edge_table accepted.now) }
     ensures empty { IfOk result (λ stripes. (s : Stripe) → In s stripes.items → IsEmptyStripe (edge_table accepted.now) s) }
@@ -42,7 +42,7 @@ fn free_stripe(mut fragment: Fragment) -> Stripe
 }
 
 /// The stripes of the fragments, each free and with the rows now as taken.
-pub fn free_stripes(alloc: Global, fragments: Vec<Fragment>) -> Result<Vec<Stripe>, Memory>
+pub(crate) fn free_stripes(alloc: Global, fragments: Vec<Fragment>) -> Result<Vec<Stripe>, Memory>
     ensures { IfOk result (λ stripes. AreAlike IsFree fragments.items stripes.items) }
 {
     let mut stripes = Vec::new(alloc);
@@ -61,7 +61,7 @@ fn release(stripe: &mut Stripe)
 }
 
 /// Frees all stripes and makes their rows now count as taken.
-pub fn release_stripes(stripes: &mut [Stripe])
+pub(crate) fn release_stripes(stripes: &mut [Stripe])
     ensures { AreAlike IsReleased stripes.old stripes.new }
 {
     for stripe in stripes.iter_mut() {
@@ -77,7 +77,7 @@ fn revert(stripe: &mut Stripe)
 }
 
 /// Makes the rows of all stripes what they were as taken.
-pub fn revert_stripes(stripes: &mut [Stripe])
+pub(crate) fn revert_stripes(stripes: &mut [Stripe])
     ensures { AreAlike IsReverted stripes.old stripes.new }
 {
     for stripe in stripes.iter_mut() {

@@ -1,6 +1,6 @@
 // Accepted specifications, and sets of their columns.
 use rc_place::{AcceptFault, accept};
-use rc_reader::read_spec_only;
+use rc_reader::{ReadRefusal, read_spec_only};
 use rc_spec::Accepted;
 use rc_tuple::{ColSet, Memory};
 use std::alloc::Global;
@@ -9,8 +9,10 @@ use std::process::Abort;
 /// The specification of a text.
 pub(crate) fn accepted_of(rt: &impl Abort, alloc: Global, text: &str) -> Result<Accepted, Memory> {
     assert!(rt; text.len() <= 1 << 24);
-    let Ok(spec) = read_spec_only(alloc, text.as_bytes()) else {
-        panic!(rt; "not read");
+    let spec = match read_spec_only(alloc, text.as_bytes()) {
+        Ok(spec) => spec,
+        Err(ReadRefusal::Memory) => return Err(Memory),
+        Err(_) => panic!(rt; "not read"),
     };
     match accept(alloc, spec) {
         Ok(accepted) => Ok(accepted),

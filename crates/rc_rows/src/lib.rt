@@ -6,6 +6,8 @@ mod accepted;
 #[cfg(test)]
 mod check_tests;
 #[cfg(test)]
+mod instance_tests;
+#[cfg(test)]
 mod planner_tests;
 #[cfg(test)]
 mod route_tests;

@@ -229,12 +229,19 @@ fn plan_is(
 ) -> Result<(), Memory> {
     let accepted = compiled.accepted();
     assert!(rt; (op as usize) < accepted.spec().ops.list().len());
-    let plan = compiled.plan(op);
-    let printed = print_plan(alloc, accepted.spec(), op, plan)?;
+    let printed = print_plan(alloc, accepted.spec(), op, compiled.plan(op))?;
     assert_eq!(rt; printed.as_slice(), want.as_bytes());
+    plan_passes(rt, compiled, op);
+    Ok(())
+}
+
+/// The checker lets the plan of an operation pass.
+fn plan_passes(rt: &impl Abort, compiled: &Compiled, op: u8) {
+    let accepted = compiled.accepted();
+    assert!(rt; (op as usize) < accepted.spec().ops.list().len());
+    let plan = compiled.plan(op);
     assert!(rt; plan.list().len() < 100);
     assert!(rt; check_plan(accepted, op, plan).is_ok());
-    Ok(())
 }
 
 /// The plans of a specification's operations are these.
@@ -292,5 +299,8 @@ fn plans_the_largest(rt: HostRuntime) -> Result<(), Fail> {
     let spec = compiled.accepted().spec();
     assert_eq!(rt; spec.edges.list().len(), 24);
     assert_eq!(rt; spec.ops.list().len(), 32);
+    for op in 0..32 {
+        plan_passes(&rt, &compiled, op);
+    }
     Ok(())
 }

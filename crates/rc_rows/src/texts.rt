@@ -246,7 +246,31 @@ place e3 k
 end
 ";
 
-/// As many columns, nodes, edges, classes, stripes and operations as there may be.
+/// Edges of all kinds, one behind the other, on one stripe.
+pub(crate) const KINDS: &str = "relc 1
+col a num
+col b num
+col c num
+col d num
+fd a b c -> d
+node root
+node u a
+node w a b
+node x a b c
+node z a b c d
+edge e1 root u hash a
+edge e2 u w ordered b
+edge e3 w x list c
+edge e4 x z singleton d
+lock k 1
+place e1 k
+place e2 k
+place e3 k
+place e4 k
+end
+";
+
+/// As many columns, nodes, edges, classes, stripes and operations as a text may have.
 pub(crate) const LARGEST: &str = "relc 1
 col a num
 col b num

@@ -1,4 +1,4 @@
--- What is written of an accepted specification, as it is asked.
+-- What is written of an accepted specification that stands alone: `accepted`, or its plans.
 use Rattle.std.specs.Prelude.{ℕ, List}
 use Rattle.rc_spec.specs.declared.spec.Spec.{Spec}
 use Rattle.relc.specs.declared.performing.Asked.{Asked}

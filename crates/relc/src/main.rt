@@ -1,4 +1,4 @@
-//! RELC: checks specifications, and runs workloads on them.
+//! RELC: checks specifications, plans their operations, and runs workloads on them.
 #![tactic(auto)]
 
 use crate::status::Status;

@@ -44,12 +44,12 @@ fn perform<K: Sink>(alloc: Global, sink: &mut K, spec: &Spec, work: &Work) -> Re
     Ok(Status::Done)
 }
 
-/// What is asked of a specification that stands alone, where it is accepted.
+/// What is to be written of a specification that stands alone, where it is accepted.
 #[derive(Clone, Copy)]
 enum Asked {
-    /// That it is.
+    /// The line `accepted`.
     Acceptance,
-    /// The plans of its operations.
+    /// The plans of its operations, and then the line `end`.
     Plans,
 }
 

@@ -1,4 +1,4 @@
-use Rattle.std.proofs.Common.{◌≡◌, rules, arith, sym, subst}
+use Rattle.std.proofs.Common.{rules, sym, subst}
 use Rattle.rc_spec.specs.Acceptance.{IsSealed}
 use Rattle.rc_spec.specs.DecompositionLaws.{edge_known}
 use Rattle.rc_spec.specs.declared.spec.Spec.{Spec}

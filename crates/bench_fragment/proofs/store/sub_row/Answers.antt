@@ -1,4 +1,4 @@
-use Rattle.std.proofs.Common.{◌≡◌, rules, sym, subst, ap, ◌∙◌}
+use Rattle.std.proofs.Common.{sym, subst, ap}
 use Rattle.std.specs.Prelude.{option_copied}
 use Rattle.rc_fragment.specs.Fragment.{IsLookedUp, IsThere, shape_of}
 use Rattle.rc_spec.specs.Decomposition.{edge_at}

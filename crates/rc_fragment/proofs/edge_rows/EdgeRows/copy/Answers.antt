@@ -1,6 +1,6 @@
 use Rattle.std.proofs.Common.{refl}
 use Rattle.rc_fragment.specs.Container.{now_in, taken_in}
-use Rattle.rc_fragment.specs.Sources.{Faces, Sources}
+use Rattle.rc_fragment.specs.Sources.{SeenContainer, Sources}
 use Rattle.rc_fragment.proofs.CopyLemmas.{found_same, kinds_same}
 use Rattle.rc_fragment.proofs.edge_rows.EdgeRows.copy.Goals as goal
 
@@ -9,8 +9,8 @@ returns c =
     let old : Sources = c.args.self.now.sources.entries in
     let new : Sources = c.in_ok-copy_of.field-0.entries in
     record {
-      now = found_same old new c.in_ok-copy_of.ensures now_in (λ (f : Faces). f.0) (λ x. refl);
-      taken = found_same old new c.in_ok-copy_of.ensures taken_in (λ (f : Faces). f.1) (λ x. refl);
+      now = found_same old new c.in_ok-copy_of.ensures now_in (λ (f : SeenContainer). f.0) (λ x. refl);
+      taken = found_same old new c.in_ok-copy_of.ensures taken_in (λ (f : SeenContainer). f.1) (λ x. refl);
       kinds = kinds_same old new c.in_ok-copy_of.ensures c.args.self.now.shape.kind c.requires;
       shape = refl;
     }

@@ -1,7 +1,7 @@
 use Rattle.std.proofs.Common.{◌≡◌, ◌≤◌, ◌++◌, length, take, drop, sym, ap, subst, ◌∙◌, arith}
 use Rattle.std.specs.Prelude.{List, map}
 use Rattle.rc_fragment.specs.Holder.{reverted}
-use Rattle.rc_instance.specs.Instance.{IsInstance, held_from, is_of_one_relation, offered_at, room_at}
+use Rattle.rc_instance.specs.Instance.{IsInstance, held_from, IsOfOneRelation, offered_at, room_at}
 use Rattle.rc_instance.specs.Stripes.{AreAlike, IsReverted}
 use Rattle.rc_instance.specs.declared.stripe.Stripe.{Stripe}
 use Rattle.rc_instance.proofs.AlikeLemmas.{written}
@@ -46,4 +46,4 @@ returns-clause-sound c spec o =
     let new : List Stripe = c.revert_stripes.new.stripes in
     let a : AreAlike IsReverted ss new = subst (λ z. AreAlike IsReverted z new) c.deref_mut.ensures.value c.revert_stripes.ensures in
     let w : take c.self.inside.stripes.len (new ++ drop (length new) ss) ≡ new = written c.self.inside.stripes.len new ss (omega (arith, c.self.inside.stripes.ok)) (c.revert_stripes.auto.stripes ∙ ap length c.deref_mut.ensures.value) in
-    subst (λ z. is_of_one_relation z spec) (sym w) (reverted_sound ss new a spec (subst (λ z. is_of_one_relation z spec) (sym c.self.view_is) o))
+    subst (λ z. IsOfOneRelation z spec) (sym w) (reverted_sound ss new a spec (subst (λ z. IsOfOneRelation z spec) (sym c.self.view_is) o))
