@@ -1,0 +1,197 @@
+-- How a run of an insert stands after a Probe and after a check, and how a run ends.
+use Rattle.std.specs.Prelude.{◌≡◌, ℕ, Bool, true, false, List, [], ◌∷◌, None, Some, cond, length}
+use Rattle.std.specs.Ordering.{nat_cmp}
+use Rattle.std.proofs.Common.{inl, inr, refl, sym, ap, subst, ◌∙◌}
+use Rattle.std.proofs.lemmas.Option.{get_or_from_slice_get}
+use Rattle.rc_tuple.specs.RisingSet.{In, IsRising, gather}
+use Rattle.rc_tuple.specs.RisingSetLaws.{gather-rising, nat_order, rising_filter}
+use Rattle.rc_tuple.specs.ColSet.{Within, has}
+use Rattle.rc_tuple.specs.ColSetLaws.{rising_range}
+use Rattle.rc_tuple.specs.Tuple.{Pairs, cols_of, pair_cmp, project}
+use Rattle.rc_tuple.specs.TupleLaws.{Agree, in_project, one_pair, rising_cols}
+use Rattle.rc_spec.specs.declared.call.Call.{Call}
+use Rattle.rc_spec.specs.declared.call.Reply.{Reply}
+use Rattle.rc_spec.specs.declared.call.Reply.TheVariants.{Conflict, Present}
+use Rattle.rc_spec.specs.declared.items.Op.{Op}
+use Rattle.rc_spec.specs.declared.items.OpKind.{OpKind}
+use Rattle.rc_spec.specs.declared.items.OpKind.TheVariants.{Query, Insert, Remove}
+use Rattle.rc_spec.specs.declared.spec.Spec.{Spec}
+use Rattle.rc_spec.specs.Acceptance.{IsSealed}
+use Rattle.rc_spec.specs.Calls.{Fits, all_columns, value_columns}
+use Rattle.rc_spec.specs.Fragments.{EdgeRow, fragments_of}
+use Rattle.rc_spec.specs.Placement.{class_at, no_op, op_at}
+use Rattle.rc_spec.specs.Stripes.{physical_stripe}
+use Rattle.rc_fragment.specs.Holder.{AreOfRelation, HeldStripe}
+use Rattle.rc_plan.specs.declared.statement.Statement.{Statement}
+use Rattle.rc_plan.specs.declared.statement.Statement.TheVariants.{CheckAbsent, CheckDep, Probe}
+use Rattle.rc_plan.specs.declared.statement.Which.{Which}
+use Rattle.rc_plan.specs.declared.statement.Which.TheVariants as which
+use Rattle.rc_plan.specs.Compiled.{IsPlanOf}
+use Rattle.rc_plan.specs.Evaluation.{RunState, eval, run, run_one, some_differs, some_left}
+use Rattle.rc_plan.specs.InsertLaws.{HasNamed}
+use Rattle.rc_plan.specs.PlanRules.{Covers, IsInsert, KeepsAll, Progress, after, given_columns}
+use Rattle.rc_plan.specs.RunLaws.{IsSearching, cols_of-project, run-replied, searching}
+use Rattle.rc_plan.specs.StripeLocks.{StripeLock, stripes_of}
+use Rattle.rc_plan.specs.StripeLocksLaws.{physical_stripe-agreeing}
+use Rattle.rc_machine.specs.Machine.{HasEvaluated, HasServed, locks_of, stripes_held}
+use Rattle.rc_machine.specs.Run.{IsAt, IsOn, IsTaken}
+use Rattle.rc_machine.proofs.ApplyLemmas.{fewer_cols, rising_cols-project}
+use Rattle.rc_machine.proofs.RunLemmas.{has_evaluated, has_served, unchanged_rows}
+
+whole_by : (spec : Spec) (t : Pairs) (pattern : List ℕ) (kind : OpKind) → IsInsert kind → cols_of t ≡ gather nat_cmp (value_columns spec pattern kind) → cols_of t ≡ all_columns spec
+whole_by spec t pattern (Query outs) i e = absurd i
+whole_by spec t pattern Insert i e = e ∙ gather-rising nat_cmp nat_order (all_columns spec) (rising_range 0 (length spec.columns))
+whole_by spec t pattern Remove i e = absurd i
+
+-- an insert's tuple has all columns
+pub whole_tuple : (spec : Spec) (call : Call) → Fits spec call → IsInsert (op_at spec call.op).kind → cols_of call.args ≡ all_columns spec
+whole_tuple spec call fits i =
+    let is_op : op_at spec call.op ≡ fits.0 = get_or_from_slice_get spec.ops call.op fits.0 no_op fits.1.known in
+    whole_by spec call.args (op_at spec call.op).pattern (op_at spec call.op).kind i (subst (λ (op : Op). cols_of call.args ≡ given_columns spec op) (sym is_op) fits.1.columns)
+
+module _ (spec : Spec) (sealed : IsSealed spec) (plan : List Statement) (call : Call) (fits : Fits spec call) where
+  -- ---- Probe
+
+  module _ (xs : List ℕ) (rest : List Statement) (bs : List Pairs) (held : List HeldStripe) (at : IsAt spec plan call (Probe xs ∷ rest) bs held) where
+    t : Pairs
+    t = call.args
+
+    keeps : KeepsAll spec (op_at spec call.op) at.progress (Probe xs)
+    keeps = at.keeps.0
+
+    over : cols_of call.args ≡ all_columns spec
+    over = whole_tuple spec call fits keeps.k1.1
+
+    known : Within xs (all_columns spec)
+    known = at.known (Probe xs) (inl refl)
+
+    rises : IsRising nat_cmp (cols_of call.args)
+    rises = fits.1.tuple.rising
+
+    guard : (c : ℕ) (choice : Which) → HasNamed spec call.args (stripes_of (locks_of held)) c choice → Covers spec (after spec at.progress (Probe xs)) c choice → (u : Pairs) → Within (class_at spec c).cols (cols_of u)
+        → Agree (project xs call.args) u → In (physical_stripe spec c u) (stripes_of (locks_of held))
+    guard c which.Keyed n cover u v g =
+        let in_t : Within (class_at spec c).cols (cols_of call.args) = λ d m. subst (In d) (sym over) (known d (cover d m)) in
+        let in_p : Within (class_at spec c).cols (cols_of (project xs call.args)) = λ d m. cols_of-project xs call.args d (cover d m) (in_t d m) in
+        let e : physical_stripe spec c call.args ≡ physical_stripe spec c (project xs call.args) = physical_stripe-agreeing spec c call.args (project xs call.args) in_t in_p
+        (λ x y z w q. one_pair call.args rises x y z (in_project xs y call.args w).0 q) in
+        subst (λ z. In z (stripes_of (locks_of held))) (e ∙ physical_stripe-agreeing spec c (project xs call.args) u in_p v g) n
+    guard c which.All n cover u v g = n u
+
+    taken_now : (c : ℕ) (choice : Which) → IsTaken spec at.progress (stripes_of (locks_of held)) c choice → IsTaken spec (after spec at.progress (Probe xs)) (stripes_of (locks_of held)) c choice
+    taken_now c which.Keyed g = λ cover. cover
+    taken_now c which.All g = g
+
+    probe_on : (r : List Pairs) → IsOn spec r (op_at spec call.op).kind call.args at.progress bs (locks_of held)
+        → IsOn spec r (op_at spec call.op).kind call.args (after spec at.progress (Probe xs)) (project xs call.args ∷ []) (locks_of held)
+    probe_on r o = record {
+      sought = project xs call.args;
+      rising = rising_filter pair_cmp (λ (q : ℕ × ℕ). has xs q.0) call.args (rising_cols call.args rises);
+      inside = λ c m. subst (In c) over (fewer_cols xs call.args c m);
+      search = record {
+        phase = o.search.phase;
+        within = λ c z. absurd z;
+        reached = inl (refl, refl);
+        rising = ((λ y q. absurd q), tt);
+        columns = λ b m. elim m [ inl e ↦ λ c n. subst (λ z. In c (cols_of z)) (sym e) (cols_of-project xs call.args c n (subst (In c) (sym over) (known c n))) | inr z ↦ absurd z ];
+        nodes = λ v z. absurd z;
+        guards = λ x m cover b u n v g. elim n [ inl e ↦ guard x.0 x.1 ((o.insert keeps.k1.1).named x m) cover u v (subst (λ z. Agree z u) e g) | inr z ↦ absurd z ];
+      };
+      taken = λ x m. taken_now x.0 x.1 (o.taken x m);
+      insert = λ i. record { begun = λ e. absurd (let g : Some xs ≡ None = e in cc); named = (o.insert i).named };
+      no_probe = λ n. absurd (n keeps.k1.1);
+    }
+
+    -- the run after a Probe
+    pub probe_step : IsAt spec plan call rest (project xs call.args ∷ []) held
+    probe_step = record {
+      progress = after spec at.progress (Probe xs);
+      keeps = at.keeps.1;
+      known = λ x m. at.known x (inr m);
+      unchanged = at.unchanged;
+      stripes_rise = at.stripes_rise;
+      classes = at.classes;
+      modes = at.modes;
+      columns_rise = λ b m. elim m [ inl e ↦ subst (λ z. IsRising nat_cmp (cols_of z)) (sym e) (rising_cols-project xs call.args rises) | inr z ↦ absurd z ];
+      on = λ r a. probe_on r (at.on r a);
+      runs = at.runs;
+    }
+
+  -- ---- checks
+
+  -- what is known of the search doesn't speak of the checks
+  check_search : (r : List Pairs) (s : Pairs) (p : Progress) (bs : List Pairs) (ns : List StripeLock) (absent : Bool) (checked : List ℕ) → IsSearching spec r s p bs ns → IsSearching spec r s (record p { absent = absent; checked = checked }) bs ns
+  check_search r s p bs ns absent checked f = record { phase = f.phase; within = f.within; reached = f.reached; rising = f.rising; columns = f.columns; nodes = f.nodes; guards = f.guards }
+
+  same_taken : (p : Progress) (ns : List StripeLock) (absent : Bool) (checked : List ℕ) (c : ℕ) (choice : Which) → IsTaken spec p (stripes_of ns) c choice → IsTaken spec (record p { absent = absent; checked = checked }) (stripes_of ns) c choice
+  same_taken p ns absent checked c which.Keyed g = g
+  same_taken p ns absent checked c which.All g = g
+
+  check_on : (r : List Pairs) (kind : OpKind) (p : Progress) (bs : List Pairs) (ns : List StripeLock) (absent : Bool) (checked : List ℕ) → IsOn spec r kind call.args p bs ns → IsOn spec r kind call.args (record p { absent = absent; checked = checked }) bs ns
+  check_on r kind p bs ns absent checked o = record {
+    sought = o.sought;
+    rising = o.rising;
+    inside = o.inside;
+    search = check_search r o.sought p bs ns absent checked o.search;
+    taken = λ x m. same_taken p ns absent checked x.0 x.1 (o.taken x m);
+    insert = λ i. record { begun = (o.insert i).begun; named = (o.insert i).named };
+    no_probe = o.no_probe;
+  }
+
+  -- the run after a check for a tuple where no binding is left
+  pub absent_step : (rest : List Statement) (bs : List Pairs) (held : List HeldStripe) → IsAt spec plan call (CheckAbsent ∷ rest) bs held → some_left bs ≡ false → IsAt spec plan call rest bs held
+  absent_step rest bs held at e = record {
+    progress = after spec at.progress CheckAbsent;
+    keeps = at.keeps.1;
+    known = λ x m. at.known x (inr m);
+    unchanged = at.unchanged;
+    stripes_rise = at.stripes_rise;
+    classes = at.classes;
+    modes = at.modes;
+    columns_rise = at.columns_rise;
+    on = λ r a. check_on r (op_at spec call.op).kind at.progress bs (locks_of held) true at.progress.checked (at.on r a);
+    runs = λ r a stripes w. at.runs r a stripes w
+        ∙ ap (λ b. run spec (op_at spec call.op).kind call.args rest (cond b (record { bindings = bs; named = locks_of held; reply = Some Present; rows = fragments_of spec r stripes }) (searching bs (locks_of held) (fragments_of spec r stripes)))) e;
+  }
+
+  -- and after the check of a dependency that no binding breaks
+  pub dep_step : (dep : ℕ) (rest : List Statement) (bs : List Pairs) (held : List HeldStripe) → IsAt spec plan call (CheckDep dep ∷ rest) bs held → some_differs spec dep call.args bs ≡ false → IsAt spec plan call rest bs held
+  dep_step dep rest bs held at e = record {
+    progress = after spec at.progress (CheckDep dep);
+    keeps = at.keeps.1;
+    known = λ x m. at.known x (inr m);
+    unchanged = at.unchanged;
+    stripes_rise = at.stripes_rise;
+    classes = at.classes;
+    modes = at.modes;
+    columns_rise = at.columns_rise;
+    on = λ r a. check_on r (op_at spec call.op).kind at.progress bs (locks_of held) at.progress.absent (dep ∷ at.progress.checked) (at.on r a);
+    runs = λ r a stripes w. at.runs r a stripes w
+        ∙ ap (λ b. run spec (op_at spec call.op).kind call.args rest (cond b (record { bindings = bs; named = locks_of held; reply = Some (Conflict dep); rows = fragments_of spec r stripes }) (searching bs (locks_of held) (fragments_of spec r stripes)))) e;
+  }
+
+  -- ---- ends
+
+  -- a run whose next statement gives the reply, and may change the rows
+  pub evaluated : (x : Statement) (rest : List Statement) (bs : List Pairs) (held : List HeldStripe) (at : IsAt spec plan call (x ∷ rest) bs held) (answer : Reply) (change : List EdgeRow → List EdgeRow)
+      → ((rows : List EdgeRow) → run_one spec (op_at spec call.op).kind call.args (searching bs (locks_of held) rows) x ≡ record { bindings = bs; named = locks_of held; reply = Some answer; rows = change rows })
+      → (r : List Pairs) → AreOfRelation spec held r
+      → eval spec plan call (fragments_of spec r (stripes_held held)) ≡ record { bindings = bs; named = locks_of held; reply = Some answer; rows = change (fragments_of spec r (stripes_held held)) }
+  evaluated x rest bs held at answer change f r a =
+      at.runs r a (stripes_held held) (λ c m. m) ∙ ap (run spec (op_at spec call.op).kind call.args rest) (f (fragments_of spec r (stripes_held held)))
+      ∙ run-replied spec (op_at spec call.op).kind call.args rest bs (locks_of held) answer (change (fragments_of spec r (stripes_held held)))
+
+  module _ (planned : IsPlanOf spec call.op plan) (x : Statement) (rest : List Statement) (bs : List Pairs) (held : List HeldStripe) (at : IsAt spec plan call (x ∷ rest) bs held) (answer : Reply)
+      (f : (rows : List EdgeRow) → run_one spec (op_at spec call.op).kind call.args (searching bs (locks_of held) rows) x ≡ record { bindings = bs; named = locks_of held; reply = Some answer; rows = rows }) where
+    ends : (r : List Pairs) → AreOfRelation spec held r
+        → eval spec plan call (fragments_of spec r (stripes_held held)) ≡ record { bindings = bs; named = locks_of held; reply = Some answer; rows = fragments_of spec r (stripes_held held) }
+    ends = evaluated x rest bs held at answer (λ rows. rows) f
+
+    -- a statement that replies and changes nothing ends a run as evaluation does
+    pub ends_evaluated : (r : List Pairs) → AreOfRelation spec held r → HasEvaluated spec plan call held answer
+    ends_evaluated = has_evaluated spec sealed plan call fits planned held at.stripes_rise answer (λ r a. ap (λ (z : RunState). z.named) (ends r a)) (λ r a. ap (λ (z : RunState). z.reply) (ends r a))
+        (λ r a. unchanged_rows spec sealed plan call fits planned held at.unchanged r a (ap (λ (z : RunState). z.named) (ends r a)) (ap (λ (z : RunState). z.rows) (ends r a)))
+
+    pub ends_served : (r : List Pairs) → AreOfRelation spec held r → HasServed spec plan call held answer r
+    ends_served = has_served spec sealed plan call fits planned held at.stripes_rise answer (λ r a. ap (λ (z : RunState). z.named) (ends r a)) (λ r a. ap (λ (z : RunState). z.reply) (ends r a))
+        (λ r a. unchanged_rows spec sealed plan call fits planned held at.unchanged r a (ap (λ (z : RunState). z.named) (ends r a)) (ap (λ (z : RunState). z.rows) (ends r a)))

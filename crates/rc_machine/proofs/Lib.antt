@@ -1,0 +1,13 @@
+mod ApplyLemmas
+mod DistinctLemmas
+mod LockLemmas
+mod ReadLemmas
+mod RowLemmas
+pub mod RevertLemmas
+pub mod RunLemmas
+pub mod StepLemmas
+pub mod ReadStepLemmas
+pub mod CheckStepLemmas
+pub mod ChangeLemmas
+pub mod ConditionLemmas
+pub mod GoLemmas

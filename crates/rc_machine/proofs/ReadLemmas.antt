@@ -1,0 +1,244 @@
+-- What the containers of held stripes answer a binding, merged with it, is its part of a join.
+use Rattle.std.specs.Prelude.{◌≡◌, ℕ, zero, suc, ◌+◌, ◌<◌, ◌≤◌, true, List, [], ◌∷◌, ◌++◌, ◌⊎◌, None, Some, filter, length, take, get_or, Result, Ok, Err, IfOk, OnOk}
+use Rattle.std.specs.List.{flat_map, range_with_len}
+use Rattle.std.specs.Option.{option_map}
+use Rattle.std.specs.Ordering.{nat_cmp}
+use Rattle.std.proofs.Common.{inl, inr, refl, sym, ap, subst, ◌∙◌, arith, add-one}
+use Rattle.std.proofs.lemmas.Bool.{cases_eq}
+use Rattle.std.proofs.lemmas.Option.{slice_get-map, slice_get-get_or}
+use Rattle.std.proofs.Math.Seq.{take-suc}
+use Rattle.rc_tuple.specs.RisingSet.{In, IsRising, gather}
+use Rattle.rc_tuple.specs.RisingSetLaws.{same_rising, rising_gather, in_gather, gather_in, get_or_in, in_map, map_in, in_filter, filter_in, in_append, append_in_left, append_in_right, in_flat_map, flat_map_in}
+use Rattle.rc_tuple.specs.ColSet.{Within}
+use Rattle.rc_tuple.specs.ColSetLaws.{union_left, union_right}
+use Rattle.rc_tuple.specs.Tuple.{IsTuple, Pairs, agrees, cols_of, merge, project, tuple_cmp}
+use Rattle.rc_tuple.specs.TupleLaws.{agree_from, rising_cols, rising_pairs, tuple_order}
+use Rattle.rc_spec.specs.declared.items.Class.{Class}
+use Rattle.rc_spec.specs.declared.spec.Spec.{Spec}
+use Rattle.rc_spec.specs.Acceptance.{IsSealed}
+use Rattle.rc_spec.specs.Adequacy.{KeepsA3}
+use Rattle.rc_spec.specs.Contents.{join}
+use Rattle.rc_spec.specs.Decomposition.{bound, edge_at, no_edge, node_at, no_node}
+use Rattle.rc_spec.specs.DecompositionLaws.{at_found, edge_at_in}
+use Rattle.rc_spec.specs.Fragments.{EdgeRow, edge_row_cmp, tuples_of_edge}
+use Rattle.rc_spec.specs.FragmentsLaws.{edge_row_order, in_tuples_of_edge, tuples_of_edge_in}
+use Rattle.rc_spec.specs.HeathLaws.{IsJoined, in_join, join_in, rising_join}
+use Rattle.rc_spec.specs.Placement.{class_at, class_of, no_class}
+use Rattle.rc_spec.specs.PlacementLaws.{class_of_known}
+use Rattle.rc_spec.specs.Stripes.{physical_stripe}
+use Rattle.rc_fragment.specs.declared.shape.EdgeShape.{EdgeShape}
+use Rattle.rc_fragment.specs.Fragment.{HasScanned, HasShape, IsLookedUp, IsThere, edge_table, shape_of}
+use Rattle.rc_fragment.specs.Holder.{HeldStripe}
+use Rattle.rc_plan.specs.declared.statement.ReadMode.TheVariants.{Lookup, Scan}
+use Rattle.rc_plan.specs.Evaluation.{band}
+use Rattle.rc_plan.specs.ReadLaws.{project-agreeing}
+use Rattle.rc_plan.specs.StripeLocksLaws.{physical_stripe-agreeing, physical_stripe-in_band, striping_in_target}
+use Rattle.rc_machine.specs.Machine.{rows_now}
+use Rattle.rc_machine.specs.Read.{AreGood, AreMerges, HasMerged, HasMergedAll, HasMergedOn, IsMergeOf, IsMergeOn, IsReader, merges_of}
+
+-- ---- results
+
+pub on_ok : {E : Type 0} {P Q : Type 0} (r : Result (Unit {0}) E) → (P → Q) → OnOk r P → OnOk r Q
+on_ok (Ok x) f h = f h
+on_ok (Err e) f h = tt
+
+pub if_ok : {T E : Type 0} {P Q : T → Type 0} (r : Result T E) → ((x : T) → P x → Q x) → IfOk r P → IfOk r Q
+if_ok (Ok x) f h = f x h
+if_ok (Err e) f h = tt
+
+-- ---- edges
+
+pub class_found : (spec : Spec) (classes : List Class) (n : ℕ) (c : Class) → classes ≡ spec.classes → n < length spec.classes → c ≡ get_or classes n c → class_at spec n ≡ c
+class_found spec classes n c e l is = at_found classes spec.classes n no_class c e l is
+
+-- the shape of an edge in the table
+pub shape_in_table : (spec : Spec) (e : ℕ) → e < length spec.edges → HasShape (edge_table spec) e (shape_of spec (edge_at spec e))
+shape_in_table spec e l = slice_get-map (shape_of spec) spec.edges e ∙ ap (λ o. option_map (shape_of spec) o) (slice_get-get_or spec.edges e no_edge l)
+
+pub target_rises : (spec : Spec) → IsSealed spec → (e : ℕ) → e < length spec.edges → IsRising nat_cmp (bound spec (edge_at spec e).to)
+target_rises spec sealed e k =
+    let l : (edge_at spec e).to < length spec.nodes = (sealed.in_range.known_edges (edge_at spec e) (edge_at_in spec e k)).to in
+    (sealed.in_range.known_nodes (node_at spec (edge_at spec e).to) (get_or_in spec.nodes (edge_at spec e).to no_node l)).set.rising
+
+pub from_known : (spec : Spec) → IsSealed spec → (e : ℕ) → e < length spec.edges → (edge_at spec e).from < length spec.nodes
+from_known spec sealed e k = (sealed.in_range.known_edges (edge_at spec e) (edge_at_in spec e k)).from
+
+pub to_known : (spec : Spec) → IsSealed spec → (e : ℕ) → e < length spec.edges → (edge_at spec e).to < length spec.nodes
+to_known spec sealed e k = (sealed.in_range.known_edges (edge_at spec e) (edge_at_in spec e k)).to
+
+-- ---- one stripe's answer
+
+-- what was there, and the merges with some tuples
+appended : (b : Pairs) (e : ℕ) (rows : List EdgeRow) (old us : List Pairs) → ((u : Pairs) → In u us → IsThere rows e u) → ((u : Pairs) → IsThere rows e u → agrees b u ≡ true → In u us)
+    → HasMerged b e rows old (old ++ merges_of b us)
+appended b e rows old us f g = record {
+  kept = λ c m. append_in_left c old (merges_of b us) m;
+  only = λ c m. elim (in_append c old (merges_of b us) m) [
+    | inl n ↦ inl n
+    | inr n ↦ (let q : (u : Pairs) × In u (filter (agrees b) us) × (c ≡ merge b u) = in_map (merge b) c (filter (agrees b) us) n in
+        let p : In q.0 us × (agrees b q.0 ≡ true) = in_filter (agrees b) q.0 us q.1 in
+        inr (q.0, f q.0 p.0, p.1, q.2))
+  ];
+  each = λ c m. append_in_right c old (merges_of b us)
+      (subst (λ z. In z (merges_of b us)) (sym m.3) (map_in (merge b) m.0 (filter (agrees b) us) (filter_in (agrees b) m.0 us (g m.0 m.1 m.2) m.2)));
+}
+
+module _ (spec : Spec) (sealed : IsSealed spec) (e : ℕ) (known : e < length spec.edges) (b : Pairs) (tuple : IsTuple b) (rows : List EdgeRow)
+    (columns : (w : EdgeRow) → In w rows → cols_of w.1 ≡ bound spec (edge_at spec w.0).to) where
+  shape : EdgeShape
+  shape = shape_of spec (edge_at spec e)
+
+  target : List ℕ
+  target = bound spec (edge_at spec e).to
+
+  a3 : KeepsA3 spec (edge_at spec e)
+  a3 = sealed.accepted.adequate.a3 e known
+
+  cols_of_row : (u : Pairs) → IsThere rows e u → cols_of u ≡ bound spec (edge_at spec e).to
+  cols_of_row u t = columns (e, u, t.0) t.1
+
+  -- a row that agrees with the binding has its values at columns that both have
+  same_there : (xs : List ℕ) → Within xs (bound spec (edge_at spec e).to) → Within xs (cols_of b) → (u : Pairs) → IsThere rows e u → agrees b u ≡ true → project xs u ≡ project xs b
+  same_there xs v w u t g =
+      sym (project-agreeing xs b u (rising_pairs b tuple) (rising_cols u (subst (IsRising nat_cmp) (sym (cols_of_row u t)) (target_rises spec sealed e known))) w
+      (λ c m. subst (In c) (sym (cols_of_row u t)) (v c m)) (agree_from b u g))
+
+  source_there : IsReader spec e Lookup b → (u : Pairs) → IsThere rows e u → agrees b u ≡ true → project (bound spec (edge_at spec e).from) u ≡ project (bound spec (edge_at spec e).from) b
+  source_there reads u t g = same_there (bound spec (edge_at spec e).from) (λ c m. a3.inside c (union_left (bound spec (edge_at spec e).from) (edge_at spec e).key c m)) reads.source u t g
+
+  key_there : IsReader spec e Lookup b → (u : Pairs) → IsThere rows e u → agrees b u ≡ true → project (edge_at spec e).key u ≡ project (edge_at spec e).key b
+  key_there reads u t g = same_there (edge_at spec e).key (λ c m. a3.inside c (union_right (bound spec (edge_at spec e).from) (edge_at spec e).key c m)) reads.key u t g
+
+  pub looked_up_none : (old : List Pairs) → IsReader spec e Lookup b
+      → IsLookedUp (shape_of spec (edge_at spec e)) rows e (project (bound spec (edge_at spec e).from) b) (project (edge_at spec e).key b) None → HasMerged b e rows old old
+  looked_up_none old reads h = record {
+    kept = λ c m. m;
+    only = λ c m. inl m;
+    each = λ c m. absurd (h m.0 m.1 (source_there reads m.0 m.1 m.2) (key_there reads m.0 m.1 m.2));
+  }
+
+  pub looked_up_some : (old : List Pairs) (t : Pairs) → IsReader spec e Lookup b
+      → IsLookedUp (shape_of spec (edge_at spec e)) rows e (project (bound spec (edge_at spec e).from) b) (project (edge_at spec e).key b) (Some t) → HasMerged b e rows old (old ++ merges_of b (t ∷ []))
+  looked_up_some old t reads h = appended b e rows old (t ∷ [])
+      (λ u m. elim m [ inl q ↦ subst (λ z. IsThere rows e z) (sym q) h.0 | inr z ↦ absurd z ])
+      (λ u m g. inl (h.3 u m (source_there reads u m g) (key_there reads u m g)))
+
+  pub scanned : (old ts : List Pairs) → IsReader spec e Scan b → HasScanned (shape_of spec (edge_at spec e)) rows e (project (bound spec (edge_at spec e).from) b) [] ts → HasMerged b e rows old (old ++ merges_of b ts)
+  scanned old ts reads h = appended b e rows old ts
+      (λ u m. (h.2.only u (subst (In u) h.1 m)).0)
+      (λ u m g. subst (In u) (sym h.1)
+      (h.2.each u m (same_there (bound spec (edge_at spec e).from) (λ c n. a3.inside c (union_left (bound spec (edge_at spec e).from) (edge_at spec e).key c n)) reads.source u m g)))
+
+-- ---- the answers of several stripes
+
+pub on_one : (b : Pairs) (e : ℕ) (held : List HeldStripe) (stripe : ℕ) (rows : List EdgeRow) (old new : List Pairs) → (h : HeldStripe) → In h held → h.stripe ≡ stripe
+    → ((h : HeldStripe) → In h held → h.stripe ≡ stripe → rows ≡ h.now) → HasMerged b e rows old new → HasMergedOn b e held (stripe ∷ []) old new
+on_one b e held stripe rows old new h m is same f = record {
+  kept = f.kept;
+  only = λ c n. elim (f.only c n) [ inl q ↦ inl q | inr q ↦ inr (h, m, subst (λ ws. IsMergeOf b e ws c) (same h m is) q) ];
+  each = λ g n asked c q. elim asked [ inl s ↦ f.each c (subst (λ ws. IsMergeOf b e ws c) (sym (same g n s)) q) | inr z ↦ absurd z ];
+}
+
+pub on_none : (b : Pairs) (e : ℕ) (held : List HeldStripe) (old : List Pairs) → HasMergedOn b e held [] old old
+on_none b e held old = record { kept = λ c m. m; only = λ c m. inl m; each = λ h m asked c q. absurd asked }
+
+pub on_more : (b : Pairs) (e : ℕ) (held : List HeldStripe) (asked : List ℕ) (stripe : ℕ) (old mid new : List Pairs) → HasMergedOn b e held asked old mid → HasMergedOn b e held (stripe ∷ []) mid new
+    → HasMergedOn b e held (asked ++ stripe ∷ []) old new
+on_more b e held asked stripe old mid new f g = record {
+  kept = λ c m. g.kept c (f.kept c m);
+  only = λ c m. elim (g.only c m) [ inl n ↦ f.only c n | inr q ↦ inr q ];
+  each = λ h m k c q. elim (in_append h.stripe asked (stripe ∷ []) k) [ inl n ↦ g.kept c (f.each h m n c q) | inr n ↦ g.each h m n c q ];
+}
+
+module _ (spec : Spec) (sealed : IsSealed spec) (e : ℕ) (known : e < length spec.edges) (b : Pairs) (held : List HeldStripe) (good : AreGood spec held) where
+  class_known : class_of spec e < length spec.classes
+  class_known = class_of_known spec e sealed.in_range (sealed.accepted.placed.p1 e known)
+
+  -- where the row of a merge lies
+  lies_on : (h : HeldStripe) → In h held → (u : Pairs) → IsThere h.now e u → physical_stripe spec (class_of spec e) u ≡ h.stripe
+  lies_on h m u t = (good h m).own_stripe (e, u, t.0) t.1
+
+  -- the stripe of a binding that has the class's columns is enough
+  pub keyed_is_all : (old new : List Pairs) → Within (class_at spec (class_of spec e)).cols (cols_of b) → HasMergedOn b e held (physical_stripe spec (class_of spec e) b ∷ []) old new → HasMergedAll b e held old new
+  keyed_is_all old new w f = record {
+    kept = f.kept;
+    only = f.only;
+    each = λ c q.
+        let h : HeldStripe = q.0 in
+        let t : IsThere h.now e q.2.0 = q.2.1 in
+        let inside : Within (class_at spec (class_of spec e)).cols (cols_of q.2.0) = λ k m. subst (In k) (sym ((good h q.1).columns (e, q.2.0, t.0) t.1)) (striping_in_target spec sealed.accepted.adequate sealed.accepted.placed e known k m) in
+        let same : physical_stripe spec (class_of spec e) b ≡ physical_stripe spec (class_of spec e) q.2.0 = physical_stripe-agreeing spec (class_of spec e) b q.2.0 w inside (agree_from b q.2.0 q.2.2) in
+        f.each h q.1 (inl (sym (same ∙ lies_on h q.1 q.2.0 t))) c q.2;
+  }
+
+  -- and so are all stripes of the class
+  pub band_is_all : (old new : List Pairs) → HasMergedOn b e held (band spec (class_of spec e)) old new → HasMergedAll b e held old new
+  band_is_all old new f = record {
+    kept = f.kept;
+    only = f.only;
+    each = λ c q. f.each q.0 q.1 (subst (λ z. In z (band spec (class_of spec e))) (lies_on q.0 q.1 q.2.0 q.2.1) (physical_stripe-in_band spec sealed.accepted.placed (class_of spec e) q.2.0 class_known)) c q.2;
+  }
+
+-- ---- all bindings
+
+pub merges_none : (e : ℕ) (held : List HeldStripe) → AreMerges [] e held []
+merges_none e held = record { only = λ c m. absurd m; each = λ b m c q. absurd m }
+
+in_next : {A : Type 0} (xs : List A) (i : ℕ) (x y : A) → i < length xs → x ≡ get_or xs i x → In y (take (i + 1) xs) → In y (take i xs) ⊎ (y ≡ x)
+in_next xs i x y l e m = elim (in_append y (take i xs) (get_or xs i x ∷ []) (subst (In y) (ap (λ k. take k xs) (add-one i) ∙ take-suc xs i x l) m)) [
+  | inl h ↦ inl h
+  | inr (inl h) ↦ inr (h ∙ sym e)
+  | inr (inr z) ↦ absurd z
+]
+
+next_in : {A : Type 0} (xs : List A) (i : ℕ) (x y : A) → i < length xs → x ≡ get_or xs i x → In y (take i xs) ⊎ (y ≡ x) → In y (take (i + 1) xs)
+next_in xs i x y l e m = subst (In y) (sym (ap (λ k. take k xs) (add-one i) ∙ take-suc xs i x l)) (elim m [
+  | inl h ↦ append_in_left y (take i xs) (get_or xs i x ∷ []) h
+  | inr h ↦ append_in_right y (take i xs) (get_or xs i x ∷ []) (inl (h ∙ e))
+])
+
+pub merges_more : (bs : List Pairs) (i : ℕ) (b : Pairs) (e : ℕ) (held : List HeldStripe) (old new : List Pairs) → i < length bs → b ≡ get_or bs i b → AreMerges (take i bs) e held old → HasMergedAll b e held old new
+    → AreMerges (take (i + 1) bs) e held new
+merges_more bs i b e held old new l is f g = record {
+  only = λ c m. elim (g.only c m) [
+    | inl n ↦ (let q : (b : Pairs) × In b (take i bs) × IsMergeOn b e held c = f.only c n in (q.0, next_in bs i b q.0 l is (inl q.1), q.2))
+    | inr q ↦ (b, next_in bs i b b l is (inr refl), q)
+  ];
+  each = λ a m c q. elim (in_next bs i b a l is m) [
+    | inl n ↦ g.kept c (f.each a n c q)
+    | inr n ↦ g.each c (subst (λ z. IsMergeOn z e held c) n q)
+  ];
+}
+
+-- a row of the edge among all rows now
+pub row_there : (held : List HeldStripe) (e : ℕ) (u : Pairs) → In u (tuples_of_edge e (rows_now held)) → (h : HeldStripe) × In h held × IsThere h.now e u
+row_there held e u m =
+    let w : (w : EdgeRow) × In w (rows_now held) × (w.0 ≡ e) × (u ≡ w.1) = in_tuples_of_edge e (rows_now held) u m in
+    let all : List EdgeRow = flat_map (λ (h : HeldStripe). h.now) held in
+    let h : (h : HeldStripe) × In h held × In w.0 h.now = in_flat_map (λ (h : HeldStripe). h.now) w.0 held (in_gather edge_row_cmp edge_row_order w.0 all w.1) in
+    (h.0, h.1, (w.0.2, subst (λ (z : EdgeRow). In z h.0.now) (λ i. (w.2 i, sym w.3 i, w.0.2)) h.2))
+
+there_row : (held : List HeldStripe) (e : ℕ) (u : Pairs) (h : HeldStripe) → In h held → IsThere h.now e u → In u (tuples_of_edge e (rows_now held))
+there_row held e u h m t =
+    let all : List EdgeRow = flat_map (λ (h : HeldStripe). h.now) held in
+    tuples_of_edge_in e (rows_now held) (e, u, t.0) (gather_in edge_row_cmp edge_row_order (e, u, t.0) all (flat_map_in (λ (h : HeldStripe). h.now) (e, u, t.0) h held m t.1)) refl
+
+-- the merges of all bindings are the join
+pub merges_join : (bs : List Pairs) (e : ℕ) (held : List HeldStripe) (merges : List Pairs) → AreMerges bs e held merges → gather tuple_cmp merges ≡ join bs (tuples_of_edge e (rows_now held))
+merges_join bs e held merges f =
+    let us : List Pairs = tuples_of_edge e (rows_now held) in
+    same_rising tuple_cmp tuple_order (gather tuple_cmp merges) (join bs us) (rising_gather tuple_cmp tuple_order merges) (rising_join bs us)
+    (λ c m.
+    let q : (b : Pairs) × In b bs × IsMergeOn b e held c = f.only c (in_gather tuple_cmp tuple_order c merges m) in
+    let p : IsMergeOf q.0 e q.2.0.now c = q.2.2 in
+    subst (λ z. In z (join bs us)) (sym p.3) (join_in bs us q.0 p.0 q.1 (there_row held e p.0 q.2.0 q.2.1 p.1) p.2))
+    (λ c m.
+    let j : IsJoined bs us c = in_join bs us c m in
+    let h : (h : HeldStripe) × In h held × IsThere h.now e j.right = row_there held e j.right j.in_right in
+    gather_in tuple_cmp tuple_order c merges (f.each j.left j.in_left c (h.0, h.1, (j.right, h.2, j.agree, j.merged))))
+
+-- ---- bands
+
+pub in_range_from : (k n c : ℕ) → k ≤ c → c < k + n → In c (range_with_len k n)
+in_range_from k zero c a b = absurd (omega arith)
+in_range_from k (suc n) c a b = elim (cases_eq c k) [ inl e ↦ inl e | inr f ↦ inr (in_range_from (k + 1) n c (omega (arith, f)) (omega arith)) ]

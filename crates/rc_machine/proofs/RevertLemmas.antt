@@ -1,0 +1,32 @@
+-- Changes taken back.
+use Rattle.std.specs.Prelude.{◌≡◌, ℕ, ◌==◌, Bool, true, false, List, [], ◌∷◌, cond, map}
+use Rattle.std.proofs.Common.{inl, inr, refl, sym, ap, ◌∙◌}
+use Rattle.rc_tuple.specs.Tuple.{Pairs}
+use Rattle.rc_spec.specs.declared.spec.Spec.{Spec}
+use Rattle.rc_spec.specs.CountedRows.{row_in}
+use Rattle.rc_spec.specs.Fragments.{EdgeRow}
+use Rattle.rc_fragment.specs.Holder.{HeldStripe, changed_at, reverted}
+use Rattle.rc_machine.specs.Apply.{all_changed, stripe_in}
+use Rattle.rc_machine.specs.Machine.{AreAsTaken}
+use Rattle.rc_machine.proofs.ApplyLemmas.{Change}
+
+one_back : (s : ℕ) (f : List EdgeRow → List EdgeRow) (held : List HeldStripe) → map reverted (changed_at s f held) ≡ map reverted held
+one_back s f [] = refl
+one_back s f (h ∷ held) = go (h.stripe == s) (one_back s f held)
+  where
+    go : (b : Bool) → map reverted (changed_at s f held) ≡ map reverted held
+        → reverted (cond b (record { stripe = h.stripe; mode = h.mode; now = f h.now; taken = h.taken }) h) ∷ map reverted (changed_at s f held) ≡ reverted h ∷ map reverted held
+    go true ih = ap (λ z. reverted h ∷ z) ih
+    go false ih = ap (λ z. reverted h ∷ z) ih
+
+-- changes leave the rows as taken
+pub taken_alike : (change : Change) (spec : Spec) (t : Pairs) (edges : List ℕ) (held : List HeldStripe) → map reverted (all_changed change spec t edges held) ≡ map reverted held
+taken_alike change spec t [] held = refl
+taken_alike change spec t (e ∷ edges) held = taken_alike change spec t edges (changed_at (stripe_in spec t e) (change e (row_in spec t e)) held) ∙ one_back (stripe_in spec t e) (change e (row_in spec t e)) held
+
+-- a stripe as taken is what a revert makes of it
+pub reverted_same : (held : List HeldStripe) → AreAsTaken held → map reverted held ≡ held
+reverted_same [] f = refl
+reverted_same (h ∷ held) f =
+    let one : reverted h ≡ h = ap (λ now. let z : HeldStripe = record { stripe = h.stripe; mode = h.mode; now = now; taken = h.taken } in z) (sym (f h (inl refl))) in
+    let others : map reverted held ≡ held = reverted_same held (λ g m. f g (inr m)) in λ i. one i ∷ others i

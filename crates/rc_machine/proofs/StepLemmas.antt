@@ -1,0 +1,252 @@
+-- How a run stands after each statement.
+use Rattle.std.specs.Prelude.{◌≡◌, ℕ, ◌+◌, ◌<◌, ◌≤◌, List, [], ◌∷◌, ◌++◌, Option, map, length}
+use Rattle.std.specs.declared.cmp.Ordering.TheVariants.{Less}
+use Rattle.std.specs.Cmp.{nat_cmp_is}
+use Rattle.std.specs.Ordering.{nat_cmp, ordering_then}
+use Rattle.std.proofs.Common.{inl, inr, refl, sym, ap, subst, ◌∙◌, arith}
+use Rattle.std.proofs.lemmas.List.{map-append}
+use Rattle.std.proofs.lemmas.Option.{get_or_from_slice_get}
+use Rattle.rc_tuple.specs.RisingSet.{In, IsRising, gather}
+use Rattle.rc_tuple.specs.RisingSetLaws.{same_rising, rising_gather, in_gather, gather_in, in_map, map_in, in_append, append_in_left, append_in_right, nat_order, slice_get_in}
+use Rattle.rc_tuple.specs.ColSet.{Within}
+use Rattle.rc_tuple.specs.ColSetLaws.{in_range_below, in_range_bounds}
+use Rattle.rc_tuple.specs.Tuple.{Pairs, cols_of}
+use Rattle.rc_tuple.specs.TupleLaws.{rising_pairs}
+use Rattle.rc_spec.specs.declared.call.Call.{Call}
+use Rattle.rc_spec.specs.declared.items.Op.{Op}
+use Rattle.rc_spec.specs.declared.items.OpKind.{OpKind}
+use Rattle.rc_spec.specs.declared.items.OpKind.TheVariants.{Query, Insert, Remove}
+use Rattle.rc_spec.specs.declared.lock.Mode.{Mode}
+use Rattle.rc_spec.specs.declared.lock.Mode.TheVariants.{Exclusive}
+use Rattle.rc_spec.specs.declared.spec.Spec.{Spec}
+use Rattle.rc_spec.specs.Acceptance.{IsSealed}
+use Rattle.rc_spec.specs.Calls.{Fits, all_columns, value_columns}
+use Rattle.rc_spec.specs.InRange.{AreBelow, IsInRange, IsOpAmong}
+use Rattle.rc_spec.specs.Fragments.{EdgeRow, fragments_of}
+use Rattle.rc_spec.specs.Placement.{class_at, no_op, op_at}
+use Rattle.rc_spec.specs.Stripes.{band_start, physical_stripe}
+use Rattle.rc_spec.specs.StripesLaws.{band_before}
+use Rattle.rc_fragment.specs.Holder.{AreOfRelation, HeldStripe, IsAbove}
+use Rattle.rc_plan.specs.declared.statement.Statement.{Statement}
+use Rattle.rc_plan.specs.declared.statement.Statement.TheVariants.{Lock}
+use Rattle.rc_plan.specs.declared.statement.Which.{Which}
+use Rattle.rc_plan.specs.declared.statement.Which.TheVariants as which
+use Rattle.rc_plan.specs.Compiled.{IsPlanOf}
+use Rattle.rc_plan.specs.Evaluation.{named_by, run, stripes_locked}
+use Rattle.rc_plan.specs.InsertLaws.{HasNamed}
+use Rattle.rc_plan.specs.LockOrderLaws.{AreOfLocked, IsOfClass, IsOfClass-physical_stripe}
+use Rattle.rc_plan.specs.PlanRules.{HasLockMode, IsKeyBound, IsLocked, IsQuery, KeepsAll, after, at_start, given_columns}
+use Rattle.rc_plan.specs.RunLaws.{lock_keeps, search_begins, searching}
+use Rattle.rc_plan.specs.StripeLocks.{StripeLock, mode_number, stripe_lock_cmp, stripes_of}
+use Rattle.rc_plan.specs.StripeLocksLaws.{AreIn, AreIn-more, in_stripes_of, named_before, named_now, physical_stripe-in_band, stripe_lock_order, stripes_of_in}
+use Rattle.rc_machine.specs.Locks.{HasLocked}
+use Rattle.rc_machine.specs.Machine.{locks_of, stripes_held}
+use Rattle.rc_machine.specs.Run.{IsAt, IsOn, IsTaken}
+
+-- ---- rising lists
+
+less_to : (a b : ℕ) → a < b → nat_cmp a b ≡ Less
+less_to a b l = sym (nat_cmp_is a b Less l)
+
+rising_append : (xs ys : List ℕ) → IsRising nat_cmp xs → IsRising nat_cmp ys → ((x y : ℕ) → In x xs → In y ys → x < y) → IsRising nat_cmp (xs ++ ys)
+rising_append [] ys a b f = b
+rising_append (x ∷ xs) ys a b f = (
+  (λ y m. elim (in_append y xs ys m) [ inl n ↦ a.0 y n | inr n ↦ less_to x y (f x y (inl refl) n) ]),
+  rising_append xs ys a.1 b (λ z y m n. f z y (inr m) n),
+)
+
+locks_rise : (held : List HeldStripe) → IsRising nat_cmp (stripes_held held) → IsRising stripe_lock_cmp (locks_of held)
+locks_rise [] r = tt
+locks_rise (h ∷ held) r = (
+  (λ lock m.
+      let q : (g : HeldStripe) × In g held × (lock ≡ (g.stripe, g.mode)) = in_map (λ (h : HeldStripe). (h.stripe, h.mode)) lock held m in
+      let l : nat_cmp h.stripe q.0.stripe ≡ Less = r.0 q.0.stripe (map_in (λ (h : HeldStripe). h.stripe) q.0 held q.1) in
+      subst (λ (z : StripeLock). stripe_lock_cmp (h.stripe, h.mode) z ≡ Less) (sym q.2)
+      (ap (λ o. ordering_then o (nat_cmp (mode_number h.mode) (mode_number q.0.mode))) l)),
+  locks_rise held r.1,
+)
+
+-- ---- relations of fewer stripes
+
+pub fewer : (spec : Spec) (r : List Pairs) (old more new : List HeldStripe) → new ≡ old ++ more → AreOfRelation spec new r → AreOfRelation spec old r
+fewer spec r old more new e a = record { relation = a.relation; satisfies = a.satisfies; few = a.few; rows = λ h m. a.rows h (subst (In h) (sym e) (append_in_left h old more m)) }
+
+-- ---- arguments
+
+given_by : (spec : Spec) (pattern : List ℕ) (kind : OpKind) → AreBelow (length spec.columns) pattern → Within (value_columns spec pattern kind) (all_columns spec)
+given_by spec pattern (Query outs) b c m = in_range_below (length spec.columns) c (b c m)
+given_by spec pattern Insert b c m = m
+given_by spec pattern Remove b c m = in_range_below (length spec.columns) c (b c m)
+
+-- a call gives values at columns of the specification
+given_inside : (spec : Spec) → IsInRange spec → (op : Op) → IsOpAmong (length spec.columns) op → (t : Pairs) → cols_of t ≡ given_columns spec op → Within (cols_of t) (all_columns spec)
+given_inside spec range op among t e c m = given_by spec op.pattern op.kind among.pattern c (in_gather nat_cmp nat_order c (value_columns spec op.pattern op.kind) (subst (In c) e m))
+
+-- ---- locks
+
+mode_of : (kind : OpKind) (mode : Mode) → HasLockMode kind mode → (IsQuery kind → ⊥) → mode ≡ Exclusive
+mode_of (Query outs) mode h n = absurd (n tt)
+mode_of Insert mode h n = h
+mode_of Remove mode h n = h
+
+module _ (spec : Spec) (sealed : IsSealed spec) (plan : List Statement) (call : Call) where
+  -- a stripe that a Lock takes is of its class
+  of_class : (c : ℕ) (choice : Which) (bs : List Pairs) → c < length spec.classes → (stripe : ℕ) → In stripe (stripes_locked spec c choice bs) → IsOfClass spec c stripe
+  of_class c which.Keyed bs l stripe m =
+      let q : (b : Pairs) × In b bs × (stripe ≡ physical_stripe spec c b) = in_map (physical_stripe spec c) stripe bs m in
+      subst (IsOfClass spec c) (sym q.2) (IsOfClass-physical_stripe spec sealed.accepted.placed c q.0 l)
+  of_class c which.All bs l stripe m =
+      let b : (band_start spec c ≤ stripe) × (stripe < band_start spec c + (class_at spec c).stripes) = in_range_bounds (band_start spec c) (class_at spec c).stripes stripe m in
+      record { from = b.0; before = b.1 }
+
+  -- a run begins
+  pub begins : (fits : Fits spec call) → IsPlanOf spec call.op plan → IsAt spec plan call plan (call.args ∷ []) []
+  begins fits planned =
+      let is_op : op_at spec call.op ≡ fits.0 = get_or_from_slice_get spec.ops call.op fits.0 no_op fits.1.known in
+      let columns : cols_of call.args ≡ given_columns spec (op_at spec call.op) = subst (λ (op : Op). cols_of call.args ≡ given_columns spec op) (sym is_op) fits.1.columns in
+      let among : IsOpAmong (length spec.columns) fits.0 = sealed.in_range.known_ops fits.0 (slice_get_in spec.ops call.op fits.0 fits.1.known) in
+      record {
+        progress = at_start spec (op_at spec call.op);
+        keeps = planned.rules;
+        known = planned.known;
+        unchanged = λ h m. absurd m;
+        stripes_rise = tt;
+        classes = λ stripe m. absurd m;
+        modes = λ n lock m. absurd m;
+        columns_rise = λ b m. elim m [ inl e ↦ subst (λ z. IsRising nat_cmp (cols_of z)) (sym e) fits.1.tuple.rising | inr z ↦ absurd z ];
+        on = λ r a. record {
+          sought = call.args;
+          rising = rising_pairs call.args fits.1.tuple;
+          inside = given_inside spec sealed.in_range fits.0 among call.args fits.1.columns;
+          search = search_begins spec r call.args (op_at spec call.op) columns;
+          taken = λ x m. absurd m;
+          insert = λ i. record { begun = λ e. refl; named = λ x m. absurd m };
+          no_probe = λ n. refl;
+        };
+        runs = λ r a stripes w. refl;
+      }
+
+  module _ (c : ℕ) (choice : Which) (mode : Mode) (rest : List Statement) (bs : List Pairs) (held : List HeldStripe) (at : IsAt spec plan call (Lock c choice mode ∷ rest) bs held) where
+    class : c < length spec.classes
+    class = at.known (Lock c choice mode) (inl refl)
+
+    keeps : KeepsAll spec (op_at spec call.op) at.progress (Lock c choice mode)
+    keeps = at.keeps.0
+
+    -- what it takes is above all that is held
+    pub lock_above : (s : ℕ) → In s (stripes_locked spec c choice bs) → IsAbove held s
+    lock_above s m h n =
+        let g : (d : ℕ) × IsLocked at.progress d × IsOfClass spec d h.stripe = at.classes h.stripe (stripes_of_in (h.stripe, h.mode) (locks_of held) (map_in (λ (h : HeldStripe). (h.stripe, h.mode)) h held n)) in
+        let before : g.0 < c = keeps.k2 (g.0, g.1.0) g.1.1 in
+        let bands = band_before spec g.0 c before class in
+        let now : IsOfClass spec c s = of_class c choice bs class s m in
+        omega (arith, g.2.before, bands, now.from)
+
+    -- where it takes the bindings' stripes, they have the class's columns
+    pub lock_columns : (r : List Pairs) → AreOfRelation spec held r → choice ≡ which.Keyed → (b : Pairs) → In b bs → Within (class_at spec c).cols (cols_of b)
+    lock_columns r a e b m k n = (at.on r a).search.columns b m k ((subst (λ z. IsKeyBound spec c z at.progress.columns) e keeps.k3) k n)
+
+    module _ (new : List HeldStripe) (offered : ℕ → Option (List EdgeRow)) (f : HasLocked held new (gather nat_cmp (stripes_locked spec c choice bs)) mode offered) where
+      in_more : (h : HeldStripe) → In h f.more → In h.stripe (stripes_locked spec c choice bs)
+      in_more h m = in_gather nat_cmp nat_order h.stripe (stripes_locked spec c choice bs) (subst (In h.stripe) f.stripes_are (map_in (λ (h : HeldStripe). h.stripe) h f.more m))
+
+      new_rises : IsRising nat_cmp (stripes_held new)
+      new_rises =
+          let split : stripes_held new ≡ stripes_held held ++ gather nat_cmp (stripes_locked spec c choice bs) = ap stripes_held f.beside ∙ map-append (λ (h : HeldStripe). h.stripe) held f.more ∙ ap (λ z. stripes_held held ++ z) f.stripes_are in
+          subst (IsRising nat_cmp) (sym split)
+          (rising_append (stripes_held held) (gather nat_cmp (stripes_locked spec c choice bs)) at.stripes_rise (rising_gather nat_cmp nat_order (stripes_locked spec c choice bs))
+          (λ x y m n.
+          let q : (h : HeldStripe) × In h held × (x ≡ h.stripe) = in_map (λ (h : HeldStripe). h.stripe) x held m in
+          let l : q.0.stripe < y = lock_above y (in_gather nat_cmp nat_order y (stripes_locked spec c choice bs) n) q.0 q.1 in
+          subst (λ z. z < y) (sym q.2) l))
+
+      -- the locks held are those named, with those that the Lock names
+      locks_are : locks_of new ≡ gather stripe_lock_cmp (locks_of held ++ named_by spec c choice mode bs)
+      locks_are =
+          let all : List StripeLock = locks_of held ++ named_by spec c choice mode bs in
+          same_rising stripe_lock_cmp stripe_lock_order (locks_of new) (gather stripe_lock_cmp all) (locks_rise new new_rises) (rising_gather stripe_lock_cmp stripe_lock_order all)
+          (λ lock m.
+          let q : (h : HeldStripe) × In h new × (lock ≡ (h.stripe, h.mode)) = in_map (λ (h : HeldStripe). (h.stripe, h.mode)) lock new m in
+          gather_in stripe_lock_cmp stripe_lock_order lock all (elim (in_append q.0 held f.more (subst (In q.0) f.beside q.1)) [
+            | inl n ↦ append_in_left lock (locks_of held) (named_by spec c choice mode bs) (subst (λ (z : StripeLock). In z (locks_of held)) (sym q.2) (map_in (λ (h : HeldStripe). (h.stripe, h.mode)) q.0 held n))
+            | inr n ↦ append_in_right lock (locks_of held) (named_by spec c choice mode bs)
+                (subst (λ (z : StripeLock). In z (named_by spec c choice mode bs)) (sym (q.2 ∙ (λ i. (q.0.stripe, f.modes q.0 n i)))) (map_in (λ s. let l : StripeLock = (s, mode) in l) q.0.stripe (stripes_locked spec c choice bs) (in_more q.0 n)))
+          ]))
+          (λ lock m. elim (in_append lock (locks_of held) (named_by spec c choice mode bs) (in_gather stripe_lock_cmp stripe_lock_order lock all m)) [
+            | inl n ↦ (let q : (h : HeldStripe) × In h held × (lock ≡ (h.stripe, h.mode)) = in_map (λ (h : HeldStripe). (h.stripe, h.mode)) lock held n in
+                subst (λ (z : StripeLock). In z (locks_of new)) (sym q.2) (map_in (λ (h : HeldStripe). (h.stripe, h.mode)) q.0 new (subst (In q.0) (sym f.beside) (append_in_left q.0 held f.more q.1))))
+            | inr n ↦ (let s : (s : ℕ) × In s (stripes_locked spec c choice bs) × (lock ≡ (s, mode)) = in_map (λ s. let l : StripeLock = (s, mode) in l) lock (stripes_locked spec c choice bs) n in
+                let h : (h : HeldStripe) × In h f.more × (s.0 ≡ h.stripe) = in_map (λ (h : HeldStripe). h.stripe) s.0 f.more (subst (In s.0) (sym f.stripes_are) (gather_in nat_cmp nat_order s.0 (stripes_locked spec c choice bs) s.1)) in
+                subst (λ (z : StripeLock). In z (locks_of new)) (sym (s.2 ∙ (λ i. (h.2 i, sym (f.modes h.0 h.1) i))))
+                (map_in (λ (h : HeldStripe). (h.stripe, h.mode)) h.0 new (subst (In h.0) (sym f.beside) (append_in_right h.0 held f.more h.1))))
+          ])
+
+      of_locked : (stripe : ℕ) → In stripe (stripes_of (gather stripe_lock_cmp (locks_of held ++ named_by spec c choice mode bs))) → (d : ℕ) × IsLocked (after spec at.progress (Lock c choice mode)) d × IsOfClass spec d stripe
+      of_locked stripe m =
+          let all : List StripeLock = locks_of held ++ named_by spec c choice mode bs in
+          let q : (lock : StripeLock) × In lock (gather stripe_lock_cmp all) × (stripe ≡ lock.0) = in_stripes_of stripe (gather stripe_lock_cmp all) m in
+          elim (in_append q.0 (locks_of held) (named_by spec c choice mode bs) (in_gather stripe_lock_cmp stripe_lock_order q.0 all q.1)) [
+            | inl n ↦ (let g : (d : ℕ) × IsLocked at.progress d × IsOfClass spec d stripe = at.classes stripe (subst (λ z. In z (stripes_of (locks_of held))) (sym q.2) (stripes_of_in q.0 (locks_of held) n)) in
+                (g.0, (g.1.0, inr g.1.1), g.2))
+            | inr n ↦ (let s : (s : ℕ) × In s (stripes_locked spec c choice bs) × (q.0 ≡ (s, mode)) = in_map (λ s. let l : StripeLock = (s, mode) in l) q.0 (stripes_locked spec c choice bs) n in
+                let is : stripe ≡ s.0 = q.2 ∙ ap (λ (l : StripeLock). l.0) s.2 in
+                (c, (choice, inl refl), subst (IsOfClass spec c) (sym is) (of_class c choice bs class s.0 s.1)))
+          ]
+
+      taken_now : (choice : Which) → IsKeyBound spec c choice at.progress.columns → IsTaken spec (after spec at.progress (Lock c choice mode)) (stripes_of (gather stripe_lock_cmp (locks_of held ++ named_by spec c choice mode bs))) c choice
+      taken_now which.Keyed k = λ cover. k
+      taken_now which.All k = λ stripe m. named_now stripe (locks_of held) mode (stripes_locked spec c which.All bs) m
+
+      taken_before : (d : ℕ) (way : Which) → IsTaken spec at.progress (stripes_of (locks_of held)) d way → IsTaken spec (after spec at.progress (Lock c choice mode)) (stripes_of (gather stripe_lock_cmp (locks_of held ++ named_by spec c choice mode bs))) d way
+      taken_before d which.Keyed g = g
+      taken_before d which.All g = λ stripe m. named_before stripe (locks_of held) (named_by spec c choice mode bs) (g stripe m)
+
+      tuple_before : (d : ℕ) (way : Which) → HasNamed spec call.args (stripes_of (locks_of held)) d way → HasNamed spec call.args (stripes_of (gather stripe_lock_cmp (locks_of held ++ named_by spec c choice mode bs))) d way
+      tuple_before d which.Keyed g = named_before (physical_stripe spec d call.args) (locks_of held) (named_by spec c choice mode bs) g
+      tuple_before d which.All g = λ u. named_before (physical_stripe spec d u) (locks_of held) (named_by spec c choice mode bs) (g u)
+
+      tuple_now : (choice : Which) → bs ≡ call.args ∷ [] → HasNamed spec call.args (stripes_of (gather stripe_lock_cmp (locks_of held ++ named_by spec c choice mode bs))) c choice
+      tuple_now which.Keyed e = named_now (physical_stripe spec c call.args) (locks_of held) mode (map (physical_stripe spec c) bs) (subst (λ z. In (physical_stripe spec c call.args) (map (physical_stripe spec c) z)) (sym e) (inl refl))
+      tuple_now which.All e = λ u. named_now (physical_stripe spec c u) (locks_of held) mode (stripes_locked spec c which.All bs) (physical_stripe-in_band spec sealed.accepted.placed c u class)
+
+      lock_on : (r : List Pairs) → AreOfRelation spec held r → IsOn spec r (op_at spec call.op).kind call.args (after spec at.progress (Lock c choice mode)) bs (gather stripe_lock_cmp (locks_of held ++ named_by spec c choice mode bs))
+      lock_on r a =
+          let o : IsOn spec r (op_at spec call.op).kind call.args at.progress bs (locks_of held) = at.on r a in
+          record {
+            sought = o.sought;
+            rising = o.rising;
+            inside = o.inside;
+            search = lock_keeps spec sealed.in_range sealed.accepted.adequate sealed.accepted.placed r a.relation a.satisfies o.sought o.rising at.progress bs (locks_of held) c choice mode o.search class keeps.k3;
+            taken = λ x m. elim m [
+              | inl e ↦ subst (λ (z : ℕ × Which). IsTaken spec (after spec at.progress (Lock c choice mode)) (stripes_of (gather stripe_lock_cmp (locks_of held ++ named_by spec c choice mode bs))) z.0 z.1) (sym e) (taken_now choice keeps.k3)
+              | inr n ↦ taken_before x.0 x.1 (o.taken x n)
+            ];
+            insert = λ i. record {
+              begun = (o.insert i).begun;
+              named = λ x m. elim m [
+                | inl e ↦ subst (λ (z : ℕ × Which). HasNamed spec call.args (stripes_of (gather stripe_lock_cmp (locks_of held ++ named_by spec c choice mode bs))) z.0 z.1) (sym e) (tuple_now choice ((o.insert i).begun keeps.k1.1))
+                | inr n ↦ tuple_before x.0 x.1 ((o.insert i).named x n)
+              ];
+            };
+            no_probe = o.no_probe;
+          }
+
+      -- the run after a Lock
+      pub lock_step : IsAt spec plan call rest bs new
+      lock_step = record {
+        progress = after spec at.progress (Lock c choice mode);
+        keeps = at.keeps.1;
+        known = λ x m. at.known x (inr m);
+        unchanged = λ h m. elim (in_append h held f.more (subst (In h) f.beside m)) [ inl n ↦ at.unchanged h n | inr n ↦ f.unchanged h n ];
+        stripes_rise = new_rises;
+        classes = subst (AreOfLocked spec (after spec at.progress (Lock c choice mode))) (sym locks_are) of_locked;
+        modes = λ n. subst (AreIn Exclusive) (sym locks_are) (subst (λ m. AreIn Exclusive (gather stripe_lock_cmp (locks_of held ++ named_by spec c choice m bs))) (sym (mode_of (op_at spec call.op).kind mode keeps.k1.2 n))
+            (AreIn-more Exclusive (locks_of held) (stripes_locked spec c choice bs) (at.modes n)));
+        columns_rise = at.columns_rise;
+        on = λ r a. subst (IsOn spec r (op_at spec call.op).kind call.args (after spec at.progress (Lock c choice mode)) bs) (sym locks_are) (lock_on r (fewer spec r held f.more new f.beside a));
+        runs = λ r a stripes w. at.runs r (fewer spec r held f.more new f.beside a) stripes
+            (λ s m.
+            let q : (h : HeldStripe) × In h held × (s ≡ h.stripe) = in_map (λ (h : HeldStripe). h.stripe) s held m in
+            w s (subst (λ z. In z (stripes_held new)) (sym q.2) (map_in (λ (h : HeldStripe). h.stripe) q.0 new (subst (In q.0) (sym f.beside) (append_in_left q.0 held f.more q.1)))))
+            ∙ ap (λ ns. run spec (op_at spec call.op).kind call.args rest (searching bs ns (fragments_of spec r stripes))) (sym locks_are);
+      }

@@ -1,0 +1,65 @@
+-- What a run of a plan over a holder leaves: held stripes, and a reply. (PLDI 2012, execution of query plans with two-phase locks.)
+use Rattle.std.specs.Prelude.{◌≡◌, ℕ, List, Option, Some, map}
+use Rattle.std.specs.List.{flat_map}
+use Rattle.std.specs.Ordering.{nat_cmp}
+use Rattle.rc_tuple.specs.RisingSet.{In, IsRising, gather}
+use Rattle.rc_tuple.specs.Tuple.{Pairs}
+use Rattle.rc_spec.specs.declared.call.Call.{Call}
+use Rattle.rc_spec.specs.declared.call.Reply.{Reply}
+use Rattle.rc_spec.specs.declared.lock.Mode.{Mode}
+use Rattle.rc_spec.specs.declared.spec.Spec.{Spec}
+use Rattle.rc_spec.specs.Fragments.{EdgeRow, edge_row_cmp, fragment_of}
+use Rattle.rc_spec.specs.Plain.{plain}
+use Rattle.rc_fragment.specs.declared.held.Held.{Held}
+use Rattle.rc_fragment.specs.Holder.{HeldStripe, IsAbove, IsRefusal, RefusedTake}
+use Rattle.rc_plan.specs.declared.statement.Statement.{Statement}
+use Rattle.rc_plan.specs.Evaluation.{eval, rows_as_taken, touched}
+use Rattle.rc_plan.specs.StripeLocks.{StripeLock}
+
+-- ---- held stripes, put together
+
+-- the numbers of the stripes
+abbrev pub stripes_held : List HeldStripe → List ℕ
+stripes_held held = map (λ (h : HeldStripe). h.stripe) held
+
+-- the stripes, each with its mode
+abbrev pub locks_of : List HeldStripe → List StripeLock
+locks_of held = map (λ (h : HeldStripe). (h.stripe, h.mode)) held
+
+-- the rows now of all held stripes, rising
+abbrev pub rows_now : List HeldStripe → List EdgeRow
+rows_now held = gather edge_row_cmp (flat_map (λ (h : HeldStripe). h.now) held)
+
+-- their rows as they were taken
+abbrev pub rows_taken : List HeldStripe → List EdgeRow
+rows_taken held = gather edge_row_cmp (flat_map (λ (h : HeldStripe). h.taken) held)
+
+-- no held stripe is changed
+abbrev pub AreAsTaken : List HeldStripe → Type 0
+AreAsTaken held = (h : HeldStripe) → In h held → h.now ≡ h.taken
+
+-- ---- after a reply
+
+-- Evaluation of the plan on the rows as taken gives the reply, names exactly the held stripes with their modes, and leaves the rows now. The stripes were taken rising, and the rows now with the reply's effect taken back are those as taken.
+pub record HasEvaluated (spec : Spec) (plan : List Statement) (call : Call) (held : List HeldStripe) (answer : Reply) : Type 0 where
+  pub reply : (eval spec plan call (rows_taken held)).reply ≡ Some answer
+  pub named : (eval spec plan call (rows_taken held)).named ≡ locks_of held
+  pub rows : (eval spec plan call (rows_taken held)).rows ≡ rows_now held
+  pub rising : IsRising nat_cmp (stripes_held held)
+  pub taken : rows_as_taken spec call.args answer (rows_now held) ≡ rows_taken held
+
+-- The reply is the plain relation's, the call touches exactly the held stripes with their modes on it, each of them now has its fragment of the relation after, and each other stripe's fragment is the same before and after.
+pub record HasServed (spec : Spec) (plan : List Statement) (call : Call) (held : List HeldStripe) (answer : Reply) (r : List Pairs) : Type 0 where
+  pub reply : (plain spec r call).reply ≡ answer
+  pub touches : touched spec plan call r ≡ locks_of held
+  pub rows : (h : HeldStripe) → In h held → h.now ≡ fragment_of spec (plain spec r call).relation h.stripe
+  pub others : (stripe : ℕ) → (In stripe (stripes_held held) → ⊥) → fragment_of spec (plain spec r call).relation stripe ≡ fragment_of spec r stripe
+
+-- ---- after a refused take
+
+-- Evaluation on the rows held names the refused stripe in the mode that was asked; it is above all that are held, and these are held at the last refused take.
+pub record IsRefused (spec : Spec) (plan : List Statement) (call : Call) (held : List HeldStripe) (last : Option RefusedTake) (answer : Held) : Type 0 where
+  pub mode : Mode
+  pub last_refusal : IsRefusal last answer answer.stripe mode held
+  pub above : IsAbove held answer.stripe
+  pub named : In (answer.stripe, mode) (eval spec plan call (rows_taken held)).named

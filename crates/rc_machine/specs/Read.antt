@@ -1,0 +1,70 @@
+-- What a Read of an edge finds on held stripes.
+use Rattle.std.specs.Prelude.{◌≡◌, ℕ, true, List, filter, map, ◌⊎◌}
+use Rattle.rc_tuple.specs.RisingSet.{In}
+use Rattle.rc_tuple.specs.ColSet.{Within}
+use Rattle.rc_tuple.specs.Tuple.{Pairs, agrees, cols_of, merge}
+use Rattle.rc_spec.specs.declared.spec.Spec.{Spec}
+use Rattle.rc_spec.specs.Decomposition.{bound, edge_at}
+use Rattle.rc_spec.specs.Fragments.{EdgeRow}
+use Rattle.rc_spec.specs.Placement.{class_at, class_of}
+use Rattle.rc_spec.specs.Stripes.{physical_stripe}
+use Rattle.rc_fragment.specs.Fragment.{IsThere}
+use Rattle.rc_fragment.specs.Holder.{AreGoodRows, HeldStripe}
+use Rattle.rc_plan.specs.Evaluation.{band}
+use Rattle.rc_plan.specs.PlanRules.{IsFindable}
+use Rattle.rc_plan.specs.declared.statement.ReadMode.{ReadMode}
+use Rattle.rc_machine.specs.Machine.{stripes_held}
+
+-- The stripes on which a row of the class that agrees with the binding may fall are among these: where the binding has the columns that choose a stripe, that one, and else all of the class.
+pub record IsCovered (spec : Spec) (c : ℕ) (stripes : List ℕ) (b : Pairs) : Type 0 where
+  pub keyed : Within (class_at spec c).cols (cols_of b) → In (physical_stripe spec c b) stripes
+  pub all : (Within (class_at spec c).cols (cols_of b) → ⊥) → (stripe : ℕ) → In stripe (band spec c) → In stripe stripes
+
+-- a binding by which the rows of an edge can be found in containers
+pub record IsReader (spec : Spec) (e : ℕ) (mode : ReadMode) (b : Pairs) : Type 0 where
+  pub source : Within (bound spec (edge_at spec e).from) (cols_of b)
+  pub key : IsFindable mode (edge_at spec e).key (cols_of b)
+
+-- bindings by which the rows of an edge can be found on held stripes
+pub record AreReaders (spec : Spec) (e : ℕ) (mode : ReadMode) (held : List HeldStripe) (bs : List Pairs) : Type 0 where
+  pub readers : (b : Pairs) → In b bs → IsReader spec e mode b
+  pub covered : (b : Pairs) → In b bs → IsCovered spec (class_of spec e) (stripes_held held) b
+
+-- the rows now of each held stripe are good
+abbrev pub AreGood : Spec → List HeldStripe → Type 0
+AreGood spec held = (h : HeldStripe) → In h held → AreGoodRows spec h.stripe h.now
+
+-- the merges of a binding with those of the tuples that agree with it
+abbrev pub merges_of : Pairs → List Pairs → List Pairs
+merges_of b us = map (merge b) (filter (agrees b) us)
+
+-- the merge of the binding with a row of the edge that agrees with it
+abbrev pub IsMergeOf : Pairs → ℕ → List EdgeRow → Pairs → Type 0
+IsMergeOf b e rows c = (u : Pairs) × IsThere rows e u × (agrees b u ≡ true) × (c ≡ merge b u)
+
+-- the list has the merges of the binding with all rows of the edge that agree with it, beside what it had
+pub record HasMerged (b : Pairs) (e : ℕ) (rows : List EdgeRow) (old new : List Pairs) : Type 0 where
+  pub kept : (c : Pairs) → In c old → In c new
+  pub only : (c : Pairs) → In c new → In c old ⊎ IsMergeOf b e rows c
+  pub each : (c : Pairs) → IsMergeOf b e rows c → In c new
+
+-- the same, with the rows now of a held stripe
+abbrev pub IsMergeOn : Pairs → ℕ → List HeldStripe → Pairs → Type 0
+IsMergeOn b e held c = (h : HeldStripe) × In h held × IsMergeOf b e h.now c
+
+-- the list has those with the rows of the stripes that were asked, beside what it had
+pub record HasMergedOn (b : Pairs) (e : ℕ) (held : List HeldStripe) (asked : List ℕ) (old new : List Pairs) : Type 0 where
+  pub kept : (c : Pairs) → In c old → In c new
+  pub only : (c : Pairs) → In c new → In c old ⊎ IsMergeOn b e held c
+  pub each : (h : HeldStripe) → In h held → In h.stripe asked → (c : Pairs) → IsMergeOf b e h.now c → In c new
+
+-- the list has those with the rows of all held stripes, beside what it had
+pub record HasMergedAll (b : Pairs) (e : ℕ) (held : List HeldStripe) (old new : List Pairs) : Type 0 where
+  pub kept : (c : Pairs) → In c old → In c new
+  pub only : (c : Pairs) → In c new → In c old ⊎ IsMergeOn b e held c
+  pub each : (c : Pairs) → IsMergeOn b e held c → In c new
+
+-- the list has the merges of the bindings with the rows of the edge on all held stripes
+pub record AreMerges (bs : List Pairs) (e : ℕ) (held : List HeldStripe) (merges : List Pairs) : Type 0 where
+  pub only : (c : Pairs) → In c merges → (b : Pairs) × In b bs × IsMergeOn b e held c
+  pub each : (b : Pairs) → In b bs → (c : Pairs) → IsMergeOn b e held c → In c merges

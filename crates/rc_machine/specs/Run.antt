@@ -1,0 +1,75 @@
+-- Where a run of a plan over held stripes stands.
+use Rattle.std.specs.Prelude.{◌≡◌, ℕ, List, [], ◌∷◌, None, Option, Some}
+use Rattle.std.specs.Ordering.{nat_cmp}
+use Rattle.rc_tuple.specs.RisingSet.{In, IsRising}
+use Rattle.rc_tuple.specs.ColSet.{Within}
+use Rattle.rc_tuple.specs.Tuple.{Pairs, cols_of, pair_cmp}
+use Rattle.rc_spec.specs.declared.call.Call.{Call}
+use Rattle.rc_spec.specs.declared.call.Reply.{Reply}
+use Rattle.rc_spec.specs.declared.items.OpKind.{OpKind}
+use Rattle.rc_spec.specs.declared.lock.Mode.TheVariants.{Exclusive}
+use Rattle.rc_spec.specs.declared.spec.Spec.{Spec}
+use Rattle.rc_spec.specs.Calls.{all_columns}
+use Rattle.rc_spec.specs.Fragments.{EdgeRow, fragments_of}
+use Rattle.rc_spec.specs.Placement.{class_at, op_at}
+use Rattle.rc_fragment.specs.Holder.{AreOffered, AreOfRelation, HeldStripe, IsHeld}
+use Rattle.rc_plan.specs.declared.statement.Statement.{Statement}
+use Rattle.rc_plan.specs.declared.statement.Which.{Which}
+use Rattle.rc_plan.specs.declared.statement.Which.TheVariants as which
+use Rattle.rc_plan.specs.Evaluation.{band, eval, run}
+use Rattle.rc_plan.specs.InsertLaws.{HasNamed}
+use Rattle.rc_plan.specs.LockOrderLaws.{AreOfLocked}
+use Rattle.rc_plan.specs.PlanRules.{AreKnown, Covers, IsInsert, IsQuery, KeepsFrom, Progress}
+use Rattle.rc_plan.specs.RunLaws.{IsSearching, searching}
+use Rattle.rc_plan.specs.StripeLocks.{StripeLock, stripes_of}
+use Rattle.rc_plan.specs.StripeLocksLaws.{AreIn}
+use Rattle.rc_machine.specs.Machine.{AreAsTaken, HasEvaluated, HasServed, locks_of, stripes_held}
+
+-- what is known of a locked class: where keyed locks cover a read, the bindings have the columns that choose a stripe, and else all of its stripes are named
+abbrev pub IsTaken : Spec → Progress → List ℕ → ℕ → Which → Type 0
+IsTaken spec p stripes c which.Keyed = Covers spec p c which.Keyed → Within (class_at spec c).cols p.columns
+IsTaken spec p stripes c which.All = (stripe : ℕ) → In stripe (band spec c) → In stripe stripes
+
+-- an insert locks before its first Probe, where its tuple is the one binding, and so on the tuple's stripes
+pub record IsFromTuple (spec : Spec) (t : Pairs) (p : Progress) (bs : List Pairs) (ns : List StripeLock) : Type 0 where
+  pub begun : p.probe ≡ None → bs ≡ t ∷ []
+  pub named : (x : ℕ × Which) → In x p.locked → HasNamed spec t (stripes_of ns) x.0 x.1
+
+-- the search of a run, over a relation
+pub record IsOn (spec : Spec) (r : List Pairs) (kind : OpKind) (t : Pairs) (p : Progress) (bs : List Pairs) (ns : List StripeLock) : Type 0 where
+  pub sought : Pairs
+  pub rising : IsRising pair_cmp sought
+  pub inside : Within (cols_of sought) (all_columns spec)
+  pub search : IsSearching spec r sought p bs ns
+  pub taken : (x : ℕ × Which) → In x p.locked → IsTaken spec p (stripes_of ns) x.0 x.1
+  pub insert : IsInsert kind → IsFromTuple spec t p bs ns
+  pub no_probe : (IsInsert kind → ⊥) → p.probe ≡ None
+
+-- Before the rest of the plan, with these bindings and held stripes: nothing is changed, stripes were taken rising and are of locked classes; and over each relation of which the held stripes have fragments, evaluation on the fragments of any stripes among which are those held goes on as the rest of the plan from here.
+pub record IsAt (spec : Spec) (plan : List Statement) (call : Call) (rest : List Statement) (bs : List Pairs) (held : List HeldStripe) : Type 0 where
+  pub progress : Progress
+  pub keeps : KeepsFrom spec (op_at spec call.op) progress rest
+  pub known : AreKnown spec rest
+  pub unchanged : AreAsTaken held
+  pub stripes_rise : IsRising nat_cmp (stripes_held held)
+  pub classes : AreOfLocked spec progress (locks_of held)
+  pub modes : (IsQuery (op_at spec call.op).kind → ⊥) → AreIn Exclusive (locks_of held)
+  pub columns_rise : (b : Pairs) → In b bs → IsRising nat_cmp (cols_of b)
+  pub on : (r : List Pairs) → AreOfRelation spec held r → IsOn spec r (op_at spec call.op).kind call.args progress bs (locks_of held)
+  pub runs : (r : List Pairs) → AreOfRelation spec held r → (stripes : List ℕ) → Within (stripes_held held) stripes
+      → eval spec plan call (fragments_of spec r stripes) ≡ run spec (op_at spec call.op).kind call.args rest (searching bs (locks_of held) (fragments_of spec r stripes))
+
+-- the rows taken of held stripes are those that were offered, and what is offered of the others stays
+pub record AreTold (told : ℕ → Option (List EdgeRow)) (held : List HeldStripe) (offered : ℕ → Option (List EdgeRow)) : Type 0 where
+  pub taken : (h : HeldStripe) → In h held → AreOffered (told h.stripe) h.taken
+  pub others : (p : ℕ) → (IsHeld held p → ⊥) → offered p ≡ told p
+
+-- a run has answered: evaluation gives the answer, and so does the plain step on each relation of which the held stripes, as taken, have fragments
+pub record HasReplied (spec : Spec) (plan : List Statement) (call : Call) (held : List HeldStripe) (answer : Reply) : Type 0 where
+  pub evaluated : HasEvaluated spec plan call held answer
+  pub served : (r : List Pairs) → AreOfRelation spec held r → HasServed spec plan call held answer r
+
+-- a run goes on with the rest of its plan, or has answered
+abbrev pub HasGoneOn : Spec → List Statement → Call → List Statement → List Pairs → List HeldStripe → Option Reply → Type 0
+HasGoneOn spec plan call rest bs held None = IsAt spec plan call rest bs held
+HasGoneOn spec plan call rest bs held (Some answer) = HasReplied spec plan call held answer

@@ -1,0 +1,16 @@
+//! The machine that runs the plan of a call over the stripes that a holder lends.
+#![tactic(auto)]
+
+mod apply;
+mod check;
+mod distinct;
+mod emit;
+mod lock;
+mod machine;
+mod read;
+mod step;
+mod stop;
+mod stripe;
+
+pub use machine::run_plan;
+pub use stop::Stop;

@@ -1,0 +1,58 @@
+//! The run of a plan.
+
+ghost use Rattle.std.specs.Prelude.{◌≡◌, ℕ, ◌≤◌, List, [], IfOk, IfErr, Err};
+ghost use Rattle.rc_tuple.specs.RisingSet.{In};
+ghost use Rattle.rc_tuple.specs.Tuple.{Pairs};
+ghost use Rattle.rc_spec.specs.Calls.{Fits};
+ghost use Rattle.rc_spec.specs.declared.spec.Spec.{Spec};
+ghost use Rattle.rc_fragment.specs.Holder.{AreOffered, AreOfRelation, HasRisen, HeldStripe, IsHeld};
+ghost use Rattle.rc_fragment.specs.declared.held.Held.{Held};
+ghost use Rattle.rc_plan.specs.Compiled.{plan_at};
+ghost use Rattle.rc_machine.specs.Machine.{AreAsTaken, HasEvaluated, HasServed, IsRefused};
+ghost use Rattle.rc_machine.specs.declared.stop.Stop.TheVariants as stop;
+
+use crate::Stop;
+use crate::step::{alone, step};
+use rc_fragment::Holder;
+use rc_plan::Compiled;
+use rc_spec::{Call, Reply};
+use std::alloc::Global;
+
+/// Runs the statements of the call's plan that come before its Commit over a sound holder that holds nothing: it takes
+/// the stripes that the Locks name, reads and changes their rows, and answers. (PLDI 2012, query plans with two-phase
+/// locks.)
+///
+/// Where it answers, evaluation of the plan on the rows as taken gives the reply, the held stripes and their rows now;
+/// and so does the plain step on any relation of which the rows as taken are fragments. After a stop each held stripe
+/// has its rows as taken. `Held` comes only where the count of refused takes rose in this call, and is then the last
+/// refused take's. What is offered of a stripe that isn't held stays.
+pub fn run_plan<H: Holder>(
+    alloc: Global,
+    compiled: &Compiled,
+    call: &Call,
+    holder: &mut H,
+) -> Result<Reply, Stop>
+    requires fits { Fits compiled.now.spec call.now }
+    requires sound { H.is_sound holder.old compiled.now.spec }
+    requires free { H.held holder.old ≡ [] }
+    ensures evaluated { IfOk result (λ reply. HasEvaluated compiled.now.spec (plan_at compiled.now.plans call.now.op) call.now (H.held holder.new) reply) }
+    ensures served { IfOk result (λ reply. (r : List Pairs) → AreOfRelation compiled.now.spec (H.held holder.new) r → HasServed compiled.now.spec (plan_at compiled.now.plans call.now.op) call.now (H.held holder.new) reply r) }
+    ensures taken { (h : HeldStripe) → In h (H.held holder.new) → AreOffered (H.offered holder.old h.stripe) h.taken }
+    ensures stopped { IfErr result (λ _. AreAsTaken (H.held holder.new)) }
+    ensures refused { (h : Held) → result ≡ Err (stop.Held h) → HasRisen (H.refusals holder.old) (H.refusals holder.new) × IsRefused compiled.now.spec (plan_at compiled.now.plans call.now.op) call.now (H.held holder.new) (H.last_refusal holder.new) h }
+    ensures refusals { H.refusals holder.old ≤ H.refusals holder.new }
+    ensures offers { (p : ℕ) → (IsHeld (H.held holder.new) p → ⊥) → H.offered holder.new p ≡ H.offered holder.old p }
+    ensures stripes { H.stripes holder.new ≡ H.stripes holder.old }
+    ensures table { H.table holder.new ≡ H.table holder.old }
+    ensures sound { (spec : Spec) → H.is_sound holder.old spec → H.is_sound holder.new spec }
+{
+    let spec = compiled.accepted().spec();
+    let plan = compiled.plan(call.op).list();
+    let mut bindings = alone(alloc, call.args.copy()?)?;
+    for at in 0..plan.len() {
+        if let Some(reply) = step(alloc, holder, spec, call, plan, at, &mut bindings)? {
+            return Ok(reply);
+        }
+    }
+    unreachable!()
+}
