@@ -43,6 +43,14 @@ def inserts():
     return GRAPH + "\n".join(lines + ["end", ""])
 
 
+def grown(size, finds=0):
+    """So many inserts of distinct edges by one thread, and then so many queries for one of them."""
+    lines = ["work 1", "round"]
+    lines += [f"0 ins {number * 7919 % size} {number % 97} {number}" for number in range(size)]
+    lines += [f"0 find {number % size * 7919 % size} {number % size % 97}" for number in range(finds)]
+    return GRAPH + "\n".join(lines + ["end", ""])
+
+
 def comments(size=16 * MIB):
     """A text of this many bytes, nearly all of them comments in the specification."""
     comment = "# " + "c" * 61 + "\n"
@@ -69,6 +77,9 @@ def replies():
 if __name__ == "__main__":
     texts = {
         "inserts": inserts,
+        "nothing": lambda: grown(0),
+        **{f"grown_{size}": lambda size=size: grown(size) for size in (1_000, 5_000, 15_000, 20_000)},
+        **{f"found_{size}": lambda size=size: grown(size, 5_000) for size in (1_000, 5_000, 15_000)},
         "comments": comments,
         "half_comments": lambda: comments(8 * MIB),
         "workload": workload,

@@ -1,15 +1,14 @@
 -- What the fragments of one relation are to a reader of containers.
 use Rattle.std.specs.Prelude.{◌≡◌, ℕ, suc, ◌<◌, ◌≤◌, ◌^◌, Bool, true, false, cond, List, [], ◌∷◌, length, filter}
-use Rattle.std.specs.declared.cmp.Ordering.TheVariants.{Less}
 use Rattle.std.specs.Ordering.{nat_cmp}
 use Rattle.std.proofs.Common.{refl, sym, ap, subst, ◌∙◌, inl, inr, arith}
 use Rattle.std.proofs.lemmas.Bool.{false≢true}
 use Rattle.rc_tuple.specs.RisingSet.{In, IsRising}
-use Rattle.rc_tuple.specs.RisingSetLaws.{nat_order, same_rising, in_map, map_in, get_or_in}
-use Rattle.rc_tuple.specs.ColSet.{Within, has, union}
+use Rattle.rc_tuple.specs.RisingSetLaws.{get_or_in}
+use Rattle.rc_tuple.specs.ColSet.{Within, union}
 use Rattle.rc_tuple.specs.ColSetLaws.{in_union, union_left, union_right, rising_range}
 use Rattle.rc_tuple.specs.Tuple.{Pairs, cols_of, project, pair_cmp, tuple_eq}
-use Rattle.rc_tuple.specs.TupleLaws.{in_project, project_in, project_by, project-project, test_from_same}
+use Rattle.rc_tuple.specs.TupleLaws.{cols-project, project_by, project-project, test_from_same}
 use Rattle.rc_tuple.specs.Relation.{IsRelation, Satisfies}
 use Rattle.rc_tuple.specs.RelationLaws.{rising_of}
 use Rattle.rc_spec.specs.Acceptance.{IsSealed}
@@ -31,31 +30,6 @@ abbrev pub FragmentsAreReadable : Type 0
 FragmentsAreReadable = (spec : Spec) → IsSealed spec → (held : List HeldStripe) (r : List Pairs) → AreOfRelation spec held r → AreReadable spec held
 
 -- ---- projections
-
-fewer_cols : (xs : List ℕ) (t : Pairs) (c : ℕ) → In c (cols_of (project xs t)) → In c (cols_of t)
-fewer_cols xs t c m =
-    let p : (p : ℕ × ℕ) × In p (project xs t) × (c ≡ p.0) = in_map (λ (q : ℕ × ℕ). q.0) c (project xs t) m in
-    subst (λ z. In z (cols_of t)) (sym p.2) (map_in (λ (q : ℕ × ℕ). q.0) p.0 t (in_project xs p.0 t p.1).0)
-
-rising_with : (xs : List ℕ) (p : ℕ × ℕ) (t : Pairs) (b : Bool) → ((c : ℕ) → In c (cols_of t) → nat_cmp p.0 c ≡ Less) → IsRising nat_cmp (cols_of (project xs t))
-    → IsRising nat_cmp (cols_of (cond b (p ∷ project xs t) (project xs t)))
-rising_with xs p t true h ih = ((λ c m. h c (fewer_cols xs t c m)), ih)
-rising_with xs p t false h ih = ih
-
-rising_cols-project : (xs : List ℕ) (t : Pairs) → IsRising nat_cmp (cols_of t) → IsRising nat_cmp (cols_of (project xs t))
-rising_cols-project xs [] h = tt
-rising_cols-project xs (p ∷ t) h = rising_with xs p t (has xs p.0) h.0 (rising_cols-project xs t h.1)
-
--- the columns of a projection on columns of the tuple
-cols-project : (columns xs : List ℕ) (t : Pairs) → IsRising nat_cmp columns → IsRising nat_cmp xs → Within xs columns → cols_of t ≡ columns → cols_of (project xs t) ≡ xs
-cols-project columns xs t r s w over =
-    same_rising nat_cmp nat_order (cols_of (project xs t)) xs (rising_cols-project xs t (subst (IsRising nat_cmp) (sym over) r)) s
-    (λ c m.
-    let p : (p : ℕ × ℕ) × In p (project xs t) × (c ≡ p.0) = in_map (λ (q : ℕ × ℕ). q.0) c (project xs t) m in
-    subst (λ z. In z xs) (sym p.2) (in_project xs p.0 t p.1).1)
-    (λ c m.
-    let p : (p : ℕ × ℕ) × In p t × (c ≡ p.0) = in_map (λ (q : ℕ × ℕ). q.0) c t (subst (In c) (sym over) (w c m)) in
-    subst (λ z. In z (cols_of (project xs t))) (sym p.2) (map_in (λ (q : ℕ × ℕ). q.0) p.0 (project xs t) (project_in xs p.0 t p.1 (subst (λ z. In z xs) p.2 m))))
 
 -- tuples with the same projections on xs and on ys have one on both
 project-union : (xs ys : List ℕ) (t u : Pairs) → IsRising pair_cmp t → IsRising pair_cmp u → project xs t ≡ project xs u → project ys t ≡ project ys u → project (union xs ys) t ≡ project (union xs ys) u

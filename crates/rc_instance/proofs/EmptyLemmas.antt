@@ -1,6 +1,7 @@
--- What stripes are that are free and have no row.
-use Rattle.std.specs.Prelude.{◌≡◌, ℕ, zero, suc, ◌<◌, List, [], ◌∷◌, ◌++◌, Some, length, map}
-use Rattle.std.proofs.Common.{inl, inr, refl, sym, ap, ◌∙◌, arith}
+-- What stripes are that are free and whose fragments have no row.
+use Rattle.std.specs.Prelude.{◌≡◌, ℕ, zero, suc, ◌<◌, List, [], ◌∷◌, ◌++◌, Option, None, Some, length, map}
+use Rattle.std.specs.List.{slice_get}
+use Rattle.std.proofs.Common.{inl, inr, refl, sym, ap, ◌∙◌, arith, replicate}
 use Rattle.rc_tuple.specs.RisingSet.{In}
 use Rattle.rc_tuple.specs.RelationLaws.{satisfies_none}
 use Rattle.rc_spec.specs.Acceptance.{IsSealed}
@@ -10,12 +11,14 @@ use Rattle.rc_spec.specs.Placement.{class_of}
 use Rattle.rc_spec.specs.PlacementLaws.{class_of_known, physical_stripe_below}
 use Rattle.rc_spec.specs.Stripes.{physical_stripe, stripe_total}
 use Rattle.rc_spec.specs.declared.items.Edge.{Edge}
+use Rattle.rc_spec.specs.declared.lock.Mode.{Mode}
 use Rattle.rc_spec.specs.declared.spec.Spec.{Spec}
 use Rattle.rc_fragment.specs.Fragment.{edge_table, shape_of}
+use Rattle.rc_fragment.specs.FragmentRows.{FragmentRows}
 use Rattle.rc_fragment.specs.declared.shape.EdgeShape.{EdgeShape}
-use Rattle.rc_instance.specs.Instance.{held_part, held_from, offered_at, rows_of, table_of, IsEmpty, IsInstance, IsOfRelation}
-use Rattle.rc_instance.specs.Stripes.{IsEmptyStripe}
-use Rattle.rc_instance.specs.declared.stripe.Stripe.{Stripe}
+use Rattle.rc_instance.specs.Fragments.{IsEmptyFragment}
+use Rattle.rc_instance.specs.Instance.{offered_at, rows_of_fragments, stripes_of, table_of_fragments, IsEmpty, IsInstance, IsOfRelation}
+use Rattle.rc_instance.proofs.StripesOfLemmas.{instance_of, none_held, stripes_of-length, stripes_of-offered, stripes_of-rows, stripes_of-table, taken_of}
 
 -- ---- the table, also where there is no stripe
 
@@ -34,34 +37,37 @@ no_table spec sealed none = ap (map (shape_of spec)) (no_edges spec.edges (go (l
         let k : physical_stripe spec (class_of spec 0) [] < stripe_total spec = physical_stripe_below spec (class_of spec 0) [] sealed.accepted.placed (class_of_known spec 0 sealed.in_range (sealed.accepted.placed.p1 0 l)) in
         absurd (omega (arith, k, none))
 
-pub empty_table : (spec : Spec) (ss : List Stripe) → IsSealed spec → length ss ≡ stripe_total spec → ((s : Stripe) → In s ss → IsEmptyStripe (edge_table spec) s) → table_of ss ≡ edge_table spec
+pub empty_table : (spec : Spec) (fs : List FragmentRows) → IsSealed spec → length fs ≡ stripe_total spec → ((f : FragmentRows) → In f fs → IsEmptyFragment (edge_table spec) f) → table_of_fragments fs ≡ edge_table spec
 empty_table spec [] sealed l each = sym (no_table spec sealed (sym l))
-empty_table spec (s ∷ ss) sealed l each = (each s (inl refl)).table
+empty_table spec (f ∷ fs) sealed l each = (each f (inl refl)).table
 
 -- ---- nothing is held, and there is no row
 
 module _ (shapes : List EdgeShape) where
-  none_held : (n : ℕ) (ss : List Stripe) → ((s : Stripe) → In s ss → IsEmptyStripe shapes s) → held_from n ss ≡ []
-  none_held n [] each = refl
-  none_held n (s ∷ ss) each = ap (λ z. held_part n s.fragment z ++ held_from (suc n) ss) (each s (inl refl)).free ∙ none_held (suc n) ss (λ t m. each t (inr m))
-
-  no_rows : (ss : List Stripe) → ((s : Stripe) → In s ss → IsEmptyStripe shapes s) → rows_of ss ≡ []
+  no_rows : (fs : List FragmentRows) → ((f : FragmentRows) → In f fs → IsEmptyFragment shapes f) → rows_of_fragments fs ≡ []
   no_rows [] each = refl
-  no_rows (s ∷ ss) each = ap (λ z. z ++ rows_of ss) (each s (inl refl)).now ∙ no_rows ss (λ t m. each t (inr m))
+  no_rows (f ∷ fs) each = ap (λ z. z ++ rows_of_fragments fs) (each f (inl refl)).now ∙ no_rows fs (λ g m. each g (inr m))
 
-  none_offered : (ss : List Stripe) → ((s : Stripe) → In s ss → IsEmptyStripe shapes s) → (n : ℕ) → n < length ss → offered_at ss n ≡ Some []
-  none_offered [] each n l = absurd (let f : n < 0 = l in omega (arith, f))
-  none_offered (s ∷ ss) each zero l = ap Some (each s (inl refl)).taken
-  none_offered (s ∷ ss) each (suc n) l = none_offered ss (λ t m. each t (inr m)) n (let f : suc n < suc (length ss) = l in omega (arith, f))
+  none_taken : (fs : List FragmentRows) → ((f : FragmentRows) → In f fs → IsEmptyFragment shapes f) → (n : ℕ) → n < length fs → taken_of (slice_get fs n) ≡ Some []
+  none_taken [] each n l = absurd (let f : n < 0 = l in omega (arith, f))
+  none_taken (f ∷ fs) each zero l = ap Some (each f (inl refl)).taken
+  none_taken (f ∷ fs) each (suc n) l = none_taken fs (λ g m. each g (inr m)) n (let f : suc n < suc (length fs) = l in omega (arith, f))
 
-  pub is_empty : (ss : List Stripe) → ((s : Stripe) → In s ss → IsEmptyStripe shapes s) → IsEmpty ss
-  is_empty ss each = record { held = none_held 0 ss each; rows = no_rows ss each; offered = none_offered ss each }
+  module _ (fs : List FragmentRows) (each : (f : FragmentRows) → In f fs → IsEmptyFragment shapes f) where
+    none_offered : (ms : List (Option Mode)) (n : ℕ) → n < length fs → offered_at (stripes_of fs ms) n ≡ Some []
+    none_offered ms n l = stripes_of-offered fs ms n ∙ none_taken fs each n l
 
-  pub empty_instance : (ss : List Stripe) → table_of ss ≡ shapes → ((s : Stripe) → In s ss → IsEmptyStripe shapes s) → IsInstance ss
-  empty_instance ss t each = record {
-    table = λ s m. (each s m).table ∙ sym t;
-    free = λ s m h. (each s m).now ∙ sym (each s m).taken;
-  }
+    pub is_empty : (n : ℕ) → IsEmpty (stripes_of fs (replicate n None))
+    is_empty n =
+        let ms : List (Option Mode) = replicate n None in
+        record {
+          held = none_held 0 n fs;
+          rows = stripes_of-rows fs ms ∙ no_rows fs each;
+          offered = λ p l. none_offered ms p (let e : length (stripes_of fs ms) ≡ length fs = stripes_of-length fs ms in omega (arith, l, e));
+        }
+
+    pub empty_instance : (ms : List (Option Mode)) → table_of_fragments fs ≡ shapes → IsInstance (stripes_of fs ms)
+    empty_instance ms t = instance_of fs ms (λ f m. (each f m).table ∙ sym t) (λ f m. (each f m).now ∙ sym (each f m).taken)
 
 -- ---- the empty relation
 
@@ -73,12 +79,13 @@ no_member (w ∷ ws) f = absurd (f w (inl refl))
 pub fragment_of-none : (spec : Spec) (n : ℕ) → fragment_of spec [] n ≡ []
 fragment_of-none spec n = no_member (fragment_of spec [] n) (λ w m. (in_all_rows spec [] w (in_fragments spec [] (n ∷ []) w m).0).projected.1)
 
-pub empty_relation : (spec : Spec) (ss : List Stripe) → table_of ss ≡ edge_table spec → length ss ≡ stripe_total spec → ((s : Stripe) → In s ss → IsEmptyStripe (edge_table spec) s) → IsOfRelation spec ss []
-empty_relation spec ss t l each = record {
-  table = t;
+pub empty_relation : (spec : Spec) (fs : List FragmentRows) (ms : List (Option Mode)) → table_of_fragments fs ≡ edge_table spec → length fs ≡ stripe_total spec
+    → ((f : FragmentRows) → In f fs → IsEmptyFragment (edge_table spec) f) → IsOfRelation spec (stripes_of fs ms) []
+empty_relation spec fs ms t l each = record {
+  table = stripes_of-table fs ms ∙ t;
   relation = record { rising = tt; each = λ u m. absurd m };
   satisfies = satisfies_none spec.deps;
   few = omega arith;
-  stripes = l;
-  rows = λ n k. none_offered (edge_table spec) ss each n (omega (arith, k, l)) ∙ ap Some (sym (fragment_of-none spec n));
+  stripes = stripes_of-length fs ms ∙ l;
+  rows = λ n k. none_offered (edge_table spec) fs each ms n (omega (arith, k, l)) ∙ ap Some (sym (fragment_of-none spec n));
 }

@@ -1,146 +1,86 @@
--- What all stripes are once each is free and has its rows now as taken.
-use Rattle.std.specs.Prelude.{◌≡◌, ℕ, zero, suc, ◌≤◌, List, [], ◌∷◌, ◌++◌, Option, None, Some, length, option_map}
-use Rattle.std.specs.List.{flat_map, slice_get}
-use Rattle.std.proofs.Common.{inl, inr, refl, sym, ap, subst, ◌∙◌, arith}
-use Rattle.rc_tuple.specs.RisingSet.{In}
+-- What stripes are once all are free and have their rows now as taken.
+use Rattle.std.specs.Prelude.{◌≡◌, ℕ, ◌≤◌, List, [], ◌∷◌, ◌++◌, Option, None, Some}
+use Rattle.std.specs.List.{AllZip, slice_get}
+use Rattle.std.proofs.Common.{refl, sym, ap, ◌∙◌, arith, replicate}
+use Rattle.std.proofs.lemmas.Slice.Zip.{AllZip-long}
 use Rattle.rc_tuple.specs.RisingSetLaws.{slice_get_in}
-use Rattle.rc_spec.specs.Fragments.{EdgeRow}
 use Rattle.rc_spec.specs.declared.lock.Mode.{Mode}
 use Rattle.rc_fragment.specs.FragmentRows.{FragmentRows}
 use Rattle.rc_fragment.specs.Holder.{IsHeld}
-use Rattle.rc_fragment.specs.declared.shape.EdgeShape.{EdgeShape}
-use Rattle.rc_instance.specs.Instance.{held_part, held_from, now_in, offered_at, room_at, room_in, rows_of, table_of, table_of_fragments, taken_in, AreReleased, HaveOneTable, IsInstance, IsMadeOf}
+use Rattle.rc_instance.specs.Fragments.{IsSettled}
+use Rattle.rc_instance.specs.Instance.{held_from, now_in, offered_at, room_at, rows_of_fragments, stripes_of, taken_in, AreReleased, HaveOneTable, IsInstance, IsMadeOf, Stripe}
 use Rattle.rc_instance.specs.InstanceLaws.{IsHeldFrom, in_held_from, as_held, held_from_in}
-use Rattle.rc_instance.specs.Stripes.{AreAlike, IsFree, IsReleased}
-use Rattle.rc_instance.specs.declared.stripe.Stripe.{Stripe}
+use Rattle.rc_instance.proofs.AlikeLemmas.{alike_at, alike_in, alike_one_table, alike_table}
+use Rattle.rc_instance.proofs.StripesOfLemmas.{fragments_have_one_table, instance_of, none_held, now_of, room_of, stripes_of-length, stripes_of-now, stripes_of-offered, stripes_of-room, stripes_of-rows, stripes_of-table, taken_of}
 
-abbrev table_from : {X : Type 0} → (X → FragmentRows) → List X → List EdgeShape
-table_from f [] = []
-table_from f (x ∷ xs) = (f x).table
+-- ---- settled fragments
 
-abbrev now_from : {X : Type 0} → (X → FragmentRows) → Option X → Option (List EdgeRow)
-now_from f None = None
-now_from f (Some x) = Some (f x).now
+settled_rows : (old new : List FragmentRows) → AllZip IsSettled old new → rows_of_fragments new ≡ rows_of_fragments old
+settled_rows [] [] a = refl
+settled_rows [] (g ∷ gs) a = absurd a
+settled_rows (f ∷ fs) [] a = absurd a
+settled_rows (f ∷ fs) (g ∷ gs) a = λ i. a.0.now i ++ settled_rows fs gs a.1 i
 
-module _ {X : Type 0} (f : X → FragmentRows) where
-  free_held : (n : ℕ) (xs : List X) (ss : List Stripe) → AreAlike (λ x s. IsFree (f x) s) xs ss → held_from n ss ≡ []
-  free_held n [] [] a = refl
-  free_held n [] (s ∷ ss) a = absurd a
-  free_held n (x ∷ xs) [] a = absurd a
-  free_held n (x ∷ xs) (s ∷ ss) a = ap (λ z. held_part n s.fragment z ++ held_from (suc n) ss) a.0.free ∙ free_held (suc n) xs ss a.1
+module _ (old new : List FragmentRows) (a : AllZip IsSettled old new) where
+  settled_offered : (ms : List (Option Mode)) (n : ℕ) → offered_at (stripes_of new ms) n ≡ now_in (slice_get old n)
+  settled_offered ms n = stripes_of-offered new ms n ∙ alike_at IsSettled (λ f g. taken_of g ≡ now_in f) refl (λ f g r. ap Some r.taken) old new a n
 
-  free_rows : (xs : List X) (ss : List Stripe) → AreAlike (λ x s. IsFree (f x) s) xs ss → rows_of ss ≡ flat_map (λ x. (f x).now) xs
-  free_rows [] [] a = refl
-  free_rows [] (s ∷ ss) a = absurd a
-  free_rows (x ∷ xs) [] a = absurd a
-  free_rows (x ∷ xs) (s ∷ ss) a = (λ i. a.0.now i ++ free_rows xs ss a.1 i)
+  settled_instance : (ms : List (Option Mode)) → HaveOneTable old → IsInstance (stripes_of new ms)
+  settled_instance ms one =
+      instance_of new ms (alike_one_table IsSettled (λ f g r. r.table) old new a one) (λ g m. let w = alike_in IsSettled old new a g m in w.2.now ∙ sym w.2.taken)
 
-  free_length : (xs : List X) (ss : List Stripe) → AreAlike (λ x s. IsFree (f x) s) xs ss → length ss ≡ length xs
-  free_length [] [] a = refl
-  free_length [] (s ∷ ss) a = absurd a
-  free_length (x ∷ xs) [] a = absurd a
-  free_length (x ∷ xs) (s ∷ ss) a = ap suc (free_length xs ss a.1)
+  -- ---- made of fragments
 
-  free_table : (xs : List X) (ss : List Stripe) → AreAlike (λ x s. IsFree (f x) s) xs ss → table_of ss ≡ table_from f xs
-  free_table [] [] a = refl
-  free_table [] (s ∷ ss) a = absurd a
-  free_table (x ∷ xs) [] a = absurd a
-  free_table (x ∷ xs) (s ∷ ss) a = a.0.table
+  pub made_instance : (n : ℕ) → HaveOneTable old → IsInstance (stripes_of new (replicate n None))
+  made_instance n = settled_instance (replicate n None)
 
-  free_offered : (xs : List X) (ss : List Stripe) → AreAlike (λ x s. IsFree (f x) s) xs ss → (n : ℕ) → offered_at ss n ≡ now_from f (slice_get xs n)
-  free_offered [] [] a n = refl
-  free_offered [] (s ∷ ss) a n = absurd a
-  free_offered (x ∷ xs) [] a n = absurd a
-  free_offered (x ∷ xs) (s ∷ ss) a zero = ap Some a.0.taken
-  free_offered (x ∷ xs) (s ∷ ss) a (suc n) = free_offered xs ss a.1 n
-
-  free_in : (xs : List X) (ss : List Stripe) → AreAlike (λ x s. IsFree (f x) s) xs ss → (s : Stripe) → In s ss → (x : X) × In x xs × IsFree (f x) s
-  free_in [] [] a s m = absurd m
-  free_in [] (t ∷ ss) a s m = absurd a
-  free_in (x ∷ xs) [] a s m = absurd a
-  free_in (x ∷ xs) (t ∷ ss) a s (inl p) = (x, inl refl, subst (IsFree (f x)) (sym p) a.0)
-  free_in (x ∷ xs) (t ∷ ss) a s (inr m) = let r : (y : X) × In y xs × IsFree (f y) s = free_in xs ss a.1 s m in (r.0, inr r.1, r.2)
-
-  free_instance : (xs : List X) (ss : List Stripe) → AreAlike (λ x s. IsFree (f x) s) xs ss → ((x : X) → In x xs → (f x).table ≡ table_from f xs) → IsInstance ss
-  free_instance xs ss a one = record {
-    table = λ s m. let r : (x : X) × In x xs × IsFree (f x) s = free_in xs ss a s m in r.2.table ∙ one r.0 r.1 ∙ sym (free_table xs ss a);
-    free = λ s m n. let r : (x : X) × In x xs × IsFree (f x) s = free_in xs ss a s m in r.2.now ∙ sym r.2.taken;
-  }
-
-abbrev room_of : Option FragmentRows → ℕ
-room_of None = 0
-room_of (Some f) = f.room
-
-free_room : {X : Type 0} (f : X → FragmentRows) (xs : List X) (ss : List Stripe) → AreAlike (λ x s. IsFree (f x) s) xs ss → (n : ℕ) → room_of (option_map f (slice_get xs n)) ≤ room_at ss n
-free_room f [] [] a n = omega arith
-free_room f [] (t ∷ ss) a n = absurd a
-free_room f (x ∷ xs) [] a n = absurd a
-free_room f (x ∷ xs) (t ∷ ss) a zero = a.0.room
-free_room f (x ∷ xs) (t ∷ ss) a (suc n) = free_room f xs ss a.1 n
-
--- ---- made of fragments
-
-abbrev itself : FragmentRows → FragmentRows
-itself f = f
-
-same_table : (fs : List FragmentRows) → table_from itself fs ≡ table_of_fragments fs
-same_table [] = refl
-same_table (f ∷ fs) = refl
-
-same_now : (o : Option FragmentRows) → now_from itself o ≡ now_in o
-same_now None = refl
-same_now (Some f) = refl
-
-pub made_instance : (fs : List FragmentRows) (ss : List Stripe) → HaveOneTable fs → AreAlike IsFree fs ss → IsInstance ss
-made_instance fs ss one a = free_instance itself fs ss a (λ f m. one f m ∙ sym (same_table fs))
-
-pub made_of : (fs : List FragmentRows) (ss : List Stripe) → AreAlike IsFree fs ss → IsMadeOf fs ss
-made_of fs ss a = record {
-  held = free_held itself 0 fs ss a;
-  rows = free_rows itself fs ss a;
-  offered = λ n. free_offered itself fs ss a n ∙ same_now (slice_get fs n);
-  stripes = free_length itself fs ss a;
-  table = free_table itself fs ss a ∙ same_table fs;
-}
+  pub made_of : (n : ℕ) → IsMadeOf old (stripes_of new (replicate n None))
+  made_of n =
+      let ms : List (Option Mode) = replicate n None in
+      record {
+        held = none_held 0 n new;
+        rows = stripes_of-rows new ms ∙ settled_rows old new a;
+        offered = settled_offered ms;
+        stripes = stripes_of-length new ms ∙ AllZip-long IsSettled old new a;
+        table = stripes_of-table new ms ∙ alike_table IsSettled (λ f g r. r.table) old new a;
+      }
 
 -- ---- released
 
-abbrev fragment_in : Stripe → FragmentRows
-fragment_in s = s.fragment
-
-same_table_of : (ss : List Stripe) → table_from fragment_in ss ≡ table_of ss
-same_table_of [] = refl
-same_table_of (s ∷ ss) = refl
-
-pub released_instance : (old new : List Stripe) → IsInstance old → AreAlike IsReleased old new → IsInstance new
-released_instance old new i a = free_instance fragment_in old new a (λ s m. i.table s m ∙ sym (same_table_of old))
-
 -- what a stripe that isn't held offers
-free_offers : (old : List Stripe) → IsInstance old → (n : ℕ) → (IsHeld (held_from 0 old) n → ⊥) → now_from fragment_in (slice_get old n) ≡ offered_at old n
-free_offers old i n d = go (slice_get old n) refl
+free_offers : (ss : List Stripe) → IsInstance ss → (n : ℕ) → (IsHeld (held_from 0 ss) n → ⊥) → now_of (slice_get ss n) ≡ offered_at ss n
+free_offers ss i n d = go (slice_get ss n) refl
   where
-    free : (s : Stripe) → slice_get old n ≡ Some s → (m : Option Mode) → s.held ≡ m → s.held ≡ None
+    free : (s : Stripe) → slice_get ss n ≡ Some s → (m : Option Mode) → s.held ≡ m → s.held ≡ None
     free s e None h = h
-    free s e (Some mode) h = absurd (d (as_held n mode s.fragment, held_from_in 0 old n n s mode e (omega arith) h, refl))
+    free s e (Some mode) h = absurd (d (as_held n mode s.fragment, held_from_in 0 ss n n s mode e (omega arith) h, refl))
 
-    go : (o : Option Stripe) → slice_get old n ≡ o → now_from fragment_in o ≡ offered_at old n
+    go : (o : Option Stripe) → slice_get ss n ≡ o → now_of o ≡ offered_at ss n
     go None e = ap taken_in (sym e)
-    go (Some s) e = ap Some (i.free s (slice_get_in old n s e) (free s e s.held refl)) ∙ ap taken_in (sym e)
+    go (Some s) e = ap Some (i.free s (slice_get_in ss n s e) (free s e s.held refl)) ∙ ap taken_in (sym e)
 
-room_in_old : (o : Option Stripe) → room_of (option_map fragment_in o) ≡ room_in o
-room_in_old None = refl
-room_in_old (Some s) = refl
+-- the fragments were held so
+module _ (old new : List FragmentRows) (a : AllZip IsSettled old new) (ms : List (Option Mode)) (i : IsInstance (stripes_of old ms)) where
+  pub released_instance : (n : ℕ) → IsInstance (stripes_of new (replicate n None))
+  released_instance n = settled_instance old new a (replicate n None) (fragments_have_one_table old ms i)
 
-pub released : (old new : List Stripe) → IsInstance old → AreAlike IsReleased old new → AreReleased old new
-released old new i a = record {
-  held = free_held fragment_in 0 old new a;
-  rows = free_rows fragment_in old new a;
-  settled = λ h m.
-      let w : IsHeldFrom 0 old h = in_held_from 0 old h m in
-      let n : h.stripe ≡ w.place = omega (arith, w.numbered) in
-      free_offered fragment_in old new a h.stripe ∙ ap (λ z. now_from fragment_in (slice_get old z)) n ∙ ap (now_from fragment_in) w.there ∙ ap Some (sym w.now);
-  others = λ n d. free_offered fragment_in old new a n ∙ free_offers old i n d;
-  room = λ n. subst (λ z. z ≤ room_at new n) (room_in_old (slice_get old n)) (free_room fragment_in old new a n);
-  stripes = free_length fragment_in old new a;
-  table = free_table fragment_in old new a ∙ same_table_of old;
-}
+  pub released : (n : ℕ) → AreReleased (stripes_of old ms) (stripes_of new (replicate n None))
+  released n =
+      let ss : List Stripe = stripes_of old ms in
+      let ts : List Stripe = stripes_of new (replicate n None) in
+      record {
+        held = none_held 0 n new;
+        rows = stripes_of-rows new _ ∙ settled_rows old new a ∙ sym (stripes_of-rows old ms);
+        settled = λ h m.
+            let w : IsHeldFrom 0 ss h = in_held_from 0 ss h m in
+            let p : h.stripe ≡ w.place = omega (arith, w.numbered) in
+            settled_offered old new a _ h.stripe ∙ sym (stripes_of-now old ms h.stripe) ∙ ap (λ z. now_of (slice_get ss z)) p ∙ ap now_of w.there ∙ ap Some (sym w.now);
+        others = λ p d. settled_offered old new a _ p ∙ sym (stripes_of-now old ms p) ∙ free_offers ss i p d;
+        room = λ p.
+            let r : room_of (slice_get old p) ≤ room_of (slice_get new p) = alike_at IsSettled (λ f g. room_of f ≤ room_of g) (omega arith) (λ f g r. r.room) old new a p in
+            let x : room_at ss p ≡ room_of (slice_get old p) = stripes_of-room old ms p in
+            let y : room_at ts p ≡ room_of (slice_get new p) = stripes_of-room new (replicate n None) p in
+            omega (arith, r, x, y);
+        stripes = stripes_of-length new _ ∙ AllZip-long IsSettled old new a ∙ sym (stripes_of-length old ms);
+        table = stripes_of-table new _ ∙ alike_table IsSettled (λ f g r. r.table) old new a ∙ sym (stripes_of-table old ms);
+      }

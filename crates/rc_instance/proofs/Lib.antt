@@ -5,3 +5,4 @@ mod FreeLemmas
 mod RepresentLemmas
 mod RevertLemmas
 mod StripeLemmas
+mod StripesOfLemmas

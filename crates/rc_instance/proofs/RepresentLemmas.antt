@@ -1,4 +1,4 @@
--- The join of the rows of all edges, edge by edge and stripe by stripe.
+-- The join of the rows of all edges, edge by edge and fragment by fragment.
 use Rattle.std.specs.Prelude.{◌≡◌, ℕ, ◌+◌, ◌<◌, List, [], ◌∷◌, ◌++◌, length, map}
 use Rattle.std.specs.List.{range_with_len}
 use Rattle.std.proofs.Common.{inl, inr, refl, sym, ap, subst, ◌∙◌, arith, take, get_or, append-nil}
@@ -14,18 +14,15 @@ use Rattle.rc_spec.specs.Fragments.{EdgeRow, tuples_of_edge}
 use Rattle.rc_spec.specs.FragmentsLaws.{in_tuples_of_edge, tuples_of_edge_in}
 use Rattle.rc_spec.specs.HeathLaws.{IsJoined, in_join, join_in, rising_join}
 use Rattle.rc_fragment.specs.Fragment.{AreAllRows, IsThere}
-use Rattle.rc_instance.specs.Instance.{rows_of}
-use Rattle.rc_instance.specs.declared.stripe.Stripe.{Stripe}
+use Rattle.rc_fragment.specs.FragmentRows.{FragmentRows}
+use Rattle.rc_instance.specs.Instance.{rows_of_fragments}
 
--- ---- the rows of an edge, stripe by stripe
+-- ---- the rows of an edge, fragment by fragment
 
-pub rows_more : (ss : List Stripe) (i : ℕ) (s : Stripe) → i < length ss → s ≡ get_or ss i s → rows_of (take (i + 1) ss) ≡ rows_of (take i ss) ++ s.fragment.now
-rows_more ss i s l e =
-    let now : Stripe → List EdgeRow = λ z. z.fragment.now in
-    ap rows_of (take_more ss i s l ∙ ap (λ (z : Stripe). take i ss ++ z ∷ []) (sym e)) ∙ flat_map-append now (take i ss) (s ∷ []) ∙ ap (λ z. rows_of (take i ss) ++ z) (append-nil s.fragment.now)
-
-pub all_none : (e : ℕ) → AreAllRows [] e []
-all_none e = record { only = λ t m. absurd m; each = λ t m. absurd m.1 }
+pub rows_more : (fs : List FragmentRows) (i : ℕ) (f : FragmentRows) → i < length fs → f ≡ get_or fs i f → rows_of_fragments (take (i + 1) fs) ≡ rows_of_fragments (take i fs) ++ f.now
+rows_more fs i f l e =
+    let now : FragmentRows → List EdgeRow = λ z. z.now in
+    ap rows_of_fragments (take_more fs i f l ∙ ap (λ (z : FragmentRows). take i fs ++ z ∷ []) (sym e)) ∙ flat_map-append now (take i fs) (f ∷ []) ∙ ap (λ z. rows_of_fragments (take i fs) ++ z) (append-nil f.now)
 
 pub all_more : (ws vs : List EdgeRow) (e : ℕ) (ts us : List Pairs) → AreAllRows ws e ts → AreAllRows vs e us → AreAllRows (ws ++ vs) e (ts ++ us)
 all_more ws vs e ts us a b = record {

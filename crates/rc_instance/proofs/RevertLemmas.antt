@@ -1,67 +1,51 @@
 -- What all stripes are once each has its rows as they were taken.
-use Rattle.std.specs.Prelude.{◌≡◌, ℕ, zero, suc, ◌≤◌, List, [], ◌∷◌, ◌++◌, Option, None, Some, length, map}
-use Rattle.std.proofs.Common.{inl, inr, refl, sym, ap, subst, ◌∙◌, arith}
+use Rattle.std.specs.Prelude.{◌≡◌, ℕ, suc, ◌≤◌, List, [], ◌∷◌, ◌++◌, Option, None, Some, length, map}
+use Rattle.std.specs.List.{AllZip, slice_get}
+use Rattle.std.proofs.Common.{refl, sym, ap, ◌∙◌, arith}
 use Rattle.std.proofs.lemmas.List.{map-append}
-use Rattle.rc_tuple.specs.RisingSet.{In}
+use Rattle.std.proofs.lemmas.Slice.Zip.{AllZip-long}
 use Rattle.rc_spec.specs.declared.lock.Mode.{Mode}
 use Rattle.rc_spec.specs.declared.spec.Spec.{Spec}
+use Rattle.rc_fragment.specs.FragmentRows.{FragmentRows}
 use Rattle.rc_fragment.specs.Holder.{reverted}
-use Rattle.rc_instance.specs.Instance.{held_part, held_from, IsOfOneRelation, offered_at, room_at, table_of, IsInstance}
-use Rattle.rc_instance.specs.Stripes.{AreAlike, IsReverted}
-use Rattle.rc_instance.specs.declared.stripe.Stripe.{Stripe}
+use Rattle.rc_instance.specs.Fragments.{IsReverted}
+use Rattle.rc_instance.specs.Instance.{held_part, held_from, IsOfOneRelation, offered_at, room_at, stripes_of, table_of, IsInstance}
+use Rattle.rc_instance.proofs.AlikeLemmas.{alike_at, alike_in, alike_one_table, alike_table}
 use Rattle.rc_instance.proofs.StripeLemmas.{same_sound}
+use Rattle.rc_instance.proofs.StripesOfLemmas.{fragments_have_one_table, instance_of, room_of, stripes_of-length, stripes_of-offered, stripes_of-room, stripes_of-table, taken_of}
 
-part_reverted : (n : ℕ) (s t : Stripe) → IsReverted s t → (m : Option Mode) → held_part n t.fragment m ≡ map reverted (held_part n s.fragment m)
-part_reverted n s t r None = refl
-part_reverted n s t r (Some mode) = λ i. record { stripe = n; mode = mode; now = r.now i; taken = r.taken i } ∷ []
+part_reverted : (n : ℕ) (f g : FragmentRows) → IsReverted f g → (m : Option Mode) → held_part n g m ≡ map reverted (held_part n f m)
+part_reverted n f g r None = refl
+part_reverted n f g r (Some mode) = λ i. record { stripe = n; mode = mode; now = r.now i; taken = r.taken i } ∷ []
 
-pub held_reverted : (n : ℕ) (old new : List Stripe) → AreAlike IsReverted old new → held_from n new ≡ map reverted (held_from n old)
-held_reverted n [] [] a = refl
-held_reverted n [] (t ∷ ts) a = absurd a
-held_reverted n (s ∷ ss) [] a = absurd a
-held_reverted n (s ∷ ss) (t ∷ ts) a =
-    ap (λ z. held_part n t.fragment z ++ held_from (suc n) ts) a.0.held
-    ∙ (λ i. part_reverted n s t a.0 s.held i ++ held_reverted (suc n) ss ts a.1 i)
-    ∙ sym (map-append reverted (held_part n s.fragment s.held) (held_from (suc n) ss))
+pub held_reverted : (n : ℕ) (old new : List FragmentRows) (ms : List (Option Mode)) → AllZip IsReverted old new → held_from n (stripes_of new ms) ≡ map reverted (held_from n (stripes_of old ms))
+held_reverted n [] [] ms a = refl
+held_reverted n [] (g ∷ gs) ms a = absurd a
+held_reverted n (f ∷ fs) [] ms a = absurd a
+held_reverted n (f ∷ fs) (g ∷ gs) [] a = held_reverted (suc n) fs gs [] a.1
+held_reverted n (f ∷ fs) (g ∷ gs) (m ∷ ms) a =
+    (λ i. part_reverted n f g a.0 m i ++ held_reverted (suc n) fs gs ms a.1 i) ∙ sym (map-append reverted (held_part n f m) (held_from (suc n) (stripes_of fs ms)))
 
-reverted_length : (old new : List Stripe) → AreAlike IsReverted old new → length new ≡ length old
-reverted_length [] [] a = refl
-reverted_length [] (t ∷ ts) a = absurd a
-reverted_length (s ∷ ss) [] a = absurd a
-reverted_length (s ∷ ss) (t ∷ ts) a = ap suc (reverted_length ss ts a.1)
+module _ (old new : List FragmentRows) (ms : List (Option Mode)) (a : AllZip IsReverted old new) where
+  pub reverted_room : (p : ℕ) → room_at (stripes_of old ms) p ≤ room_at (stripes_of new ms) p
+  reverted_room p =
+      let r : room_of (slice_get old p) ≤ room_of (slice_get new p) = alike_at IsReverted (λ f g. room_of f ≤ room_of g) (omega arith) (λ f g r. r.room) old new a p in
+      let x : room_at (stripes_of old ms) p ≡ room_of (slice_get old p) = stripes_of-room old ms p in
+      let y : room_at (stripes_of new ms) p ≡ room_of (slice_get new p) = stripes_of-room new ms p in
+      omega (arith, r, x, y)
 
-reverted_table : (old new : List Stripe) → AreAlike IsReverted old new → table_of new ≡ table_of old
-reverted_table [] [] a = refl
-reverted_table [] (t ∷ ts) a = absurd a
-reverted_table (s ∷ ss) [] a = absurd a
-reverted_table (s ∷ ss) (t ∷ ts) a = a.0.table
+  pub reverted_offers : (p : ℕ) → offered_at (stripes_of new ms) p ≡ offered_at (stripes_of old ms) p
+  reverted_offers p = stripes_of-offered new ms p ∙ alike_at IsReverted (λ f g. taken_of g ≡ taken_of f) refl (λ f g r. ap Some r.taken) old new a p ∙ sym (stripes_of-offered old ms p)
 
-pub reverted_room : (old new : List Stripe) → AreAlike IsReverted old new → (p : ℕ) → room_at old p ≤ room_at new p
-reverted_room [] [] a p = omega arith
-reverted_room [] (t ∷ ts) a p = absurd a
-reverted_room (s ∷ ss) [] a p = absurd a
-reverted_room (s ∷ ss) (t ∷ ts) a zero = a.0.room
-reverted_room (s ∷ ss) (t ∷ ts) a (suc p) = reverted_room ss ts a.1 p
+  pub reverted_instance : IsInstance (stripes_of old ms) → IsInstance (stripes_of new ms)
+  reverted_instance i =
+      instance_of new ms (alike_one_table IsReverted (λ f g r. r.table) old new a (fragments_have_one_table old ms i)) (λ g m. let w = alike_in IsReverted old new a g m in w.2.now ∙ sym w.2.taken)
 
-pub reverted_offers : (old new : List Stripe) → AreAlike IsReverted old new → (p : ℕ) → offered_at new p ≡ offered_at old p
-reverted_offers [] [] a p = refl
-reverted_offers [] (t ∷ ts) a p = absurd a
-reverted_offers (s ∷ ss) [] a p = absurd a
-reverted_offers (s ∷ ss) (t ∷ ts) a zero = ap Some a.0.taken
-reverted_offers (s ∷ ss) (t ∷ ts) a (suc p) = reverted_offers ss ts a.1 p
+  pub reverted_table : table_of (stripes_of new ms) ≡ table_of (stripes_of old ms)
+  reverted_table = stripes_of-table new ms ∙ alike_table IsReverted (λ f g r. r.table) old new a ∙ sym (stripes_of-table old ms)
 
-reverted_in : (old new : List Stripe) → AreAlike IsReverted old new → (t : Stripe) → In t new → (s : Stripe) × In s old × IsReverted s t
-reverted_in [] [] a t m = absurd m
-reverted_in [] (u ∷ ts) a t m = absurd a
-reverted_in (s ∷ ss) [] a t m = absurd a
-reverted_in (s ∷ ss) (u ∷ ts) a t (inl p) = (s, inl refl, subst (IsReverted s) (sym p) a.0)
-reverted_in (s ∷ ss) (u ∷ ts) a t (inr m) = let r : (x : Stripe) × In x ss × IsReverted x t = reverted_in ss ts a.1 t m in (r.0, inr r.1, r.2)
+  pub reverted_length : length (stripes_of new ms) ≡ length (stripes_of old ms)
+  reverted_length = stripes_of-length new ms ∙ AllZip-long IsReverted old new a ∙ sym (stripes_of-length old ms)
 
-pub reverted_instance : (old new : List Stripe) → IsInstance old → AreAlike IsReverted old new → IsInstance new
-reverted_instance old new i a = record {
-  table = λ t m. let r : (s : Stripe) × In s old × IsReverted s t = reverted_in old new a t m in r.2.table ∙ i.table r.0 r.1 ∙ sym (reverted_table old new a);
-  free = λ t m n. let r : (s : Stripe) × In s old × IsReverted s t = reverted_in old new a t m in r.2.now ∙ sym r.2.taken;
-}
-
-pub reverted_sound : (old new : List Stripe) → AreAlike IsReverted old new → (spec : Spec) → IsOfOneRelation old spec → IsOfOneRelation new spec
-reverted_sound old new a = same_sound old new (reverted_table old new a) (reverted_length old new a) (reverted_offers old new a)
+  pub reverted_sound : (spec : Spec) → IsOfOneRelation (stripes_of old ms) spec → IsOfOneRelation (stripes_of new ms) spec
+  reverted_sound = same_sound (stripes_of old ms) (stripes_of new ms) reverted_table reverted_length reverted_offers

@@ -1,10 +1,11 @@
 -- What a change of one stripe leaves of an instance.
 use Rattle.std.specs.Prelude.{◌≡◌, ℕ, zero, suc, ◌+◌, ◌<◌, ◌≤◌, Bool, true, false, cond, ◌==◌, List, [], ◌∷◌, ◌++◌, ◌⊎◌, Option, None, Some, Result, Ok, Err, IfOk, OnOk, OnErr, length}
 use Rattle.std.specs.List.{slice_get}
-use Rattle.std.proofs.Common.{inl, inr, refl, sym, ap, subst, ◌∙◌, arith, get_or}
+use Rattle.std.proofs.Common.{inl, inr, refl, sym, ap, subst, ◌∙◌, arith}
 use Rattle.std.proofs.Math.ListN.{set}
 use Rattle.std.proofs.lemmas.Bool.{eqb-true, eq-eqb}
-use Rattle.std.proofs.lemmas.List.{append_assoc, map-append}
+use Rattle.std.proofs.lemmas.List.{append_assoc, length-set, map-append}
+use Rattle.std.proofs.lemmas.Option.{none-some, same_Some, slice_get_within}
 use Rattle.rc_tuple.specs.RisingSet.{In}
 use Rattle.rc_tuple.specs.RisingSetLaws.{slice_get_in, append_in_left, append_in_right}
 use Rattle.rc_spec.specs.Fragments.{EdgeRow}
@@ -12,22 +13,16 @@ use Rattle.rc_spec.specs.declared.lock.Mode.{Mode}
 use Rattle.rc_spec.specs.declared.spec.Spec.{Spec}
 use Rattle.rc_fragment.specs.FragmentRows.{FragmentRows}
 use Rattle.rc_fragment.specs.Holder.{HeldStripe, IsHeld, IsHeldExclusive, IsAbove, changed_at, with_now}
-use Rattle.rc_instance.specs.Instance.{held_part, held_from, offered_at, room_at, table_of, IsOfOneRelation, IsInstance}
-use Rattle.rc_instance.specs.InstanceLaws.{IsHeldFrom, in_held_from, as_held, held_from_in, slice_get_below, same_some}
-use Rattle.rc_instance.specs.declared.stripe.Stripe.{Stripe}
+use Rattle.rc_instance.specs.Instance.{held_part, held_from, offered_at, room_at, table_of, IsOfOneRelation, IsInstance, Stripe}
+use Rattle.rc_instance.specs.InstanceLaws.{IsHeldFrom, in_held_from, as_held, held_from_in}
 
--- ---- the stripe with a number
-
-pub stripe_at : (ss : List Stripe) (k : ℕ) (s : Stripe) → k < length ss → s ≡ get_or ss k s → slice_get ss k ≡ Some s
-stripe_at [] k s l e = absurd (let f : k < 0 = l in omega (arith, f))
-stripe_at (x ∷ ss) zero s l e = ap Some (sym e)
-stripe_at (x ∷ ss) (suc k) s l e = stripe_at ss k s (let f : suc k < suc (length ss) = l in omega (arith, f)) e
+-- ---- held stripes by their numbers
 
 -- a held stripe is one of the instance's
 pub held_below : (ss : List Stripe) (k : ℕ) → IsHeld (held_from 0 ss) k → k < length ss
 held_below ss k q =
     let w : IsHeldFrom 0 ss q.0 = in_held_from 0 ss q.0 q.1 in
-    let l : w.place < length ss = slice_get_below ss w.place w.stripe w.there in
+    let l : w.place < length ss = slice_get_within ss w.place w.stripe w.there in
     omega (arith, l, w.numbered, q.2)
 
 pub exclusive_is_held : (held : List HeldStripe) (k : ℕ) → IsHeldExclusive held k → IsHeld held k
@@ -43,20 +38,16 @@ pub held_as : (ss : List Stripe) (k : ℕ) (s : Stripe) → slice_get ss k ≡ S
 held_as ss k s e h i p =
     let w : IsHeldFrom 0 ss h = in_held_from 0 ss h i in
     let n : w.place ≡ k = omega (arith, w.numbered, p) in
-    let q : w.stripe ≡ s = same_some _ _ (sym w.there ∙ ap (slice_get ss) n ∙ e) in
+    let q : w.stripe ≡ s = same_Some _ _ (sym w.there ∙ ap (slice_get ss) n ∙ e) in
     record {
       held = ap (λ (z : Stripe). z.held) (sym q) ∙ w.held;
       now = ap (λ (z : Stripe). z.fragment.now) (sym q) ∙ sym w.now;
       taken = ap (λ (z : Stripe). z.fragment.taken) (sym q) ∙ sym w.taken;
     }
 
-none_apart : {A : Type 0} (m : Option A) (x : A) → m ≡ None → m ≡ Some x → ⊥
-none_apart None x e f = cc
-none_apart (Some y) x e f = cc
-
 -- a held stripe isn't free
 pub held_not_free : (ss : List Stripe) (k : ℕ) (s : Stripe) → slice_get ss k ≡ Some s → IsHeld (held_from 0 ss) k → s.held ≡ None → ⊥
-held_not_free ss k s e q f = none_apart s.held q.0.mode f (held_as ss k s e q.0 q.1 q.2).held
+held_not_free ss k s e q f = none-some q.0.mode (sym f ∙ (held_as ss k s e q.0 q.1 q.2).held)
 
 -- ---- outcomes
 
@@ -83,13 +74,8 @@ in_set (s ∷ ss) (suc k) t x (inr i) = elim (in_set ss k t x i) [ inl a ↦ inl
 
 pub table_of-set : (ss : List Stripe) (k : ℕ) (s t : Stripe) → slice_get ss k ≡ Some s → t.fragment.table ≡ s.fragment.table → table_of (set ss k t) ≡ table_of ss
 table_of-set [] k s t e p = refl
-table_of-set (x ∷ ss) zero s t e p = p ∙ ap (λ (z : Stripe). z.fragment.table) (sym (same_some _ _ e))
+table_of-set (x ∷ ss) zero s t e p = p ∙ ap (λ (z : Stripe). z.fragment.table) (sym (same_Some _ _ e))
 table_of-set (x ∷ ss) (suc k) s t e p = refl
-
-pub length-set-stripe : (ss : List Stripe) (k : ℕ) (t : Stripe) → length (set ss k t) ≡ length ss
-length-set-stripe [] k t = refl
-length-set-stripe (s ∷ ss) zero t = refl
-length-set-stripe (s ∷ ss) (suc k) t = ap suc (length-set-stripe ss k t)
 
 pub instance-set : (ss : List Stripe) (k : ℕ) (s t : Stripe) → IsInstance ss → slice_get ss k ≡ Some s → t.fragment.table ≡ s.fragment.table → (t.held ≡ None → t.fragment.now ≡ t.fragment.taken)
     → IsInstance (set ss k t)
@@ -108,7 +94,7 @@ instance-set ss k s t i e p f =
 
 pub offered_at-set : (ss : List Stripe) (k : ℕ) (s t : Stripe) → slice_get ss k ≡ Some s → t.fragment.taken ≡ s.fragment.taken → (p : ℕ) → offered_at (set ss k t) p ≡ offered_at ss p
 offered_at-set [] k s t e q p = refl
-offered_at-set (x ∷ ss) zero s t e q zero = ap Some (q ∙ ap (λ (z : Stripe). z.fragment.taken) (sym (same_some _ _ e)))
+offered_at-set (x ∷ ss) zero s t e q zero = ap Some (q ∙ ap (λ (z : Stripe). z.fragment.taken) (sym (same_Some _ _ e)))
 offered_at-set (x ∷ ss) zero s t e q (suc p) = refl
 offered_at-set (x ∷ ss) (suc k) s t e q zero = refl
 offered_at-set (x ∷ ss) (suc k) s t e q (suc p) = offered_at-set ss k s t e q p
@@ -120,7 +106,7 @@ room_at-same (x ∷ ss) (suc k) t l = room_at-same ss k t (let f : suc k < suc (
 
 pub room_at-there : (ss : List Stripe) (k : ℕ) (s : Stripe) → slice_get ss k ≡ Some s → room_at ss k ≡ s.fragment.room
 room_at-there [] k s e = cc
-room_at-there (x ∷ ss) zero s e = ap (λ (z : Stripe). z.fragment.room) (same_some _ _ e)
+room_at-there (x ∷ ss) zero s e = ap (λ (z : Stripe). z.fragment.room) (same_Some _ _ e)
 room_at-there (x ∷ ss) (suc k) s e = room_at-there ss k s e
 
 pub room_at-other : (ss : List Stripe) (k : ℕ) (t : Stripe) (p : ℕ) → (p ≡ k → ⊥) → room_at (set ss k t) p ≡ room_at ss p
@@ -133,7 +119,7 @@ room_at-other (x ∷ ss) (suc k) t (suc p) d = room_at-other ss k t p (λ e. d (
 -- room that falls by at most d at one stripe
 pub room_at-less : (ss : List Stripe) (k : ℕ) (s t : Stripe) (d : ℕ) → slice_get ss k ≡ Some s → s.fragment.room ≤ t.fragment.room + d → (p : ℕ) → room_at ss p ≤ room_at (set ss k t) p + d
 room_at-less [] k s t d e q p = omega arith
-room_at-less (x ∷ ss) zero s t d e q zero = subst (λ (z : Stripe). z.fragment.room ≤ t.fragment.room + d) (sym (same_some _ _ e)) q
+room_at-less (x ∷ ss) zero s t d e q zero = subst (λ (z : Stripe). z.fragment.room ≤ t.fragment.room + d) (sym (same_Some _ _ e)) q
 room_at-less (x ∷ ss) zero s t d e q (suc p) = omega arith
 room_at-less (x ∷ ss) (suc k) s t d e q zero = omega arith
 room_at-less (x ∷ ss) (suc k) s t d e q (suc p) = room_at-less ss k s t d e q p
@@ -159,10 +145,9 @@ same_sound old new t l f spec o = (
   },
 )
 
-pub sound-set : (ss v : List Stripe) (k : ℕ) (s t : Stripe) → ss ≡ v → slice_get ss k ≡ Some s → t.fragment.table ≡ s.fragment.table → t.fragment.taken ≡ s.fragment.taken
-    → (spec : Spec) → IsOfOneRelation v spec → IsOfOneRelation (set ss k t) spec
-sound-set ss v k s t a e p q spec o =
-    same_sound ss (set ss k t) (table_of-set ss k s t e p) (length-set-stripe ss k t) (offered_at-set ss k s t e q) spec (subst (λ z. IsOfOneRelation z spec) (sym a) o)
+pub sound-set : (ss : List Stripe) (k : ℕ) (s t : Stripe) → slice_get ss k ≡ Some s → t.fragment.table ≡ s.fragment.table → t.fragment.taken ≡ s.fragment.taken
+    → (spec : Spec) → IsOfOneRelation ss spec → IsOfOneRelation (set ss k t) spec
+sound-set ss k s t e p q = same_sound ss (set ss k t) (table_of-set ss k s t e p) (length-set ss k t) (offered_at-set ss k s t e q)
 
 -- ---- what is held
 
@@ -170,7 +155,7 @@ sound-set ss v k s t a e p q spec o =
 pub held_from-same : (n : ℕ) (ss : List Stripe) (k : ℕ) (s t : Stripe) → slice_get ss k ≡ Some s → t.held ≡ s.held → t.fragment.now ≡ s.fragment.now → t.fragment.taken ≡ s.fragment.taken
     → held_from n (set ss k t) ≡ held_from n ss
 held_from-same n [] k s t e h p q = refl
-held_from-same n (x ∷ ss) zero s t e h p q = ap (λ z. z ++ held_from (suc n) ss) (part t.held s.held h ∙ ap (λ (z : Stripe). held_part n z.fragment z.held) (sym (same_some _ _ e)))
+held_from-same n (x ∷ ss) zero s t e h p q = ap (λ z. z ++ held_from (suc n) ss) (part t.held s.held h ∙ ap (λ (z : Stripe). held_part n z.fragment z.held) (sym (same_Some _ _ e)))
   where
     part : (a b : Option Mode) → a ≡ b → held_part n t.fragment a ≡ held_part n s.fragment b
     part a b e = ap (held_part n t.fragment) e ∙ part' b
@@ -211,7 +196,7 @@ held_from-changed n [] k m s t change e l h p q = cc
 held_from-changed n (x ∷ ss) zero m s t change e l h p q =
     let rest : changed_at m change (held_from (suc n) ss) ≡ held_from (suc n) ss =
     changed-none m change (held_from (suc n) ss) (λ g i d. let w : IsHeldFrom (suc n) ss g = in_held_from (suc n) ss g i in let f : g.stripe ≡ suc n + w.place = w.numbered in omega (arith, f, l, d)) in
-    let here : x ≡ s = same_some _ _ e in
+    let here : x ≡ s = same_Some _ _ e in
     let at : m ≡ n = omega (arith, l) in
     ap (λ z. held_part n t.fragment z ++ held_from (suc n) ss) h
     ∙ ap (λ z. z ++ held_from (suc n) ss) (part s.held at)

@@ -13,9 +13,19 @@ use Rattle.rc_fragment.specs.Fragment.{edge_table}
 use Rattle.rc_fragment.specs.FragmentRows.{FragmentRows}
 use Rattle.rc_fragment.specs.Holder.{HeldStripe, IsHeld}
 use Rattle.rc_fragment.specs.declared.shape.EdgeShape.{EdgeShape}
-use Rattle.rc_instance.specs.declared.stripe.Stripe.{Stripe}
 
 -- ---- what is seen of the stripes
+
+-- the fragment of a stripe, and how the stripe is held, if it is
+pub record Stripe : Type 0 where
+  pub fragment : FragmentRows
+  pub held : Option Mode
+
+-- the stripes of these fragments, each held as is said in its place, and free where nothing is said
+abbrev pub stripes_of : List FragmentRows → List (Option Mode) → List Stripe
+stripes_of [] ms = []
+stripes_of (f ∷ fs) [] = record { fragment = f; held = None } ∷ stripes_of fs []
+stripes_of (f ∷ fs) (m ∷ ms) = record { fragment = f; held = m } ∷ stripes_of fs ms
 
 -- the edge table of all fragments
 abbrev pub table_of : List Stripe → List EdgeShape
@@ -68,6 +78,9 @@ abbrev pub table_of_fragments : List FragmentRows → List EdgeShape
 table_of_fragments [] = []
 table_of_fragments (f ∷ fs) = f.table
 
+abbrev pub rows_of_fragments : List FragmentRows → List EdgeRow
+rows_of_fragments fs = flat_map (λ f. f.now) fs
+
 -- all fragments have one edge table
 abbrev pub HaveOneTable : List FragmentRows → Type 0
 HaveOneTable fs = (f : FragmentRows) → In f fs → f.table ≡ table_of_fragments fs
@@ -79,7 +92,7 @@ now_in (Some f) = Some f.now
 -- the instance's stripes are these fragments: all are free, and each offers the rows that its fragment has now
 pub record IsMadeOf (fs : List FragmentRows) (ss : List Stripe) : Type 0 where
   pub held : held_from 0 ss ≡ []
-  pub rows : rows_of ss ≡ flat_map (λ (f : FragmentRows). f.now) fs
+  pub rows : rows_of ss ≡ rows_of_fragments fs
   pub offered : (n : ℕ) → offered_at ss n ≡ now_in (slice_get fs n)
   pub stripes : length ss ≡ length fs
   pub table : table_of ss ≡ table_of_fragments fs

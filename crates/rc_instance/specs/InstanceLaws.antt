@@ -3,6 +3,7 @@ use Rattle.std.specs.Prelude.{◌≡◌, ℕ, zero, suc, ◌+◌, ◌<◌, ◌^�
 use Rattle.std.specs.List.{slice_get}
 use Rattle.std.proofs.Common.{inl, inr, refl, sym, ap, subst, ◌∙◌, arith}
 use Rattle.std.proofs.lemmas.Bool.{eqb-true, eq-eqb, false≢true}
+use Rattle.std.proofs.lemmas.Option.{same_Some, slice_get_within}
 use Rattle.rc_tuple.specs.RisingSet.{In}
 use Rattle.rc_tuple.specs.RisingSetLaws.{in_append, append_in_left, append_in_right}
 use Rattle.rc_tuple.specs.Relation.{IsRelation, Satisfies}
@@ -15,18 +16,7 @@ use Rattle.rc_spec.specs.declared.spec.Spec.{Spec}
 use Rattle.rc_fragment.specs.Fragment.{edge_table}
 use Rattle.rc_fragment.specs.FragmentRows.{FragmentRows}
 use Rattle.rc_fragment.specs.Holder.{HeldStripe, AreOfOneRelation, IsHeld}
-use Rattle.rc_instance.specs.Instance.{held_part, held_from, IsOfOneRelation, now_in, offered_at, table_of, table_of_fragments, taken_in, AreReleased, IsMadeOf, IsOfRelation}
-use Rattle.rc_instance.specs.declared.stripe.Stripe.{Stripe}
-
--- ---- places of a list
-
-pub slice_get_below : {A : Type 0} (xs : List A) (n : ℕ) (x : A) → slice_get xs n ≡ Some x → n < length xs
-slice_get_below [] n x e = cc
-slice_get_below (y ∷ xs) zero x e = omega arith
-slice_get_below (y ∷ xs) (suc n) x e = let k : n < length xs = slice_get_below xs n x e in omega (arith, k)
-
-pub same_some : {A : Type 0} (x y : A) → Some x ≡ Some y → x ≡ y
-same_some x y e = cc
+use Rattle.rc_instance.specs.Instance.{held_part, held_from, IsOfOneRelation, now_in, offered_at, table_of, table_of_fragments, taken_in, AreReleased, IsMadeOf, IsOfRelation, Stripe}
 
 -- ---- held stripes
 
@@ -80,7 +70,7 @@ pub held_from_in : (n : ℕ) (ss : List Stripe) (k m : ℕ) (s : Stripe) (mode :
 held_from_in n [] k m s mode e l h = cc
 held_from_in n (x ∷ ss) zero m s mode e l h =
     let w : HeldStripe = as_held m mode s.fragment in
-    let here : s ≡ x = sym (same_some _ _ e) in
+    let here : s ≡ x = sym (same_Some _ _ e) in
     let at : m ≡ n = omega (arith, l) in
     let own : In w (held_part m s.fragment (Some mode)) = inl refl in
     let part : In w (held_part m s.fragment s.held) = subst (λ z. In w (held_part m s.fragment z)) (sym h) own in
@@ -103,10 +93,10 @@ sound_rows ss spec o = (
     few = o.1.few;
     rows = λ h i.
         let w : IsHeldFrom 0 ss h = in_held_from 0 ss h i in
-        let l : w.place < length ss = slice_get_below ss w.place w.stripe w.there in
+        let l : w.place < length ss = slice_get_within ss w.place w.stripe w.there in
         let e : h.stripe ≡ w.place = omega (arith, w.numbered) in
         let f : Some w.stripe.fragment.taken ≡ Some (fragment_of spec o.0 w.place) = ap taken_in (sym w.there) ∙ o.1.rows w.place (omega (arith, l, o.1.stripes)) in
-        w.taken ∙ same_some _ _ f ∙ ap (fragment_of spec o.0) (sym e);
+        w.taken ∙ same_Some _ _ f ∙ ap (fragment_of spec o.0) (sym e);
   },
 )
 
@@ -125,7 +115,8 @@ ReleasedToRelation = (spec : Spec) (old new : List Stripe) → AreReleased old n
     → ((h : HeldStripe) → In h (held_from 0 old) → h.now ≡ fragment_of spec r h.stripe)
     → ((n : ℕ) → n < stripe_total spec → (IsHeld (held_from 0 old) n → ⊥) → offered_at old n ≡ Some (fragment_of spec r n)) → IsOfRelation spec new r
 
-place_in : {A : Type 0} (xs : List A) (n : ℕ) → n < length xs → (x : A) × (slice_get xs n ≡ Some x)
+-- a place within a list has an element
+pub place_in : {A : Type 0} (xs : List A) (n : ℕ) → n < length xs → (x : A) × (slice_get xs n ≡ Some x)
 place_in [] n l = absurd (let f : n < 0 = l in omega (arith, f))
 place_in (x ∷ xs) zero l = (x, refl)
 place_in (x ∷ xs) (suc n) l = place_in xs n (let f : suc n < suc (length xs) = l in omega (arith, f))

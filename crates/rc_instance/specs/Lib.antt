@@ -1,4 +1,4 @@
+pub mod Fragments
 pub mod Instance
 pub mod InstanceLaws
 pub mod RelationLaws
-pub mod Stripes

@@ -2,6 +2,7 @@
 use Rattle.std.specs.Prelude.{◌≡◌, ℕ, suc, ◌+◌, ◌<◌, List, [], ◌∷◌, ◌++◌, Option, None, Some, length}
 use Rattle.std.specs.List.{flat_map, slice_get, range_with_len}
 use Rattle.std.proofs.Common.{refl, sym, ap, subst, ◌∙◌, arith}
+use Rattle.std.proofs.lemmas.Option.{same_Some, slice_get_within}
 use Rattle.rc_tuple.specs.RisingSet.{In}
 use Rattle.rc_tuple.specs.Tuple.{Pairs}
 use Rattle.rc_tuple.specs.Relation.{IsRelation, Satisfies}
@@ -13,9 +14,8 @@ use Rattle.rc_spec.specs.FragmentsLaws.{instances_law}
 use Rattle.rc_spec.specs.Stripes.{stripe_total}
 use Rattle.rc_spec.specs.declared.lock.Mode.{Mode}
 use Rattle.rc_spec.specs.declared.spec.Spec.{Spec}
-use Rattle.rc_instance.specs.Instance.{held_from, rows_of, taken_in, IsInstance, IsOfRelation}
-use Rattle.rc_instance.specs.InstanceLaws.{as_held, held_from_in, same_some, slice_get_below}
-use Rattle.rc_instance.specs.declared.stripe.Stripe.{Stripe}
+use Rattle.rc_instance.specs.Instance.{held_from, rows_of, taken_in, IsInstance, IsOfRelation, Stripe}
+use Rattle.rc_instance.specs.InstanceLaws.{as_held, held_from_in}
 
 -- stripes whose rows now are the fragments of a relation that satisfies the dependencies represent it
 abbrev pub InstanceIsItsRelation : Type 0
@@ -41,9 +41,9 @@ instance_law spec sealed ss r i h l rows =
 pub free_law : (spec : Spec) → IsSealed spec → (ss : List Stripe) → IsInstance ss → (r : List Pairs) → held_from 0 ss ≡ [] → IsOfRelation spec ss r → represented_by spec (rows_of ss) ≡ r
 free_law spec sealed ss i r none o =
     instance_law spec sealed ss r o.relation o.satisfies o.stripes (λ n s e.
-    let l : n < length ss = slice_get_below ss n s e in
+    let l : n < length ss = slice_get_within ss n s e in
     let told : Some s.fragment.taken ≡ Some (fragment_of spec r n) = ap taken_in (sym e) ∙ o.rows n (omega (arith, l, o.stripes)) in
-    i.free s (slice_get_in ss n s e) (free n s e s.held refl) ∙ same_some _ _ told)
+    i.free s (slice_get_in ss n s e) (free n s e s.held refl) ∙ same_Some _ _ told)
   where
     free : (n : ℕ) (s : Stripe) → slice_get ss n ≡ Some s → (m : Option Mode) → s.held ≡ m → s.held ≡ None
     free n s e None h = h

@@ -9,33 +9,34 @@ ghost use Rattle.rc_fragment.specs.Fragment.{edge_table};
 ghost use Rattle.rc_fragment.specs.Holder.{HasTaken, IsAbove, IsHeld};
 ghost use Rattle.rc_instance.specs.Instance.{AreReleased, HaveOneTable, IsEmpty, IsMadeOf, IsOfOneRelation, IsOfRelation, held_from, offered_at, room_at, rows_of, table_of};
 
-use crate::Stripe;
+use crate::fragments::{empty_fragments, revert_all, settle_all};
 use crate::represent::joined_rows;
-use crate::stripes::{empty_stripes, free_stripes, release_stripes, revert_stripes};
 use rc_fragment::{Fragment, Holder, TakeStop};
 use rc_spec::{Accepted, Mode};
 use rc_tuple::{Memory, Tuple, Tuples};
 use std::alloc::Global;
 use std::marker::Model;
 
+/// An accepted specification has at most so many physical stripes.
+const MOST_STRIPES: usize = 256;
+
 /// The fragments of all physical stripes, for one plan at a time: every take succeeds. (The instance
 /// of a decomposition, PLDI 2011.)
 #[derive(Drop, Debug)]
 pub struct Instance {
-    stripes: Vec<Stripe>,
+    fragments: Vec<Fragment>,
+    held: [Option<Mode>; MOST_STRIPES],
 }
 
 impl Model for Instance {
-    ghost use Rattle.std.specs.Prelude.{List};
-    ghost use Rattle.rc_instance.specs.declared.stripe.Stripe.{Stripe};
+    ghost use Rattle.std.specs.Prelude.{◌≤◌, List, length};
+    ghost use Rattle.rc_instance.specs.Instance.{IsInstance, Stripe, stripes_of};
 
     ghost Value = { List Stripe };
 
-    ghost view = { λ a. a.stripes.items };
+    ghost view = { λ a. stripes_of a.fragments.items a.held };
 
-    ghost use Rattle.rc_instance.specs.Instance.{IsInstance};
-
-    ghost invariant = { λ a. IsInstance a.stripes.items };
+    ghost invariant = { λ a. IsInstance (stripes_of a.fragments.items a.held) × (length a.fragments.items ≤ 256) };
 }
 
 impl Instance {
@@ -47,18 +48,26 @@ impl Instance {
         ensures empty { IfOk result (λ instance. IsEmpty instance) }
         ensures relation { IfOk result (λ instance. IsOfRelation accepted.now instance []) }
     {
-        let stripes = empty_stripes(alloc, accepted)?;
-        Ok(Instance { stripes })
+        Ok(Instance {
+            fragments: empty_fragments(alloc, accepted)?,
+            held: [None; MOST_STRIPES],
+        })
     }
 
     /// The instance with these fragments, the first of which is that of stripe 0. Each stripe is free,
-    /// and its rows now count as taken.
-    pub fn from_fragments(alloc: Global, fragments: Vec<Fragment>) -> Result<Instance, Memory>
-        requires { HaveOneTable fragments.items }
-        ensures { IfOk result (λ instance. IsMadeOf fragments.items instance) }
+    /// and its rows now count as taken. There are at most 256 fragments, as many as an accepted
+    /// specification has stripes at most: the instance keeps in itself how each is held, and so takes no
+    /// memory here. Costs the fragments' changes and their number.
+    pub fn from_fragments(mut fragments: Vec<Fragment>) -> Instance
+        requires few { length fragments.items ≤ 256 }
+        requires table { HaveOneTable fragments.items }
+        ensures { IsMadeOf fragments.items result }
     {
-        let stripes = free_stripes(alloc, fragments)?;
-        Ok(Instance { stripes })
+        settle_all(&mut fragments);
+        Instance {
+            fragments,
+            held: [None; MOST_STRIPES],
+        }
     }
 
     /// Frees all stripes and makes their rows now count as taken. Takes no memory. Costs the changes of
@@ -66,7 +75,8 @@ impl Instance {
     pub fn release_all(&mut self)
         ensures { AreReleased self.old self.new }
     {
-        release_stripes(&mut self.stripes);
+        settle_all(&mut self.fragments);
+        self.held = [None; MOST_STRIPES];
     }
 
     /// The tuples that the instance represents, rising: the join of the rows now of all edges. Where no
@@ -78,7 +88,7 @@ impl Instance {
         ensures rows { IfOk result (λ tuples. tuples ≡ represented_by accepted.now (rows_of self.now)) }
         ensures relation { IfOk result (λ tuples. (r : List Pairs) → held_from 0 self.now ≡ [] → IsOfRelation accepted.now self.now r → tuples ≡ r) }
     {
-        joined_rows(alloc, &self.stripes, accepted.spec())
+        joined_rows(alloc, &self.fragments, accepted.spec())
     }
 }
 
@@ -117,31 +127,30 @@ impl Holder for Instance {
         ensures table { table_of self.new ≡ table_of self.old }
         ensures sound { (spec : Spec) → IsOfOneRelation self.old spec → IsOfOneRelation self.new spec }
     {
-        self.stripes[stripe as usize].held = Some(mode);
+        self.held[stripe as usize] = Some(mode);
         Ok(())
     }
 
     fn own(&mut self, stripe: u32, changes: u16) -> Result<(), Memory> {
-        let stripe = &mut self.stripes[stripe as usize];
-        stripe.fragment.own(changes)
+        let fragment = &mut self.fragments[stripe as usize];
+        fragment.own(changes)
     }
 
     fn fragment(&self, stripe: u32) -> &Fragment {
-        let stripe = &self.stripes[stripe as usize];
-        &stripe.fragment
+        &self.fragments[stripe as usize]
     }
 
     fn add_row(&mut self, stripe: u32, edge: u8, row: &Tuple) -> Result<(), Memory> {
-        let stripe = &mut self.stripes[stripe as usize];
-        stripe.fragment.add_row(edge, row)
+        let fragment = &mut self.fragments[stripe as usize];
+        fragment.add_row(edge, row)
     }
 
     fn sub_row(&mut self, stripe: u32, edge: u8, row: &Tuple) {
-        let stripe = &mut self.stripes[stripe as usize];
-        stripe.fragment.sub_row(edge, row);
+        let fragment = &mut self.fragments[stripe as usize];
+        fragment.sub_row(edge, row);
     }
 
     fn revert(&mut self) {
-        revert_stripes(&mut self.stripes);
+        revert_all(&mut self.fragments);
     }
 }

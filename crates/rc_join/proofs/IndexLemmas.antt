@@ -10,7 +10,7 @@ use Rattle.std.proofs.Math.Seq.{take-suc}
 use Rattle.rc_tuple.specs.RisingSet.{In, gather}
 use Rattle.rc_tuple.specs.RisingSetLaws.{in_append}
 use Rattle.rc_tuple.specs.ColSet.{Within}
-use Rattle.rc_tuple.specs.Tuple.{Pairs, IsTuple, cols_of, project, tuple_cmp, tuple_eq}
+use Rattle.rc_tuple.specs.Tuple.{Pairs, IsTuple, cols_of, merges_of, project, tuple_cmp, tuple_eq}
 use Rattle.rc_tuple.specs.TupleLaws.{rising_pairs, same_from_test}
 use Rattle.rc_edges.specs.EdgeMap.{written}
 use Rattle.rc_edges.specs.RowsLaws.{get-written}
@@ -19,7 +19,7 @@ use Rattle.rc_maps.specs.KeyedLaws.{get-whole, whole-changed}
 use Rattle.rc_maps.specs.HashedLaws.{pointwise_same, test, key_eq}
 use Rattle.rc_plan.specs.ReadLaws.{join_by_columns}
 use Rattle.rc_spec.specs.Contents.{join}
-use Rattle.rc_join.specs.Index.{Entries, IsAdded, IsIndexed, found_at, merges_of, tuples_in, tuples_of, whole_of}
+use Rattle.rc_join.specs.Index.{Entries, IsAdded, IsIndexed, found_at, tuples_in, tuples_of, whole_of}
 
 abbrev Tuples : Type 0
 Tuples = Vec (Bor Pairs) Global

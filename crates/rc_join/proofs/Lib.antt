@@ -1,2 +1,1 @@
-mod DistinctLemmas
 mod IndexLemmas

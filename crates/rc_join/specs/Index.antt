@@ -4,7 +4,7 @@ use Rattle.std.specs.FinMap as fin
 use Rattle.std.specs.FinMap.{FinMap}
 use Rattle.std.proofs.Common.{Vec, Global}
 use Rattle.std.specs.Borrow.{Bor}
-use Rattle.rc_tuple.specs.Tuple.{Pairs, agrees, merge, project, tuple_cmp, tuple_eq}
+use Rattle.rc_tuple.specs.Tuple.{Pairs, project, tuple_cmp, tuple_eq}
 
 -- the tuples that are lent
 abbrev pub tuples_of : List (Bor Pairs) → List Pairs
@@ -33,7 +33,3 @@ IsIndexed columns ts es = (key : Pairs) → found_at es key ≡ filter (λ t. tu
 -- a tuple more stands at the key, and at the others what did
 abbrev pub IsAdded : Pairs → Pairs → Entries → Entries → Type 0
 IsAdded key t old new = (other : Pairs) → found_at new other ≡ found_at old other ++ cond (tuple_eq other key) (t ∷ []) []
-
--- the merges of a tuple with those that agree with it
-abbrev pub merges_of : Pairs → List Pairs → List Pairs
-merges_of t us = map (merge t) (filter (agrees t) us)

@@ -3,13 +3,12 @@
 ghost use Rattle.std.specs.Prelude.{◌≡◌, ◌++◌, IfOk, OnOk};
 ghost use Rattle.rc_tuple.specs.RisingSet.{In};
 ghost use Rattle.rc_tuple.specs.ColSet.{Within};
-ghost use Rattle.rc_tuple.specs.Tuple.{IsTuple, Pairs, cols_of, project};
+ghost use Rattle.rc_tuple.specs.Tuple.{IsTuple, Pairs, cols_of, merges_of, project};
 ghost use Rattle.rc_spec.specs.Contents.{join};
-ghost use Rattle.rc_join.specs.Index.{found_at, merges_of, tuples_of};
+ghost use Rattle.rc_join.specs.Index.{found_at, tuples_of};
 
-use crate::distinct::distinct;
 use crate::index::{Index, index_by};
-use rc_tuple::{ColSet, Memory, Tuple, Tuples};
+use rc_tuple::{ColSet, Memory, Tuple, Tuples, distinct};
 use std::alloc::Global;
 
 /// The natural join of two lists of tuples: the merges of each pair that agrees, rising, each once.

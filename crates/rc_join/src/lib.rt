@@ -1,7 +1,6 @@
 //! Natural joins of lists of tuples, by the values at columns that both sides have.
 #![tactic(auto)]
 
-mod distinct;
 mod hash_join;
 mod index;
 

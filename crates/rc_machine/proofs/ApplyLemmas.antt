@@ -1,24 +1,21 @@
 -- A tuple's rows on held stripes, edge by edge.
-use Rattle.std.specs.Prelude.{◌≡◌, ℕ, zero, suc, pred, ◌+◌, ◌<◌, ◌≤◌, ◌^◌, ◌==◌, Bool, true, false, List, [], ◌∷◌, ◌++◌, cond, filter, not, length}
+use Rattle.std.specs.Prelude.{◌≡◌, ℕ, suc, pred, ◌+◌, ◌<◌, ◌≤◌, ◌^◌, ◌==◌, Bool, true, false, List, [], ◌∷◌, ◌++◌, cond, length}
 use Rattle.std.specs.List.{range_with_len}
-use Rattle.std.specs.declared.cmp.Ordering.TheVariants.{Less}
-use Rattle.std.specs.Ordering.{nat_cmp}
 use Rattle.std.proofs.Common.{inl, inr, refl, sym, ap, subst, ◌∙◌, arith, zero-add}
 use Rattle.std.proofs.lemmas.Bool.{and_parts, eqb-true}
-use Rattle.rc_tuple.specs.RisingSet.{In, IsRising}
-use Rattle.rc_tuple.specs.RisingSetLaws.{filter_in, in_filter, in_map, in_put, map_in, nat_order, put_old, same_rising}
-use Rattle.rc_tuple.specs.ColSet.{has}
+use Rattle.rc_tuple.specs.RisingSet.{In}
+use Rattle.rc_tuple.specs.RisingSetLaws.{in_map, map_in}
 use Rattle.rc_tuple.specs.ColSetLaws.{in_range_bounds, range_with_len_more, rising_range}
-use Rattle.rc_tuple.specs.Tuple.{Pairs, cols_of, project, tuple_eq}
-use Rattle.rc_tuple.specs.TupleLaws.{in_project, project_in}
+use Rattle.rc_tuple.specs.Tuple.{Pairs, cols_of, tuple_eq}
+use Rattle.rc_tuple.specs.TupleLaws.{cols-project}
 use Rattle.rc_spec.specs.declared.spec.Spec.{Spec}
 use Rattle.rc_spec.specs.Acceptance.{IsSealed}
 use Rattle.rc_spec.specs.Calls.{all_columns}
 use Rattle.rc_spec.specs.ContentsLaws.{target_within}
 use Rattle.rc_spec.specs.CountedRows.{count_at, is_row_at, lowered, raised, row_in, with_count}
+use Rattle.rc_spec.specs.CountedRowsLaws.{in_with_count, with_count_old}
 use Rattle.rc_spec.specs.Decomposition.{bound, edge_at}
-use Rattle.rc_spec.specs.Fragments.{EdgeRow, edge_row_cmp}
-use Rattle.rc_spec.specs.FragmentsLaws.{edge_row_order}
+use Rattle.rc_spec.specs.Fragments.{EdgeRow}
 use Rattle.rc_fragment.specs.Fragment.{IsThere}
 use Rattle.rc_fragment.specs.Holder.{HeldStripe, IsHeldExclusive, changed_at, with_now}
 use Rattle.rc_machine.specs.Apply.{IsAddable, all_changed, stripe_in}
@@ -26,31 +23,10 @@ use Rattle.rc_machine.proofs.ReadLemmas.{target_rises}
 
 -- ---- the columns of a row
 
-pub fewer_cols : (xs : List ℕ) (t : Pairs) (c : ℕ) → In c (cols_of (project xs t)) → In c (cols_of t)
-fewer_cols xs t c m =
-    let p : (p : ℕ × ℕ) × In p (project xs t) × (c ≡ p.0) = in_map (λ (q : ℕ × ℕ). q.0) c (project xs t) m in
-    subst (λ z. In z (cols_of t)) (sym p.2) (map_in (λ (q : ℕ × ℕ). q.0) p.0 t (in_project xs p.0 t p.1).0)
-
-rising_with : (xs : List ℕ) (p : ℕ × ℕ) (t : Pairs) (b : Bool) → ((c : ℕ) → In c (cols_of t) → nat_cmp p.0 c ≡ Less) → IsRising nat_cmp (cols_of (project xs t))
-    → IsRising nat_cmp (cols_of (cond b (p ∷ project xs t) (project xs t)))
-rising_with xs p t true h ih = ((λ c m. h c (fewer_cols xs t c m)), ih)
-rising_with xs p t false h ih = ih
-
-pub rising_cols-project : (xs : List ℕ) (t : Pairs) → IsRising nat_cmp (cols_of t) → IsRising nat_cmp (cols_of (project xs t))
-rising_cols-project xs [] h = tt
-rising_cols-project xs (p ∷ t) h = rising_with xs p t (has xs p.0) h.0 (rising_cols-project xs t h.1)
-
 -- a whole tuple's row has the columns of the edge's target
 pub cols_of-row_in : (spec : Spec) → IsSealed spec → (t : Pairs) → cols_of t ≡ all_columns spec → (e : ℕ) → e < length spec.edges → cols_of (row_in spec t e) ≡ bound spec (edge_at spec e).to
 cols_of-row_in spec sealed t over e l =
-    let xs : List ℕ = bound spec (edge_at spec e).to in
-    same_rising nat_cmp nat_order (cols_of (project xs t)) xs (rising_cols-project xs t (subst (IsRising nat_cmp) (sym over) (rising_range 0 (length spec.columns)))) (target_rises spec sealed e l)
-    (λ c m.
-    let p : (p : ℕ × ℕ) × In p (project xs t) × (c ≡ p.0) = in_map (λ (q : ℕ × ℕ). q.0) c (project xs t) m in
-    subst (λ z. In z xs) (sym p.2) (in_project xs p.0 t p.1).1)
-    (λ c m.
-    let p : (p : ℕ × ℕ) × In p t × (c ≡ p.0) = in_map (λ (q : ℕ × ℕ). q.0) c t (subst (In c) (sym over) (target_within spec sealed.in_range e l c m)) in
-    subst (λ z. In z (cols_of (project xs t))) (sym p.2) (map_in (λ (q : ℕ × ℕ). q.0) p.0 (project xs t) (project_in xs p.0 t p.1 (subst (λ z. In z xs) p.2 m))))
+    cols-project (all_columns spec) (bound spec (edge_at spec e).to) t (rising_range 0 (length spec.columns)) (target_rises spec sealed e l) (target_within spec sealed.in_range e l) over
 
 -- ---- counts
 
@@ -64,24 +40,18 @@ small_count e u (w ∷ ws) f = go (is_row_at e u w) refl (small_count e u ws (λ
 
 -- ---- a changed row leaves the rows of other edges
 
-not_same : (e : ℕ) (row : Pairs) (v : EdgeRow) → (v.0 ≡ e → ⊥) → not (is_row_at e row v) ≡ true
+not_same : (e : ℕ) (row : Pairs) (v : EdgeRow) → (v.0 ≡ e → ⊥) → is_row_at e row v ≡ false
 not_same e row v n = go (is_row_at e row v) refl
   where
-    go : (b : Bool) → is_row_at e row v ≡ b → not b ≡ true
+    go : (b : Bool) → is_row_at e row v ≡ b → b ≡ false
     go true q = absurd (n (eqb-true v.0 e (and_parts (v.0 == e) (tuple_eq v.1 row) q).0))
     go false q = refl
 
 in_other : (e : ℕ) (row : Pairs) (n : ℕ) (ws : List EdgeRow) (v : EdgeRow) → (v.0 ≡ e → ⊥) → In v (with_count e row n ws) → In v ws
-in_other e row zero ws v a m = (in_filter (λ w. not (is_row_at e row w)) v ws m).0
-in_other e row (suc n) ws v a m = elim (in_put edge_row_cmp edge_row_order v (e, row, suc n) (filter (λ w. not (is_row_at e row w)) ws) m) [
-  | inl q ↦ absurd (a (ap (λ (z : EdgeRow). z.0) q))
-  | inr k ↦ (in_filter (λ w. not (is_row_at e row w)) v ws k).0
-]
+in_other e row n ws v a m = elim (in_with_count e row n ws v m) [ inl q ↦ absurd (a (ap (λ (z : EdgeRow). z.0) q.0)) | inr k ↦ k.0 ]
 
 other_in : (e : ℕ) (row : Pairs) (n : ℕ) (ws : List EdgeRow) (v : EdgeRow) → (v.0 ≡ e → ⊥) → In v ws → In v (with_count e row n ws)
-other_in e row zero ws v a m = filter_in (λ w. not (is_row_at e row w)) v ws m (not_same e row v a)
-other_in e row (suc n) ws v a m =
-    put_old edge_row_cmp edge_row_order v (e, row, suc n) (filter (λ w. not (is_row_at e row w)) ws) (filter_in (λ w. not (is_row_at e row w)) v ws m (not_same e row v a))
+other_in e row n ws v a m = with_count_old e row n ws v m (not_same e row v a)
 
 abbrev pub Change : Type 0
 Change = ℕ → Pairs → List EdgeRow → List EdgeRow

@@ -1,10 +1,10 @@
 -- A change of rows on held stripes is the change of all rows, and ends a run as evaluation does.
-use Rattle.std.specs.Prelude.{◌≡◌, ℕ, zero, suc, pred, ◌<◌, ◌==◌, ◌⊎◌, Bool, true, false, List, [], ◌∷◌, Some, cond, filter, not, length}
+use Rattle.std.specs.Prelude.{◌≡◌, ℕ, suc, pred, ◌<◌, ◌==◌, ◌⊎◌, Bool, true, false, List, [], ◌∷◌, Some, cond, length}
 use Rattle.std.specs.Ordering.{nat_cmp}
 use Rattle.std.proofs.Common.{inl, inr, refl, sym, ap, subst, ◌∙◌, arith}
 use Rattle.std.proofs.lemmas.Bool.{and_parts, eq-eqb, eqb-true, false≢true}
 use Rattle.rc_tuple.specs.RisingSet.{In, IsRising}
-use Rattle.rc_tuple.specs.RisingSetLaws.{filter-filter, filter_in, has_in, in_filter, in_has, in_map, in_put, map_in, put_new, put_old, rising_filter, rising_put, same_rising}
+use Rattle.rc_tuple.specs.RisingSetLaws.{filter-filter, filter_in, has_in, in_filter, in_has, in_map, map_in, rising_filter, same_rising}
 use Rattle.rc_tuple.specs.ColSet.{has}
 use Rattle.rc_tuple.specs.ColSetLaws.{in_range_bounds}
 use Rattle.rc_tuple.specs.Tuple.{Pairs, tuple_eq}
@@ -15,7 +15,7 @@ use Rattle.rc_spec.specs.declared.spec.Spec.{Spec}
 use Rattle.rc_spec.specs.Acceptance.{IsSealed}
 use Rattle.rc_spec.specs.Calls.{Fits}
 use Rattle.rc_spec.specs.CountedRows.{all_lowered, all_raised, count_at, is_row_at, lowered, raised, row_in, with_count}
-use Rattle.rc_spec.specs.CountedRowsLaws.{AreCountedRows, AreCountedRows-fragments_of, AreCountedRows-with_count}
+use Rattle.rc_spec.specs.CountedRowsLaws.{AreCountedRows, AreCountedRows-fragments_of, AreCountedRows-with_count, in_with_count, rising_with_count, with_count_new, with_count_old}
 use Rattle.rc_spec.specs.Fragments.{EdgeRow, all_rows, edge_numbers, edge_row_cmp, fragment_of, fragments_of, on_stripes, row_stripe}
 use Rattle.rc_spec.specs.FragmentsLaws.{edge_row_order}
 use Rattle.rc_spec.specs.Placement.{class_of, op_at}
@@ -40,22 +40,9 @@ use Rattle.rc_machine.proofs.RunLemmas.{has_evaluated, has_served, serves, strip
 abbrev on_one : Spec → ℕ → List EdgeRow → List EdgeRow
 on_one spec p ws = on_stripes spec (p ∷ []) ws
 
-in_with : (e : ℕ) (row : Pairs) (n : ℕ) (ws : List EdgeRow) (v : EdgeRow) → In v (with_count e row n ws) → ((v ≡ (e, row, n)) × (0 < n)) ⊎ (In v ws × (not (is_row_at e row v) ≡ true))
-in_with e row zero ws v m = inr (in_filter (λ w. not (is_row_at e row w)) v ws m)
-in_with e row (suc n) ws v m = elim (in_put edge_row_cmp edge_row_order v (e, row, suc n) (filter (λ w. not (is_row_at e row w)) ws) m) [
-  | inl q ↦ inl (q, omega arith)
-  | inr k ↦ inr (in_filter (λ w. not (is_row_at e row w)) v ws k)
-]
-
-with_in : (e : ℕ) (row : Pairs) (n : ℕ) (ws : List EdgeRow) (v : EdgeRow) → ((v ≡ (e, row, n)) × (0 < n)) ⊎ (In v ws × (not (is_row_at e row v) ≡ true)) → In v (with_count e row n ws)
-with_in e row zero ws v (inl q) = absurd (let l : 0 < 0 = q.1 in omega (arith, l))
-with_in e row zero ws v (inr q) = filter_in (λ w. not (is_row_at e row w)) v ws q.0 q.1
-with_in e row (suc n) ws v (inl q) = subst (λ (z : EdgeRow). In z (with_count e row (suc n) ws)) (sym q.0) (put_new edge_row_cmp edge_row_order (e, row, suc n) (filter (λ w. not (is_row_at e row w)) ws))
-with_in e row (suc n) ws v (inr q) = put_old edge_row_cmp edge_row_order v (e, row, suc n) (filter (λ w. not (is_row_at e row w)) ws) (filter_in (λ w. not (is_row_at e row w)) v ws q.0 q.1)
-
-rising_with_count : (e : ℕ) (row : Pairs) (n : ℕ) (ws : List EdgeRow) → IsRising edge_row_cmp ws → IsRising edge_row_cmp (with_count e row n ws)
-rising_with_count e row zero ws a = rising_filter edge_row_cmp (λ w. not (is_row_at e row w)) ws a
-rising_with_count e row (suc n) ws a = rising_put edge_row_cmp edge_row_order (e, row, suc n) (filter (λ w. not (is_row_at e row w)) ws) (rising_filter edge_row_cmp (λ w. not (is_row_at e row w)) ws a)
+with_in : (e : ℕ) (row : Pairs) (n : ℕ) (ws : List EdgeRow) (v : EdgeRow) → ((v ≡ (e, row, n)) × (0 < n)) ⊎ (In v ws × (is_row_at e row v ≡ false)) → In v (with_count e row n ws)
+with_in e row n ws v (inl q) = subst (λ (z : EdgeRow). In z (with_count e row n ws)) (sym q.0) (with_count_new e row n ws q.1)
+with_in e row n ws v (inr q) = with_count_old e row n ws v q.0 q.1
 
 module _ (spec : Spec) (p e : ℕ) (row : Pairs) where
   stripe : ℕ
@@ -93,11 +80,11 @@ module _ (spec : Spec) (p e : ℕ) (row : Pairs) where
       (rising_with_count e row n (on_one spec p ws) (rising_filter edge_row_cmp (λ w. has (p ∷ []) (row_stripe spec w)) ws a))
       (λ v m.
       let q : In v (with_count e row n ws) × (has (p ∷ []) (row_stripe spec v) ≡ true) = in_filter (λ w. has (p ∷ []) (row_stripe spec w)) v (with_count e row n ws) m in
-      with_in e row n (on_one spec p ws) v (elim (in_with e row n ws v q.0) [
+      with_in e row n (on_one spec p ws) v (elim (in_with_count e row n ws v q.0) [
         | inl k ↦ inl k
         | inr k ↦ inr (filter_in (λ w. has (p ∷ []) (row_stripe spec w)) v ws k.0 q.1, k.1)
       ]))
-      (λ v m. elim (in_with e row n (on_one spec p ws) v m) [
+      (λ v m. elim (in_with_count e row n (on_one spec p ws) v m) [
         | inl k ↦ filter_in (λ w. has (p ∷ []) (row_stripe spec w)) v (with_count e row n ws) (with_in e row n ws v (inl k)) (here_lies v (ap (λ (z : EdgeRow). row_stripe spec z) k.0 ∙ s))
         | inr k ↦ (let q : In v ws × (has (p ∷ []) (row_stripe spec v) ≡ true) = in_filter (λ w. has (p ∷ []) (row_stripe spec w)) v ws k.0 in
             filter_in (λ w. has (p ∷ []) (row_stripe spec w)) v (with_count e row n ws) (with_in e row n ws v (inr (q.0, k.1))) q.1)
@@ -110,7 +97,7 @@ module _ (spec : Spec) (p e : ℕ) (row : Pairs) where
       (rising_filter edge_row_cmp (λ w. has (p ∷ []) (row_stripe spec w)) ws a)
       (λ v m.
       let q : In v (with_count e row n ws) × (has (p ∷ []) (row_stripe spec v) ≡ true) = in_filter (λ w. has (p ∷ []) (row_stripe spec w)) v (with_count e row n ws) m in
-      elim (in_with e row n ws v q.0) [
+      elim (in_with_count e row n ws v q.0) [
         | inl k ↦ absurd (s (sym (ap (λ (z : EdgeRow). row_stripe spec z) k.0) ∙ lies_here v q.1))
         | inr k ↦ filter_in (λ w. has (p ∷ []) (row_stripe spec w)) v ws k.0 q.1
       ])
@@ -118,10 +105,10 @@ module _ (spec : Spec) (p e : ℕ) (row : Pairs) where
       let q : In v ws × (has (p ∷ []) (row_stripe spec v) ≡ true) = in_filter (λ w. has (p ∷ []) (row_stripe spec w)) v ws m in
       filter_in (λ w. has (p ∷ []) (row_stripe spec w)) v (with_count e row n ws) (with_in e row n ws v (inr (q.0, apart v (lies_here v q.1)))) q.1)
     where
-      apart : (v : EdgeRow) → row_stripe spec v ≡ p → not (is_row_at e row v) ≡ true
+      apart : (v : EdgeRow) → row_stripe spec v ≡ p → is_row_at e row v ≡ false
       apart v q = go (is_row_at e row v) refl
         where
-          go : (b : Bool) → is_row_at e row v ≡ b → not b ≡ true
+          go : (b : Bool) → is_row_at e row v ≡ b → b ≡ false
           go true g = absurd (s (sym (same_stripe v g) ∙ q))
           go false g = refl
 

@@ -8,7 +8,7 @@ use Rattle.rc_tuple.specs.RisingSetLaws.{gather-rising, nat_order, rising_filter
 use Rattle.rc_tuple.specs.ColSet.{Within, has}
 use Rattle.rc_tuple.specs.ColSetLaws.{rising_range}
 use Rattle.rc_tuple.specs.Tuple.{Pairs, cols_of, pair_cmp, project}
-use Rattle.rc_tuple.specs.TupleLaws.{Agree, in_project, one_pair, rising_cols}
+use Rattle.rc_tuple.specs.TupleLaws.{fewer_cols, rising_cols, rising_cols-project}
 use Rattle.rc_spec.specs.declared.call.Call.{Call}
 use Rattle.rc_spec.specs.declared.call.Reply.{Reply}
 use Rattle.rc_spec.specs.declared.call.Reply.TheVariants.{Conflict, Present}
@@ -19,8 +19,7 @@ use Rattle.rc_spec.specs.declared.spec.Spec.{Spec}
 use Rattle.rc_spec.specs.Acceptance.{IsSealed}
 use Rattle.rc_spec.specs.Calls.{Fits, all_columns, value_columns}
 use Rattle.rc_spec.specs.Fragments.{EdgeRow, fragments_of}
-use Rattle.rc_spec.specs.Placement.{class_at, no_op, op_at}
-use Rattle.rc_spec.specs.Stripes.{physical_stripe}
+use Rattle.rc_spec.specs.Placement.{no_op, op_at}
 use Rattle.rc_fragment.specs.Holder.{AreOfRelation, HeldStripe}
 use Rattle.rc_plan.specs.declared.statement.Statement.{Statement}
 use Rattle.rc_plan.specs.declared.statement.Statement.TheVariants.{CheckAbsent, CheckDep, Probe}
@@ -28,14 +27,12 @@ use Rattle.rc_plan.specs.declared.statement.Which.{Which}
 use Rattle.rc_plan.specs.declared.statement.Which.TheVariants as which
 use Rattle.rc_plan.specs.Compiled.{IsPlanOf}
 use Rattle.rc_plan.specs.Evaluation.{RunState, eval, run, run_one, some_differs, some_left}
-use Rattle.rc_plan.specs.InsertLaws.{HasNamed}
-use Rattle.rc_plan.specs.PlanRules.{Covers, IsInsert, KeepsAll, Progress, after, given_columns}
-use Rattle.rc_plan.specs.RunLaws.{IsSearching, cols_of-project, run-replied, searching}
+use Rattle.rc_plan.specs.InsertLaws.{probe_searching}
+use Rattle.rc_plan.specs.PlanRules.{IsInsert, KeepsAll, Progress, after, given_columns}
+use Rattle.rc_plan.specs.RunLaws.{IsSearching, run-replied, searching}
 use Rattle.rc_plan.specs.StripeLocks.{StripeLock, stripes_of}
-use Rattle.rc_plan.specs.StripeLocksLaws.{physical_stripe-agreeing}
 use Rattle.rc_machine.specs.Machine.{HasEvaluated, HasServed, locks_of, stripes_held}
 use Rattle.rc_machine.specs.Run.{IsAt, IsOn, IsTaken}
-use Rattle.rc_machine.proofs.ApplyLemmas.{fewer_cols, rising_cols-project}
 use Rattle.rc_machine.proofs.RunLemmas.{has_evaluated, has_served, unchanged_rows}
 
 whole_by : (spec : Spec) (t : Pairs) (pattern : List ℕ) (kind : OpKind) → IsInsert kind → cols_of t ≡ gather nat_cmp (value_columns spec pattern kind) → cols_of t ≡ all_columns spec
@@ -68,16 +65,6 @@ module _ (spec : Spec) (sealed : IsSealed spec) (plan : List Statement) (call : 
     rises : IsRising nat_cmp (cols_of call.args)
     rises = fits.1.tuple.rising
 
-    guard : (c : ℕ) (choice : Which) → HasNamed spec call.args (stripes_of (locks_of held)) c choice → Covers spec (after spec at.progress (Probe xs)) c choice → (u : Pairs) → Within (class_at spec c).cols (cols_of u)
-        → Agree (project xs call.args) u → In (physical_stripe spec c u) (stripes_of (locks_of held))
-    guard c which.Keyed n cover u v g =
-        let in_t : Within (class_at spec c).cols (cols_of call.args) = λ d m. subst (In d) (sym over) (known d (cover d m)) in
-        let in_p : Within (class_at spec c).cols (cols_of (project xs call.args)) = λ d m. cols_of-project xs call.args d (cover d m) (in_t d m) in
-        let e : physical_stripe spec c call.args ≡ physical_stripe spec c (project xs call.args) = physical_stripe-agreeing spec c call.args (project xs call.args) in_t in_p
-        (λ x y z w q. one_pair call.args rises x y z (in_project xs y call.args w).0 q) in
-        subst (λ z. In z (stripes_of (locks_of held))) (e ∙ physical_stripe-agreeing spec c (project xs call.args) u in_p v g) n
-    guard c which.All n cover u v g = n u
-
     taken_now : (c : ℕ) (choice : Which) → IsTaken spec at.progress (stripes_of (locks_of held)) c choice → IsTaken spec (after spec at.progress (Probe xs)) (stripes_of (locks_of held)) c choice
     taken_now c which.Keyed g = λ cover. cover
     taken_now c which.All g = g
@@ -88,15 +75,7 @@ module _ (spec : Spec) (sealed : IsSealed spec) (plan : List Statement) (call : 
       sought = project xs call.args;
       rising = rising_filter pair_cmp (λ (q : ℕ × ℕ). has xs q.0) call.args (rising_cols call.args rises);
       inside = λ c m. subst (In c) over (fewer_cols xs call.args c m);
-      search = record {
-        phase = o.search.phase;
-        within = λ c z. absurd z;
-        reached = inl (refl, refl);
-        rising = ((λ y q. absurd q), tt);
-        columns = λ b m. elim m [ inl e ↦ λ c n. subst (λ z. In c (cols_of z)) (sym e) (cols_of-project xs call.args c n (subst (In c) (sym over) (known c n))) | inr z ↦ absurd z ];
-        nodes = λ v z. absurd z;
-        guards = λ x m cover b u n v g. elim n [ inl e ↦ guard x.0 x.1 ((o.insert keeps.k1.1).named x m) cover u v (subst (λ z. Agree z u) e g) | inr z ↦ absurd z ];
-      };
+      search = probe_searching spec r call.args rises over at.progress (locks_of held) xs o.search.phase known (o.insert keeps.k1.1).named;
       taken = λ x m. taken_now x.0 x.1 (o.taken x m);
       insert = λ i. record { begun = λ e. absurd (let g : Some xs ≡ None = e in cc); named = (o.insert i).named };
       no_probe = λ n. absurd (n keeps.k1.1);

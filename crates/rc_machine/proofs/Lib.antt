@@ -1,5 +1,4 @@
 mod ApplyLemmas
-mod DistinctLemmas
 mod LockLemmas
 mod ReadLemmas
 mod RowLemmas

@@ -11,7 +11,7 @@ use Rattle.rc_tuple.specs.RisingSet.{In, IsRising, gather}
 use Rattle.rc_tuple.specs.RisingSetLaws.{same_rising, rising_gather, in_gather, gather_in, get_or_in, in_map, map_in, in_filter, filter_in, in_append, append_in_left, append_in_right, in_flat_map, flat_map_in}
 use Rattle.rc_tuple.specs.ColSet.{Within}
 use Rattle.rc_tuple.specs.ColSetLaws.{union_left, union_right}
-use Rattle.rc_tuple.specs.Tuple.{IsTuple, Pairs, agrees, cols_of, merge, project, tuple_cmp}
+use Rattle.rc_tuple.specs.Tuple.{IsTuple, Pairs, agrees, cols_of, merge, merges_of, project, tuple_cmp}
 use Rattle.rc_tuple.specs.TupleLaws.{agree_from, rising_cols, rising_pairs, tuple_order}
 use Rattle.rc_spec.specs.declared.items.Class.{Class}
 use Rattle.rc_spec.specs.declared.spec.Spec.{Spec}
@@ -34,7 +34,7 @@ use Rattle.rc_plan.specs.Evaluation.{band}
 use Rattle.rc_plan.specs.ReadLaws.{project-agreeing}
 use Rattle.rc_plan.specs.StripeLocksLaws.{physical_stripe-agreeing, physical_stripe-in_band, striping_in_target}
 use Rattle.rc_machine.specs.Machine.{rows_now}
-use Rattle.rc_machine.specs.Read.{AreGood, AreMerges, HasMerged, HasMergedAll, HasMergedOn, IsMergeOf, IsMergeOn, IsReader, merges_of}
+use Rattle.rc_machine.specs.Read.{AreGood, AreMerges, HasMerged, HasMergedAll, HasMergedOn, IsMergeOf, IsMergeOn, IsReader}
 
 -- ---- results
 

@@ -1,5 +1,5 @@
 -- How a run stands after each statement.
-use Rattle.std.specs.Prelude.{◌≡◌, ℕ, ◌+◌, ◌<◌, ◌≤◌, List, [], ◌∷◌, ◌++◌, Option, map, length}
+use Rattle.std.specs.Prelude.{◌≡◌, ℕ, ◌<◌, List, [], ◌∷◌, ◌++◌, Option, length}
 use Rattle.std.specs.declared.cmp.Ordering.TheVariants.{Less}
 use Rattle.std.specs.Cmp.{nat_cmp_is}
 use Rattle.std.specs.Ordering.{nat_cmp, ordering_then}
@@ -9,7 +9,7 @@ use Rattle.std.proofs.lemmas.Option.{get_or_from_slice_get}
 use Rattle.rc_tuple.specs.RisingSet.{In, IsRising, gather}
 use Rattle.rc_tuple.specs.RisingSetLaws.{same_rising, rising_gather, in_gather, gather_in, in_map, map_in, in_append, append_in_left, append_in_right, nat_order, slice_get_in}
 use Rattle.rc_tuple.specs.ColSet.{Within}
-use Rattle.rc_tuple.specs.ColSetLaws.{in_range_below, in_range_bounds}
+use Rattle.rc_tuple.specs.ColSetLaws.{in_range_below}
 use Rattle.rc_tuple.specs.Tuple.{Pairs, cols_of}
 use Rattle.rc_tuple.specs.TupleLaws.{rising_pairs}
 use Rattle.rc_spec.specs.declared.call.Call.{Call}
@@ -24,7 +24,6 @@ use Rattle.rc_spec.specs.Calls.{Fits, all_columns, value_columns}
 use Rattle.rc_spec.specs.InRange.{AreBelow, IsInRange, IsOpAmong}
 use Rattle.rc_spec.specs.Fragments.{EdgeRow, fragments_of}
 use Rattle.rc_spec.specs.Placement.{class_at, no_op, op_at}
-use Rattle.rc_spec.specs.Stripes.{band_start, physical_stripe}
 use Rattle.rc_spec.specs.StripesLaws.{band_before}
 use Rattle.rc_fragment.specs.Holder.{AreOfRelation, HeldStripe, IsAbove}
 use Rattle.rc_plan.specs.declared.statement.Statement.{Statement}
@@ -33,12 +32,12 @@ use Rattle.rc_plan.specs.declared.statement.Which.{Which}
 use Rattle.rc_plan.specs.declared.statement.Which.TheVariants as which
 use Rattle.rc_plan.specs.Compiled.{IsPlanOf}
 use Rattle.rc_plan.specs.Evaluation.{named_by, run, stripes_locked}
-use Rattle.rc_plan.specs.InsertLaws.{HasNamed}
-use Rattle.rc_plan.specs.LockOrderLaws.{AreOfLocked, IsOfClass, IsOfClass-physical_stripe}
+use Rattle.rc_plan.specs.InsertLaws.{HasNamed, more_named, tuple_named}
+use Rattle.rc_plan.specs.LockOrderLaws.{AreOfLocked, IsOfClass, IsOfClass-stripes_locked, of_locked_one}
 use Rattle.rc_plan.specs.PlanRules.{HasLockMode, IsKeyBound, IsLocked, IsQuery, KeepsAll, after, at_start, given_columns}
 use Rattle.rc_plan.specs.RunLaws.{lock_keeps, search_begins, searching}
 use Rattle.rc_plan.specs.StripeLocks.{StripeLock, mode_number, stripe_lock_cmp, stripes_of}
-use Rattle.rc_plan.specs.StripeLocksLaws.{AreIn, AreIn-more, in_stripes_of, named_before, named_now, physical_stripe-in_band, stripe_lock_order, stripes_of_in}
+use Rattle.rc_plan.specs.StripeLocksLaws.{AreIn, AreIn-more, named_before, named_now, stripe_lock_order, stripes_of_in}
 use Rattle.rc_machine.specs.Locks.{HasLocked}
 use Rattle.rc_machine.specs.Machine.{locks_of, stripes_held}
 use Rattle.rc_machine.specs.Run.{IsAt, IsOn, IsTaken}
@@ -90,15 +89,6 @@ mode_of Insert mode h n = h
 mode_of Remove mode h n = h
 
 module _ (spec : Spec) (sealed : IsSealed spec) (plan : List Statement) (call : Call) where
-  -- a stripe that a Lock takes is of its class
-  of_class : (c : ℕ) (choice : Which) (bs : List Pairs) → c < length spec.classes → (stripe : ℕ) → In stripe (stripes_locked spec c choice bs) → IsOfClass spec c stripe
-  of_class c which.Keyed bs l stripe m =
-      let q : (b : Pairs) × In b bs × (stripe ≡ physical_stripe spec c b) = in_map (physical_stripe spec c) stripe bs m in
-      subst (IsOfClass spec c) (sym q.2) (IsOfClass-physical_stripe spec sealed.accepted.placed c q.0 l)
-  of_class c which.All bs l stripe m =
-      let b : (band_start spec c ≤ stripe) × (stripe < band_start spec c + (class_at spec c).stripes) = in_range_bounds (band_start spec c) (class_at spec c).stripes stripe m in
-      record { from = b.0; before = b.1 }
-
   -- a run begins
   pub begins : (fits : Fits spec call) → IsPlanOf spec call.op plan → IsAt spec plan call plan (call.args ∷ []) []
   begins fits planned =
@@ -139,7 +129,7 @@ module _ (spec : Spec) (sealed : IsSealed spec) (plan : List Statement) (call : 
         let g : (d : ℕ) × IsLocked at.progress d × IsOfClass spec d h.stripe = at.classes h.stripe (stripes_of_in (h.stripe, h.mode) (locks_of held) (map_in (λ (h : HeldStripe). (h.stripe, h.mode)) h held n)) in
         let before : g.0 < c = keeps.k2 (g.0, g.1.0) g.1.1 in
         let bands = band_before spec g.0 c before class in
-        let now : IsOfClass spec c s = of_class c choice bs class s m in
+        let now : IsOfClass spec c s = IsOfClass-stripes_locked spec sealed.accepted.placed c choice bs class s m in
         omega (arith, g.2.before, bands, now.from)
 
     -- where it takes the bindings' stripes, they have the class's columns
@@ -181,17 +171,8 @@ module _ (spec : Spec) (sealed : IsSealed spec) (plan : List Statement) (call : 
                 (map_in (λ (h : HeldStripe). (h.stripe, h.mode)) h.0 new (subst (In h.0) (sym f.beside) (append_in_right h.0 held f.more h.1))))
           ])
 
-      of_locked : (stripe : ℕ) → In stripe (stripes_of (gather stripe_lock_cmp (locks_of held ++ named_by spec c choice mode bs))) → (d : ℕ) × IsLocked (after spec at.progress (Lock c choice mode)) d × IsOfClass spec d stripe
-      of_locked stripe m =
-          let all : List StripeLock = locks_of held ++ named_by spec c choice mode bs in
-          let q : (lock : StripeLock) × In lock (gather stripe_lock_cmp all) × (stripe ≡ lock.0) = in_stripes_of stripe (gather stripe_lock_cmp all) m in
-          elim (in_append q.0 (locks_of held) (named_by spec c choice mode bs) (in_gather stripe_lock_cmp stripe_lock_order q.0 all q.1)) [
-            | inl n ↦ (let g : (d : ℕ) × IsLocked at.progress d × IsOfClass spec d stripe = at.classes stripe (subst (λ z. In z (stripes_of (locks_of held))) (sym q.2) (stripes_of_in q.0 (locks_of held) n)) in
-                (g.0, (g.1.0, inr g.1.1), g.2))
-            | inr n ↦ (let s : (s : ℕ) × In s (stripes_locked spec c choice bs) × (q.0 ≡ (s, mode)) = in_map (λ s. let l : StripeLock = (s, mode) in l) q.0 (stripes_locked spec c choice bs) n in
-                let is : stripe ≡ s.0 = q.2 ∙ ap (λ (l : StripeLock). l.0) s.2 in
-                (c, (choice, inl refl), subst (IsOfClass spec c) (sym is) (of_class c choice bs class s.0 s.1)))
-          ]
+      of_locked : AreOfLocked spec (after spec at.progress (Lock c choice mode)) (gather stripe_lock_cmp (locks_of held ++ named_by spec c choice mode bs))
+      of_locked = of_locked_one spec sealed.accepted.placed (op_at spec call.op).kind call.args at.progress (Lock c choice mode) (searching bs (locks_of held) []) class at.classes
 
       taken_now : (choice : Which) → IsKeyBound spec c choice at.progress.columns → IsTaken spec (after spec at.progress (Lock c choice mode)) (stripes_of (gather stripe_lock_cmp (locks_of held ++ named_by spec c choice mode bs))) c choice
       taken_now which.Keyed k = λ cover. k
@@ -200,14 +181,6 @@ module _ (spec : Spec) (sealed : IsSealed spec) (plan : List Statement) (call : 
       taken_before : (d : ℕ) (way : Which) → IsTaken spec at.progress (stripes_of (locks_of held)) d way → IsTaken spec (after spec at.progress (Lock c choice mode)) (stripes_of (gather stripe_lock_cmp (locks_of held ++ named_by spec c choice mode bs))) d way
       taken_before d which.Keyed g = g
       taken_before d which.All g = λ stripe m. named_before stripe (locks_of held) (named_by spec c choice mode bs) (g stripe m)
-
-      tuple_before : (d : ℕ) (way : Which) → HasNamed spec call.args (stripes_of (locks_of held)) d way → HasNamed spec call.args (stripes_of (gather stripe_lock_cmp (locks_of held ++ named_by spec c choice mode bs))) d way
-      tuple_before d which.Keyed g = named_before (physical_stripe spec d call.args) (locks_of held) (named_by spec c choice mode bs) g
-      tuple_before d which.All g = λ u. named_before (physical_stripe spec d u) (locks_of held) (named_by spec c choice mode bs) (g u)
-
-      tuple_now : (choice : Which) → bs ≡ call.args ∷ [] → HasNamed spec call.args (stripes_of (gather stripe_lock_cmp (locks_of held ++ named_by spec c choice mode bs))) c choice
-      tuple_now which.Keyed e = named_now (physical_stripe spec c call.args) (locks_of held) mode (map (physical_stripe spec c) bs) (subst (λ z. In (physical_stripe spec c call.args) (map (physical_stripe spec c) z)) (sym e) (inl refl))
-      tuple_now which.All e = λ u. named_now (physical_stripe spec c u) (locks_of held) mode (stripes_locked spec c which.All bs) (physical_stripe-in_band spec sealed.accepted.placed c u class)
 
       lock_on : (r : List Pairs) → AreOfRelation spec held r → IsOn spec r (op_at spec call.op).kind call.args (after spec at.progress (Lock c choice mode)) bs (gather stripe_lock_cmp (locks_of held ++ named_by spec c choice mode bs))
       lock_on r a =
@@ -224,8 +197,8 @@ module _ (spec : Spec) (sealed : IsSealed spec) (plan : List Statement) (call : 
             insert = λ i. record {
               begun = (o.insert i).begun;
               named = λ x m. elim m [
-                | inl e ↦ subst (λ (z : ℕ × Which). HasNamed spec call.args (stripes_of (gather stripe_lock_cmp (locks_of held ++ named_by spec c choice mode bs))) z.0 z.1) (sym e) (tuple_now choice ((o.insert i).begun keeps.k1.1))
-                | inr n ↦ tuple_before x.0 x.1 ((o.insert i).named x n)
+                | inl e ↦ subst (λ (z : ℕ × Which). HasNamed spec call.args (stripes_of (gather stripe_lock_cmp (locks_of held ++ named_by spec c choice mode bs))) z.0 z.1) (sym e) (tuple_named spec sealed.accepted.placed call.args bs (locks_of held) mode c class choice ((o.insert i).begun keeps.k1.1))
+                | inr n ↦ more_named spec call.args (locks_of held) (named_by spec c choice mode bs) x.0 x.1 ((o.insert i).named x n)
               ];
             };
             no_probe = o.no_probe;

@@ -2,7 +2,8 @@ pub mod Applied
 pub mod Apply
 pub mod Locks
 pub mod Machine
+pub mod Offers
+pub mod OffersLaws
 pub mod Read
-pub mod Rows
 pub mod Run
 pub mod Stopped

@@ -1,5 +1,5 @@
 -- What a Read of an edge finds on held stripes.
-use Rattle.std.specs.Prelude.{◌≡◌, ℕ, true, List, filter, map, ◌⊎◌}
+use Rattle.std.specs.Prelude.{◌≡◌, ℕ, true, List, ◌⊎◌}
 use Rattle.rc_tuple.specs.RisingSet.{In}
 use Rattle.rc_tuple.specs.ColSet.{Within}
 use Rattle.rc_tuple.specs.Tuple.{Pairs, agrees, cols_of, merge}
@@ -33,10 +33,6 @@ pub record AreReaders (spec : Spec) (e : ℕ) (mode : ReadMode) (held : List Hel
 -- the rows now of each held stripe are good
 abbrev pub AreGood : Spec → List HeldStripe → Type 0
 AreGood spec held = (h : HeldStripe) → In h held → AreGoodRows spec h.stripe h.now
-
--- the merges of a binding with those of the tuples that agree with it
-abbrev pub merges_of : Pairs → List Pairs → List Pairs
-merges_of b us = map (merge b) (filter (agrees b) us)
 
 -- the merge of the binding with a row of the edge that agrees with it
 abbrev pub IsMergeOf : Pairs → ℕ → List EdgeRow → Pairs → Type 0

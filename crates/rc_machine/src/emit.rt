@@ -6,7 +6,7 @@ ghost use Rattle.rc_spec.specs.Plain.{row_cmp, rows_of};
 ghost use Rattle.rc_spec.specs.declared.items.OpKind.TheVariants.{Query};
 ghost use Rattle.rc_plan.specs.Evaluation.{answer};
 ghost use Rattle.rc_plan.specs.PlanRules.{IsQuery};
-ghost use Rattle.rc_machine.specs.Rows.{rows_in};
+ghost use Rattle.rc_spec.specs.Rows.{rows_in};
 
 use rc_spec::{OpKind, Reply, RowList};
 use rc_tuple::{Cols, Memory, Tuple, Vals};

@@ -3,7 +3,6 @@
 
 mod apply;
 mod check;
-mod distinct;
 mod emit;
 mod lock;
 mod machine;

@@ -22,10 +22,14 @@ use std::alloc::Global;
 /// the stripes that the Locks name, reads and changes their rows, and answers. (PLDI 2012, query plans with two-phase
 /// locks.)
 ///
-/// Where it answers, evaluation of the plan on the rows as taken gives the reply, the held stripes and their rows now;
-/// and so does the plain step on any relation of which the rows as taken are fragments. After a stop each held stripe
-/// has its rows as taken. `Held` comes only where the count of refused takes rose in this call, and is then the last
-/// refused take's. What is offered of a stripe that isn't held stays.
+/// Where it answers, evaluation of the plan on the rows as taken gives the reply, the held stripes and their rows now.
+/// On any relation of which the rows as taken are fragments the plain step gives the same reply, the call touches
+/// exactly the held stripes, and they have the fragments of the relation after it. After a stop each held stripe has its
+/// rows as taken. `Held` comes only where the count of refused takes rose in this call, and is then the last refused
+/// take's. What is offered of a stripe that isn't held stays.
+///
+/// Costs, for each Read and binding, a look-up or the rows of one source, on one stripe where the binding chooses it and
+/// else on each of the class; and for an Apply one change in each edge.
 pub fn run_plan<H: Holder>(
     alloc: Global,
     compiled: &Compiled,

@@ -1,28 +1,24 @@
 //! A Read: the bindings joined with the rows of an edge on held stripes.
 
-ghost use Rattle.std.specs.Prelude.{◌≡◌, ℕ, ◌<◌, ◌++◌, List, [], ◌∷◌, length, IfOk, OnOk};
-ghost use Rattle.std.specs.List.{range_with_len};
+ghost use Rattle.std.specs.Prelude.{◌≡◌, ℕ, ◌<◌, ◌++◌, [], ◌∷◌, length, IfOk, OnOk};
 ghost use Rattle.rc_tuple.specs.RisingSet.{In};
-ghost use Rattle.rc_tuple.specs.ColSet.{Within};
-ghost use Rattle.rc_tuple.specs.Tuple.{IsTuple, cols_of};
+ghost use Rattle.rc_tuple.specs.Tuple.{IsTuple, cols_of, merges_of};
 ghost use Rattle.rc_spec.specs.Acceptance.{IsSealed};
 ghost use Rattle.rc_spec.specs.Contents.{join};
 ghost use Rattle.rc_spec.specs.Decomposition.{bound, edge_at};
 ghost use Rattle.rc_spec.specs.Fragments.{EdgeRow, tuples_of_edge};
 ghost use Rattle.rc_spec.specs.Placement.{class_of};
 ghost use Rattle.rc_fragment.specs.Fragment.{edge_table};
-ghost use Rattle.rc_fragment.specs.Holder.{HeldStripe, IsHeld};
 ghost use Rattle.rc_plan.specs.Evaluation.{band};
 ghost use Rattle.rc_plan.specs.declared.statement.ReadMode.TheVariants as read_mode;
 ghost use Rattle.rc_machine.specs.Machine.{rows_now, stripes_held};
-ghost use Rattle.rc_machine.specs.Read.{AreGood, AreMerges, AreReaders, HasMerged, HasMergedAll, HasMergedOn, IsCovered, IsReader, merges_of};
+ghost use Rattle.rc_machine.specs.Read.{AreGood, AreReaders, HasMerged, HasMergedAll, HasMergedOn, IsCovered, IsReader};
 
-use crate::distinct::distinct;
 use crate::stripe::physical_stripe;
 use rc_fragment::{Fragment, Holder};
 use rc_plan::ReadMode;
 use rc_spec::{Spec, band_start};
-use rc_tuple::{Memory, Tuple, Tuples};
+use rc_tuple::{Memory, Tuple, Tuples, distinct};
 use std::alloc::Global;
 
 /// The join of the bindings with the rows of an edge on the held stripes. A row that agrees with a binding is found by

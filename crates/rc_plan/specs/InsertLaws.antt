@@ -86,9 +86,39 @@ named_tuple : (spec : Spec) (t : Pairs) (stripes : List ℕ) (c : ℕ) (choice :
 named_tuple spec t stripes c which.Keyed h = h
 named_tuple spec t stripes c which.All h = h t
 
-more_named : (spec : Spec) (t : Pairs) (ns ms : List StripeLock) (c : ℕ) (choice : Which) → HasNamed spec t (stripes_of ns) c choice → HasNamed spec t (stripes_of (gather stripe_lock_cmp (ns ++ ms))) c choice
+pub more_named : (spec : Spec) (t : Pairs) (ns ms : List StripeLock) (c : ℕ) (choice : Which) → HasNamed spec t (stripes_of ns) c choice → HasNamed spec t (stripes_of (gather stripe_lock_cmp (ns ++ ms))) c choice
 more_named spec t ns ms c which.Keyed h = named_before (physical_stripe spec c t) ns ms h
 more_named spec t ns ms c which.All h = λ u. named_before (physical_stripe spec c u) ns ms (h u)
+
+-- a Lock by the tuple alone names its stripe
+pub tuple_named : (spec : Spec) → IsPlaced spec → (t : Pairs) (bs : List Pairs) (ns : List StripeLock) (mode : Mode) (c : ℕ) → c < length spec.classes → (choice : Which) → bs ≡ t ∷ []
+    → HasNamed spec t (stripes_of (gather stripe_lock_cmp (ns ++ named_by spec c choice mode bs))) c choice
+tuple_named spec placed t bs ns mode c l which.Keyed e =
+    named_now (physical_stripe spec c t) ns mode (map (physical_stripe spec c) bs) (subst (λ z. In (physical_stripe spec c t) (map (physical_stripe spec c) z)) (sym e) (inl refl))
+tuple_named spec placed t bs ns mode c l which.All e = λ u. named_now (physical_stripe spec c u) ns mode (stripes_locked spec c which.All bs) (physical_stripe-in_band spec placed c u l)
+
+-- after a Probe the search is for the tuple's projection, on stripes that were named for the tuple
+pub probe_searching : (spec : Spec) (r : List Pairs) (t : Pairs) → IsRising nat_cmp (cols_of t) → cols_of t ≡ all_columns spec → (p : Progress) (ns : List StripeLock) (xs : List ℕ) → p.phase ≡ Phase.Searching
+    → Within xs (all_columns spec) → ((x : ℕ × Which) → In x p.locked → HasNamed spec t (stripes_of ns) x.0 x.1) → IsSearching spec r (project xs t) (after spec p (Probe xs)) (project xs t ∷ []) ns
+probe_searching spec r t rises over p ns xs phase known locks = record {
+  phase = phase;
+  within = λ c z. absurd z;
+  reached = inl (refl, refl);
+  rising = ((λ y q. absurd q), tt);
+  columns = λ b m. elim m [ inl e ↦ λ c n. subst (λ z. In c (cols_of z)) (sym e) (cols_of-project xs t c n (subst (In c) (sym over) (known c n))) | inr z ↦ absurd z ];
+  nodes = λ v z. absurd z;
+  guards = λ x m cover b u n v g. elim n [ inl e ↦ guard x.0 x.1 (locks x m) cover u v (subst (λ z. Agree z u) e g) | inr z ↦ absurd z ];
+}
+  where
+    guard : (c : ℕ) (choice : Which) → HasNamed spec t (stripes_of ns) c choice → Covers spec (after spec p (Probe xs)) c choice → (u : Pairs) → Within (class_at spec c).cols (cols_of u) → Agree (project xs t) u
+        → In (physical_stripe spec c u) (stripes_of ns)
+    guard c which.Keyed n cover u v g =
+        let in_t : Within (class_at spec c).cols (cols_of t) = λ d m. subst (In d) (sym over) (known d (cover d m)) in
+        let in_p : Within (class_at spec c).cols (cols_of (project xs t)) = λ d m. cols_of-project xs t d (cover d m) (in_t d m) in
+        let e : physical_stripe spec c t ≡ physical_stripe spec c (project xs t) = physical_stripe-agreeing spec c t (project xs t) in_t in_p
+        (λ x y z w q. one_pair t rises x y z (in_project xs y t w).0 q) in
+        subst (λ z. In z (stripes_of ns)) (e ∙ physical_stripe-agreeing spec c (project xs t) u in_p v g) n
+    guard c which.All n cover u v g = n u
 
 -- before the first Probe the one binding is the insert's tuple t; then the search is for t's projection s on the Probe's columns
 abbrev pub IsProbing : Pairs → Progress → Pairs → List Pairs → Type 0
@@ -204,39 +234,19 @@ module _ (spec : Spec) (range : IsInRange spec) (ok : IsAdequate spec) (placed :
   }
     where
       now : (choice : Which) → IsProbing t p s bs → HasNamed spec t (stripes_of (gather stripe_lock_cmp (ns ++ named_by spec c choice mode bs))) c choice
-      now which.Keyed (inl e) =
-          named_now (physical_stripe spec c t) ns mode (map (physical_stripe spec c) bs) (subst (λ z. In (physical_stripe spec c t) (map (physical_stripe spec c) z)) (sym e.2) (inl refl))
-      now which.All (inl e) = λ u. named_now (physical_stripe spec c u) ns mode (stripes_locked spec c which.All bs) (physical_stripe-in_band spec placed c u l)
+      now choice (inl e) = tuple_named spec placed t bs ns mode c l choice e.2
       now choice (inr e) = absurd (let g : None ≡ Some e.0 = sym keeps.k1.1 ∙ e.1 in cc)
 
   probe_inserting : (p : Progress) (s : Pairs) (bs : List Pairs) (ns : List StripeLock) (xs : List ℕ) → IsInserting spec r t pattern p s bs ns → Within xs (all_columns spec)
       → IsInserting spec r t pattern (after spec p (Probe xs)) (project xs t) (project xs t ∷ []) ns
   probe_inserting p s bs ns xs f known = record {
-    search = record {
-      phase = f.search.phase;
-      within = λ c z. absurd z;
-      reached = inl (refl, refl);
-      rising = ((λ y q. absurd q), tt);
-      columns = λ b m. elim m [ inl e ↦ λ c n. subst (λ z. In c (cols_of z)) (sym e) (cols_of-project xs t c n (subst (In c) (sym over) (known c n))) | inr z ↦ absurd z ];
-      nodes = λ v z. absurd z;
-      guards = λ x m cover b u n v g. elim n [ inl e ↦ guard x.0 x.1 (f.locks x m) cover u v (subst (λ z. Agree z u) e g) | inr z ↦ absurd z ];
-    };
+    search = probe_searching spec r t t_rises over p ns xs f.search.phase known f.locks;
     probing = inr (xs, refl, refl);
     locks = f.locks;
     exclusive = f.exclusive;
     absent = f.absent;
     checked = f.checked;
   }
-    where
-      guard : (c : ℕ) (choice : Which) → HasNamed spec t (stripes_of ns) c choice → Covers spec (after spec p (Probe xs)) c choice → (u : Pairs) → Within (class_at spec c).cols (cols_of u) → Agree (project xs t) u
-          → In (physical_stripe spec c u) (stripes_of ns)
-      guard c which.Keyed n cover u v g =
-          let in_t : Within (class_at spec c).cols (cols_of t) = λ d m. subst (In d) (sym over) (known d (cover d m)) in
-          let in_p : Within (class_at spec c).cols (cols_of (project xs t)) = λ d m. cols_of-project xs t d (cover d m) (in_t d m) in
-          let e : physical_stripe spec c t ≡ physical_stripe spec c (project xs t) = physical_stripe-agreeing spec c t (project xs t) in_t in_p
-          (λ x y z w q. one_pair t t_rises x y z (in_project xs y t w).0 q) in
-          subst (λ z. In z (stripes_of ns)) (e ∙ physical_stripe-agreeing spec c (project xs t) u in_p v g) n
-      guard c which.All n cover u v g = n u
 
   read_inserting : (p : Progress) (s : Pairs) (bs : List Pairs) (ns : List StripeLock) (e : ℕ) (mode : ReadMode) → IsInserting spec r t pattern p s bs ns → IsRising pair_cmp s → e < length spec.edges
       → KeepsAll spec (insert_op name pattern) p (Read e mode)

@@ -52,7 +52,7 @@ of_one_class spec c d stripe l m a b =
     let k : band_start spec c + (class_at spec c).stripes ≤ band_start spec d = band_before spec c d l m in
     omega (arith, a.before, b.from, k)
 
-IsOfClass-stripes_locked : (spec : Spec) → IsPlaced spec → (c : ℕ) (choice : Which) (bs : List Pairs) → c < length spec.classes → (stripe : ℕ) → In stripe (stripes_locked spec c choice bs) → IsOfClass spec c stripe
+pub IsOfClass-stripes_locked : (spec : Spec) → IsPlaced spec → (c : ℕ) (choice : Which) (bs : List Pairs) → c < length spec.classes → (stripe : ℕ) → In stripe (stripes_locked spec c choice bs) → IsOfClass spec c stripe
 IsOfClass-stripes_locked spec placed c which.Keyed bs l stripe m =
     let q : (b : Pairs) × In b bs × (stripe ≡ physical_stripe spec c b) = in_map (physical_stripe spec c) stripe bs m in
     subst (IsOfClass spec c) (sym q.2) (IsOfClass-physical_stripe spec placed c q.0 l)
@@ -138,7 +138,7 @@ abbrev pub AreOfLocked : Spec → Progress → List StripeLock → Type 0
 AreOfLocked spec p locks = (stripe : ℕ) → In stripe (stripes_of locks) → (c : ℕ) × IsLocked p c × IsOfClass spec c stripe
 
 module _ (spec : Spec) (placed : IsPlaced spec) (kind : OpKind) (args : Pairs) where
-  of_locked_one : (p : Progress) (x : Statement) (state : RunState) → IsKnown spec x → AreOfLocked spec p state.named → AreOfLocked spec (after spec p x) (run_one spec kind args state x).named
+  pub of_locked_one : (p : Progress) (x : Statement) (state : RunState) → IsKnown spec x → AreOfLocked spec p state.named → AreOfLocked spec (after spec p x) (run_one spec kind args state x).named
   of_locked_one p (Lock d choice mode) state known f stripe m =
       let all : List StripeLock = state.named ++ named_by spec d choice mode state.bindings in
       let q : (lock : StripeLock) × In lock (gather stripe_lock_cmp all) × (stripe ≡ lock.0) = in_stripes_of stripe (gather stripe_lock_cmp all) m in

@@ -2,7 +2,7 @@ ghost use Rattle.std.specs.Prelude.{◌≡◌, filter, IfOk, OnOk};
 ghost use Rattle.rc_tuple.specs.RisingSet.{put};
 ghost use Rattle.rc_tuple.specs.Tuple.{matches};
 ghost use Rattle.rc_spec.specs.Plain.{row_cmp, rows_of, at_most_256};
-ghost use Rattle.rc_rel.specs.Rows.{rows_in};
+ghost use Rattle.rc_spec.specs.Rows.{rows_in};
 
 use rc_spec::{Reply, RowList};
 use rc_tuple::{Cols, Memory, Tuple, Tuples, Vals};

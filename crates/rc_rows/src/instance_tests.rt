@@ -33,7 +33,7 @@ type Scan<'a> = (u8, Pairs<'a>, &'a [Pairs<'a>]);
 // ---- rows and stripes
 
 /// What a fragment knows of the edge.
-fn shape_of(rt: &impl Abort, accepted: &Accepted, edge: u8) -> EdgeShape
+pub(crate) fn shape_of(rt: &impl Abort, accepted: &Accepted, edge: u8) -> EdgeShape
     ensures { HasShape (edge_table accepted.now) edge result }
 {
     let spec = accepted.spec();
@@ -52,7 +52,7 @@ fn shape_of(rt: &impl Abort, accepted: &Accepted, edge: u8) -> EdgeShape
 }
 
 /// The row of the edge with these values.
-fn row_of(
+pub(crate) fn row_of(
     rt: &impl Abort,
     alloc: Global,
     accepted: &Accepted,
@@ -73,7 +73,7 @@ fn same(tuple: &Tuple, other: &Tuple) -> bool
 }
 
 /// How many stripes the specification has.
-fn stripes_of(accepted: &Accepted) -> u32
+pub(crate) fn stripes_of(accepted: &Accepted) -> u32
     ensures value { result ≡ stripe_total accepted.now }
     ensures few { stripe_total accepted.now ≤ 256 }
 {
@@ -102,7 +102,7 @@ fn stripe_of_row(rt: &impl Abort, accepted: &Accepted, edge: u8, row: &Tuple) ->
 // ---- what fragments answer
 
 /// Whether the fragment has the row; none other is found at the row's source and key.
-fn has(
+pub(crate) fn has(
     rt: &impl Abort,
     fragment: &Fragment,
     shape: &EdgeShape,
@@ -174,7 +174,7 @@ fn check_free(
 }
 
 /// The fragment of a stripe of which all are held.
-fn fragment_of<'a, H: Holder>(
+pub(crate) fn fragment_of<'a, H: Holder>(
     rt: &impl Abort,
     holder: &'a H,
     accepted: &Accepted,
@@ -438,8 +438,8 @@ fn made_of_copies(
 {
     let fragments = copies(rt, alloc, instance, accepted)?;
     assert!(rt; !fragments.is_empty());
-    let made = Instance::from_fragments(alloc, fragments)?;
-    Ok(made)
+    assert!(rt; fragments.len() <= 256);
+    Ok(Instance::from_fragments(fragments))
 }
 
 /// Takes the first and the last of 12 stripes.

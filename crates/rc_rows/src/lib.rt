@@ -4,9 +4,15 @@
 #[cfg(test)]
 mod accepted;
 #[cfg(test)]
+mod calls;
+#[cfg(test)]
 mod check_tests;
 #[cfg(test)]
+mod differential_tests;
+#[cfg(test)]
 mod instance_tests;
+#[cfg(test)]
+mod machine_tests;
 #[cfg(test)]
 mod planner_tests;
 #[cfg(test)]

@@ -81,7 +81,7 @@ same_counts xs ys a b f = same_rising edge_row_cmp edge_row_order xs ys a.rising
 
 -- one count changed
 
-in_with_count : (e : ℕ) (row : Pairs) (n : ℕ) (ws : List EdgeRow) (v : EdgeRow) → In v (with_count e row n ws) → ((v ≡ (e, row, n)) × (0 < n)) ⊎ (In v ws × (is_row_at e row v ≡ false))
+pub in_with_count : (e : ℕ) (row : Pairs) (n : ℕ) (ws : List EdgeRow) (v : EdgeRow) → In v (with_count e row n ws) → ((v ≡ (e, row, n)) × (0 < n)) ⊎ (In v ws × (is_row_at e row v ≡ false))
 in_with_count e row zero ws v h = let q : In v ws × (not (is_row_at e row v) ≡ true) = in_filter (λ w. not (is_row_at e row w)) v ws h in inr (q.0, not-true (is_row_at e row v) q.1)
 in_with_count e row (suc n) ws v h =
     elim (in_put edge_row_cmp edge_row_order v (e, row, suc n) (filter (λ w. not (is_row_at e row w)) ws) h) [
@@ -89,15 +89,15 @@ in_with_count e row (suc n) ws v h =
       | inr m ↦ (let q : In v ws × (not (is_row_at e row v) ≡ true) = in_filter (λ w. not (is_row_at e row w)) v ws m in inr (q.0, not-true (is_row_at e row v) q.1))
     ]
 
-with_count_new : (e : ℕ) (row : Pairs) (n : ℕ) (ws : List EdgeRow) → 0 < n → In (e, row, n) (with_count e row n ws)
+pub with_count_new : (e : ℕ) (row : Pairs) (n : ℕ) (ws : List EdgeRow) → 0 < n → In (e, row, n) (with_count e row n ws)
 with_count_new e row zero ws l = absurd (omega arith)
 with_count_new e row (suc n) ws l = put_new edge_row_cmp edge_row_order (e, row, suc n) (filter (λ w. not (is_row_at e row w)) ws)
 
-with_count_old : (e : ℕ) (row : Pairs) (n : ℕ) (ws : List EdgeRow) (v : EdgeRow) → In v ws → is_row_at e row v ≡ false → In v (with_count e row n ws)
+pub with_count_old : (e : ℕ) (row : Pairs) (n : ℕ) (ws : List EdgeRow) (v : EdgeRow) → In v ws → is_row_at e row v ≡ false → In v (with_count e row n ws)
 with_count_old e row zero ws v h q = filter_in (λ w. not (is_row_at e row w)) v ws h (not_from_false (is_row_at e row v) q)
 with_count_old e row (suc n) ws v h q = put_old edge_row_cmp edge_row_order v (e, row, suc n) (filter (λ w. not (is_row_at e row w)) ws) (filter_in (λ w. not (is_row_at e row w)) v ws h (not_from_false (is_row_at e row v) q))
 
-rising_with_count : (e : ℕ) (row : Pairs) (n : ℕ) (ws : List EdgeRow) → IsRising edge_row_cmp ws → IsRising edge_row_cmp (with_count e row n ws)
+pub rising_with_count : (e : ℕ) (row : Pairs) (n : ℕ) (ws : List EdgeRow) → IsRising edge_row_cmp ws → IsRising edge_row_cmp (with_count e row n ws)
 rising_with_count e row zero ws a = rising_filter edge_row_cmp (λ w. not (is_row_at e row w)) ws a
 rising_with_count e row (suc n) ws a = rising_put edge_row_cmp edge_row_order (e, row, suc n) (filter (λ w. not (is_row_at e row w)) ws) (rising_filter edge_row_cmp (λ w. not (is_row_at e row w)) ws a)
 

@@ -22,6 +22,8 @@ pub mod PlacementLaws
 pub mod Plain
 pub mod PlainLaws
 pub mod RefusalText
+pub mod Rows
+pub mod RowsLaws
 pub mod Spec
 pub mod Stripes
 pub mod StripesLaws

@@ -1,6 +1,9 @@
--- What the plain step keeps: the order of the tuples, and the dependencies.
-use Rattle.std.proofs.Common.{◌≡◌, ℕ, ◌+◌, Bool, true, false, cond, not, List, [], ◌∷◌, Option, Some, None, refl, sym, ap, ◌∙◌, ◌⊎◌, inl, inr, subst}
+-- What the plain step keeps: the order of the tuples, and the dependencies. And by how much it grows.
+use Rattle.std.proofs.Common.{◌≡◌, ℕ, ◌+◌, ◌≤◌, Bool, true, false, cond, not, List, [], ◌∷◌, Option, Some, None, length, refl, sym, ap, ◌∙◌, ◌⊎◌, inl, inr, subst, arith}
 use Rattle.std.specs.List.{list_any, filter, slice_get}
+use Rattle.std.specs.Ordering.{match_ordering}
+use Rattle.std.specs.declared.cmp.Ordering.{Ordering}
+use Rattle.std.specs.declared.cmp.Ordering.TheVariants.{Less, Equal, Greater}
 use Rattle.rc_tuple.specs.RisingSet.{In, IsRising, put}
 use Rattle.rc_tuple.specs.RisingSetLaws.{in_put, rising_put, rising_filter, in_filter}
 use Rattle.rc_tuple.specs.Tuple.{Pairs, agree_on, matches, tuple_cmp, tuple_eq}
@@ -112,3 +115,45 @@ each_after P Remove pattern deps args r f h u m = h u (in_after_remove pattern d
 -- the plain step of a call whose operation is known
 pub plain-known : (spec : Spec) (r : List Pairs) (call : Call) (op : Op) → slice_get spec.ops call.op ≡ Some op → plain spec r call ≡ plain_by op.kind op.pattern spec.deps call.args r
 plain-known spec r call op e = ap (λ o. plain_at o spec.deps call.args r) e
+
+-- ---- the number of tuples
+
+length_filter : {A : Type 0} (q : A → Bool) (xs : List A) → length (filter q xs) ≤ length xs
+length_filter q [] = omega arith
+length_filter q (x ∷ xs) = go (q x) (length_filter q xs)
+  where
+    go : (b : Bool) → length (filter q xs) ≤ length xs → length (cond b (x ∷ filter q xs) (filter q xs)) ≤ length (x ∷ xs)
+    go true h = omega (arith, h)
+    go false h = omega (arith, h)
+
+length_put : {A : Type 0} (R : A → A → Ordering) (x : A) (xs : List A) → length (put R x xs) ≤ length xs + 1
+length_put R x [] = omega arith
+length_put R x (y ∷ ys) = go (R x y) (length_put R x ys)
+  where
+    go : (o : Ordering) → length (put R x ys) ≤ length ys + 1 → length (match_ordering o (x ∷ (y ∷ ys)) (y ∷ ys) (y ∷ put R x ys)) ≤ length (y ∷ ys) + 1
+    go Less h = omega arith
+    go Equal h = omega arith
+    go Greater h = omega (arith, h)
+
+inserted_grows : (b : Bool) (broken : Option ℕ) (t : Pairs) (r : List Pairs)
+    → length (cond b (let o : Outcome = record { reply = Present; relation = r } in o) (inserted_unless broken (put tuple_cmp t r) r)).relation ≤ length r + 1
+inserted_grows true broken t r = omega arith
+inserted_grows false None t r = length_put tuple_cmp t r
+inserted_grows false (Some n) t r = omega arith
+
+removed_grows : (found r : List Pairs) → length (removed_first found r).relation ≤ length r + 1
+removed_grows [] r = omega arith
+removed_grows (t ∷ ts) r = let h : length (filter (λ u. not (tuple_eq u t)) r) ≤ length r = length_filter (λ u. not (tuple_eq u t)) r in omega (arith, h)
+
+grows_after : (kind : OpKind) (pattern : List ℕ) (deps : List Dep) (args : Pairs) (r : List Pairs) → length (plain_by kind pattern deps args r).relation ≤ length r + 1
+grows_after (Query outs) pattern deps args r = omega arith
+grows_after Insert pattern deps args r = inserted_grows (list_any (agree_on pattern args) r) (first_broken_dependency 1 deps (put tuple_cmp args r)) args r
+grows_after Remove pattern deps args r = removed_grows (filter (matches args) r) r
+
+grows_at : (op : Option Op) (deps : List Dep) (args : Pairs) (r : List Pairs) → length (plain_at op deps args r).relation ≤ length r + 1
+grows_at (Some op) deps args r = grows_after op.kind op.pattern deps args r
+grows_at None deps args r = omega arith
+
+-- a call adds at most one tuple
+pub plain_grows : (spec : Spec) (r : List Pairs) (call : Call) → length (plain spec r call).relation ≤ length r + 1
+plain_grows spec r call = grows_at (slice_get spec.ops call.op) spec.deps call.args r

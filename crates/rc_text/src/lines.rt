@@ -18,7 +18,7 @@ pub struct Line<'a> {
 }
 
 /// How long the first line is, with its line feed.
-fn first_line_length(text: &[u8]) -> usize
+pub fn first_line_length(text: &[u8]) -> usize
     requires { 0 < length text.now }
     ensures within { (0 < result) × (result ≤ length text.now) }
     ensures first { lines_of text.now ≡ take result text.now ∷ lines_of (drop result text.now) }

@@ -2,11 +2,14 @@
 use Rattle.std.specs.Prelude.{◌≡◌, ◌+◌, ◌<◌, length, Bool, true, false, List, [], ◌∷◌, ◌++◌, ◌⊎◌, filter, map, cond}
 use Rattle.std.specs.declared.cmp.Ordering.{Ordering}
 use Rattle.std.specs.declared.cmp.Ordering.TheVariants.{Less, Equal, Greater}
-use Rattle.std.specs.Ordering.{ordering_reverse, match_ordering, nat_cmp}
-use Rattle.std.specs.Cmp.{IsTotalOrder}
+use Rattle.std.specs.Ordering.{eq_by_cmp, ordering_reverse, is_eq, match_ordering, nat_cmp}
+use Rattle.std.specs.Cmp.{IsEquivalence, IsTotalOrder, eq_by_cmp_equiv}
 use Rattle.std.specs.Cmp.Lexicographic.{slice_cmp}
-use Rattle.std.proofs.Common.{ℕ, Some, None, zero, suc, arith, take, drop, get_or, inl, inr, refl, sym, ap, subst, ◌∙◌, ◌==◌}
-use Rattle.std.specs.List.{flat_map, list_all, slice_get, AllByRecursion}
+use Rattle.std.proofs.Common.{ℕ, Some, None, IsPermutation, IsSorted, Contains, zero, suc, arith, take, drop, get_or, inl, inr, refl, sym, ap, subst, ◌∙◌, ◌==◌}
+use Rattle.std.specs.List.{dedup, flat_map, list_all, slice_get, AllByRecursion}
+use Rattle.std.specs.List.Sorted.{IsStrictlySortedBy}
+use Rattle.std.proofs.lemmas.List.Kept.{Contains-dedup, Contains-from_dedup, IsStrictlySortedBy-dedup}
+use Rattle.std.proofs.lemmas.List.Sorted.{Contains-permutation, IsPermutation-sym}
 use Rattle.std.proofs.lemmas.Option.{get_or_from_slice_get, slice_get_within}
 use Rattle.std.proofs.lemmas.Bool.{false≢true, and_parts, and_from, or_cases, or_left, or_right, eqb-true, eq-eqb}
 use Rattle.std.proofs.lemmas.List.{drop_more, take_more, append_assoc}
@@ -332,6 +335,37 @@ module _ {A : Type 0} (R : A → A → Ordering) (o : IsOrder R) where
       (λ _ h. let l = rising_places R xs i j x x r e f h in absurd (not_below_itself R o x x l l))
       (λ _ h. h)
       (λ _ h. let l = rising_places R xs j i x x r f e h in absurd (not_below_itself R o x x l l))
+
+-- ---- what a sort leaves
+
+pub is_eq_equal : (a : Ordering) → is_eq a ≡ true → a ≡ Equal
+is_eq_equal Less e = cc
+is_eq_equal Equal e = refl
+is_eq_equal Greater e = cc
+
+pub contains_in : {A : Type 0} (x : A) (xs : List A) → Contains xs x → In x xs
+contains_in x xs h = subst (λ y. In y xs) h.2 (get_or_in xs h.0 x h.1)
+
+pub in_contains : {A : Type 0} (x : A) (xs : List A) → In x xs → Contains xs x
+in_contains x xs m = let w = in_slice_get x xs m in (w.0, slice_get_within xs w.0 x w.1, get_or_from_slice_get xs w.0 x x w.1)
+
+pub rising_from_sorted : {A : Type 0} (R : A → A → Ordering) (xs : List A) → IsStrictlySortedBy R xs → IsRising R xs
+unfolding IsStrictlySortedBy
+rising_from_sorted R [] h = tt
+rising_from_sorted R (x ∷ xs) h = (each_in (λ y. R x y ≡ Less) xs h.0, rising_from_sorted R xs h.1)
+
+module _ {A : Type 0} (R : A → A → Ordering) (o : IsOrder R) (E : A → A → Bool) (ties : (x y : A) → E x y ≡ eq_by_cmp R x y) where
+  same_element : (x y : A) → E x y ≡ true → x ≡ y
+  same_element x y e = o.ties x y (is_eq_equal (R x y) (sym (ties x y) ∙ e))
+
+  -- sorted elements of which each is kept once
+  pub kept_once : (xs sorted : List A) → IsPermutation xs sorted → IsSorted R sorted → dedup E sorted ≡ gather R xs
+  kept_once xs sorted moved rises =
+      same_rising R o (dedup E sorted) (gather R xs)
+      (rising_from_sorted R (dedup E sorted) (IsStrictlySortedBy-dedup o.total ties sorted rises))
+      (rising_gather R o xs)
+      (λ x m. gather_in R o x xs (contains_in x xs (Contains-permutation sorted xs x (IsPermutation-sym xs sorted moved) (Contains-from_dedup E sorted x (in_contains x (dedup E sorted) m)))))
+      (λ x m. contains_in x (dedup E sorted) (Contains-dedup (subst IsEquivalence (λ i x y. sym (ties x y) i) (eq_by_cmp_equiv o.total)) same_element sorted x (Contains-permutation xs sorted x moved (in_contains x xs (in_gather R o x xs m)))))
 
 -- ---- lists of numbers
 

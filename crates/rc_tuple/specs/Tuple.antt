@@ -75,6 +75,10 @@ merge t u = gather pair_cmp (t ++ u)
 abbrev pub merged : Pairs → Pairs → Option Pairs
 merged t u = if agrees t u then Some (merge t u) else None
 
+-- the merges of a tuple with those that agree with it
+abbrev pub merges_of : Pairs → List Pairs → List Pairs
+merges_of t us = map (merge t) (filter (agrees t) us)
+
 -- the tuple that gives each of the columns the value beside it
 abbrev pub tuple_of : List ℕ → List ℕ → Pairs
 tuple_of cols vals = gather pair_cmp (zip cols vals)

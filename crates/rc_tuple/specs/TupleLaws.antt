@@ -12,7 +12,7 @@ use Rattle.std.proofs.lemmas.Cmp.{nat_cmp_total, then_total, on_total, lists_tot
 use Rattle.rc_tuple.specs.RisingSet.{In, IsRising, AreDistinct, put, gather}
 use Rattle.rc_tuple.specs.ColSet.{has, Within, IsColSet}
 use Rattle.rc_tuple.specs.Tuple.{Pairs, IsTuple, cols_of, project, agrees, pair_cmp, tuple_cmp, tuple_eq, agree_on, matches, has_pair, same_at, merge, tuple_of}
-use Rattle.rc_tuple.specs.RisingSetLaws.{IsOrder, rising_gather, in_gather, gather_in, gather-rising, gather_more, same_rising, not_below_itself, in_filter, filter_in, filter-filter, rising_filter, in_map, map_in, in_append, append_in_left, append_in_right, nat_order, in_has, has_in, same_bool, list_all_in, in_list_all}
+use Rattle.rc_tuple.specs.RisingSetLaws.{IsOrder, is_eq_equal, rising_gather, in_gather, gather_in, gather-rising, gather_more, same_rising, not_below_itself, in_filter, filter_in, filter-filter, rising_filter, in_map, map_in, in_append, append_in_left, append_in_right, nat_order, in_has, has_in, same_bool, list_all_in, in_list_all}
 
 -- the orders
 
@@ -124,11 +124,6 @@ one_pair (x ∷ t) r p q (inr m) (inl b) e = absurd (below_its_column x t r p m 
 one_pair (x ∷ t) r p q (inr m) (inr n) e = one_pair t r.1 p q m n e
 
 -- ---- equality of tuples as a test
-
-is_eq_equal : (a : Ordering) → is_eq a ≡ true → a ≡ Equal
-is_eq_equal Less e = cc
-is_eq_equal Equal e = refl
-is_eq_equal Greater e = cc
 
 itself : (t : Pairs) → tuple_cmp t t ≡ Equal
 itself [] = refl
@@ -377,6 +372,33 @@ cols_of-tuple_of cols vals d e =
     let n : In c (cols_of (zip cols vals)) = subst (In c) (sym (cols_of-zip cols vals e)) (in_gather nat_cmp nat_order c cols m) in
     let w = in_map (λ (p : ℕ × ℕ). p.0) c (zip cols vals) n in
     subst (λ k. In k (cols_of (tuple_of cols vals))) (sym w.2) (map_in (λ (p : ℕ × ℕ). p.0) w.0 (tuple_of cols vals) (gather_in pair_cmp pair_order w.0 (zip cols vals) w.1)))
+
+-- ---- the columns of a projection
+
+pub fewer_cols : (xs : List ℕ) (t : Pairs) (c : ℕ) → In c (cols_of (project xs t)) → In c (cols_of t)
+fewer_cols xs t c m =
+    let p : (p : ℕ × ℕ) × In p (project xs t) × (c ≡ p.0) = in_map (λ (q : ℕ × ℕ). q.0) c (project xs t) m in
+    subst (λ z. In z (cols_of t)) (sym p.2) (map_in (λ (q : ℕ × ℕ). q.0) p.0 t (in_project xs p.0 t p.1).0)
+
+rising_with : (xs : List ℕ) (p : ℕ × ℕ) (t : Pairs) (b : Bool) → ((c : ℕ) → In c (cols_of t) → nat_cmp p.0 c ≡ Less) → IsRising nat_cmp (cols_of (project xs t))
+    → IsRising nat_cmp (cols_of (cond b (p ∷ project xs t) (project xs t)))
+rising_with xs p t true h ih = ((λ c m. h c (fewer_cols xs t c m)), ih)
+rising_with xs p t false h ih = ih
+
+pub rising_cols-project : (xs : List ℕ) (t : Pairs) → IsRising nat_cmp (cols_of t) → IsRising nat_cmp (cols_of (project xs t))
+rising_cols-project xs [] h = tt
+rising_cols-project xs (p ∷ t) h = rising_with xs p t (has xs p.0) h.0 (rising_cols-project xs t h.1)
+
+-- the columns of a projection on columns of the tuple
+pub cols-project : (columns xs : List ℕ) (t : Pairs) → IsRising nat_cmp columns → IsRising nat_cmp xs → Within xs columns → cols_of t ≡ columns → cols_of (project xs t) ≡ xs
+cols-project columns xs t r s w over =
+    same_rising nat_cmp nat_order (cols_of (project xs t)) xs (rising_cols-project xs t (subst (IsRising nat_cmp) (sym over) r)) s
+    (λ c m.
+    let p : (p : ℕ × ℕ) × In p (project xs t) × (c ≡ p.0) = in_map (λ (q : ℕ × ℕ). q.0) c (project xs t) m in
+    subst (λ z. In z xs) (sym p.2) (in_project xs p.0 t p.1).1)
+    (λ c m.
+    let p : (p : ℕ × ℕ) × In p t × (c ≡ p.0) = in_map (λ (q : ℕ × ℕ). q.0) c t (subst (In c) (sym over) (w c m)) in
+    subst (λ z. In z (cols_of (project xs t))) (sym p.2) (map_in (λ (q : ℕ × ℕ). q.0) p.0 (project xs t) (project_in xs p.0 t p.1 (subst (λ z. In z xs) p.2 m))))
 
 -- ---- agreement on several sets
 

@@ -1,5 +1,5 @@
 // Column sets and tuples by example. Tuples are of a graph: column 0 is an edge's source, 1 its target, 2 its weight.
-use crate::{ColSet, Cols, Dep, Memory, SmallList, Tuple, Tuples, Vals};
+use crate::{ColSet, Cols, Dep, Memory, SmallList, Tuple, Tuples, Vals, distinct};
 use std::alloc::{AllocError, Global};
 use std::cmp::Ordering;
 use std::process::Abort;
@@ -161,6 +161,20 @@ fn keeps_lists(rt: HostRuntime) -> Result<(), Fail> {
     let first = tuples.list().first().ok_or("the tuple")?;
     assert_eq!(rt; first.pairs(), [(0, 1), (1, 2), (2, 10)].as_slice());
     assert!(rt; Memory::from(AllocError) == Memory);
+    Ok(())
+}
+
+#[test]
+fn sorts_tuples_and_keeps_each_once(rt: HostRuntime) -> Result<(), Fail> {
+    let alloc = rt.alloc();
+    let mut tuples = Vec::new(alloc);
+    for weight in [10, 2, 10] {
+        tuples.push(edge(&rt, alloc, &[1, 2, weight])?)?;
+    }
+    let tuples = Tuples::from_vec(distinct(tuples));
+    assert_eq!(rt; tuples.list().len(), 2);
+    let first = tuples.list().first().ok_or("the tuple")?;
+    assert_eq!(rt; first.pairs(), [(0, 1), (1, 2), (2, 2)].as_slice());
     Ok(())
 }
 

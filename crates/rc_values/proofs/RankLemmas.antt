@@ -1,41 +1,17 @@
 -- What a sort with a dedup, and a binary search, tell of texts.
-use Rattle.std.proofs.Common.{◌≡◌, ℕ, ◌+◌, ◌<◌, Bool, true, false, nat_lt, List, [], ◌∷◌, Result, Ok, Err, Some, length, get_or, bytes_eq, arith, IsPermutation, IsSorted, Contains, refl, sym, ap, subst, ◌∙◌}
-use Rattle.std.specs.List.{dedup}
-use Rattle.std.specs.List.Sorted.{IsStrictlySortedBy, IsSortedBy, IsBinarySearchResult, IsSearchInRange, IsPartitionPoint}
+use Rattle.std.proofs.Common.{◌≡◌, ℕ, ◌+◌, ◌<◌, Bool, true, false, nat_lt, List, Result, Ok, Err, Some, length, get_or, arith, refl, sym, ap, ◌∙◌}
+use Rattle.std.specs.List.Sorted.{IsSortedBy, IsBinarySearchResult, IsSearchInRange, IsPartitionPoint}
 use Rattle.std.specs.Ordering.{is_lt, ordering_reverse}
 use Rattle.std.specs.Result.{result_ok}
-use Rattle.std.specs.declared.cmp.Ordering.{Ordering}
 use Rattle.std.specs.declared.cmp.Ordering.TheVariants.{Less, Equal, Greater}
 use Rattle.std.proofs.lemmas.Bool.{ltb-true, ltb-false}
-use Rattle.std.proofs.lemmas.Cmp.{nat_list_cmp_total, nat_list_eq_equiv, tied_itself}
-use Rattle.std.specs.Cmp.Lexicographic.{texts_ties, same_text}
-use Rattle.std.proofs.lemmas.List.Kept.{Contains-dedup, Contains-from_dedup, IsStrictlySortedBy-dedup}
-use Rattle.std.proofs.lemmas.List.Sorted.{Contains-permutation, IsPermutation-sym, searchable_from_sorted}
+use Rattle.std.proofs.lemmas.Cmp.{nat_list_cmp_total, tied_itself}
+use Rattle.std.proofs.lemmas.List.Sorted.{searchable_from_sorted}
 use Rattle.std.proofs.lemmas.Option.{slice_get-get_or, slice_get_within, get_or_from_slice_get}
 use Rattle.rc_tuple.specs.RisingSet.{In, IsRising}
-use Rattle.rc_tuple.specs.RisingSetLaws.{same_rising, get_or_in, in_gather, gather_in, each_in, in_slice_get, rising_places, number_lists_order}
-use Rattle.rc_values.specs.Ranks.{text_cmp, texts_of, rank_of}
-use Rattle.rc_values.specs.RanksLaws.{rising_texts_of, rank_of-slice_get, rank_of-not_in}
-
-contains_in : {A : Type 0} (x : A) (xs : List A) → Contains xs x → In x xs
-contains_in x xs h = subst (λ y. In y xs) h.2 (get_or_in xs h.0 x h.1)
-
-in_contains : {A : Type 0} (x : A) (xs : List A) → In x xs → Contains xs x
-in_contains x xs m = let w = in_slice_get x xs m in (w.0, slice_get_within xs w.0 x w.1, get_or_from_slice_get xs w.0 x x w.1)
-
-rising_from_sorted : {A : Type 0} (R : A → A → Ordering) (xs : List A) → IsStrictlySortedBy R xs → IsRising R xs
-unfolding IsStrictlySortedBy
-rising_from_sorted R [] h = tt
-rising_from_sorted R (x ∷ xs) h = (each_in (λ y. R x y ≡ Less) xs h.0, rising_from_sorted R xs h.1)
-
--- sorted texts of which each is kept once
-pub kept_once : (texts sorted : List (List ℕ)) → IsPermutation texts sorted → IsSorted text_cmp sorted → dedup bytes_eq sorted ≡ texts_of texts
-kept_once texts sorted moved rises =
-    same_rising text_cmp number_lists_order (dedup bytes_eq sorted) (texts_of texts)
-    (rising_from_sorted text_cmp (dedup bytes_eq sorted) (IsStrictlySortedBy-dedup nat_list_cmp_total texts_ties sorted rises))
-    (rising_texts_of texts)
-    (λ t m. gather_in text_cmp number_lists_order t texts (contains_in t texts (Contains-permutation sorted texts t (IsPermutation-sym texts sorted moved) (Contains-from_dedup bytes_eq sorted t (in_contains t (dedup bytes_eq sorted) m)))))
-    (λ t m. contains_in t (dedup bytes_eq sorted) (Contains-dedup nat_list_eq_equiv (λ x y e. same_text x y (sym e)) sorted t (Contains-permutation texts sorted t moved (in_contains t texts (in_gather text_cmp number_lists_order t texts m)))))
+use Rattle.rc_tuple.specs.RisingSetLaws.{in_slice_get, rising_places, number_lists_order}
+use Rattle.rc_values.specs.Ranks.{text_cmp, rank_of}
+use Rattle.rc_values.specs.RanksLaws.{rank_of-slice_get, rank_of-not_in}
 
 sorted_from_rising : (texts : List (List ℕ)) → IsRising text_cmp texts → IsSortedBy (λ t u. is_lt (text_cmp t u)) texts
 sorted_from_rising texts r k d low h =

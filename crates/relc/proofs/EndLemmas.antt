@@ -56,7 +56,7 @@ ends_wider A B old new (Err Sink) wider (text, status, is, part) = (text, status
 
 written_work : (spec : Spec) (reading : Result Work Broken) (text : List ℕ) (status : Status) → AnswersWork spec reading text status → IsWritten status
 written_work spec (Err broken) text status is = inr is.1
-written_work spec (Ok work) text status (history, runs, single, printed, done) = inl done
+written_work spec (Ok work) text status is = inl is.done
 
 written_rules : (spec : Spec) (IfAccepted : List ℕ → Status → Type 0) (text : List ℕ) (status : Status) → (IfAccepted text status → IsWritten status)
     → AnswersRules spec IfAccepted text status → IsWritten status
@@ -131,7 +131,7 @@ long_ends command input bytes told left old new r is_told taken beyond writes =
 
 refused_work : (reading : Result Work Broken) (spec : Spec) (text : List ℕ) → IsGoodWork reading → AnswersWork spec reading text Refused → ⊥
 refused_work (Err broken) spec text good is = absurd good
-refused_work (Ok work) spec text good (history, runs, single, printed, done) = cc
+refused_work (Ok work) spec text good is = let e : Refused ≡ Done = is.done in cc
 
 refused_rules : (spec : Spec) (IfAccepted : List ℕ → Status → Type 0) (text : List ℕ) → IsAccepted spec → (IfAccepted text Refused → ⊥) → AnswersRules spec IfAccepted text Refused → ⊥
 refused_rules spec IfAccepted text good other (inl (accepted, is)) = other is

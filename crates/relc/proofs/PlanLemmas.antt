@@ -1,5 +1,5 @@
 -- The plans of operations, written one after another.
-use Rattle.std.proofs.Common.{◌≡◌, ℕ, zero, suc, ◌+◌, ◌<◌, ◌≤◌, List, [], ◌∷◌, codes, length, take, Option, Some, Result, Ok, Err, inr, refl, sym, ap, ◌∙◌, subst, arith}
+use Rattle.std.proofs.Common.{◌≡◌, ℕ, zero, suc, ◌+◌, ◌<◌, ◌≤◌, List, [], ◌∷◌, ◌++◌, codes, length, take, Option, Some, Result, Ok, Err, inr, refl, sym, ap, ◌∙◌, subst, arith}
 use Rattle.std.specs.List.{flat_map, range_with_len, slice_get}
 use Rattle.std.specs.Result.{IsErr}
 use Rattle.std.proofs.lemmas.List.FromFn.{length-range_with_len}
@@ -14,7 +14,7 @@ use Rattle.rc_query.specs.Planned.{IsPlanned}
 use Rattle.rc_spec.specs.Placement.{op_at}
 use Rattle.relc.specs.Answers.{IsPlansText}
 use Rattle.relc.specs.Ends.{Writes, WritesPart, WritesWhole}
-use Rattle.relc.specs.Plans.{ArePlanned, op_text, plans_text, plans_and_end}
+use Rattle.relc.specs.Plans.{ArePlanned, op_text, plans_text}
 use Rattle.relc.specs.declared.status.Status.{Status}
 use Rattle.relc.specs.declared.status.Status.TheVariants.{Done}
 use Rattle.relc.specs.declared.status.Stop.{Stop}
@@ -75,31 +75,25 @@ made_planned accepted inside plans made view compiled same each = record {
   each = each;
 }
 
+-- ---- the plans, and then another text
+
+-- the line `end`
 abbrev pub end_line : List ℕ
 end_line = printed_lines (codes "end" ∷ [])
 
-pub plans_begun : (accepted : Spec) (made : PlannedSpec) (a b : Option (List ℕ)) → made.spec ≡ accepted → ArePlanned accepted made.plans
-    → AddsPrefix a (plans_text made.spec made.plans) b → WritesPart (IsPlansText accepted) a b
-plans_begun accepted made a b same planned part = (
-  plans_and_end accepted made.plans,
-  Done,
-  (made.plans, planned, refl, refl),
-  adds_prefix_longer a b (plans_text accepted made.plans) end_line (subst (λ (s : Spec). AddsPrefix a (plans_text s made.plans) b) same part),
-)
+-- what holds of the plans that a compiled specification keeps holds of the accepted one's
+pub of_accepted : (P : List ℕ → Type 0) (accepted : Spec) (made : PlannedSpec) → made.spec ≡ accepted → P (plans_text made.spec made.plans) → P (plans_text accepted made.plans)
+of_accepted P accepted made same h = subst (λ (s : Spec). P (plans_text s made.plans)) same h
 
-pub end_begun : (accepted : Spec) (made : PlannedSpec) (a b c : Option (List ℕ)) → made.spec ≡ accepted → ArePlanned accepted made.plans
-    → Adds a (plans_text made.spec made.plans) b → AddsPrefix b end_line c → WritesPart (IsPlansText accepted) a c
-end_begun accepted made a b c same planned first part = (
-  plans_and_end accepted made.plans,
-  Done,
-  (made.plans, planned, refl, refl),
-  adds_prefix_more a b c (plans_text accepted made.plans) end_line (subst (λ (s : Spec). Adds a (plans_text s made.plans) b) same first) part,
-)
+pub plans_begun : (A : List ℕ → Status → Type 0) (plans others : List ℕ) (a b : Option (List ℕ)) → A (plans ++ others) Done → AddsPrefix a plans b → WritesPart A a b
+plans_begun A plans others a b is part = (plans ++ others, Done, is, adds_prefix_longer a b plans others part)
 
-pub end_written : (accepted : Spec) (made : PlannedSpec) (a b c : Option (List ℕ)) → made.spec ≡ accepted → ArePlanned accepted made.plans
-    → Adds a (plans_text made.spec made.plans) b → Adds b end_line c → WritesWhole (IsPlansText accepted) a c Done
-end_written accepted made a b c same planned first more = (
-  plans_and_end accepted made.plans,
-  (made.plans, planned, refl, refl),
-  adds_more a b c (plans_text accepted made.plans) end_line (subst (λ (s : Spec). Adds a (plans_text s made.plans) b) same first) more,
-)
+pub others_begun : (A : List ℕ → Status → Type 0) (plans others : List ℕ) (a b c : Option (List ℕ)) → A (plans ++ others) Done → Adds a plans b → AddsPrefix b others c → WritesPart A a c
+others_begun A plans others a b c is first part = (plans ++ others, Done, is, adds_prefix_more a b c plans others first part)
+
+pub others_written : (A : List ℕ → Status → Type 0) (plans others : List ℕ) (a b c : Option (List ℕ)) → A (plans ++ others) Done → Adds a plans b → Adds b others c → WritesWhole A a c Done
+others_written A plans others a b c is first more = (plans ++ others, is, adds_more a b c plans others first more)
+
+-- the plans and `end` are the text of the plans
+pub is_plans_text : (accepted : Spec) (plans : List (List Statement)) → ArePlanned accepted plans → IsPlansText accepted (plans_text accepted plans ++ end_line) Done
+is_plans_text accepted plans planned = (plans, planned, refl, refl)

@@ -1,5 +1,5 @@
 -- What may be written for an input, with which status.
-use Rattle.std.specs.Prelude.{◌≡◌, ℕ, ◌+◌, ◌<◌, ◌≤◌, ◌^◌, ◌⊎◌, List, [], ◌∷◌, length, Result, Ok, Err, decimal, codes}
+use Rattle.std.specs.Prelude.{◌≡◌, ℕ, ◌+◌, ◌<◌, ◌≤◌, ◌^◌, ◌⊎◌, List, [], ◌∷◌, ◌++◌, length, Result, Ok, Err, decimal, codes}
 use Rattle.rc_text.specs.Lines.{TextPlace, printed_lines}
 use Rattle.rc_spec.specs.declared.refusal.Refusal.{Refusal}
 use Rattle.rc_spec.specs.declared.spec.Spec.{Spec}
@@ -15,7 +15,7 @@ use Rattle.rc_work.specs.Printed.{words_text}
 use Rattle.rc_work.specs.Ranking.{work_reading}
 use Rattle.rc_work.specs.Report.{report}
 use Rattle.rc_work.specs.Runs.{Runs, HasSingleSteps}
-use Rattle.relc.specs.Plans.{ArePlanned, plans_and_end}
+use Rattle.relc.specs.Plans.{ArePlanned, plans_and_end, plans_text}
 use Rattle.relc.specs.declared.command.Command.{Command}
 use Rattle.relc.specs.declared.command.Command.TheVariants.{Check, Plan, Run}
 use Rattle.relc.specs.declared.status.Status.{Status}
@@ -66,11 +66,19 @@ AnswersAlone OfAccepted (Ok spec) text status = AnswersRules spec (OfAccepted sp
 
 -- ---- run
 
--- the report of a run of the workload, and of the rows of its replay
-abbrev pub IsReport : Spec → Work → List ℕ → Status → Type 0
-IsReport spec work text status =
-    (history : List Entry) × Runs spec work history × HasSingleSteps history
-    × (text ≡ printed_lines (report spec work.ranks history (replay spec history))) × (status ≡ Done)
+-- the plans, and then the report of a history and of the rows of its replay
+abbrev pub plans_and_report : Spec → Work → List (List Statement) → List Entry → List ℕ
+plans_and_report spec work plans history = plans_text spec plans ++ printed_lines (report spec work.ranks history (replay spec history))
+
+-- the planned plan of each operation, and then the report of a run of the workload
+pub record IsReport (spec : Spec) (work : Work) (text : List ℕ) (status : Status) : Type 0 where
+  pub plans : List (List Statement)
+  pub planned : ArePlanned spec plans
+  pub history : List Entry
+  pub runs : Runs spec work history
+  pub single : HasSingleSteps history
+  pub printed : text ≡ plans_and_report spec work plans history
+  pub done : status ≡ Done
 
 -- where the workload begins: behind the specification's line `end`
 abbrev pub place_after : List ℕ → Reading → TextPlace
@@ -88,7 +96,7 @@ AnswersRun input (Ok reading) text status = AnswersRules reading.spec (AnswersWo
 
 -- What an input that is not too long may have written. `check` and `plan` read a specification alone: the refusal of its first
 -- broken line rule, then of its first broken rule of acceptance, else `accepted` or the plans. `run` reads a workload behind it,
--- and refuses by its line rules last; else it writes the report of a run.
+-- and refuses by its line rules last; else it writes the plans and the report of a run.
 abbrev pub Answers : Command → List ℕ → List ℕ → Status → Type 0
 Answers Check input text status = AnswersAlone (λ spec. IsAcceptedText) (spec_of input) text status
 Answers Plan input text status = AnswersAlone IsPlansText (spec_of input) text status

@@ -1,6 +1,7 @@
 // Which specifications are accepted, and for which rule the others are refused.
 use crate::status::Status;
-use crate::tests::{GRAPH, WHOLE, end_of};
+use crate::tests::{WHOLE, end_of};
+use crate::texts::GRAPH;
 use rc_tuple::Memory;
 use std::alloc::Global;
 use std::test::Fail;

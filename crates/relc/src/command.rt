@@ -16,7 +16,7 @@ pub enum Command {
     Check,
     /// Reads a specification alone, and prints the plans of its operations.
     Plan,
-    /// Reads a specification and a workload, makes the calls, and prints the journal.
+    /// Reads a specification and a workload, makes the calls, and prints the plans, the journal and the final relation.
     Run,
 }
 

@@ -20,6 +20,8 @@ mod running;
 mod status;
 #[cfg(test)]
 mod tests;
+#[cfg(test)]
+mod texts;
 mod top;
 #[cfg(test)]
 mod word_tests;

@@ -1,44 +1,53 @@
-//! Answers a text: reads it, tests its rules, plans its operations or makes its calls, and writes what the command asks
-//! or a refusal.
+//! Answers a text: reads it, tests its rules, plans its operations, makes its calls, and writes what the command asks or
+//! a refusal.
 
 ghost use Rattle.std.specs.Prelude.{◌≡◌, ◌≤◌, ◌^◌, length, IsErrOf};
 ghost use Rattle.rc_io.specs.Counts.{Rose};
 ghost use Rattle.rc_reader.specs.Grammar.{spec_of};
-ghost use Rattle.rc_spec.specs.InRange.{IsInRange};
 ghost use Rattle.rc_work.specs.Fitting.{RoundsFit, HasThreads};
+ghost use Rattle.rc_work.specs.Limits.{KeepsLimits};
 ghost use Rattle.relc.specs.Answers.{Answers, AnswersAlone, IsReport};
 ghost use Rattle.relc.specs.Asked.{IsAskedText};
 ghost use Rattle.relc.specs.Ends.{Writes};
 ghost use Rattle.relc.specs.declared.command.Command.TheVariants as commands;
 
 use crate::command::Command;
-use crate::planning::write_planned;
+use crate::planning::{write_planned, write_plans};
 use crate::refusing::{refuse, refuse_spec};
 use crate::running::run_work;
 use crate::status::{Status, Stop};
 use crate::writing::{write_accepted, write_report};
 use rc_io::Sink;
+use rc_mutate::compile;
 use rc_place::accept;
 use rc_reader::{read_spec, read_spec_only};
-use rc_spec::{Accepted, Spec};
+use rc_spec::Accepted;
 use rc_work::{Report, Work, read_work};
 use std::alloc::Global;
 
-/// Makes the calls of a workload, and writes the report.
-fn perform<K: Sink>(alloc: Global, sink: &mut K, spec: &Spec, work: &Work) -> Result<Status, Stop>
-    requires range { IsInRange spec.now }
-    requires fit { RoundsFit spec.now work.now.rounds }
+/// Makes the calls of a workload by the plans of their operations, and writes the plans and the report.
+fn perform<K: Sink>(
+    alloc: Global,
+    sink: &mut K,
+    accepted: Accepted,
+    work: &Work,
+) -> Result<Status, Stop>
+    requires fit { RoundsFit accepted work.now.rounds }
     requires threads { HasThreads work.now }
-    ensures written { Writes (IsReport spec.now work.now) (K.held sink.old) (K.held sink.new) result }
+    requires limits { KeepsLimits work.now }
+    ensures written { Writes (IsReport accepted work.now) (K.held sink.old) (K.held sink.new) result }
     ensures failed { IsErrOf result Stop.Sink → Rose (K.faults sink.old) (K.faults sink.new) }
     ensures count { K.faults sink.old ≤ K.faults sink.new }
 {
-    let ran = run_work(alloc, spec, work)?;
+    let compiled = compile(alloc, accepted)?;
+    let ran = run_work(alloc, &compiled, work)?;
+    let rows = ran.rows(alloc, compiled.accepted())?;
+    write_plans(alloc, sink, &compiled)?;
     let printed = Report {
-        spec,
+        spec: compiled.accepted().spec(),
         ranks: &work.ranks,
         entries: &ran.journal,
-        rows: ran.relation.rows(),
+        rows: rows.list(),
     };
     write_report(alloc, sink, &printed)?;
     Ok(Status::Done)
@@ -107,12 +116,11 @@ fn run<K: Sink>(alloc: Global, text: &[u8], sink: &mut K) -> Result<Status, Stop
         Ok(accepted) => accepted,
         Err(fault) => return refuse_spec(alloc, sink, fault),
     };
-    let spec = accepted.spec();
-    let work = match read_work(alloc, text, rest, spec) {
+    let work = match read_work(alloc, text, rest, accepted.spec()) {
         Ok(work) => work,
         Err(refusal) => return refuse(alloc, sink, refusal),
     };
-    perform(alloc, sink, spec, &work)
+    perform(alloc, sink, accepted, &work)
 }
 
 /// Answers a text of at most 2^24 bytes as the command asks.

@@ -1,113 +1,14 @@
 // The plans of the worked specifications, byte for byte, and what has none.
 use crate::check_tests::changed;
 use crate::status::Status;
-use crate::tests::{
-    EXAMPLE_GRAPH, EXAMPLE_SCHEDULER, EXAMPLE_SEATS, GRAPH, Streams, WHOLE, end_of,
+use crate::tests::{Streams, WHOLE, end_of};
+use crate::texts::{
+    EXAMPLE_GRAPH, EXAMPLE_SCHEDULER, EXAMPLE_SEATS, GRAPH, PLANS_GRAPH, PLANS_SCHEDULER,
+    PLANS_SEATS,
 };
 use rc_tuple::Memory;
 use std::alloc::Global;
 use std::test::Fail;
-
-const PLANS_GRAPH: &str = "plan ins
-lock k1 keyed
-lock k2 keyed
-probe src dst
-read e1 lookup
-read e2 lookup
-absent
-apply
-commit
-release k2
-release k1
-plan del
-lock k1 keyed
-read e1 lookup
-lock k2 keyed
-read e2 lookup
-read e3 scan
-apply
-commit
-release k2
-release k1
-plan succ
-lock k1 keyed
-read e1 lookup
-lock k2 keyed
-read e2 scan
-read e3 scan
-emit
-commit
-release k2
-release k1
-plan find
-lock k1 keyed
-read e1 lookup
-lock k2 keyed
-read e2 lookup
-read e3 scan
-emit
-commit
-release k2
-release k1
-end
-";
-
-const PLANS_SCHEDULER: &str = "plan spawn
-lock ka keyed
-lock kb keyed
-lock kc keyed
-probe ns pid
-read e1 lookup
-read e2 lookup
-absent
-apply
-commit
-release kc
-release kb
-release ka
-plan kill
-lock ka keyed
-read e1 lookup
-read e2 lookup
-lock kb keyed
-lock kc keyed
-read e5 scan
-apply
-commit
-release kc
-release kb
-release ka
-plan bystate
-lock kb keyed
-read e3 lookup
-read e4 scan
-emit
-commit
-release kb
-end
-";
-
-const PLANS_SEATS: &str = "plan add
-lock k1 keyed
-lock k2 keyed
-probe id
-read e1 lookup
-absent
-probe seat
-read e2 lookup
-check 2
-apply
-commit
-release k2
-release k1
-plan byseat
-lock k2 keyed
-read e2 lookup
-emit
-commit
-release k2
-end
-";
 
 /// What `plan` writes of a text, which it reads to its end.
 fn plan(alloc: Global, text: &str) -> Result<(Status, String), Fail> {
@@ -125,10 +26,11 @@ fn prints_the_plans(rt: HostRuntime) -> Result<(), Fail> {
         (EXAMPLE_SCHEDULER, PLANS_SCHEDULER),
         (EXAMPLE_SEATS, PLANS_SEATS),
     ];
+    let alloc = rt.alloc();
     for (text, plans) in examples {
         let (spec, _) = text.split_once("work ").unwrap_or(("", ""));
-        let (status, written) = plan(rt.alloc(), spec)?;
-        assert_eq!(rt; written.as_str(), plans);
+        let (status, written) = plan(alloc, spec)?;
+        assert_eq!(rt; written, format!(in alloc; "{plans}end\n")?);
         assert_eq!(rt; status, Status::Done);
     }
     Ok(())

@@ -1,110 +1,148 @@
-//! Makes the calls of a workload in turn, round by round, in the order of its text.
+//! Makes the calls of a workload by their plans, round by round, in the order of its text.
 
-ghost use Rattle.std.specs.Prelude.{◌≡◌, ◌++◌, [], ◌∷◌, length, IfOk, OnOk};
-ghost use Rattle.rc_spec.specs.Calls.{all_columns, Fits};
-ghost use Rattle.rc_spec.specs.InRange.{IsInRange};
+ghost use Rattle.std.specs.Prelude.{◌≡◌, ◌+◌, ◌<◌, ◌^◌, ◌++◌, List, [], ◌∷◌, length, IfOk, OnOk};
+ghost use Rattle.std.specs.List.{AllByRecursion};
+ghost use Rattle.rc_tuple.specs.Tuple.{Pairs};
+ghost use Rattle.rc_spec.specs.Calls.{Fits};
+ghost use Rattle.rc_spec.specs.Fragments.{represented_by};
 ghost use Rattle.rc_spec.specs.Plain.{plain};
-ghost use Rattle.rc_rel.specs.History.{AllFit, own, replay};
-ghost use Rattle.rc_rel.specs.Over.{AreOver};
+ghost use Rattle.rc_fragment.specs.Fragment.{edge_table};
+ghost use Rattle.rc_instance.specs.Instance.{IsOfOneRelation, IsOfRelation, held_from, rows_of, table_of};
+ghost use Rattle.rc_rel.specs.History.{AllFit};
 ghost use Rattle.rc_work.specs.Fitting.{TurnsFit, RoundsFit, HasThreads};
+ghost use Rattle.rc_work.specs.Limits.{KeepsLimits};
 ghost use Rattle.rc_work.specs.Runs.{Runs, HasSingleSteps};
-ghost use Rattle.relc.specs.InTurn.{made_entry, in_turn, after_turns, in_rounds, after_rounds};
+ghost use Rattle.relc.specs.InTurn.{made_entry, in_turn};
+ghost use Rattle.relc.specs.Running.{IsAfter, IsUpToDate};
 
-use rc_rel::{Entry, PlainRel, Step, Steps};
-use rc_spec::Spec;
-use rc_tuple::Memory;
-use rc_work::{Round, Turn, Work};
+use rc_instance::Instance;
+use rc_machine::{Stop, run_plan};
+use rc_plan::Compiled;
+use rc_rel::{Entry, Step, Steps};
+use rc_spec::{Accepted, Call, Reply};
+use rc_tuple::{Memory, Tuples};
+use rc_work::{Turn, Work};
 use std::alloc::Global;
 
-/// A journal and the relation after it.
+/// A journal, and the instance on which its calls are made.
 #[derive(Drop)]
 pub struct Ran {
     /// The entries in the order in which they were made.
     pub journal: Vec<Entry>,
-    /// The relation of the journal's replay.
-    pub relation: PlainRel,
+    /// The instance after the last entry.
+    pub instance: Instance,
+    /// How many entries each thread has, by its number.
+    counts: Vec<u64>,
 }
 
-/// How many entries of the pass there are.
-fn own_count(entries: &[Entry], pass: u32) -> u64
-    ensures { result ≡ length (own entries.now pass) }
+impl Ran {
+    /// The tuples that the instance represents, rising.
+    pub fn rows(&self, alloc: Global, accepted: &Accepted) -> Result<Tuples, Memory>
+        requires { table_of self.now.instance ≡ edge_table accepted.now }
+        ensures rows { IfOk result (λ rows. rows ≡ represented_by accepted.now (rows_of self.now.instance)) }
+        ensures relation { IfOk result (λ rows. (r : List Pairs) → held_from 0 self.now.instance ≡ [] → IsOfRelation accepted.now self.now.instance r → rows ≡ r) }
+    {
+        self.instance.represents(alloc, accepted)
+    }
+}
+
+/// Makes a call by its plan, and frees the stripes that it took. Where memory is wanted they stay held.
+fn make_call(
+    alloc: Global,
+    compiled: &Compiled,
+    call: &Call,
+    instance: &mut Instance,
+) -> Result<Reply, Memory>
+    requires fits { Fits compiled.now.spec call.now }
+    requires sound { IsOfOneRelation instance.old compiled.now.spec }
+    requires free { held_from 0 instance.old ≡ [] }
+    ensures reply { IfOk result (λ reply. (r : List Pairs) → IsOfRelation compiled.now.spec instance.old r → reply ≡ (plain compiled.now.spec r call.now).reply) }
+    ensures relation { OnOk result ((r : List Pairs) → length r + 1 < 2 ^ 63 → IsOfRelation compiled.now.spec instance.old r
+        → IsOfRelation compiled.now.spec instance.new (plain compiled.now.spec r call.now).relation) }
+    ensures free { OnOk result (held_from 0 instance.new ≡ []) }
 {
-    entries.iter().filter(|entry| entry.pass == pass).count() as u64
+    let reply = match run_plan(alloc, compiled, call, instance) {
+        Ok(reply) => reply,
+        Err(Stop::Memory) => return Err(Memory),
+        Err(Stop::Held(_)) => unreachable!(),
+    };
+    instance.release_all();
+    Ok(reply)
 }
 
 /// Makes the call of a turn, and enters it.
-fn make_turn(
-    alloc: Global,
-    spec: &Spec,
-    turn: &Turn,
-    relation: &mut PlainRel,
-    journal: &mut Vec<Entry>,
-) -> Result<(), Memory>
-    requires range { IsInRange spec.now }
-    requires fits { Fits spec.now turn.now.call }
-    requires over { AreOver (all_columns spec.now) relation.old }
-    ensures entered { OnOk result (journal.new.items ≡ journal.old.items ++ made_entry spec.now relation.old journal.old.items turn.now ∷ []) }
-    ensures relation { OnOk result (relation.new ≡ (plain spec.now relation.old turn.now.call).relation) }
-    ensures over { AreOver (all_columns spec.now) relation.new }
+fn make_turn(alloc: Global, compiled: &Compiled, turn: &Turn, ran: &mut Ran) -> Result<(), Memory>
+    requires fits { Fits compiled.now.spec turn.now.call }
+    requires known { turn.now.thread < length ran.old.counts.items }
+    requires few { length ran.old.journal.items + 1 < 2 ^ 63 }
+    requires ready { IsUpToDate compiled.now.spec ran.old }
+    ensures entered { OnOk result (ran.new.journal.items ≡ ran.old.journal.items ++ made_entry compiled.now.spec ran.old.journal.items turn.now ∷ []) }
+    ensures threads { OnOk result (length ran.new.counts.items ≡ length ran.old.counts.items) }
+    ensures ready { OnOk result (IsUpToDate compiled.now.spec ran.new) }
 {
     let call = turn.call.copy()?;
-    let reply = relation.run(spec, &turn.call)?;
+    let reply = make_call(alloc, compiled, &turn.call, &mut ran.instance)?;
     let mut steps = Steps::new(alloc);
     steps.push(Step { call, reply })?;
-    journal.push(Entry {
+    let nth = ran.counts[turn.thread as usize];
+    ran.journal.push(Entry {
         pass: turn.thread,
-        nth: own_count(journal, turn.thread),
+        nth,
         steps,
     })?;
+    ran.counts[turn.thread as usize] = nth + 1;
     Ok(())
 }
 
 /// Makes the turns of a round.
 fn make_round(
     alloc: Global,
-    spec: &Spec,
+    compiled: &Compiled,
     turns: &[Turn],
-    relation: &mut PlainRel,
-    journal: &mut Vec<Entry>,
+    ran: &mut Ran,
 ) -> Result<(), Memory>
-    requires range { IsInRange spec.now }
-    requires fit { TurnsFit spec.now turns.now }
-    requires over { AreOver (all_columns spec.now) relation.old }
-    ensures entered { OnOk result (journal.new.items ≡ in_turn spec.now relation.old journal.old.items turns.now) }
-    ensures relation { OnOk result (relation.new ≡ after_turns spec.now relation.old turns.now) }
-    ensures over { AreOver (all_columns spec.now) relation.new }
+    requires fit { TurnsFit compiled.now.spec turns.now }
+    requires known { AllByRecursion (λ t. t.thread < length ran.old.counts.items) turns.now }
+    requires few { length ran.old.journal.items + length turns.now < 2 ^ 63 }
+    requires ready { IsUpToDate compiled.now.spec ran.old }
+    ensures entered { OnOk result (ran.new.journal.items ≡ in_turn compiled.now.spec ran.old.journal.items turns.now) }
+    ensures count { OnOk result (length ran.new.journal.items ≡ length ran.old.journal.items + length turns.now) }
+    ensures threads { OnOk result (length ran.new.counts.items ≡ length ran.old.counts.items) }
+    ensures ready { OnOk result (IsUpToDate compiled.now.spec ran.new) }
 {
     for turn in turns {
-        make_turn(alloc, spec, turn, relation, journal)?;
+        make_turn(alloc, compiled, turn, ran)?;
     }
     Ok(())
 }
 
-/// Makes the rounds one after another.
-fn make_rounds(alloc: Global, spec: &Spec, rounds: &[Round]) -> Result<Ran, Memory>
-    requires range { IsInRange spec.now }
-    requires fit { RoundsFit spec.now rounds.now }
-    ensures journal { IfOk result (λ ran. ran.journal.items ≡ in_rounds spec.now [] [] rounds.now) }
-    ensures relation { IfOk result (λ ran. ran.relation ≡ after_rounds spec.now [] rounds.now) }
+/// Nothing made yet, by so many threads: the instance has no tuple.
+fn nothing_made(alloc: Global, compiled: &Compiled, threads: u32) -> Result<Ran, Memory>
+    ensures journal { IfOk result (λ ran. ran.journal.items ≡ []) }
+    ensures threads { IfOk result (λ ran. length ran.counts.items ≡ threads) }
+    ensures ready { IfOk result (IsUpToDate compiled.now.spec) }
 {
-    let mut journal = Vec::new(alloc);
-    let mut relation = PlainRel::empty(alloc);
-    for round in rounds {
-        make_round(alloc, spec, round.list(), &mut relation, &mut journal)?;
-    }
-    Ok(Ran { journal, relation })
+    Ok(Ran {
+        journal: Vec::new(alloc),
+        instance: Instance::empty(alloc, compiled.accepted())?,
+        counts: vec![in alloc; 0; threads as usize]?,
+    })
 }
 
-/// Makes all calls of a workload: the journal is a run of the workload, and the relation is that of its
-/// replay.
-pub fn run_work(alloc: Global, spec: &Spec, work: &Work) -> Result<Ran, Memory>
-    requires range { IsInRange spec.now }
-    requires fit { RoundsFit spec.now work.now.rounds }
+/// Makes all calls of a workload, one round after another: the journal is a run of the workload, and the
+/// instance is of the relation of its replay.
+pub fn run_work(alloc: Global, compiled: &Compiled, work: &Work) -> Result<Ran, Memory>
+    requires fit { RoundsFit compiled.now.spec work.now.rounds }
     requires threads { HasThreads work.now }
-    ensures runs { IfOk result (λ ran. Runs spec.now work.now ran.journal.items) }
+    requires limits { KeepsLimits work.now }
+    ensures runs { IfOk result (λ ran. Runs compiled.now.spec work.now ran.journal.items) }
     ensures single { IfOk result (λ ran. HasSingleSteps ran.journal.items) }
-    ensures fit { IfOk result (λ ran. AllFit spec.now ran.journal.items) }
-    ensures rows { IfOk result (λ ran. ran.relation ≡ replay spec.now ran.journal.items) }
+    ensures fit { IfOk result (λ ran. AllFit compiled.now.spec ran.journal.items) }
+    ensures after { IfOk result (λ ran. IsAfter compiled.now.spec ran.journal.items ran.instance) }
 {
-    make_rounds(alloc, spec, work.rounds.list())
+    let mut ran = nothing_made(alloc, compiled, work.threads)?;
+    for round in work.rounds.list() {
+        make_round(alloc, compiled, round.list(), &mut ran)?;
+    }
+    Ok(ran)
 }

@@ -1,184 +1,17 @@
-// The worked rows, the three texts of the folder of examples, and streams that fail.
+// Runs of the worked rows and of the three texts of the folder of examples, and streams that fail.
 ghost use Rattle.std.specs.Prelude.{◌≤◌};
 
+use crate::check_tests::changed;
 use crate::status::Status;
+use crate::texts::{
+    EXAMPLE_GRAPH, EXAMPLE_SCHEDULER, EXAMPLE_SEATS, GRAPH, PLANS_GRAPH, PLANS_SCHEDULER,
+    PLANS_SEATS, REPORT_GRAPH, REPORT_SCHEDULER, REPORT_SEATS,
+};
 use crate::top::relc;
 use rc_io::{MemSink, MemSource, ReadFault, read_all};
 use rc_tuple::Memory;
 use std::alloc::Global;
 use std::test::Fail;
-
-pub(crate) const GRAPH: &str = "relc 1
-col src num
-col dst num
-col weight num
-fd src dst -> weight
-node root
-node u src
-node w src dst
-node z src dst weight
-edge e1 root u hash src
-edge e2 u w ordered dst
-edge e3 w z singleton weight
-lock k1 8 src
-lock k2 4 src
-place e1 k1
-place e2 k2
-place e3 k2
-op ins insert src dst
-op del remove src dst
-op succ query src -> dst weight
-op find query src dst -> weight
-end
-";
-
-pub(crate) const EXAMPLE_GRAPH: &str =
-    "# A directed graph with weighted edges: at most one edge from src to dst.
-relc 1
-col src num
-col dst num
-col weight num
-fd src dst -> weight
-
-# The decomposition: first by source, then by target.
-node root
-node u src
-node w src dst
-node z src dst weight
-edge e1 root u hash src
-edge e2 u w ordered dst
-edge e3 w z singleton weight
-
-# Both lock classes are striped by the source.
-lock k1 8 src
-lock k2 4 src
-place e1 k1
-place e2 k2
-place e3 k2
-
-op ins insert src dst
-op del remove src dst
-op succ query src -> dst weight
-op find query src dst -> weight
-end
-
-work 1
-round
-0 ins 1 2 10
-0 ins 1 3 7
-0 ins 1 2 11
-0 succ 1
-0 find 1 3
-0 del 1 2
-0 del 1 2
-0 succ 1
-end
-";
-
-const REPORT_GRAPH: &str = "journal 8
-0 0 ins 1 2 10 -> inserted
-1 0 ins 1 3 7 -> inserted
-2 0 ins 1 2 11 -> present
-3 0 succ 1 -> 2 rows (2 10) (3 7)
-4 0 find 1 3 -> 1 rows (7)
-5 0 del 1 2 -> removed (1 2 10)
-6 0 del 1 2 -> absent
-7 0 succ 1 -> 1 rows (3 7)
-final 1
-(1 3 7)
-end
-";
-
-pub(crate) const EXAMPLE_SCHEDULER: &str =
-    "# The processes of a scheduler: each is known by its namespace and its number, and has a state and a processor.
-relc 1
-col ns num
-col pid num
-col state text
-col cpu num
-fd ns pid -> state cpu
-node root
-node y ns
-node t state
-node w ns pid state
-node z ns pid state cpu
-edge e1 root y hash ns
-edge e2 y w hash pid
-edge e3 root t hash state
-edge e4 t w list ns pid
-edge e5 w z singleton cpu
-lock ka 4 ns
-lock kb 4 state
-lock kc 4 ns pid
-place e1 ka
-place e2 ka
-place e3 kb
-place e4 kb
-place e5 kc
-op spawn insert ns pid
-op kill remove ns pid
-op bystate query state -> ns pid
-end
-work 1
-round
-0 spawn 1 10 \"run\" 0
-0 spawn 1 11 \"sleep\" 1
-0 bystate \"run\"
-0 kill 1 11
-0 kill 1 11
-end
-";
-
-const REPORT_SCHEDULER: &str = "journal 5
-0 0 spawn 1 10 \"run\" 0 -> inserted
-1 0 spawn 1 11 \"sleep\" 1 -> inserted
-2 0 bystate \"run\" -> 1 rows (1 10)
-3 0 kill 1 11 -> removed (1 11 \"sleep\" 1)
-4 0 kill 1 11 -> absent
-final 1
-(1 10 \"run\" 0)
-end
-";
-
-pub(crate) const EXAMPLE_SEATS: &str =
-    "# A seat table: a guest has one name and one seat, and a seat has one guest.
-relc 1
-col id num
-col name num
-col seat num
-fd id -> name seat
-fd seat -> id
-node root
-node p id name seat
-node q id seat
-edge e1 root p hash id
-edge e2 root q hash seat
-lock k1 4 id
-lock k2 4 seat
-place e1 k1
-place e2 k2
-op add insert id
-op byseat query seat -> id
-end
-work 2
-round
-0 add 1 4 5
-1 add 2 6 5
-round
-1 byseat 5
-0 byseat 6
-end
-";
-
-const REPORT_SEATS: &str = "journal 4
-0 0 add 1 4 5 -> inserted
-1 1 add 2 6 5 -> conflict 2
-2 1 byseat 5 -> 1 rows (1)
-3 0 byseat 6 -> 0 rows
-final 1
-(1 4 5)
-end
-";
 
 const USAGE: &str = "usage: relc check, plan, run or big SEED N\n";
 
@@ -249,22 +82,24 @@ fn on_graph(alloc: Global, work: &str) -> Result<String, Memory> {
 
 #[test]
 fn runs_the_examples(rt: HostRuntime) -> Result<(), Fail> {
+    let alloc = rt.alloc();
     let examples = [
-        (EXAMPLE_GRAPH, REPORT_GRAPH),
-        (EXAMPLE_SCHEDULER, REPORT_SCHEDULER),
-        (EXAMPLE_SEATS, REPORT_SEATS),
+        (EXAMPLE_GRAPH, PLANS_GRAPH, REPORT_GRAPH),
+        (EXAMPLE_SCHEDULER, PLANS_SCHEDULER, REPORT_SCHEDULER),
+        (EXAMPLE_SEATS, PLANS_SEATS, REPORT_SEATS),
     ];
-    for (text, report) in examples {
-        let (status, written) = run(rt.alloc(), text)?;
-        assert_eq!(rt; written.as_str(), report);
+    for (text, plans, report) in examples {
+        let (status, written) = run(alloc, text)?;
+        assert_eq!(rt; written, format!(in alloc; "{plans}{report}")?);
         assert_eq!(rt; status, Status::Done);
     }
     Ok(())
 }
 
-// What workloads on the graph write.
+// What workloads on the graph write after its plans.
 #[test]
 fn runs_workloads_on_the_graph(rt: HostRuntime) -> Result<(), Fail> {
+    let alloc = rt.alloc();
     let rows = [
         (
             "work 1\nround\n0 ins 1 2 10\n0 succ 1\nend\n",
@@ -293,8 +128,8 @@ fn runs_workloads_on_the_graph(rt: HostRuntime) -> Result<(), Fail> {
         ("work 1\nend\n", "journal 0\nfinal 0\nend\n"),
     ];
     for (work, report) in rows {
-        let (status, written) = run(rt.alloc(), &on_graph(rt.alloc(), work)?)?;
-        assert_eq!(rt; written.as_str(), report);
+        let (status, written) = run(alloc, &on_graph(alloc, work)?)?;
+        assert_eq!(rt; written, format!(in alloc; "{PLANS_GRAPH}{report}")?);
         assert_eq!(rt; status, Status::Done);
     }
     Ok(())
@@ -372,15 +207,32 @@ fn bounds_the_input(rt: HostRuntime) -> Result<(), Fail> {
     Ok(())
 }
 
+// A class whose stripe isn't chosen by what is bound is locked whole, and the replies are the same.
+#[test]
+fn runs_over_all_stripes_of_a_class(rt: HostRuntime) -> Result<(), Fail> {
+    let alloc = rt.alloc();
+    let striped = [
+        ("lock k2 4 src", "lock k2 4 dst"),
+        ("ordered dst", "hash dst"),
+    ];
+    let text = changed(alloc, EXAMPLE_GRAPH, &striped)?;
+    let (status, written) = run(alloc, &text)?;
+    assert_eq!(rt; written.contains("lock k2 all\n"), true);
+    assert_eq!(rt; written.ends_with(REPORT_GRAPH), true);
+    assert_eq!(rt; status, Status::Done);
+    Ok(())
+}
+
 // The same text is answered however it comes in, with lines ended by CR and LF, with comments of any bytes, and with
 // no line feed at its end.
 #[test]
 fn reads_each_form_of_a_text(rt: HostRuntime) -> Result<(), Fail> {
     let alloc = rt.alloc();
+    let answer = format!(in alloc; "{PLANS_SEATS}{REPORT_SEATS}")?;
     for piece in [1, 7, 1_000_000] {
         let streams = Streams { piece, ..WHOLE };
         let end = end_of(alloc, &["relc", "run"], EXAMPLE_SEATS.as_bytes(), streams)?;
-        assert_eq!(rt; end.written.as_str(), REPORT_SEATS);
+        assert_eq!(rt; end.written, answer);
     }
     let mut returned = Vec::new(alloc);
     let mut commented = Vec::new(alloc);
@@ -394,7 +246,7 @@ fn reads_each_form_of_a_text(rt: HostRuntime) -> Result<(), Fail> {
     commented.pop();
     for text in [returned, commented] {
         let end = end_of(alloc, &["relc", "run"], &text, WHOLE)?;
-        assert_eq!(rt; end.written.as_str(), REPORT_SEATS);
+        assert_eq!(rt; end.written, answer);
         assert_eq!(rt; end.status, Status::Done);
     }
     Ok(())
@@ -404,24 +256,22 @@ fn reads_each_form_of_a_text(rt: HostRuntime) -> Result<(), Fail> {
 #[test]
 fn answers_failed_streams(rt: HostRuntime) -> Result<(), Fail> {
     let alloc = rt.alloc();
+    let text = on_graph(alloc, "work 1\nround\n0 ins 1 2 10\n0 succ 1\nend\n")?;
     let streams = Streams {
         piece: 100,
         failed_reads: &[2],
         ..WHOLE
     };
-    let end = end_of(alloc, &["relc", "run"], EXAMPLE_SEATS.as_bytes(), streams)?;
+    let end = end_of(alloc, &["relc", "run"], text.as_bytes(), streams)?;
     assert_eq!(rt; end.status, Status::SourceFailed);
     assert_eq!(rt; end.written.len(), 0);
     let streams = Streams {
         failed_writes: &[3],
         ..WHOLE
     };
-    let end = end_of(alloc, &["relc", "run"], EXAMPLE_SEATS.as_bytes(), streams)?;
+    let end = end_of(alloc, &["relc", "run"], text.as_bytes(), streams)?;
     assert_eq!(rt; end.status, Status::SinkFailed);
-    assert_eq!(rt;
-        end.written.as_str(),
-        "journal 4\n0 0 add 1 4 5 -> inserted\n"
-    );
+    assert_eq!(rt; end.written.as_str(), "plan ins\nlock k1 keyed\n");
     Ok(())
 }
 

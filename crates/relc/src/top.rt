@@ -22,9 +22,10 @@ const MAX_BYTES: u64 = 1 << 24;
 /// and each reads the source to its end, or until 2^24 + 1 bytes are taken.
 ///
 /// Over the bytes that the source tells to be left at entry, `check` writes `accepted` where the specification keeps
-/// all rules, `plan` the planned plan of each of its operations and then `end`, and `run` the report of a journal that is
-/// a run of the workload and of the rows of its replay. Where a rule is broken, each writes the refusal of the first, and
-/// of more than 2^24 bytes `refused size`. Other words write the usage line, and take nothing from the source.
+/// all rules, `plan` the planned plan of each of its operations and then `end`, and `run` the same plans and then the
+/// report of a journal that is a run of the workload and of the rows of its replay. Where a rule is broken, each writes
+/// the refusal of the first, and of more than 2^24 bytes `refused size`. Other words write the usage line, and take
+/// nothing from the source.
 ///
 /// The status is `Done` or `Refused` with the whole text, `Usage` with the usage line, `SourceFailed` with nothing
 /// written, `SinkFailed` with a prefix of such a text, and `OutOfMemory` with nothing or a prefix.

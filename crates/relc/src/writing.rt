@@ -1,16 +1,17 @@
 //! Writes lines to a sink, each with its line feed at a time.
 
-ghost use Rattle.std.specs.Prelude.{◌≡◌, ◌<◌, ◌≤◌, ◌∷◌, [], length, take, drop, OnOk, OnErr, IsErrOf};
+ghost use Rattle.std.specs.Prelude.{◌≡◌, ◌≤◌, ◌∷◌, [], OnOk, OnErr, IsErrOf};
 ghost use Rattle.rc_io.specs.Bytes.{Adds, AddsPrefix};
 ghost use Rattle.rc_io.specs.Counts.{Rose};
 ghost use Rattle.rc_rel.specs.History.{AllFit};
-ghost use Rattle.rc_text.specs.Lines.{lines_of, printed_lines};
+ghost use Rattle.rc_text.specs.Lines.{printed_lines};
 ghost use Rattle.rc_work.specs.Report.{report};
 ghost use Rattle.relc.specs.Answers.{IsAcceptedText};
 ghost use Rattle.relc.specs.Ends.{Writes};
 
 use crate::status::{Status, Stop};
 use rc_io::{Sink, write_all};
+use rc_text::first_line_length;
 use rc_work::Report;
 use std::alloc::Global;
 
@@ -26,20 +27,6 @@ pub(crate) fn write_line<K: Sink>(sink: &mut K, mut line: Vec<u8>) -> Result<(),
     }
     write_all(sink, &line)?;
     Ok(())
-}
-
-/// How long the first line of a text is, with its line feed.
-fn first_line_length(text: &[u8]) -> usize
-    requires { 0 < length text.now }
-    ensures within { (0 < result) × (result ≤ length text.now) }
-    ensures first { lines_of text.now ≡ take result text.now ∷ lines_of (drop result text.now) }
-{
-    for (place, byte) in text.iter().enumerate() {
-        if *byte == b'\n' {
-            return place + 1;
-        }
-    }
-    text.len()
 }
 
 /// Writes a text line by line.

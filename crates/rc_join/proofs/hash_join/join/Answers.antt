@@ -3,8 +3,8 @@ use Rattle.std.specs.List.{flat_map}
 use Rattle.std.proofs.lemmas.List.{take_all}
 use Rattle.rc_tuple.specs.RisingSet.{In, gather}
 use Rattle.rc_tuple.specs.ColSetLaws.{in_inter}
-use Rattle.rc_tuple.specs.Tuple.{tuple_cmp, project}
-use Rattle.rc_join.specs.Index.{found_at, merges_of}
+use Rattle.rc_tuple.specs.Tuple.{merges_of, tuple_cmp, project}
+use Rattle.rc_join.specs.Index.{found_at}
 use Rattle.rc_join.proofs.IndexLemmas.{joined}
 use Rattle.rc_join.proofs.hash_join.join.Goals as goal
 

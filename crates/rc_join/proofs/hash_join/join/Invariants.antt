@@ -1,7 +1,7 @@
 use Rattle.std.proofs.Common.{◌≡◌, take}
 use Rattle.std.specs.List.{flat_map}
-use Rattle.rc_tuple.specs.Tuple.{project}
-use Rattle.rc_join.specs.Index.{found_at, merges_of}
+use Rattle.rc_tuple.specs.Tuple.{merges_of, project}
+use Rattle.rc_join.specs.Index.{found_at}
 use Rattle.rc_join.proofs.hash_join.join.Given as goal
 
 abbrev pub invariant-loop-tuple : goal.invariant-loop-tuple

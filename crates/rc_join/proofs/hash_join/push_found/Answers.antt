@@ -1,8 +1,8 @@
 use Rattle.std.proofs.Common.{◌≡◌, ◌++◌, rules, sym, ap, subst, ◌∙◌, Some, None}
 use Rattle.std.specs.Prelude.{OnOk}
 use Rattle.std.proofs.lemmas.List.{append-nil}
-use Rattle.rc_tuple.specs.Tuple.{Pairs, project}
-use Rattle.rc_join.specs.Index.{Entries, found_at, merges_of, tuples_in, tuples_of}
+use Rattle.rc_tuple.specs.Tuple.{Pairs, merges_of, project}
+use Rattle.rc_join.specs.Index.{Entries, found_at, tuples_in, tuples_of}
 use Rattle.rc_join.proofs.IndexLemmas.{found}
 use Rattle.rc_join.proofs.hash_join.push_found.Goals as goal
 

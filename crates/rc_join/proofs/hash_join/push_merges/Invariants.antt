@@ -1,5 +1,6 @@
 use Rattle.std.proofs.Common.{◌≡◌, ◌++◌, drop}
-use Rattle.rc_join.specs.Index.{merges_of, tuples_of}
+use Rattle.rc_tuple.specs.Tuple.{merges_of}
+use Rattle.rc_join.specs.Index.{tuples_of}
 use Rattle.rc_join.proofs.hash_join.push_merges.Given as goal
 
 -- what was merged and what is left to merge is the whole

@@ -1,7 +1,7 @@
 use Rattle.std.proofs.Common.{ap, ◌∙◌}
 use Rattle.rc_tuple.specs.RisingSet.{put}
 use Rattle.rc_spec.specs.Plain.{row_cmp}
-use Rattle.rc_machine.specs.Rows.{rows_in}
+use Rattle.rc_spec.specs.Rows.{rows_in}
 use Rattle.rc_machine.proofs.RowLemmas.{row_more}
 use Rattle.rc_machine.proofs.emit.distinct_rows.Goals as goal
 

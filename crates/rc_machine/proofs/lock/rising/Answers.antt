@@ -1,5 +1,11 @@
-use Rattle.rc_machine.proofs.DistinctLemmas.{numbers_once}
+use Rattle.std.proofs.Common.{eqb, ◌∙◌}
+use Rattle.std.specs.Cmp.{unsigned_ties}
+use Rattle.std.specs.Ordering.{nat_cmp}
+use Rattle.std.proofs.lemmas.List.Filters.{dedup_is}
+use Rattle.rc_tuple.specs.RisingSetLaws.{kept_once, nat_order}
 use Rattle.rc_machine.proofs.lock.rising.Goals as goal
 
 pub returns : goal.returns
-returns c = numbers_once c.args.numbers.items c.sort_unstable.new.self.items c.dedup.new.self.items c.sort_unstable.ensures.permutation c.sort_unstable.ensures.sorted c.dedup.ensures.filtered
+returns c =
+    dedup_is _ _ _ c.dedup.ensures.filtered
+    ∙ kept_once nat_cmp nat_order eqb unsigned_ties c.args.numbers.items c.sort_unstable.new.self.items c.sort_unstable.ensures.permutation c.sort_unstable.ensures.sorted

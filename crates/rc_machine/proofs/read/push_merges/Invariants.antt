@@ -1,5 +1,5 @@
 use Rattle.std.proofs.Common.{◌≡◌, ◌++◌, drop}
-use Rattle.rc_machine.specs.Read.{merges_of}
+use Rattle.rc_tuple.specs.Tuple.{merges_of}
 use Rattle.rc_machine.proofs.read.push_merges.Given as goal
 
 -- what was merged and what is left to merge is the whole

@@ -1,11 +1,11 @@
 use Rattle.std.proofs.Common.{◌≡◌, ◌<◌, ◌++◌, length, subst, sym, ap, ◌∙◌, [], List}
-use Rattle.rc_tuple.specs.Tuple.{Pairs, project}
+use Rattle.rc_tuple.specs.Tuple.{Pairs, merges_of, project}
 use Rattle.rc_spec.specs.declared.items.Edge.{Edge}
 use Rattle.rc_spec.specs.Decomposition.{bound, edge_at}
 use Rattle.rc_spec.specs.DecompositionLaws.{edge_at_found}
 use Rattle.rc_fragment.specs.declared.shape.EdgeShape.{EdgeShape}
 use Rattle.rc_fragment.specs.Fragment.{HasScanned, HasShape, shape_of}
-use Rattle.rc_machine.specs.Read.{HasMerged, merges_of}
+use Rattle.rc_machine.specs.Read.{HasMerged}
 use Rattle.rc_machine.proofs.ReadLemmas.{from_known, on_ok, scanned, shape_in_table}
 use Rattle.rc_machine.proofs.read.push_scanned.Goals as goal
 

@@ -2,7 +2,7 @@ use Rattle.std.proofs.Common.{sym, ap, ◌∙◌}
 use Rattle.rc_tuple.specs.RisingSet.{put}
 use Rattle.rc_tuple.specs.Tuple.{matches}
 use Rattle.rc_spec.specs.Plain.{row_cmp}
-use Rattle.rc_rel.specs.Rows.{rows_in}
+use Rattle.rc_spec.specs.Rows.{rows_in}
 use Rattle.rc_rel.proofs.RowLemmas.{row_put, row_left}
 use Rattle.rc_rel.proofs.scan.matching_rows.Goals as goal
 use Rattle.rc_rel.proofs.scan.matching_rows.Goals.{then-matches+in_ok-pick+in_ok-put_row, else-matches}

@@ -1,8 +1,8 @@
 use Rattle.std.proofs.Common.{ap, ◌∙◌, map}
 use Rattle.rc_tuple.specs.RisingSet.{put}
 use Rattle.rc_spec.specs.Plain.{row_cmp}
-use Rattle.rc_rel.specs.Rows.{rows_in}
-use Rattle.rc_rel.proofs.RowLemmas.{rows_in-insert}
+use Rattle.rc_spec.specs.Rows.{rows_in}
+use Rattle.rc_spec.specs.RowsLaws.{rows_in-insert}
 use Rattle.rc_rel.proofs.scan.put_row.Goals as goal
 
 pub returns : goal.returns

@@ -1,24 +1,37 @@
 use Rattle.std.proofs.Common.{◌≡◌, sym, ap, subst, ◌∙◌}
-use Rattle.std.specs.Prelude.{List}
+use Rattle.std.specs.Prelude.{List, Option}
+use Rattle.rc_tuple.specs.RisingSet.{In}
 use Rattle.rc_spec.specs.Acceptance.{IsSealed}
 use Rattle.rc_spec.specs.Fragments.{represented_by}
+use Rattle.rc_spec.specs.declared.lock.Mode.{Mode}
 use Rattle.rc_fragment.specs.Fragment.{edge_table}
-use Rattle.rc_instance.specs.Instance.{IsInstance, IsOfRelation, held_from, rows_of, table_of}
+use Rattle.rc_fragment.specs.FragmentRows.{FragmentRows}
+use Rattle.rc_instance.specs.Instance.{IsOfRelation, held_from, rows_of, rows_of_fragments, stripes_of, table_of, table_of_fragments}
 use Rattle.rc_instance.specs.RelationLaws.{free_law}
-use Rattle.rc_instance.specs.declared.stripe.Stripe.{Stripe}
 use Rattle.rc_instance.proofs.StripeLemmas.{if_ok_from}
+use Rattle.rc_instance.proofs.StripesOfLemmas.{fragments_have_one_table, stripes_of-rows, stripes_of-table}
 use Rattle.rc_instance.proofs.instance.Instance.represents.Goals as goal
 
 pub joined_rows-requires-clause-table : goal.joined_rows-requires-clause-table
-joined_rows-requires-clause-table c =
-    let i : IsInstance c.deref.result.now = subst IsInstance (sym c.deref.ensures.value) c.self.invariant in
-    let t : table_of c.deref.result.now ≡ edge_table c.spec.result.now = ap table_of (c.deref.ensures.value ∙ c.self.view_is) ∙ c.requires ∙ ap edge_table (sym c.spec.ensures.value) in
-    λ s m. i.table s m ∙ t
+joined_rows-requires-clause-table c f m =
+    let fs : List FragmentRows = c.self.inside.fragments.items in
+    let ms : List (Option Mode) = c.self.inside.held in
+    let t : table_of_fragments fs ≡ edge_table c.spec.result.now = sym (stripes_of-table fs ms) ∙ ap table_of c.self.view_is ∙ c.requires ∙ ap edge_table (sym c.spec.ensures.value) in
+    fragments_have_one_table fs ms c.self.invariant.0 f (subst (In f) c.deref.ensures.value m) ∙ t
+
+pub returns-clause-rows : goal.returns-clause-rows
+returns-clause-rows c =
+    let fs : List FragmentRows = c.self.inside.fragments.items in
+    let rows : rows_of_fragments fs ≡ rows_of c.args.self.now = sym (stripes_of-rows fs c.self.inside.held) ∙ ap rows_of c.self.view_is in
+    if_ok_from c.joined_rows.result c.joined_rows.ensures (λ tuples e.
+    e ∙ (λ j. represented_by (c.spec.ensures.value j) (rows_of_fragments (c.deref.ensures.value j))) ∙ ap (represented_by c.args.accepted.now) rows)
 
 pub returns-clause-relation : goal.returns-clause-relation
 returns-clause-relation c =
-    let ss : List Stripe = c.self.inside.stripes.items in
+    let fs : List FragmentRows = c.self.inside.fragments.items in
+    let ms : List (Option Mode) = c.self.inside.held in
     let sealed : IsSealed c.args.accepted.now = c.spec.ensures.sealed in
     if_ok_from c.joined_rows.result c.joined_rows.ensures (λ tuples e r none o.
-    e ∙ (λ j. represented_by (c.spec.ensures.value j) (rows_of (c.deref.ensures.value j)))
-    ∙ free_law c.args.accepted.now sealed ss c.self.invariant r (ap (held_from 0) c.self.view_is ∙ none) (subst (λ z. IsOfRelation c.args.accepted.now z r) (sym c.self.view_is) o))
+    e ∙ (λ j. represented_by (c.spec.ensures.value j) (rows_of_fragments (c.deref.ensures.value j)))
+    ∙ ap (represented_by c.args.accepted.now) (sym (stripes_of-rows fs ms))
+    ∙ free_law c.args.accepted.now sealed (stripes_of fs ms) c.self.invariant.0 r (ap (held_from 0) c.self.view_is ∙ none) (subst (λ z. IsOfRelation c.args.accepted.now z r) (sym c.self.view_is) o))

@@ -1,0 +1,12 @@
+use Rattle.std.proofs.Common.{◌≡◌, length}
+use Rattle.rc_tuple.specs.RisingSet.{In}
+use Rattle.rc_fragment.specs.Fragment.{edge_table}
+use Rattle.rc_fragment.specs.FragmentRows.{FragmentRows}
+use Rattle.rc_instance.specs.Fragments.{IsEmptyFragment}
+use Rattle.rc_instance.proofs.fragments.empty_fragments.Given as goal
+
+abbrev pub invariant-loop : goal.invariant-loop
+invariant-loop l = record {
+  count : length l.fragments.items ≡ l.counter;
+  empty : (f : FragmentRows) → In f l.fragments.items → IsEmptyFragment (edge_table l.accepted) f;
+}

@@ -1,0 +1,21 @@
+-- Instances of which some stripes are held, and the relation that they are of once they are released.
+use Rattle.std.specs.Prelude.{◌≡◌, ℕ, ◌<◌, List, Some, length}
+use Rattle.rc_tuple.specs.RisingSet.{In}
+use Rattle.rc_tuple.specs.Tuple.{Pairs}
+use Rattle.rc_tuple.specs.Relation.{IsRelation, Satisfies}
+use Rattle.rc_spec.specs.Calls.{all_columns}
+use Rattle.rc_spec.specs.Fragments.{fragment_of}
+use Rattle.rc_spec.specs.Stripes.{stripe_total}
+use Rattle.rc_spec.specs.declared.spec.Spec.{Spec}
+use Rattle.rc_fragment.specs.Fragment.{edge_table}
+use Rattle.rc_fragment.specs.Holder.{HeldStripe, IsHeld}
+use Rattle.rc_instance.specs.Instance.{Stripe, held_from, offered_at, table_of}
+
+-- the instance is one of the specification, each held stripe's rows now are its fragment of this relation, which satisfies the dependencies, and each other stripe offers its own
+pub record HoldsRelation (spec : Spec) (ss : List Stripe) (r : List Pairs) : Type 0 where
+  pub table : table_of ss ≡ edge_table spec
+  pub stripes : length ss ≡ stripe_total spec
+  pub relation : IsRelation (all_columns spec) r
+  pub satisfies : Satisfies r spec.deps
+  pub held : (h : HeldStripe) → In h (held_from 0 ss) → h.now ≡ fragment_of spec r h.stripe
+  pub others : (n : ℕ) → n < stripe_total spec → (IsHeld (held_from 0 ss) n → ⊥) → offered_at ss n ≡ Some (fragment_of spec r n)
