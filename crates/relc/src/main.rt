@@ -1,31 +1,11 @@
 //! RELC: checks specifications, plans their operations, and runs workloads on them.
 #![tactic(auto)]
 
-use crate::status::Status;
-use crate::top::relc;
 use rc_io::{StdSink, StdSource};
+use rc_top::{Status, relc};
 use std::alloc::Global;
 use std::process::ExitCode;
 use std::{env, io};
-
-#[cfg(test)]
-mod check_tests;
-mod command;
-mod performing;
-#[cfg(test)]
-mod plan_tests;
-mod planning;
-mod refusing;
-mod running;
-mod status;
-#[cfg(test)]
-mod tests;
-#[cfg(test)]
-mod texts;
-mod top;
-#[cfg(test)]
-mod word_tests;
-mod writing;
 
 /// The exit status where the system hands out no words.
 const NO_WORDS: u8 = 7;

@@ -1,0 +1,104 @@
+-- What may be written for an input, with which status.
+use Rattle.std.specs.Prelude.{◌≡◌, ℕ, ◌+◌, ◌<◌, ◌≤◌, ◌^◌, ◌⊎◌, List, [], ◌∷◌, ◌++◌, Result, Ok, Err, decimal, codes}
+use Rattle.rc_text.specs.Lines.{TextPlace, printed_lines}
+use Rattle.rc_spec.specs.declared.refusal.Refusal.{Refusal}
+use Rattle.rc_spec.specs.declared.spec.Spec.{Spec}
+use Rattle.rc_spec.specs.Acceptance.{IsAccepted, IsFirstBroken}
+use Rattle.rc_spec.specs.RefusalText as rules
+use Rattle.rc_plan.specs.declared.statement.Statement.{Statement}
+use Rattle.rc_rel.specs.declared.entry.Entry.{Entry}
+use Rattle.rc_rel.specs.History.{replay}
+use Rattle.rc_reader.specs.Grammar.{Broken, Reading, spec_reading, spec_of}
+use Rattle.rc_reader.specs.RuleText.{rule_text}
+use Rattle.rc_work.specs.declared.work.Work.{Work}
+use Rattle.rc_work.specs.Printed.{words_text}
+use Rattle.rc_work.specs.Ranking.{work_reading}
+use Rattle.rc_work.specs.Report.{report}
+use Rattle.rc_work.specs.Runs.{Runs, HasSingleSteps}
+use Rattle.rc_answer.specs.Plans.{ArePlanned, plans_and_end, plans_text}
+use Rattle.rc_command.specs.declared.command.Command.{Command}
+use Rattle.rc_command.specs.declared.command.Command.TheVariants.{Check, Plan, Run}
+use Rattle.rc_answer.specs.declared.status.Status.{Status}
+use Rattle.rc_answer.specs.declared.status.Status.TheVariants.{Done, Refused}
+
+abbrev pub accepted_text : List ℕ
+accepted_text = printed_lines (codes "accepted" ∷ [])
+
+abbrev pub size_text : List ℕ
+size_text = printed_lines (codes "refused size" ∷ [])
+
+-- the first broken line rule with its line
+abbrev pub refusal_line : Broken → List ℕ
+refusal_line broken = words_text (codes "refused" ∷ rule_text broken.rule ∷ codes "line" ∷ decimal broken.line ∷ [])
+
+abbrev pub line_refusal_text : Broken → List ℕ
+line_refusal_text broken = printed_lines (refusal_line broken ∷ [])
+
+-- the refusal of a broken line rule
+abbrev pub IsRefusal : Broken → List ℕ → Status → Type 0
+IsRefusal broken text status = (text ≡ line_refusal_text broken) × (status ≡ Refused)
+
+-- the refusal of a broken rule of acceptance
+abbrev pub IsRuleRefusal : Spec → Refusal → List ℕ → Status → Type 0
+IsRuleRefusal spec refusal text status = (text ≡ printed_lines (rules.refusal_text spec refusal ∷ [])) × (status ≡ Refused)
+
+-- Acceptance of a specification. One that isn't accepted is refused for its first broken rule.
+abbrev pub AnswersRules : Spec → (List ℕ → Status → Type 0) → List ℕ → Status → Type 0
+AnswersRules spec IfAccepted text status =
+    (IsAccepted spec × IfAccepted text status) ⊎ ((refusal : Refusal) × IsFirstBroken spec refusal × IsRuleRefusal spec refusal text status)
+
+-- ---- check and plan
+
+abbrev pub IsAcceptedText : List ℕ → Status → Type 0
+IsAcceptedText text status = (text ≡ accepted_text) × (status ≡ Done)
+
+-- the planned plan of each operation, and then `end`
+abbrev pub IsPlansText : Spec → List ℕ → Status → Type 0
+IsPlansText spec text status = (plans : List (List Statement)) × ArePlanned spec plans × (text ≡ plans_and_end spec plans) × (status ≡ Done)
+
+-- what is written of a specification that stands alone, where it is accepted, and else its refusal
+abbrev pub AnswersAlone : (Spec → List ℕ → Status → Type 0) → Result Spec Broken → List ℕ → Status → Type 0
+AnswersAlone OfAccepted (Err broken) text status = IsRefusal broken text status
+AnswersAlone OfAccepted (Ok spec) text status = AnswersRules spec (OfAccepted spec) text status
+
+-- ---- run
+
+-- the plans, and then the report of a history and of the rows of its replay
+abbrev pub plans_and_report : Spec → Work → List (List Statement) → List Entry → List ℕ
+plans_and_report spec work plans history = plans_text spec plans ++ printed_lines (report spec work.ranks history (replay spec history))
+
+-- the planned plan of each operation, and then the report of a run of the workload
+pub record IsReport (spec : Spec) (work : Work) (text : List ℕ) (status : Status) : Type 0 where
+  pub plans : List (List Statement)
+  pub planned : ArePlanned spec plans
+  pub history : List Entry
+  pub runs : Runs spec work history
+  pub single : HasSingleSteps history
+  pub printed : text ≡ plans_and_report spec work plans history
+  pub done : status ≡ Done
+
+-- where the workload begins: behind the specification's line `end`
+abbrev pub place_after : List ℕ → Reading → TextPlace
+place_after input reading = record { text = input; at = reading.last.next; line = reading.last.number + 1 }
+
+abbrev pub AnswersWork : Spec → Result Work Broken → List ℕ → Status → Type 0
+AnswersWork spec (Err broken) text status = IsRefusal broken text status
+AnswersWork spec (Ok work) text status = IsReport spec work text status
+
+abbrev pub AnswersRun : List ℕ → Result Reading Broken → List ℕ → Status → Type 0
+AnswersRun input (Err broken) text status = IsRefusal broken text status
+AnswersRun input (Ok reading) text status = AnswersRules reading.spec (AnswersWork reading.spec (work_reading reading.spec (place_after input reading))) text status
+
+-- ---- all commands
+
+-- What an input that is not too long may have written. `check` and `plan` read a specification alone: the refusal of its first
+-- broken line rule, then of its first broken rule of acceptance, else `accepted` or the plans. `run` reads a workload behind it,
+-- and refuses by its line rules last; else it writes the plans and the report of a run.
+abbrev pub Answers : Command → List ℕ → List ℕ → Status → Type 0
+Answers Check input text status = AnswersAlone (λ spec. IsAcceptedText) (spec_of input) text status
+Answers Plan input text status = AnswersAlone IsPlansText (spec_of input) text status
+Answers Run input text status = AnswersRun input (spec_reading input) text status
+
+-- an input that is too long
+abbrev pub IsSizeRefusal : List ℕ → Status → Type 0
+IsSizeRefusal text status = (text ≡ size_text) × (status ≡ Refused)

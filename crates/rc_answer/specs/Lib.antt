@@ -1,0 +1,6 @@
+pub mod Answers
+pub mod Asked
+pub mod Plans
+pub mod Refusals
+pub mod Statuses
+pub mod Writes

@@ -1,0 +1,21 @@
+-- What refusing a text writes.
+use Rattle.std.specs.Prelude.{◌≡◌, ℕ, List, Option, Result, Err}
+use Rattle.rc_reader.specs.declared.refusal.ReadRefusal.{ReadRefusal}
+use Rattle.rc_reader.specs.declared.refusal.ReadRefusal.TheVariants as refusals
+use Rattle.rc_place.specs.declared.acceptance.AcceptFault.{AcceptFault}
+use Rattle.rc_place.specs.declared.acceptance.AcceptFault.TheVariants as faults
+use Rattle.rc_answer.specs.declared.status.Status.{Status}
+use Rattle.rc_answer.specs.declared.status.Stop.{Stop}
+use Rattle.rc_answer.specs.declared.status.Stop.TheVariants.{Memory}
+use Rattle.rc_answer.specs.Answers.{IsRefusal, IsRuleRefusal}
+use Rattle.rc_answer.specs.Writes.{Writes}
+
+-- the refusal of a text for a line rule; want of memory writes nothing
+abbrev pub WritesRefusal : Option (List ℕ) → Option (List ℕ) → ReadRefusal → Result Status Stop → Type 0
+WritesRefusal old new refusals.Memory result = (result ≡ Err Memory) × (new ≡ old)
+WritesRefusal old new (refusals.Line rule line) result = Writes (IsRefusal (record { rule = rule; line = line })) old new result
+
+-- the refusal of a specification that isn't accepted; want of memory writes nothing
+abbrev pub WritesRuleRefusal : Option (List ℕ) → Option (List ℕ) → AcceptFault → Result Status Stop → Type 0
+WritesRuleRefusal old new faults.Memory result = (result ≡ Err Memory) × (new ≡ old)
+WritesRuleRefusal old new (faults.Refused spec refusal) result = Writes (IsRuleRefusal spec refusal) old new result

@@ -1,0 +1,77 @@
+//! Writes refusals.
+
+ghost use Rattle.std.specs.Prelude.{◌≡◌, ◌≤◌, IfOk, IsErrOf};
+ghost use Rattle.rc_io.specs.Counts.{Rose};
+ghost use Rattle.rc_spec.specs.Acceptance.{IsItemOf};
+ghost use Rattle.rc_place.specs.Fault.{IfHandedBack};
+ghost use Rattle.rc_answer.specs.Answers.{refusal_line, IsSizeRefusal};
+ghost use Rattle.rc_answer.specs.Writes.{Writes};
+ghost use Rattle.rc_answer.specs.Refusals.{WritesRefusal, WritesRuleRefusal};
+
+use crate::status::{Status, Stop};
+use crate::writing::write_line;
+use rc_io::{Sink, write_all};
+use rc_place::AcceptFault;
+use rc_reader::{LineRule, ReadRefusal};
+use rc_spec::print_refusal;
+use rc_tuple::Memory;
+use std::alloc::Global;
+
+/// The line that refuses a text for its first broken line rule.
+fn refusal_line(alloc: Global, rule: LineRule, line: u32) -> Result<Vec<u8>, Memory>
+    ensures { IfOk result (λ bytes. bytes.items ≡ refusal_line (record { rule = rule; line = line })) }
+{
+    let text = format!(in alloc; "refused {rule} line {line}")?;
+    Ok(text.into_bytes())
+}
+
+/// Writes the refusal of a text.
+pub(crate) fn refuse<K: Sink>(
+    alloc: Global,
+    sink: &mut K,
+    refusal: ReadRefusal,
+) -> Result<Status, Stop>
+    ensures written { WritesRefusal (K.held sink.old) (K.held sink.new) refusal result }
+    ensures failed { IsErrOf result Stop.Sink → Rose (K.faults sink.old) (K.faults sink.new) }
+    ensures count { K.faults sink.old ≤ K.faults sink.new }
+{
+    match refusal {
+        ReadRefusal::Memory => Err(Stop::Memory),
+        ReadRefusal::Line { rule, line } => {
+            let line = refusal_line(alloc, rule, line)?;
+            write_line(sink, line)?;
+            Ok(Status::Refused)
+        }
+    }
+}
+
+/// Writes the refusal of a specification that isn't accepted.
+pub(crate) fn refuse_spec<K: Sink>(
+    alloc: Global,
+    sink: &mut K,
+    fault: AcceptFault,
+) -> Result<Status, Stop>
+    requires { IfHandedBack (λ spec refusal. IsItemOf spec refusal.item) fault }
+    ensures written { WritesRuleRefusal (K.held sink.old) (K.held sink.new) fault result }
+    ensures failed { IsErrOf result Stop.Sink → Rose (K.faults sink.old) (K.faults sink.new) }
+    ensures count { K.faults sink.old ≤ K.faults sink.new }
+{
+    match fault {
+        AcceptFault::Memory => Err(Stop::Memory),
+        AcceptFault::Refused(spec, refusal) => {
+            let line = print_refusal(alloc, &spec, &refusal)?;
+            write_line(sink, line)?;
+            Ok(Status::Refused)
+        }
+    }
+}
+
+/// Writes the refusal of a text that is too long. Takes no memory; `Err` where a write fails, with a first part written.
+pub fn refuse_size<K: Sink>(sink: &mut K) -> Result<Status, Stop>
+    ensures written { Writes IsSizeRefusal (K.held sink.old) (K.held sink.new) result }
+    ensures failed { IsErrOf result Stop.Sink → Rose (K.faults sink.old) (K.faults sink.new) }
+    ensures count { K.faults sink.old ≤ K.faults sink.new }
+{
+    write_all(sink, b"refused size\n")?;
+    Ok(Status::Refused)
+}

@@ -1,0 +1,6 @@
+//! The command that the words of the command line give.
+#![tactic(auto)]
+
+mod command;
+
+pub use command::{Command, command_in};

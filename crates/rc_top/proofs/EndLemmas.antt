@@ -1,0 +1,166 @@
+-- The end of a command, of what was written.
+use Rattle.std.proofs.Common.{◌≡◌, ℕ, ◌+◌, ◌<◌, ◌≤◌, ◌^◌, ◌⊎◌, inl, inr, List, Option, Some, Result, Ok, Err, length, ◌∙◌, refl, sym, subst, ap, arith}
+use Rattle.rc_io.specs.Bytes.{Takes, IsEmpty}
+use Rattle.rc_io.specs.BytesLaws.{takes_all, takes_at_most}
+use Rattle.rc_reader.specs.Grammar.{Broken, Reading, spec_of, spec_reading}
+use Rattle.rc_spec.specs.declared.spec.Spec.{Spec}
+use Rattle.rc_spec.specs.Acceptance.{IsAccepted}
+use Rattle.rc_spec.specs.AcceptanceLaws.{refused_not_accepted}
+use Rattle.rc_work.specs.declared.work.Work.{Work}
+use Rattle.rc_work.specs.Ranking.{work_reading}
+use Rattle.rc_answer.specs.Answers.{Answers, AnswersAlone, AnswersRules, AnswersRun, AnswersWork, IsAcceptedText, IsPlansText, IsSizeRefusal, place_after}
+use Rattle.rc_answer.specs.Writes.{Writes}
+use Rattle.rc_top.specs.Answer.{IsAnswer, IsGoodReading, IsGoodSpec, IsGoodWork, KeepsRules}
+use Rattle.rc_top.specs.Ends.{Ends, status_of}
+use Rattle.rc_command.specs.declared.command.Command.{Command}
+use Rattle.rc_command.specs.declared.command.Command.TheVariants.{Check, Plan, Run}
+use Rattle.rc_answer.specs.declared.status.Status.{Status}
+use Rattle.rc_answer.specs.declared.status.Status.TheVariants.{Done, Usage, Refused, SourceFailed, SinkFailed, OutOfMemory}
+use Rattle.rc_answer.specs.declared.status.Stop.{Stop}
+use Rattle.rc_answer.specs.declared.status.Stop.TheVariants.{Memory, Sink}
+
+-- the status of a text that was written
+abbrev pub IsWritten : Status → Type 0
+IsWritten status = (status ≡ Done) ⊎ (status ≡ Refused)
+
+-- a writer of one kind of text ends as one of a wider kind
+pub ends_wider : (A B : List ℕ → Status → Type 0) (old new : Option (List ℕ)) (r : Result Status Stop)
+    → ((text : List ℕ) (status : Status) → A text status → B text status × IsWritten status)
+    → Writes A old new r → Ends B old new (status_of r)
+ends_wider A B old new (Ok Done) wider (text, is, adds) = (text, (wider text Done is).0, adds)
+ends_wider A B old new (Ok Refused) wider (text, is, adds) = (text, (wider text Refused is).0, adds)
+ends_wider A B old new (Ok Usage) wider (text, is, adds) = absurd (unwritten (wider text Usage is).1)
+  where
+    unwritten : IsWritten Usage → ⊥
+    unwritten (inl e) = cc
+    unwritten (inr e) = cc
+ends_wider A B old new (Ok SourceFailed) wider (text, is, adds) = absurd (unwritten (wider text SourceFailed is).1)
+  where
+    unwritten : IsWritten SourceFailed → ⊥
+    unwritten (inl e) = cc
+    unwritten (inr e) = cc
+ends_wider A B old new (Ok SinkFailed) wider (text, is, adds) = absurd (unwritten (wider text SinkFailed is).1)
+  where
+    unwritten : IsWritten SinkFailed → ⊥
+    unwritten (inl e) = cc
+    unwritten (inr e) = cc
+ends_wider A B old new (Ok OutOfMemory) wider (text, is, adds) = absurd (unwritten (wider text OutOfMemory is).1)
+  where
+    unwritten : IsWritten OutOfMemory → ⊥
+    unwritten (inl e) = cc
+    unwritten (inr e) = cc
+ends_wider A B old new (Err Memory) wider (inl same) = inl same
+ends_wider A B old new (Err Memory) wider (inr (text, status, is, part)) = inr (text, status, (wider text status is).0, part)
+ends_wider A B old new (Err Sink) wider (text, status, is, part) = (text, status, (wider text status is).0, part)
+
+written_work : (spec : Spec) (reading : Result Work Broken) (text : List ℕ) (status : Status) → AnswersWork spec reading text status → IsWritten status
+written_work spec (Err broken) text status is = inr is.1
+written_work spec (Ok work) text status is = inl is.done
+
+written_rules : (spec : Spec) (IfAccepted : List ℕ → Status → Type 0) (text : List ℕ) (status : Status) → (IfAccepted text status → IsWritten status)
+    → AnswersRules spec IfAccepted text status → IsWritten status
+written_rules spec IfAccepted text status written (inl (accepted, is)) = written is
+written_rules spec IfAccepted text status written (inr (refusal, first, is)) = inr is.1
+
+-- what is written of an accepted specification ends well
+abbrev EndsDone : (Spec → List ℕ → Status → Type 0) → Type 0
+EndsDone OfAccepted = (spec : Spec) (text : List ℕ) (status : Status) → OfAccepted spec text status → status ≡ Done
+
+accepted_done : EndsDone (λ spec. IsAcceptedText)
+accepted_done spec text status (printed, done) = done
+
+plans_done : EndsDone IsPlansText
+plans_done spec text status (plans, planned, printed, done) = done
+
+written_alone : (OfAccepted : Spec → List ℕ → Status → Type 0) (reading : Result Spec Broken) (text : List ℕ) (status : Status) → EndsDone OfAccepted
+    → AnswersAlone OfAccepted reading text status → IsWritten status
+written_alone OfAccepted (Err broken) text status done is = inr is.1
+written_alone OfAccepted (Ok spec) text status done is = written_rules spec (OfAccepted spec) text status (λ h. inl (done spec text status h)) is
+
+written_run : (input : List ℕ) (reading : Result Reading Broken) (text : List ℕ) (status : Status) → AnswersRun input reading text status → IsWritten status
+written_run input (Err broken) text status is = inr is.1
+written_run input (Ok reading) text status is =
+    let work : Result Work Broken = work_reading reading.spec (place_after input reading) in
+    written_rules reading.spec (AnswersWork reading.spec work) text status (written_work reading.spec work text status) is
+
+written : (command : Command) (input text : List ℕ) (status : Status) → Answers command input text status → IsWritten status
+written Check input text status is = written_alone (λ spec. IsAcceptedText) (spec_of input) text status accepted_done is
+written Plan input text status is = written_alone IsPlansText (spec_of input) text status plans_done is
+written Run input text status is = written_run input (spec_reading input) text status is
+
+-- told bytes that were read whole are answered
+pub read_ends : (command : Command) (input bytes : List ℕ) (told left : Option (List ℕ)) (old new : Option (List ℕ)) (r : Result Status Stop)
+    → told ≡ Some input → Takes told bytes left → IsEmpty left → length bytes ≤ 2 ^ 24
+    → Writes (Answers command bytes) old new r → Ends (IsAnswer command input) old new (status_of r)
+read_ends command input bytes told left old new r is_told taken empty within writes =
+    ends_wider (Answers command bytes) (IsAnswer command input) old new r wider writes
+  where
+    same : bytes ≡ input
+    same = (takes_all input bytes left (sym is_told ∙ taken) empty).0
+
+    wider : (text : List ℕ) (status : Status) → Answers command bytes text status → IsAnswer command input text status × IsWritten status
+    wider text status is = (
+      record { read = λ short. subst (λ (read : List ℕ). Answers command read text status) same is; long = λ long. absurd (too_long long) },
+      written command bytes text status is,
+    )
+      where
+        too_long : 2 ^ 24 < length input → ⊥
+        too_long long = let e : length bytes ≡ length input = ap length same in omega (arith, within, e, long)
+
+-- told bytes of which more were taken than may be are refused
+pub long_ends : (command : Command) (input bytes : List ℕ) (told left : Option (List ℕ)) (old new : Option (List ℕ)) (r : Result Status Stop)
+    → told ≡ Some input → Takes told bytes left → length bytes ≡ 2 ^ 24 + 1
+    → Writes IsSizeRefusal old new r → Ends (IsAnswer command input) old new (status_of r)
+long_ends command input bytes told left old new r is_told taken beyond writes =
+    ends_wider IsSizeRefusal (IsAnswer command input) old new r wider writes
+  where
+    most : length bytes ≤ length input
+    most = takes_at_most input bytes left (sym is_told ∙ taken)
+
+    wider : (text : List ℕ) (status : Status) → IsSizeRefusal text status → IsAnswer command input text status × IsWritten status
+    wider text status is = (
+      record { read = λ short. absurd (too_short short); long = λ long. is },
+      inr is.1,
+    )
+      where
+        too_short : length input ≤ 2 ^ 24 → ⊥
+        too_short short = omega (arith, most, beyond, short)
+
+-- ---- texts that keep all rules
+
+refused_work : (reading : Result Work Broken) (spec : Spec) (text : List ℕ) → IsGoodWork reading → AnswersWork spec reading text Refused → ⊥
+refused_work (Err broken) spec text good is = absurd good
+refused_work (Ok work) spec text good is = let e : Refused ≡ Done = is.done in cc
+
+refused_rules : (spec : Spec) (IfAccepted : List ℕ → Status → Type 0) (text : List ℕ) → IsAccepted spec → (IfAccepted text Refused → ⊥) → AnswersRules spec IfAccepted text Refused → ⊥
+refused_rules spec IfAccepted text good other (inl (accepted, is)) = other is
+refused_rules spec IfAccepted text good other (inr (refusal, first, is)) = refused_not_accepted spec refusal first good
+
+refused_alone : (OfAccepted : Spec → List ℕ → Status → Type 0) (reading : Result Spec Broken) (text : List ℕ) → EndsDone OfAccepted → IsGoodSpec reading
+    → AnswersAlone OfAccepted reading text Refused → ⊥
+refused_alone OfAccepted (Err broken) text done good is = absurd good
+refused_alone OfAccepted (Ok spec) text done good is = refused_rules spec (OfAccepted spec) text good (λ h. let e : Refused ≡ Done = done spec text Refused h in cc) is
+
+refused_run : (input : List ℕ) (reading : Result Reading Broken) (text : List ℕ) → IsGoodReading input reading → AnswersRun input reading text Refused → ⊥
+refused_run input (Err broken) text good is = absurd good
+refused_run input (Ok reading) text good is =
+    let work : Result Work Broken = work_reading reading.spec (place_after input reading) in
+    refused_rules reading.spec (AnswersWork reading.spec work) text good.0 (refused_work work reading.spec text good.1) is
+
+refused_text : (command : Command) (input text : List ℕ) → KeepsRules command input → Answers command input text Refused → ⊥
+refused_text Check input text good is = refused_alone (λ spec. IsAcceptedText) (spec_of input) text accepted_done good is
+refused_text Plan input text good is = refused_alone IsPlansText (spec_of input) text plans_done good is
+refused_text Run input text good is = refused_run input (spec_reading input) text good is
+
+-- a text that keeps all rules is answered, where nothing fails
+pub answered : (command : Command) (input : List ℕ) (old new : Option (List ℕ)) (status : Status) → length input ≤ 2 ^ 24 → KeepsRules command input
+    → Ends (IsAnswer command input) old new status → (status ≡ Usage → ⊥) → (status ≡ SourceFailed → ⊥) → (status ≡ SinkFailed → ⊥) → (status ≡ Done) ⊎ (status ≡ OutOfMemory)
+answered command input old new Done short good ends usage source sink = inl refl
+answered command input old new Usage short good ends usage source sink = absurd (usage refl)
+answered command input old new Refused short good (text, is, adds) usage source sink = absurd (refused_text command input text good (is.read short))
+answered command input old new SourceFailed short good ends usage source sink = absurd (source refl)
+answered command input old new SinkFailed short good ends usage source sink = absurd (sink refl)
+answered command input old new OutOfMemory short good ends usage source sink = inr refl
+
+pub one_command : (a b : Command) → Some a ≡ Some b → a ≡ b
+one_command a b e = cc

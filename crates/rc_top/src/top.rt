@@ -1,0 +1,112 @@
+//! The top call.
+
+ghost use Rattle.std.specs.Prelude.{◌≡◌, ◌≤◌, ◌^◌, ◌⊎◌, ℕ, List, [], Some, None, length, map, string_bytes};
+ghost use Rattle.rc_io.specs.Counts.{Rose};
+ghost use Rattle.rc_top.specs.Answer.{IsAnswer, KeepsRules};
+ghost use Rattle.rc_top.specs.Ends.{Ends, EndsUsage, status_of};
+ghost use Rattle.rc_command.specs.Command.{command_of};
+ghost use Rattle.rc_command.specs.declared.command.Command.{Command};
+
+use rc_answer::{Status, Stop, answer, refuse_size};
+use rc_command::{Command, command_in};
+use rc_io::{ReadFault, Sink, Source, WriteFault, read_all, write_all};
+use rc_tuple::Memory;
+use std::alloc::Global;
+
+/// The most bytes that an input may have.
+const MAX_BYTES: u64 = 1 << 24;
+
+/// Does what the words ask. `words[0]` is the program's name; the commands are `check`, `plan` and `run`,
+/// and each reads the source to its end, or until 2^24 + 1 bytes are taken.
+///
+/// Over the bytes that the source tells to be left at entry, `check` writes `accepted` where the specification keeps
+/// all rules, `plan` the planned plan of each of its operations and then `end`, and `run` the same plans and then the
+/// report of a journal that is a run of the workload and of the rows of its replay. Where a rule is broken, each writes
+/// the refusal of the first, and of more than 2^24 bytes `refused size`. Other words write the usage line, and take
+/// nothing from the source.
+///
+/// The status is `Done` or `Refused` with the whole text, `Usage` with the usage line, `SourceFailed` with nothing
+/// written, `SinkFailed` with a prefix of such a text, and `OutOfMemory` with nothing or a prefix.
+pub fn relc<S: Source, K: Sink>(
+    alloc: Global,
+    words: &[String],
+    source: &mut S,
+    sink: &mut K,
+) -> Status
+    // Words that are no command, and they alone, write the usage line.
+    ensures usage { command_of (map string_bytes words.now) ≡ None → EndsUsage (K.held sink.old) (K.held sink.new) result }
+    ensures untouched { command_of (map string_bytes words.now) ≡ None → source.new ≡ source.old }
+    ensures only_usage { result ≡ Status.Usage → command_of (map string_bytes words.now) ≡ None }
+
+    // What is written of told bytes, and what is left of them.
+    ensures answers { (command : Command) → command_of (map string_bytes words.now) ≡ Some command → (input : List ℕ) → S.left source.old ≡ Some input
+        → Ends (IsAnswer command input) (K.held sink.old) (K.held sink.new) result }
+    ensures left { (command : Command) → command_of (map string_bytes words.now) ≡ Some command → (input : List ℕ) → S.left source.old ≡ Some input
+        → length input ≤ 2 ^ 24 → (result ≡ Status.Done) ⊎ (result ≡ Status.Refused) → S.left source.new ≡ Some [] }
+
+    // Statuses have their causes.
+    ensures source_failed { result ≡ Status.SourceFailed → Rose (S.faults source.old) (S.faults source.new) }
+    ensures nothing_written { result ≡ Status.SourceFailed → K.held sink.new ≡ K.held sink.old }
+    ensures sink_failed { result ≡ Status.SinkFailed → Rose (K.faults sink.old) (K.faults sink.new) }
+    ensures source_count { S.faults source.old ≤ S.faults source.new }
+    ensures sink_count { K.faults sink.old ≤ K.faults sink.new }
+
+    // A text that keeps all rules is answered, where nothing fails and memory is there.
+    ensures complete { (command : Command) → command_of (map string_bytes words.now) ≡ Some command → (input : List ℕ) → S.left source.old ≡ Some input
+        → length input ≤ 2 ^ 24 → KeepsRules command input
+        → (Rose (S.faults source.old) (S.faults source.new) → ⊥) → (Rose (K.faults sink.old) (K.faults sink.new) → ⊥)
+        → (result ≡ Status.Done) ⊎ (result ≡ Status.OutOfMemory) }
+{
+    match command_in(alloc, words) {
+        Ok(Some(command)) => read_and_answer(alloc, command, source, sink),
+        Ok(None) => usage(sink),
+        Err(Memory) => Status::OutOfMemory,
+    }
+}
+
+/// Writes the usage line.
+fn usage<K: Sink>(sink: &mut K) -> Status
+    ensures ends { EndsUsage (K.held sink.old) (K.held sink.new) result }
+    ensures failed { result ≡ Status.SinkFailed → Rose (K.faults sink.old) (K.faults sink.new) }
+    ensures count { K.faults sink.old ≤ K.faults sink.new }
+{
+    match write_all(sink, b"usage: relc check, plan, run or big SEED N\n") {
+        Ok(()) => Status::Usage,
+        Err(WriteFault::Sink) => Status::SinkFailed,
+    }
+}
+
+/// The status of a writer's answer.
+fn status_of(answer: Result<Status, Stop>) -> Status
+    ensures { result ≡ status_of answer }
+{
+    match answer {
+        Ok(status) => status,
+        Err(stop) => stop.status(),
+    }
+}
+
+/// Reads the source to its end, and answers its text as the command asks.
+fn read_and_answer<S: Source, K: Sink>(
+    alloc: Global,
+    command: Command,
+    source: &mut S,
+    sink: &mut K,
+) -> Status
+    ensures answers { (input : List ℕ) → S.left source.old ≡ Some input → Ends (IsAnswer command input) (K.held sink.old) (K.held sink.new) result }
+    ensures left { (input : List ℕ) → S.left source.old ≡ Some input → length input ≤ 2 ^ 24
+        → (result ≡ Status.Done) ⊎ (result ≡ Status.Refused) → S.left source.new ≡ Some [] }
+    ensures not_usage { result ≡ Status.Usage → ⊥ }
+    ensures source_failed { result ≡ Status.SourceFailed → Rose (S.faults source.old) (S.faults source.new) }
+    ensures nothing_written { result ≡ Status.SourceFailed → K.held sink.new ≡ K.held sink.old }
+    ensures sink_failed { result ≡ Status.SinkFailed → Rose (K.faults sink.old) (K.faults sink.new) }
+    ensures source_count { S.faults source.old ≤ S.faults source.new }
+    ensures sink_count { K.faults sink.old ≤ K.faults sink.new }
+{
+    match read_all(alloc, source, MAX_BYTES) {
+        Ok(text) => status_of(answer(alloc, command, &text, sink)),
+        Err(ReadFault::TooLong) => status_of(refuse_size(sink)),
+        Err(ReadFault::Source) => Status::SourceFailed,
+        Err(ReadFault::Memory) => Status::OutOfMemory,
+    }
+}

@@ -1,8 +1,0 @@
-use Rattle.std.proofs.Common.{◌≡◌, drop, map, string_bytes}
-use Rattle.std.specs.List.{list_any}
-use Rattle.relc.specs.Grammar.{is_flag}
-use Rattle.relc.proofs.command.has_flag.Given as goal
-
-abbrev pub invariant-loop-word : goal.invariant-loop-word
-invariant-loop-word l =
-    list_any is_flag (map string_bytes (drop l.word-index l.words)) ≡ list_any is_flag (map string_bytes l.words)
