@@ -6,6 +6,3 @@ mod edges;
 mod rules;
 
 pub use adequate::check_adequate;
-
-#[cfg(test)]
-mod tests;

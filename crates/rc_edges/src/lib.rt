@@ -10,6 +10,3 @@ pub use edge_map::EdgeMap;
 pub use entry::Entry;
 pub use list_map::ListMap;
 pub use one_map::OneMap;
-
-#[cfg(test)]
-mod tests;

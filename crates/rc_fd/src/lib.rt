@@ -3,8 +3,6 @@
 
 mod implied;
 mod laws;
-#[cfg(test)]
-mod tests;
 
 pub use implied::{closure, determines, is_key};
 pub use laws::{

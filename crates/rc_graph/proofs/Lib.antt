@@ -2,4 +2,3 @@ pub mod CircleLemmas
 pub mod EdgeLemmas
 pub mod OrderLemmas
 pub mod RuleLemmas
-pub mod TestLemmas

@@ -7,8 +7,6 @@ mod circles;
 mod entries;
 mod laws;
 mod order;
-#[cfg(test)]
-mod tests;
 
 pub use check::{CheckFault, Graph, check_graph};
 pub use laws::{edges_lead_forward, nodes_stand_once};

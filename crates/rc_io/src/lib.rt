@@ -14,6 +14,3 @@ pub use sink::{Sink, WriteFault, write_all};
 pub use source::{Failed, ReadFault, Source, read_all};
 pub use std_sink::StdSink;
 pub use std_source::StdSource;
-
-#[cfg(test)]
-mod tests;

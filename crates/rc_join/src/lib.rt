@@ -5,6 +5,3 @@ mod hash_join;
 mod index;
 
 pub use hash_join::join;
-
-#[cfg(test)]
-mod tests;

@@ -7,6 +7,3 @@ mod ordered_edge;
 
 pub use hash_edge::HashEdge;
 pub use ordered_edge::OrderedEdge;
-
-#[cfg(test)]
-mod tests;

@@ -1,3 +1,2 @@
 mod PlaceLemmas
 mod RuleLemmas
-mod TestLemmas

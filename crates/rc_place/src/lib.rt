@@ -9,6 +9,3 @@ mod rules;
 
 pub use acceptance::{AcceptFault, accept};
 pub use place::check_place;
-
-#[cfg(test)]
-mod tests;

@@ -15,8 +15,3 @@ pub use laws::{
 pub use printing::print_plan;
 pub use refusal::{PlanRefusal, PlanRule};
 pub use statement::{Plan, ReadMode, Statement, Which};
-
-#[cfg(test)]
-mod compiled_tests;
-#[cfg(test)]
-mod tests;

@@ -12,6 +12,3 @@ pub use operation::pattern_of;
 pub use probe::InsertProbe;
 pub use query::plan_query;
 pub use statements::{ClassSet, classes_of_edges, push_ending, push_locks_and_reads};
-
-#[cfg(test)]
-mod tests;

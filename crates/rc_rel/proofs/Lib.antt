@@ -1,4 +1,3 @@
 pub mod RowLemmas
 pub mod ChangeLemmas
 pub mod RunLemmas
-pub mod TestLemmas

@@ -9,8 +9,6 @@ mod laws;
 mod plain_rel;
 mod replaying;
 mod scan;
-#[cfg(test)]
-mod tests;
 
 pub use entry::{Entry, Step, Steps};
 pub use laws::{states_are_relations, states_satisfy};

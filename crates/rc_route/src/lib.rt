@@ -7,8 +7,6 @@ mod good;
 mod laws;
 mod least;
 mod search;
-#[cfg(test)]
-mod tests;
 mod walk;
 
 pub use choice::route_for;

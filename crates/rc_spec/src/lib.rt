@@ -24,6 +24,3 @@ pub use named::Named;
 pub use refusal::{Item, Refusal, Rule, print_refusal};
 pub use spec::{Classes, Columns, Deps, Edges, Nodes, Ops, Places, Spec};
 pub use stripes::{band_start, stripe_of, stripe_total};
-
-#[cfg(test)]
-mod tests;

@@ -16,6 +16,3 @@ pub use lines::{Line, Lines, first_line_length};
 pub use numbers::{NumFault, read_u64};
 pub use words::{Word, WordFault, Words};
 pub use writing::{push_bytes, push_quoted, push_u64};
-
-#[cfg(test)]
-mod tests;

@@ -23,6 +23,3 @@ pub type Vals = SmallList<u64>;
 
 /// A list of tuples.
 pub type Tuples = SmallList<Tuple>;
-
-#[cfg(test)]
-mod tests;

@@ -8,6 +8,3 @@ mod ranks;
 pub use laws::{ranks_are_places, ranks_keep_order};
 pub use name64::Name64;
 pub use ranks::Ranks;
-
-#[cfg(test)]
-mod tests;

@@ -20,6 +20,3 @@ pub use reading::read_work;
 pub use reading_laws::first_broken_work_line;
 pub use report::Report;
 pub use work::{Round, Rounds, Turn, Work};
-
-#[cfg(test)]
-mod reading_tests;

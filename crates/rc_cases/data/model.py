@@ -1,0 +1,702 @@
+#!/usr/bin/env python3
+"""Writes generated.case: what the rules of docs/RULES.md give for texts that are too long to be worked out by hand.
+
+It is a second writing of the rules, as plain as can be, and shares nothing with the program: a relation is a list of
+tuples, a plan is made of sets of names. It takes its specifications to be accepted, and tests no rule of lines.
+
+    python3 model.py            writes generated.case beside itself
+    python3 model.py plan       prints the plans of the specification on standard input
+    python3 model.py run        prints the plans and the report of the specification and workload on standard input
+"""
+
+import os
+import sys
+
+MOST_ROWS = 256
+
+# ---- texts
+
+
+class Spec:
+    """A specification: names in written order, and sets of names."""
+
+    def __init__(self):
+        self.columns = []  # names
+        self.kinds = {}  # name: num or text
+        self.deps = []  # pairs of sets
+        self.nodes = {}  # name: its columns
+        self.edges = []  # names
+        self.edge = {}  # name: its source, its target, its kind, its key
+        self.classes = []  # names
+        self.stripes = {}  # name: how many, and the columns that choose one
+        self.place = {}  # edge: class
+        self.ops = {}  # name: its kind, its pattern and its outputs, as written
+
+
+def split_at_arrow(words):
+    at = words.index("->")
+    return words[:at], words[at + 1 :]
+
+
+def read_spec(lines):
+    """The specification of the first lines, which are taken away up to the line `end`."""
+    spec = Spec()
+    while True:
+        words = lines.pop(0).split()
+        if words == ["end"]:
+            return spec
+        if not words or words[0].startswith("#") or words[0] == "relc":
+            continue
+        kind, rest = words[0], words[1:]
+        if kind == "col":
+            spec.columns.append(rest[0])
+            spec.kinds[rest[0]] = rest[1]
+        elif kind == "fd":
+            left, right = split_at_arrow(rest)
+            spec.deps.append((set(left), set(right)))
+        elif kind == "node":
+            spec.nodes[rest[0]] = set(rest[1:])
+        elif kind == "edge":
+            spec.edges.append(rest[0])
+            spec.edge[rest[0]] = (rest[1], rest[2], rest[3], set(rest[4:]))
+        elif kind == "lock":
+            spec.classes.append(rest[0])
+            spec.stripes[rest[0]] = (int(rest[1]), set(rest[2:]))
+        elif kind == "place":
+            spec.place[rest[0]] = rest[1]
+        elif kind == "op":
+            pattern, outs = split_at_arrow(rest[2:]) if rest[1] == "query" else (rest[2:], [])
+            spec.ops[rest[0]] = (rest[1], pattern, outs)
+
+
+def words_of(line):
+    """The words of a call; a number becomes a number, and a quoted text stays a text."""
+    words = []
+    while line.strip():
+        line = line.lstrip()
+        if line.startswith('"'):
+            text, line = line[1:].split('"', 1)
+            words.append(text)
+        else:
+            word, _, line = line.partition(" ")
+            words.append(int(word) if word.isdigit() else word)
+    return words
+
+
+def read_calls(lines):
+    """The calls of a workload in the order of their lines: thread, operation, values."""
+    calls = []
+    for line in lines:
+        words = words_of(line)
+        if words and isinstance(words[0], int):
+            calls.append((words[0], words[1], words[2:]))
+    return calls
+
+
+# ---- the plain step
+
+
+def printed_value(value):
+    return str(value) if isinstance(value, int) else '"' + value + '"'
+
+
+def printed_tuple(values):
+    return "(" + " ".join(printed_value(value) for value in values) + ")"
+
+
+def values_of(spec, row, columns):
+    return tuple(row[spec.columns.index(column)] for column in columns)
+
+
+def first_broken(spec, relation):
+    """The number of the first dependency that the relation breaks."""
+    for number, (left, right) in enumerate(spec.deps, 1):
+        found = {}
+        for row in relation:
+            key, value = values_of(spec, row, sorted(left)), values_of(spec, row, sorted(right))
+            if found.setdefault(key, value) != value:
+                return number
+    return None
+
+
+def step(spec, relation, op, values):
+    """The reply of a call as it is printed; the relation, a list of tuples, is changed."""
+    kind, pattern, outs = spec.ops[op]
+    if kind == "insert":
+        new = tuple(values)
+        if any(values_of(spec, row, pattern) == values_of(spec, new, pattern) for row in relation):
+            return "present"
+        broken = first_broken(spec, relation + [new])
+        if broken is not None:
+            return "conflict %d" % broken
+        relation.append(new)
+        relation.sort()
+        return "inserted"
+    matching = [row for row in relation if values_of(spec, row, pattern) == tuple(values)]
+    if kind == "remove":
+        if not matching:
+            return "absent"
+        relation.remove(matching[0])
+        return "removed " + printed_tuple(matching[0])
+    rows = sorted({values_of(spec, row, outs) for row in matching})
+    if len(rows) > MOST_ROWS:
+        return "many %d" % len(rows)
+    return " ".join(["%d rows" % len(rows)] + [printed_tuple(row) for row in rows])
+
+
+def report_of(spec, calls):
+    """The lines of the journal and of the final relation."""
+    relation = []
+    lines = ["journal %d" % len(calls)]
+    for place, (thread, op, values) in enumerate(calls):
+        reply = step(spec, relation, op, values)
+        call = " ".join([op] + [printed_value(value) for value in values])
+        lines.append("%d %d %s -> %s" % (place, thread, call, reply))
+    return lines + ["final %d" % len(relation)] + [printed_tuple(row) for row in relation] + ["end"]
+
+
+# ---- routes
+
+
+def closed(spec, columns):
+    """All columns that these determine."""
+    known = set(columns)
+    while True:
+        more = set().union(*(right for left, right in spec.deps if left <= known)) - known
+        if not more:
+            return known
+        known |= more
+
+
+def root_of(spec):
+    return next(iter(spec.nodes))
+
+
+def cost(spec, path, pattern):
+    total = 0
+    for name in path:
+        source, _, kind, key = spec.edge[name]
+        if kind == "singleton":
+            total += 1
+        elif key <= pattern:
+            total += {"hash": 1, "ordered": 2, "list": 4}[kind]
+        else:
+            total += 32
+        count, columns = spec.stripes[spec.place[name]]
+        total += 1 if columns <= pattern | spec.nodes[source] else count
+    return total
+
+
+def paths(spec, node, path):
+    """All paths that go on from this one, which ends at the node."""
+    for name in spec.edges:
+        source, target, _, _ = spec.edge[name]
+        if source == node:
+            yield path + [name], target
+            yield from paths(spec, target, path + [name])
+
+
+def least_path(spec, pattern, need):
+    """The least path to a node that binds the need; None where no node does."""
+    nodes = list(spec.nodes)
+    found = [
+        (
+            cost(spec, path, pattern),
+            nodes.index(node),
+            [spec.edges.index(name) for name in reversed(path)],
+            path,
+        )
+        for path, node in paths(spec, root_of(spec), [])
+        if need <= spec.nodes[node]
+    ]
+    return min(found)[-1] if found else None
+
+
+def is_good(spec, route, need):
+    reached, visited = {root_of(spec)}, set()
+    for name in route:
+        source, target, _, _ = spec.edge[name]
+        columns = spec.nodes[target]
+        known = closed(spec, columns & visited)
+        if source not in reached or not (visited <= known or columns <= known):
+            return False
+        reached.add(target)
+        visited |= columns
+    return need <= visited
+
+
+def pruned_walk(spec, need):
+    route = list(spec.edges)
+    while True:
+        before = list(route)
+        for name in reversed(before):
+            rest = [other for other in route if other != name]
+            if is_good(spec, rest, need):
+                route = rest
+        if route == before:
+            return route
+
+
+def route_for(spec, pattern, need):
+    return least_path(spec, pattern, need) or pruned_walk(spec, need)
+
+
+# ---- plans
+
+
+def in_order(spec, columns):
+    return [column for column in spec.columns if column in columns]
+
+
+def lock_line(name, is_keyed):
+    return "lock %s %s" % (name, "keyed" if is_keyed else "all")
+
+
+def read_line(spec, name, bound):
+    return "read %s %s" % (name, "lookup" if spec.edge[name][3] <= bound else "scan")
+
+
+def search(spec, pattern, route, wanted):
+    """The locks and reads of a query or a remove, and the classes that are locked by them."""
+    lines, locked, bound = [], [], set(pattern)
+    for name in route:
+        last = spec.classes.index(spec.place[name])
+        for number, lock in enumerate(spec.classes):
+            if lock in wanted and lock not in locked and number <= last:
+                lines.append(lock_line(lock, spec.stripes[lock][1] <= bound))
+                locked.append(lock)
+        lines.append(read_line(spec, name, bound))
+        bound |= spec.nodes[spec.edge[name][1]]
+    return lines, locked
+
+
+def ending(statement, locked):
+    return [statement, "commit"] + ["release " + name for name in reversed(locked)]
+
+
+def classes_with_edges(spec):
+    return [name for name in spec.classes if name in spec.place.values()]
+
+
+def query_plan(spec, pattern, outs):
+    route = route_for(spec, pattern, pattern | outs)
+    lines, locked = search(spec, pattern, route, {spec.place[name] for name in route})
+    return lines + ending("emit", locked)
+
+
+def remove_plan(spec, pattern):
+    wanted = classes_with_edges(spec)
+    lines, locked = search(spec, pattern, route_for(spec, pattern, set(spec.columns)), wanted)
+    left = [name for name in wanted if name not in locked]
+    return lines + [lock_line(name, True) for name in left] + ending("apply", wanted)
+
+
+def insert_plan(spec, pattern):
+    probes = [(pattern, pattern, "absent")]
+    for number, (left, right) in enumerate(spec.deps, 1):
+        if not pattern <= left:
+            probes.append((left, left | right, "check %d" % number))
+    lines, everywhere = [], set()
+    for columns, need, check in probes:
+        lines.append(" ".join(["probe"] + in_order(spec, columns)))
+        bound = set(columns)
+        for name in route_for(spec, columns, need):
+            if not spec.stripes[spec.place[name]][1] <= columns:
+                everywhere.add(spec.place[name])
+            lines.append(read_line(spec, name, bound))
+            bound |= spec.nodes[spec.edge[name][1]]
+        lines.append(check)
+    wanted = classes_with_edges(spec)
+    locks = [lock_line(name, name not in everywhere) for name in wanted]
+    return locks + lines + ending("apply", wanted)
+
+
+def plans_of(spec):
+    lines = []
+    for op, (kind, pattern, outs) in spec.ops.items():
+        lines.append("plan " + op)
+        if kind == "query":
+            lines += query_plan(spec, set(pattern), set(outs))
+        elif kind == "remove":
+            lines += remove_plan(spec, set(pattern))
+        else:
+            lines += insert_plan(spec, set(pattern))
+    return lines
+
+
+# ---- generated workloads
+
+
+def next_number(number):
+    return (number * 1103515245 + 12345) % 2147483648
+
+
+def graph_call(number, thread):
+    """A call on the graph; each thread has sources of its own."""
+    source, target = 4 * ((number >> 24) % 16) + thread, (number >> 19) % 32
+    weight = (number >> 9) % 1024
+    return ("ins %d %d %d" % (source, target, weight), "succ %d" % source, "del %d %d" % (source, target))
+
+
+def scheduler_call(number, _):
+    """A call on a scheduler of few processes."""
+    space, process = (number >> 24) % 4, (number >> 19) % 8
+    state, cpu = ["run", "sleep", "wait"][(number >> 9) % 3], (number >> 13) % 4
+    return (
+        'spawn %d %d "%s" %d' % (space, process, state, cpu),
+        'bystate "%s"' % state,
+        "kill %d %d" % (space, process),
+    )
+
+
+def seats_call(number, _):
+    """A call on few seats."""
+    guest, name, seat = (number >> 24) % 16, (number >> 9) % 4, (number >> 19) % 16
+    return ("add %d %d %d" % (guest, name, seat), "byseat %d" % seat, "drop %d" % guest)
+
+
+def generated_work(call_of, seed, count):
+    """A workload of four threads, with 64 calls a round: half inserts, a quarter each queries and removes."""
+    lines, number = ["work 4"], seed
+    for place in range(count):
+        if place % 64 == 0:
+            lines.append("round")
+        number = next_number(number)
+        insert, query, remove = call_of(number, place % 4)
+        which = number >> 28
+        lines.append("%d %s" % (place % 4, insert if which < 4 else query if which < 6 else remove))
+    return lines + ["end"]
+
+
+def any_work(spec, seed, count):
+    """A workload of three threads that makes every operation of a specification, over four values."""
+    ops, texts, number = list(spec.ops), ["", "a", "a b", "b"], seed
+    lines = ["work 3"]
+    for place in range(count):
+        if place % 32 == 0:
+            lines.append("round")
+        number = next_number(number)
+        op = ops[(number >> 20) % len(ops)]
+        words = ["%d" % (place % 3), op]
+        kind, pattern, _ = spec.ops[op]
+        for column in spec.columns if kind == "insert" else pattern:
+            number = next_number(number)
+            value = (number >> 20) % 4
+            words.append(printed_value(value if spec.kinds[column] == "num" else texts[value]))
+        lines.append(" ".join(words))
+    return lines + ["end"]
+
+
+def many_rows():
+    """256 edges of one source, a query for them, one edge more, and the query again."""
+    lines = ["work 1", "round"] + ["0 ins 1 %d 0" % target for target in range(256)]
+    return lines + ["0 succ 1", "0 ins 1 256 0", "0 succ 1", "end"]
+
+
+# ---- specifications
+
+GRAPH = """relc 1
+col src num
+col dst num
+col weight num
+fd src dst -> weight
+node root
+node u src
+node w src dst
+node z src dst weight
+edge e1 root u hash src
+edge e2 u w ordered dst
+edge e3 w z singleton weight
+lock k1 8 src
+lock k2 4 src
+place e1 k1
+place e2 k2
+place e3 k2
+op ins insert src dst
+op del remove src dst
+op succ query src -> dst weight
+op find query src dst -> weight
+end"""
+
+SCHEDULER = """relc 1
+col ns num
+col pid num
+col state text
+col cpu num
+fd ns pid -> state cpu
+node root
+node y ns
+node t state
+node w ns pid state
+node z ns pid state cpu
+edge e1 root y hash ns
+edge e2 y w hash pid
+edge e3 root t hash state
+edge e4 t w list ns pid
+edge e5 w z singleton cpu
+lock ka 4 ns
+lock kb 4 state
+lock kc 4 ns pid
+place e1 ka
+place e2 ka
+place e3 kb
+place e4 kb
+place e5 kc
+op spawn insert ns pid
+op kill remove ns pid
+op bystate query state -> ns pid
+end"""
+
+SEATS = """relc 1
+col id num
+col name num
+col seat num
+fd id -> name seat
+fd seat -> id
+node root
+node p id name seat
+node q id seat
+edge e1 root p hash id
+edge e2 root q hash seat
+lock k1 4 id
+lock k2 4 seat
+place e1 k1
+place e2 k2
+op add insert id
+op byseat query seat -> id
+op drop remove id
+end"""
+
+
+BY_TARGETS = GRAPH.replace("ordered dst", "hash dst").replace("lock k2 4 src", "lock k2 4 dst")
+
+WEIGHTS = """relc 1
+col src num
+col dst num
+col weight num
+fd src dst -> weight
+fd weight -> src
+node root
+node u src
+node w src dst weight
+edge e1 root u hash src
+edge e2 u w ordered dst
+lock k 4 src
+place e1 k
+place e2 k
+op add insert src dst
+op put insert weight dst
+op drop remove src dst
+op succ query src -> dst weight
+op of query weight -> src
+end"""
+
+ONE_NUMBER = """relc 1
+col n num
+fd -> n
+node root
+node u n
+edge e root u hash n
+lock k 4 n
+place e k
+op put insert n
+op take remove n
+op all query -> n
+end"""
+
+APART = """relc 1
+col a num
+col b num
+col c num
+fd a -> b c
+node root
+node nab a b
+node nac a c
+edge e1 root nab hash a
+edge e2 root nac ordered a
+lock k1 2 a
+lock k2 1
+place e1 k1
+place e2 k2
+op put insert a
+op add insert a b c
+op take remove a
+op both query a -> c b
+op all query -> b c
+op by query c -> a
+end"""
+
+TWO_PATHS = """relc 1
+col a num
+col b text
+col c num
+fd a b -> c
+node root
+node na a
+node nab a b
+node nc c
+node nabc a b c
+edge e3 root nc hash c
+edge e4 nc nabc hash a b
+edge e1 root na hash a
+edge e2 na nab hash b
+lock k0 2 c
+lock k1 2 a
+place e1 k1
+place e2 k1
+place e3 k0
+place e4 k0
+op ins insert a b
+op put insert b a c
+op del remove b a
+op all query a -> b c
+op pairs query c -> b a
+end"""
+
+KINDS = """relc 1
+col a num
+col b text
+col c num
+col d text
+fd a b c -> d
+node root
+node u a
+node w a b
+node x a b c
+node z a b c d
+edge e1 root u hash a
+edge e2 u w ordered b
+edge e3 w x list c
+edge e4 x z singleton d
+lock k 1
+place e1 k
+place e2 k
+place e3 k
+place e4 k
+op ins insert a b c
+op del remove c b a
+op get query a b c -> d
+op under query b -> d a
+op all query -> c b
+end"""
+
+CYCLE = """relc 1
+col a num
+col b num
+col c num
+fd a -> b
+fd b -> c
+fd c -> a
+node root
+node p a b c
+node q a b c
+node r a b c
+edge e1 root p list a
+edge e2 root q ordered b
+edge e3 root r hash c
+lock k 1
+lock l 8 c
+place e1 k
+place e2 k
+place e3 l
+op put insert a b c
+op add insert b
+op has query a -> b c
+op take remove c
+op drop remove a
+end"""
+
+# Each is used by generated calls of its own.
+OTHERS = [
+    ("a graph that is striped by targets", BY_TARGETS),
+    ("a graph where a weight has one source", WEIGHTS),
+    ("at most one number", ONE_NUMBER),
+    ("two maps of one key", APART),
+    ("two paths to one tuple", TWO_PATHS),
+    ("containers of all kinds", KINDS),
+    ("three columns that determine one another", CYCLE),
+]
+
+
+def largest_spec():
+    """As many columns, nodes, edges, classes, stripes and operations as a text may have: the nodes stand in a row, each
+    with one column more, and the later ones are entered from the root too."""
+    columns = "abcdefghijklmnop"
+    lines = ["relc 1"] + ["col %s num" % column for column in columns]
+    lines += ["fd a -> " + " ".join(columns[1:]), "fd b c -> a", "fd p -> d e", "node root"]
+    nodes = [columns[:number] for number in range(1, 15)] + [columns]
+    lines += [" ".join(["node n%d" % number, *node]) for number, node in enumerate(nodes, 1)]
+    before = "root"
+    for number, node in enumerate(nodes, 1):
+        key = node[len(nodes[number - 2]) :] if number > 1 else node
+        lines.append(" ".join(["edge e%d %s n%d hash" % (number, before, number), *key]))
+        before = "n%d" % number
+    entered = list(enumerate(nodes, 1))[6:]
+    lines += [" ".join(["edge f%d root n%d hash" % (number, number), *node]) for number, node in entered]
+    lines += ["lock k%d 16 a" % number for number in range(1, 17)]
+    lines += ["place e%d k%d" % (number, number) for number in range(1, 16)]
+    lines += ["place f%d k%d" % (number, number) for number, _ in entered]
+    lines += ["op ins%d insert %s %s" % (number, *columns[number : number + 2]) for number in range(8)]
+    lines += ["op del%d remove a %s" % (number, columns[number + 1]) for number in range(8)]
+    for number, column in enumerate(columns):
+        lines.append("op ask%d query %s -> %s" % (number, column, " ".join(columns.replace(column, ""))))
+    return lines + ["end"]
+
+
+# ---- the file
+
+HEAD = """# Cases that are too long to be worked out by hand. model.py, beside this file, writes it: a second writing of the rules, over
+# plain lists and sets. Don't change the cases here.
+#
+# There are workloads of 512 generated calls of four threads on the three examples, and of 160 of three threads on others; a
+# query of 256 rows and one of 257; and the plans of a specification that is as large as can be."""
+
+
+def quoted(lines):
+    return ["|" + line for line in lines]
+
+
+def write_case(words, name, spec, work, answer):
+    return ["", "case " + name, "words relc " + words] + quoted(spec + work) + ["out"] + quoted(answer) + ["run"]
+
+
+def run_case(name, text, work):
+    spec = read_spec(text.split("\n"))
+    answer = plans_of(spec) + report_of(spec, read_calls(work[1:]))
+    return write_case("run", name, text.split("\n"), work, answer)
+
+
+def generated_cases():
+    lines = HEAD.split("\n")
+    for name, text, call_of in [
+        ("a graph", GRAPH, graph_call),
+        ("a scheduler", SCHEDULER, scheduler_call),
+        ("seats", SEATS, seats_call),
+    ]:
+        lines += run_case("512 generated calls on %s" % name, text, generated_work(call_of, 7, 512))
+    for name, text in OTHERS:
+        work = any_work(read_spec(text.split("\n")), 11, 160)
+        lines += run_case("160 generated calls on " + name, text, work)
+    lines += run_case("256 rows are answered and 257 are counted", GRAPH, many_rows())
+    largest = largest_spec()
+    plans = plans_of(read_spec(list(largest))) + ["end"]
+    lines += write_case("plan", "the largest specification is planned", largest, [], plans)
+    lines += write_case("check", "the largest specification is accepted", largest, [], ["accepted"])
+    return "\n".join(lines) + "\n"
+
+
+def main():
+    if len(sys.argv) > 1:
+        lines = sys.stdin.read().replace("\r", "").split("\n")
+        spec = read_spec(lines)
+        answer = plans_of(spec)
+        answer += report_of(spec, read_calls(lines[1:])) if sys.argv[1] == "run" else ["end"]
+        print("\n".join(answer))
+        return
+    path = os.path.join(os.path.dirname(os.path.abspath(__file__)), "generated.case")
+    with open(path, "w", encoding="ascii") as file:
+        file.write(generated_cases())
+
+
+if __name__ == "__main__":
+    main()

@@ -1,0 +1,55 @@
+//! Runs cases of the top call: what it answers to words and a text is compared with what the case says.
+#![tactic(auto)]
+
+use rc_case::{Case, End, Script, Subject};
+use rc_io::{MemSink, MemSource, read_all};
+use rc_top::relc;
+use rc_tuple::Memory;
+use std::alloc::Global;
+use std::process::ExitCode;
+use std::{env, fs, io};
+
+/// The most bytes that an answer may have.
+const ROOM: usize = 1 << 20;
+
+/// More bytes than any input has.
+const ALL: u64 = 1 << 25;
+
+/// The top call, over streams in memory.
+struct TopCall;
+
+impl Subject for TopCall {
+    fn answer(&self, alloc: Global, case: &Case) -> Result<End, Memory> {
+        let streams = &case.streams;
+        let piece = streams.piece.max(1);
+        let mut source = MemSource::new(case.input.clone()?, piece, streams.failed_reads.clone()?);
+        let mut sink = MemSink::new(alloc, ROOM, piece, streams.failed_writes.clone()?)?;
+        let status = relc(alloc, &case.words, &mut source, &mut sink);
+        Ok(End {
+            status: status.code(),
+            left: left_in(alloc, &mut source),
+            text: sink.bytes().to_vec(alloc)?,
+        })
+    }
+}
+
+/// How many bytes are left; where a read fails, more than there can be.
+fn left_in(alloc: Global, source: &mut MemSource) -> usize {
+    match read_all(alloc, source, ALL) {
+        Ok(rest) => rest.len(),
+        Err(_) => usize::MAX,
+    }
+}
+
+/// Runs the cases of each file that the words name, and prints a line for each.
+fn main(rt: HostRuntime) -> io::Result<ExitCode> {
+    let alloc = rt.alloc();
+    let files: Vec<String> = env::args(&rt)?.skip(1).collect(alloc)?;
+    let mut script = Script::new(alloc);
+    for file in &files {
+        let text = fs::read_to_string(&rt, file.as_str())?;
+        print!(rt; "{}", script.run_file(alloc, &TopCall, file, &text)?)?;
+    }
+    println!(rt; "{} ran, {} failed", script.ran(), script.failed())?;
+    Ok(ExitCode::from(if script.failed() == 0 { 0 } else { 1 }))
+}

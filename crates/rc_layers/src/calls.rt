@@ -1,0 +1,194 @@
+//! Calls, made on an instance by their plans and on the plain relation.
+
+ghost use Rattle.std.specs.Prelude.{◌≡◌, [], IfOk, OnOk};
+ghost use Rattle.rc_spec.specs.Calls.{Fits};
+ghost use Rattle.rc_spec.specs.Stripes.{stripe_total};
+ghost use Rattle.rc_instance.specs.Instance.{IsOfRelation, held_from};
+ghost use Rattle.rc_work.specs.Fitting.{RoundsFit};
+ghost use Rattle.rc_layers.specs.Open.{AreExclusive};
+ghost use Rattle.rc_layers.specs.Relation.{HoldsRelation};
+
+use crate::accepted::sealed;
+use crate::rows::stripes_of;
+use crate::stop::Stop;
+use rc_fragment::Holder;
+use rc_instance::Instance;
+use rc_machine::{Stop as RunStop, run_plan};
+use rc_mutate::compile;
+use rc_plan::Compiled;
+use rc_reader::{ReadRefusal, read_spec};
+use rc_rel::{PlainRel, Step};
+use rc_spec::{Call, Mode, Reply, Spec};
+use rc_text::push_bytes;
+use rc_values::Ranks;
+use rc_work::{Work, print_step, read_work};
+use std::alloc::Global;
+
+// ---- workloads
+
+/// The most bytes that an input may have.
+const MAX_BYTES: usize = 1 << 24;
+
+/// The compiled specification of a text, and the workload behind it.
+pub(crate) fn read(alloc: Global, text: &str) -> Result<(Compiled, Work), Stop>
+    ensures { IfOk result (λ read. RoundsFit read.0.spec read.1.rounds) }
+{
+    if text.len() > MAX_BYTES {
+        return Err(Stop::Many);
+    }
+    let (spec, rest) = match read_spec(alloc, text.as_bytes()) {
+        Ok(read) => read,
+        Err(ReadRefusal::Memory) => return Err(Stop::Memory),
+        Err(ReadRefusal::Line { .. }) => return Err(Stop::Input),
+    };
+    let work = match read_work(alloc, text.as_bytes(), rest, &spec) {
+        Ok(work) => work,
+        Err(ReadRefusal::Memory) => return Err(Stop::Memory),
+        Err(ReadRefusal::Line { .. }) => return Err(Stop::Input),
+    };
+    Ok((compile(alloc, sealed(alloc, spec)?)?, work))
+}
+
+// ---- calls
+
+/// An instance, and the relation of which it is to be.
+#[derive(Drop)]
+pub(crate) struct Sides {
+    pub(crate) instance: Instance,
+    pub(crate) relation: PlainRel,
+}
+
+/// What the instance and the relation answer.
+#[derive(Drop)]
+struct Replies {
+    instance: Reply,
+    relation: Reply,
+}
+
+impl Sides {
+    /// No tuple on both sides.
+    pub(crate) fn empty(alloc: Global, compiled: &Compiled) -> Result<Sides, Stop>
+        ensures free { IfOk result (λ sides. held_from 0 sides.instance ≡ []) }
+        ensures relation { IfOk result (λ sides. IsOfRelation compiled.now.spec sides.instance sides.relation) }
+    {
+        Ok(Sides {
+            instance: Instance::empty(alloc, compiled.accepted())?,
+            relation: PlainRel::empty(alloc),
+        })
+    }
+
+    /// Runs the call's plan on the instance, and makes the call on the relation. The stripes that the run took stay
+    /// held.
+    #[tactic(auto, using(crate::proofs::RelationLemmas::over_columns))]
+    fn make_call(
+        &mut self,
+        alloc: Global,
+        compiled: &Compiled,
+        call: &Call,
+    ) -> Result<Replies, Stop>
+        requires fits { Fits compiled.now.spec call.now }
+        requires free { held_from 0 self.old.instance ≡ [] }
+        requires relation { IsOfRelation compiled.now.spec self.old.instance self.old.relation }
+        ensures { OnOk result (HoldsRelation compiled.now.spec self.new.instance self.new.relation) }
+    {
+        match run_plan(alloc, compiled, call, &mut self.instance) {
+            Ok(reply) => {
+                let plain = self.relation.run(compiled.accepted().spec(), call)?;
+                Ok(Replies {
+                    instance: reply,
+                    relation: plain,
+                })
+            }
+            Err(RunStop::Memory) => Err(Stop::Memory),
+            Err(RunStop::Held(_)) => Err(Stop::Held),
+        }
+    }
+
+    /// Makes the call, and appends its text, and where the relation answers otherwise that answer. The stripes that the
+    /// run took stay held.
+    pub(crate) fn push_step(
+        &mut self,
+        compiled: &Compiled,
+        ranks: &Ranks,
+        call: &Call,
+        out: &mut Vec<u8>,
+    ) -> Result<(), Stop>
+        requires fits { Fits compiled.now.spec call.now }
+        requires free { held_from 0 self.old.instance ≡ [] }
+        requires relation { IsOfRelation compiled.now.spec self.old.instance self.old.relation }
+        ensures { OnOk result (HoldsRelation compiled.now.spec self.new.instance self.new.relation) }
+    {
+        let alloc = *out.allocator();
+        let replies = self.make_call(alloc, compiled, call)?;
+        push_replies(compiled.accepted().spec(), ranks, call, replies, out)
+    }
+
+    /// Takes all stripes Exclusive.
+    pub(crate) fn hold_all(&mut self, compiled: &Compiled)
+        requires free { held_from 0 self.old.instance ≡ [] }
+        requires relation { IsOfRelation compiled.now.spec self.old.instance self.old.relation }
+        ensures holds { HoldsRelation compiled.now.spec self.new.instance self.new.relation }
+        ensures open { AreExclusive (stripe_total compiled.now.spec) (held_from 0 self.new.instance) }
+    {
+        for stripe in 0..stripes_of(compiled.accepted()) {
+            match self.instance.take(stripe, Mode::Exclusive) {
+                Ok(()) => {}
+                Err(_) => unreachable!(),
+            }
+        }
+    }
+
+    /// Frees all stripes; the rows now count as taken.
+    pub(crate) fn release(&mut self, compiled: &Compiled) -> Result<(), Stop>
+        requires { HoldsRelation compiled.now.spec self.old.instance self.old.relation }
+        ensures free { OnOk result (held_from 0 self.new.instance ≡ []) }
+        ensures relation { OnOk result (IsOfRelation compiled.now.spec self.new.instance self.new.relation) }
+    {
+        if self.relation.rows().len() >= 1 << 63 {
+            return Err(Stop::Many);
+        }
+        self.instance.release_all();
+        Ok(())
+    }
+}
+
+/// Appends the text of the call with the instance's reply, and where the relation's is another also that.
+fn push_replies(
+    spec: &Spec,
+    ranks: &Ranks,
+    call: &Call,
+    replies: Replies,
+    out: &mut Vec<u8>,
+) -> Result<(), Stop>
+    requires { Fits spec.now call.now }
+{
+    let alloc = *out.allocator();
+    let Replies { instance, relation } = replies;
+    let text = printed(alloc, spec, ranks, call, instance)?;
+    let want = printed(alloc, spec, ranks, call, relation)?;
+    push_bytes(out, &text)?;
+    push_bytes(out, b"\n")?;
+    if text != want {
+        push_bytes(out, b"differs ")?;
+        push_bytes(out, &want)?;
+        push_bytes(out, b"\n")?;
+    }
+    Ok(())
+}
+
+/// The text of the call with a reply.
+fn printed(
+    alloc: Global,
+    spec: &Spec,
+    ranks: &Ranks,
+    call: &Call,
+    reply: Reply,
+) -> Result<Vec<u8>, Stop>
+    requires { Fits spec.now call.now }
+{
+    let step = Step {
+        call: call.copy()?,
+        reply,
+    };
+    Ok(print_step(alloc, spec, ranks, &step)?)
+}

@@ -1,9 +1,0 @@
-use Rattle.std.proofs.Common.{◌<◌, ◌^◌, length, rules, subst}
-use Rattle.rc_rows.proofs.RelationLemmas.{of_relation_after_release}
-use Rattle.rc_rows.proofs.calls.release.Goals as goal
-
-pub returns-clause-relation : goal.returns-clause-relation
-returns-clause-relation g c =
-    let short : length c.rows.result.now < 9223372036854775808 = search rules in
-    let few : length c.args.relation.now < 2 ^ 63 = subst (λ z. length z < 2 ^ 63) c.rows.ensures.rows short in
-    of_relation_after_release c.args.compiled.now.spec c.args.instance.now c.release_all.new.self c.args.relation.now c.requires c.release_all.ensures few

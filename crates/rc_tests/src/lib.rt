@@ -1,0 +1,10 @@
+//! Tests of what no case of data can say: which values threads may share, streams over a reader and a writer of the
+//! standard library, and printed plans of statements that no planned plan has.
+#![tactic(auto)]
+
+#[cfg(test)]
+mod plan_tests;
+#[cfg(test)]
+mod sharing_tests;
+#[cfg(test)]
+mod stream_tests;
