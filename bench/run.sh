@@ -1,5 +1,5 @@
 #!/bin/sh
-# Time and peak memory of `relc run` on six texts of texts.py. Build first: ./relc run < examples/graph.relc
+# Time and peak memory of `relc run` on six texts of texts.py. Build first: ./relc-build
 here=$(cd "$(dirname "$0")" && pwd)
 program=${1:-$here/../crates/relc/out/relc}
 for text in inserts comments half_comments workload half_workload replies; do

@@ -1,6 +1,6 @@
 #!/bin/sh
 # Time of a call of `relc run` at several sizes of the relation: the least of seven runs of a text of texts.py, without what
-# another text takes, over the calls between them. Build first: ./relc run < examples/graph.relc
+# another text takes, over the calls between them. Build first: ./relc-build
 here=$(cd "$(dirname "$0")" && pwd)
 program=${1:-$here/../crates/relc/out/relc}
 python3 - "$program" "$here/texts.py" <<'END'
