@@ -8,10 +8,11 @@ mod store;
 mod texts;
 
 use crate::fault::Fault;
-use crate::measure::{Measure, measure_fragment};
+use crate::measure::{Measure, Measures, measure_fragment};
 use crate::texts::{CASES, Case};
 use rc_place::accept;
 use rc_reader::read_spec_only;
+use rc_spec::Accepted;
 use std::alloc::Global;
 use std::process::ExitCode;
 use std::{env, io};
@@ -57,14 +58,23 @@ fn measure_case(
     size: u64,
     timed: bool,
 ) -> Result<(), Fault> {
-    let text = case.text.as_bytes();
+    let accepted = accepted_of(alloc, case.text.as_bytes())?;
+    let all = measure_fragment(alloc, rt, &accepted, size)?;
+    print_measures(rt, case.kinds, &all, timed)
+}
+
+/// The specification of a text, accepted.
+fn accepted_of(alloc: Global, text: &[u8]) -> Result<Accepted, Fault> {
     if text.len() > MAX_BYTES {
         return Err(Fault::Refused);
     }
     let spec = read_spec_only(alloc, text)?;
-    let accepted = accept(alloc, spec)?;
-    let all = measure_fragment(alloc, rt, &accepted, size)?;
-    println!(rt; "{}: {} tuples", case.kinds, all.size)?;
+    Ok(accept(alloc, spec)?)
+}
+
+/// Prints the measures of a fragment whose edges have these kinds.
+fn print_measures(rt: &HostRuntime, kinds: &str, all: &Measures, timed: bool) -> Result<(), Fault> {
+    println!(rt; "{kinds}: {} tuples", all.size)?;
     print_measure(rt, "look-ups", all.look_ups, timed)?;
     print_measure(rt, "reverts", all.reverts, timed)?;
     print_measure(rt, "inserts", all.inserts, timed)?;

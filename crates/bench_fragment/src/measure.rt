@@ -172,14 +172,59 @@ pub fn measure_fragment<C: Clock>(
     size: u64,
 ) -> Result<Measures, Fault> {
     let mut fragment = Fragment::empty(alloc, accepted)?;
-    let size = insert_all(&mut fragment, accepted, &tuples(alloc, 0, 1, size)?)?;
+    let size = fill(alloc, &mut fragment, accepted, size)?;
+    measure_filled(alloc, clock, &mut fragment, accepted, size)
+}
+
+/// Inserts so many tuples, and says how many of them.
+fn fill(
+    alloc: Global,
+    fragment: &mut Fragment,
+    accepted: &Accepted,
+    size: u64,
+) -> Result<u64, Memory>
+    requires { fragment.old.table ≡ edge_table accepted.now }
+    ensures { fragment.new.table ≡ fragment.old.table }
+{
+    let tuples = tuples(alloc, 0, 1, size)?;
+    insert_all(fragment, accepted, &tuples)
+}
+
+/// Measures a fragment that has so many tuples.
+fn measure_filled<C: Clock>(
+    alloc: Global,
+    clock: &C,
+    fragment: &mut Fragment,
+    accepted: &Accepted,
+    size: u64,
+) -> Result<Measures, Fault>
+    requires { fragment.old.table ≡ edge_table accepted.now }
+{
     let present = tuples(alloc, 0, size / STEPS, STEPS)?;
+    let look_ups = measure_look_ups(clock, fragment, accepted, &present)?;
     let fresh = tuples(alloc, size, 1, STEPS)?;
+    let [reverts, inserts, removes] = measure_changes(clock, fragment, accepted, &fresh)?;
     Ok(Measures {
         size,
-        look_ups: measure_look_ups(clock, &fragment, accepted, &present)?,
-        reverts: revert_all(clock, &mut fragment, accepted, &fresh)?,
-        inserts: measure_inserts(clock, &mut fragment, accepted, &fresh)?,
-        removes: measure_removes(clock, &mut fragment, accepted, &fresh)?,
+        look_ups,
+        reverts,
+        inserts,
+        removes,
     })
+}
+
+/// Measures reverts, inserts and removes of tuples that aren't there.
+fn measure_changes<C: Clock>(
+    clock: &C,
+    fragment: &mut Fragment,
+    accepted: &Accepted,
+    fresh: &[Tuple],
+) -> Result<[Measure; 3], Fault>
+    requires { fragment.old.table ≡ edge_table accepted.now }
+{
+    Ok([
+        revert_all(clock, fragment, accepted, fresh)?,
+        measure_inserts(clock, fragment, accepted, fresh)?,
+        measure_removes(clock, fragment, accepted, fresh)?,
+    ])
 }

@@ -15,32 +15,47 @@ pub(crate) fn answer_container(kind: &str, input: &[u8], out: &mut Vec<u8>) -> R
     let text = text_of(input)?;
     let alloc = *out.allocator();
     match kind {
-        "list" => act_on(ListMap::new(alloc), ListMap::new(alloc), text, out),
-        "single" => act_on(OneMap::new(alloc), OneMap::new(alloc), text, out),
-        "hash" => act_on(HashEdge::new(alloc), HashEdge::new(alloc), text, out),
-        "ordered" => act_on(OrderedEdge::new(alloc), OrderedEdge::new(alloc), text, out),
+        "list" => act_on(
+            &mut ListMap::new(alloc),
+            &mut ListMap::new(alloc),
+            text,
+            out,
+        ),
+        "single" => act_on(&mut OneMap::new(alloc), &mut OneMap::new(alloc), text, out),
+        "hash" => act_on(
+            &mut HashEdge::new(alloc),
+            &mut HashEdge::new(alloc),
+            text,
+            out,
+        ),
+        "ordered" => act_on(
+            &mut OrderedEdge::new(alloc),
+            &mut OrderedEdge::new(alloc),
+            text,
+            out,
+        ),
         _ => Err(Fault::NoForm),
     }
 }
 
 /// Answers each line. `copy` makes `spare` a copy of the container, and `swap` puts either in the other's place.
 fn act_on<M: Kind + Drop>(
-    mut map: M,
-    mut spare: M,
+    map: &mut M,
+    spare: &mut M,
     text: &str,
     out: &mut Vec<u8>,
 ) -> Result<(), Fault> {
     for line in text.lines() {
         match line {
             "copy" => {
-                spare = map.copy()?;
+                *spare = map.copy()?;
                 push_bytes(out, b"copied")?;
             }
             "swap" => {
-                mem::swap(&mut map, &mut spare);
+                mem::swap(map, spare);
                 push_bytes(out, b"swapped")?;
             }
-            _ => act(&mut map, line, out)?,
+            _ => act(map, line, out)?,
         }
         out.push(b'\n')?;
     }

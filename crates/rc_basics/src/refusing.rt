@@ -29,8 +29,19 @@ pub(crate) fn refuse_items(input: &[u8], out: &mut Vec<u8>) -> Result<(), Fault>
 /// The line that refuses an item of that kind and name.
 fn refusal(alloc: Global, kind: &str, name: &str, rule: Rule) -> Result<Vec<u8>, Fault> {
     let mut spec = Spec::new(alloc);
-    let item = add_item(alloc, &mut spec, kind, name.as_bytes())?;
-    let line = print_refusal(alloc, &spec, &Refusal { rule, item })?;
+    refusal_in(alloc, &mut spec, kind, name, rule)
+}
+
+/// The same, of an item that is added to a specification.
+fn refusal_in(
+    alloc: Global,
+    spec: &mut Spec,
+    kind: &str,
+    name: &str,
+    rule: Rule,
+) -> Result<Vec<u8>, Fault> {
+    let item = add_item(alloc, spec, kind, name.as_bytes())?;
+    let line = print_refusal(alloc, spec, &Refusal { rule, item })?;
     Ok(line)
 }
 

@@ -12,12 +12,16 @@ use std::alloc::Global;
 /// Answers each line of the input on the classes and places of the lines before it.
 pub(crate) fn answer_stripes(input: &[u8], out: &mut Vec<u8>) -> Result<(), Fault> {
     let mut bands = Bands::new(*out.allocator());
-    for line in text_of(input)?.lines() {
+    answer_lines(&mut bands, text_of(input)?, out)
+}
+
+fn answer_lines(bands: &mut Bands, text: &str, out: &mut Vec<u8>) -> Result<(), Fault> {
+    for line in text.lines() {
         let (verb, rest) = first_word(line);
         match verb {
-            "class" => add_class(*out.allocator(), &mut bands, rest)?,
+            "class" => add_class(*out.allocator(), bands, rest)?,
             "place" => bands.place(place(rest)?)?,
-            _ => answer(&bands, verb, rest, out)?,
+            _ => answer(bands, verb, rest, out)?,
         }
     }
     Ok(())
