@@ -248,22 +248,22 @@ def in_order(spec, columns):
     return [column for column in spec.columns if column in columns]
 
 
-def lock_line(name, is_keyed):
-    return "lock %s %s" % (name, "keyed" if is_keyed else "all")
+def lock_line(name, is_keyed, is_shared=False):
+    return "lock %s %s%s" % (name, "keyed" if is_keyed else "all", " shared" if is_shared else "")
 
 
 def read_line(spec, name, bound):
     return "read %s %s" % (name, "lookup" if spec.edge[name][3] <= bound else "scan")
 
 
-def search(spec, pattern, route, wanted):
-    """The locks and reads of a query or a remove, and the classes that are locked by them."""
+def search(spec, pattern, route, wanted, is_shared):
+    """The locks and reads of a query, which are shared, or of a remove, and the classes that are locked by them."""
     lines, locked, bound = [], [], set(pattern)
     for name in route:
         last = spec.classes.index(spec.place[name])
         for number, lock in enumerate(spec.classes):
             if lock in wanted and lock not in locked and number <= last:
-                lines.append(lock_line(lock, spec.stripes[lock][1] <= bound))
+                lines.append(lock_line(lock, spec.stripes[lock][1] <= bound, is_shared))
                 locked.append(lock)
         lines.append(read_line(spec, name, bound))
         bound |= spec.nodes[spec.edge[name][1]]
@@ -280,13 +280,13 @@ def classes_with_edges(spec):
 
 def query_plan(spec, pattern, outs):
     route = route_for(spec, pattern, pattern | outs)
-    lines, locked = search(spec, pattern, route, {spec.place[name] for name in route})
+    lines, locked = search(spec, pattern, route, {spec.place[name] for name in route}, True)
     return lines + ending("emit", locked)
 
 
 def remove_plan(spec, pattern):
     wanted = classes_with_edges(spec)
-    lines, locked = search(spec, pattern, route_for(spec, pattern, set(spec.columns)), wanted)
+    lines, locked = search(spec, pattern, route_for(spec, pattern, set(spec.columns)), wanted, False)
     left = [name for name in wanted if name not in locked]
     return lines + [lock_line(name, True) for name in left] + ending("apply", wanted)
 

@@ -27,6 +27,7 @@ use Rattle.rc_plan.specs.Evaluation.{no_dep, dep_at}
 use Rattle.rc_plan.specs.Compiled.{plan_at}
 use Rattle.rc_plan.specs.PlanRules.{pattern_columns}
 use Rattle.rc_query.specs.declared.probe.InsertProbe.{InsertProbe}
+use Rattle.rc_spec.specs.declared.lock.Mode.TheVariants.{Exclusive}
 use Rattle.rc_query.specs.Planned.{Routing, ChoosesRoutes, IsPlanned, classes_of_edges, written_classes, locks, locks_and_reads, left_after, ending, remove_plan, which_under, probe_statements, insert_plan, insert_probes, pattern_probe, dependency_probe, checked_deps, plan_for}
 use Rattle.rc_query.specs.PlannedLaws.{chosen_routing, routing_chooses}
 
@@ -47,19 +48,19 @@ all_some spec some e = subst (In 0) e (in_range_below (length spec.columns) 0 so
 -- ---- the plan of a remove
 
 pub removal_made : (spec given : Spec) (pattern classes left route edges : List ℕ) (begun reads locked plan : List Statement) → given ≡ spec → edges ≡ route
-    → classes ≡ written_classes given → begun ≡ [] → reads ≡ begun ++ locks_and_reads given pattern classes edges → left ≡ left_after given classes edges
-    → locked ≡ reads ++ locks (λ c. which.Keyed) left → plan ≡ locked ++ ending Apply classes
+    → classes ≡ written_classes given → begun ≡ [] → reads ≡ begun ++ locks_and_reads given Exclusive pattern classes edges → left ≡ left_after given classes edges
+    → locked ≡ reads ++ locks Exclusive (λ c. which.Keyed) left → plan ≡ locked ++ ending Apply classes
     → plan ≡ remove_plan spec pattern route
 removal_made spec given pattern classes left route edges begun reads locked plan same one of none read rest lock end =
     let wanted : classes ≡ written_classes spec = of ∙ ap (λ (s : Spec). written_classes s) same in
-    let made : reads ≡ locks_and_reads spec pattern (written_classes spec) route =
-    read ∙ ap (λ z. z ++ locks_and_reads given pattern classes edges) none ∙ ap (λ (s : Spec). locks_and_reads s pattern classes edges) same
-    ∙ ap (locks_and_reads spec pattern classes) one ∙ ap (λ z. locks_and_reads spec pattern z route) wanted in
+    let made : reads ≡ locks_and_reads spec Exclusive pattern (written_classes spec) route =
+    read ∙ ap (λ z. z ++ locks_and_reads given Exclusive pattern classes edges) none ∙ ap (λ (s : Spec). locks_and_reads s Exclusive pattern classes edges) same
+    ∙ ap (locks_and_reads spec Exclusive pattern classes) one ∙ ap (λ z. locks_and_reads spec Exclusive pattern z route) wanted in
     let last : left ≡ left_after spec (written_classes spec) route =
     rest ∙ ap (λ (s : Spec). left_after s classes edges) same ∙ ap (left_after spec classes) one ∙ ap (λ z. left_after spec z route) wanted in
-    let all : List Statement = locks_and_reads spec pattern (written_classes spec) route in
-    let keyed : List Statement = locks (λ c. which.Keyed) (left_after spec (written_classes spec) route) in
-    let both : locked ≡ all ++ keyed = lock ∙ ap (λ z. z ++ locks (λ c. which.Keyed) left) made ∙ ap (λ z. all ++ locks (λ c. which.Keyed) z) last in
+    let all : List Statement = locks_and_reads spec Exclusive pattern (written_classes spec) route in
+    let keyed : List Statement = locks Exclusive (λ c. which.Keyed) (left_after spec (written_classes spec) route) in
+    let both : locked ≡ all ++ keyed = lock ∙ ap (λ z. z ++ locks Exclusive (λ c. which.Keyed) left) made ∙ ap (λ z. all ++ locks Exclusive (λ c. which.Keyed) z) last in
     end ∙ ap (λ z. z ++ ending Apply classes) both ∙ ap (λ z. (all ++ keyed) ++ ending Apply z) wanted ∙ append_assoc all keyed (ending Apply (written_classes spec))
 
 pub remove_planned : (spec : Spec) → IsSealed spec → (op : Op) (pattern : List ℕ) (plan : List Statement) → op.kind ≡ Remove → pattern ≡ pattern_columns op
@@ -130,15 +131,15 @@ probes_more spec route pattern need place dep before now probe found within want
 -- ---- the plan of an insert
 
 pub insertion_made : (spec given : Spec) (classes : List ℕ) (probes first second : List InsertProbe) (begun locked probed plan : List Statement) → given ≡ spec → first ≡ probes → second ≡ probes
-    → classes ≡ written_classes given → begun ≡ [] → locked ≡ begun ++ locks (which_under given first) classes → probed ≡ locked ++ flat_map (probe_statements given) second
+    → classes ≡ written_classes given → begun ≡ [] → locked ≡ begun ++ locks Exclusive (which_under given first) classes → probed ≡ locked ++ flat_map (probe_statements given) second
     → plan ≡ probed ++ ending Apply classes → plan ≡ insert_plan spec probes
 insertion_made spec given classes probes first second begun locked probed plan same one two of none lock probe end =
     let wanted : classes ≡ written_classes spec = of ∙ ap (λ (s : Spec). written_classes s) same in
-    let front : List Statement = locks (which_under spec probes) (written_classes spec) in
+    let front : List Statement = locks Exclusive (which_under spec probes) (written_classes spec) in
     let middle : List Statement = flat_map (probe_statements spec) probes in
     let made : locked ≡ front =
-    lock ∙ ap (λ z. z ++ locks (which_under given first) classes) none ∙ ap (λ (s : Spec). locks (which_under s first) classes) same
-    ∙ ap (λ z. locks (which_under spec z) classes) one ∙ ap (λ z. locks (which_under spec probes) z) wanted in
+    lock ∙ ap (λ z. z ++ locks Exclusive (which_under given first) classes) none ∙ ap (λ (s : Spec). locks Exclusive (which_under s first) classes) same
+    ∙ ap (λ z. locks Exclusive (which_under spec z) classes) one ∙ ap (λ z. locks Exclusive (which_under spec probes) z) wanted in
     let both : probed ≡ front ++ middle =
     probe ∙ ap (λ z. z ++ flat_map (probe_statements given) second) made ∙ ap (λ (s : Spec). front ++ flat_map (probe_statements s) second) same ∙ ap (λ z. front ++ flat_map (probe_statements spec) z) two in
     end ∙ ap (λ z. z ++ ending Apply classes) both ∙ ap (λ z. (front ++ middle) ++ ending Apply z) wanted ∙ append_assoc front middle (ending Apply (written_classes spec))

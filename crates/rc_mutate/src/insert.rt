@@ -5,6 +5,7 @@ ghost use Rattle.std.specs.List.{flat_map};
 ghost use Rattle.rc_tuple.specs.RisingSet.{In};
 ghost use Rattle.rc_tuple.specs.ColSet.{Within, has};
 ghost use Rattle.rc_spec.specs.declared.items.OpKind.TheVariants.{Insert};
+ghost use Rattle.rc_spec.specs.declared.lock.Mode.TheVariants.{Exclusive};
 ghost use Rattle.rc_spec.specs.Calls.{all_columns};
 ghost use Rattle.rc_spec.specs.InRange.{IsInRange};
 ghost use Rattle.rc_spec.specs.Placement.{IsPlaced, class_of, op_at};
@@ -54,7 +55,7 @@ fn which_under(spec: &Spec, probes: &[InsertProbe], class: u8) -> Which
     Which::Keyed
 }
 
-/// Appends a lock of each class, rising, under which the probes read.
+/// Appends an Exclusive lock of each class, rising, under which the probes read.
 fn push_locks(
     plan: &mut Plan,
     spec: &Spec,
@@ -62,7 +63,7 @@ fn push_locks(
     classes: ClassSet,
 ) -> Result<(), Memory>
     requires { (c : ℕ) → In c classes → c < length spec.now.classes }
-    ensures { OnOk result (plan.new ≡ plan.old ++ locks (which_under spec.now probes.now) classes) }
+    ensures { OnOk result (plan.new ≡ plan.old ++ locks Exclusive (which_under spec.now probes.now) classes) }
 {
     for place in 0..classes.len() {
         let class = classes.nth(place).unwrap();
@@ -82,7 +83,14 @@ fn push_probe(plan: &mut Plan, spec: &Spec, probe: &InsertProbe) -> Result<(), M
 {
     let cols = probe.columns;
     plan.push(Statement::Probe { cols })?;
-    push_locks_and_reads(plan, spec, cols, ClassSet::empty(), probe.route.list())?;
+    push_locks_and_reads(
+        plan,
+        spec,
+        Mode::Exclusive,
+        cols,
+        ClassSet::empty(),
+        probe.route.list(),
+    )?;
     plan.push(probe.check)?;
     Ok(())
 }
@@ -117,7 +125,7 @@ fn plan_insertion(alloc: Global, accepted: &Accepted, pattern: ColSet) -> Result
     Ok(plan)
 }
 
-/// The plan of an insert, by the number of its operation. It locks all classes that have an edge: all stripes of a class
+/// The plan of an insert, by the number of its operation. It locks all classes that have an edge Exclusive: all stripes of a class
 /// under which a probe reads without its columns, and else those of the new tuple. Then it searches for a tuple with the
 /// pattern values of the new one, and for each dependency whose left side doesn't hold the whole pattern for those with
 /// its left side, over the chosen routes; and then it adds the tuple. (PLDI 2011, insertion; PLDI 2012, put if absent.)

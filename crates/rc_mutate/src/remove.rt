@@ -5,6 +5,7 @@ ghost use Rattle.rc_tuple.specs.ColSet.{Within};
 ghost use Rattle.rc_spec.specs.Calls.{all_columns};
 ghost use Rattle.rc_spec.specs.Placement.{op_at};
 ghost use Rattle.rc_spec.specs.declared.items.OpKind.TheVariants.{Remove};
+ghost use Rattle.rc_spec.specs.declared.lock.Mode.TheVariants.{Exclusive};
 ghost use Rattle.rc_plan.specs.Compiled.{IsPlanOf};
 ghost use Rattle.rc_plan.specs.declared.statement.Which.TheVariants as which;
 ghost use Rattle.rc_query.specs.Planned.{ChoosesRoutes, IsPlanned, Routing, locks, remove_plan};
@@ -17,9 +18,9 @@ use rc_spec::{Accepted, Mode};
 use rc_tuple::{ColSet, Memory};
 use std::alloc::Global;
 
-/// Appends a keyed lock of each class, rising.
+/// Appends a keyed Exclusive lock of each class, rising.
 fn push_keyed_locks(plan: &mut Plan, classes: ClassSet) -> Result<(), Memory>
-    ensures { OnOk result (plan.new ≡ plan.old ++ locks (λ c. which.Keyed) classes) }
+    ensures { OnOk result (plan.new ≡ plan.old ++ locks Exclusive (λ c. which.Keyed) classes) }
 {
     for place in 0..classes.len() {
         let class = classes.nth(place).unwrap();
@@ -39,14 +40,21 @@ fn plan_removal(alloc: Global, accepted: &Accepted, pattern: ColSet) -> Result<P
     let route = route_for(alloc, accepted, pattern, spec.all_columns())?;
     let classes = written_classes(spec);
     let mut plan = Plan::new(alloc);
-    let left = push_locks_and_reads(&mut plan, spec, pattern, classes, route.list())?;
+    let left = push_locks_and_reads(
+        &mut plan,
+        spec,
+        Mode::Exclusive,
+        pattern,
+        classes,
+        route.list(),
+    )?;
     push_keyed_locks(&mut plan, left)?;
     push_ending(&mut plan, Statement::Apply, classes)?;
     Ok(plan)
 }
 
 /// The plan of a remove, by the number of its operation. It reads the chosen route for all columns as a query does, and
-/// locks all classes that have an edge: those that are left after its reads keyed, since all columns are bound then.
+/// locks all classes that have an edge Exclusive: those that are left after its reads keyed, since all columns are bound then.
 /// (PLDI 2011, removal; PLDI 2012, locks of mutations.)
 pub fn plan_remove(alloc: Global, accepted: &Accepted, op: u8) -> Result<Plan, Memory>
     requires known { op < length accepted.now.ops }

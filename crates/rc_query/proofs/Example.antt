@@ -12,7 +12,7 @@ use Rattle.rc_spec.specs.declared.items.Node.{Node}
 use Rattle.rc_spec.specs.declared.items.Op.{Op}
 use Rattle.rc_spec.specs.declared.items.OpKind.{OpKind}
 use Rattle.rc_spec.specs.declared.items.OpKind.TheVariants.{Query, Insert, Remove}
-use Rattle.rc_spec.specs.declared.lock.Mode.TheVariants.{Exclusive}
+use Rattle.rc_spec.specs.declared.lock.Mode.TheVariants.{Shared, Exclusive}
 use Rattle.rc_spec.specs.declared.spec.Spec.{Spec}
 use Rattle.rc_plan.specs.declared.statement.ReadMode.TheVariants.{Lookup, Scan}
 use Rattle.rc_plan.specs.declared.statement.Statement.{Statement}
@@ -44,6 +44,12 @@ keyed c = Lock c which.Keyed Exclusive
 abbrev all : ℕ → Statement
 all c = Lock c which.All Exclusive
 
+abbrev shared : ℕ → Statement
+shared c = Lock c which.Keyed Shared
+
+abbrev all_shared : ℕ → Statement
+all_shared c = Lock c which.All Shared
+
 -- ---- edges src -> dst with one weight
 
 -- the class of the last two edges is striped by a column
@@ -68,14 +74,14 @@ inserts = refl
 deletes : planned_by (graph_by 0) graph_route (op (0 ∷ 1 ∷ []) Remove) ≡ keyed 0 ∷ Read 0 Lookup ∷ keyed 1 ∷ Read 1 Lookup ∷ Read 2 Scan ∷ Apply ∷ Commit ∷ Release 1 ∷ Release 0 ∷ []
 deletes = refl
 
-successors : planned_by (graph_by 0) graph_route (op (0 ∷ []) (Query (1 ∷ 2 ∷ []))) ≡ keyed 0 ∷ Read 0 Lookup ∷ keyed 1 ∷ Read 1 Scan ∷ Read 2 Scan ∷ Emit ∷ Commit ∷ Release 1 ∷ Release 0 ∷ []
+successors : planned_by (graph_by 0) graph_route (op (0 ∷ []) (Query (1 ∷ 2 ∷ []))) ≡ shared 0 ∷ Read 0 Lookup ∷ shared 1 ∷ Read 1 Scan ∷ Read 2 Scan ∷ Emit ∷ Commit ∷ Release 1 ∷ Release 0 ∷ []
 successors = refl
 
-finds : planned_by (graph_by 0) graph_route (op (0 ∷ 1 ∷ []) (Query (2 ∷ []))) ≡ keyed 0 ∷ Read 0 Lookup ∷ keyed 1 ∷ Read 1 Lookup ∷ Read 2 Scan ∷ Emit ∷ Commit ∷ Release 1 ∷ Release 0 ∷ []
+finds : planned_by (graph_by 0) graph_route (op (0 ∷ 1 ∷ []) (Query (2 ∷ []))) ≡ shared 0 ∷ Read 0 Lookup ∷ shared 1 ∷ Read 1 Lookup ∷ Read 2 Scan ∷ Emit ∷ Commit ∷ Release 1 ∷ Release 0 ∷ []
 finds = refl
 
 -- no value of dst is bound yet
-locks_all : planned_by (graph_by 1) graph_route (op (0 ∷ []) (Query (1 ∷ 2 ∷ []))) ≡ keyed 0 ∷ Read 0 Lookup ∷ all 1 ∷ Read 1 Scan ∷ Read 2 Scan ∷ Emit ∷ Commit ∷ Release 1 ∷ Release 0 ∷ []
+locks_all : planned_by (graph_by 1) graph_route (op (0 ∷ []) (Query (1 ∷ 2 ∷ []))) ≡ shared 0 ∷ Read 0 Lookup ∷ all_shared 1 ∷ Read 1 Scan ∷ Read 2 Scan ∷ Emit ∷ Commit ∷ Release 1 ∷ Release 0 ∷ []
 locks_all = refl
 
 -- ---- processes of name spaces, with their states and processors
@@ -102,7 +108,7 @@ kills : planned_by scheduler scheduler_route (op (0 ∷ 1 ∷ []) Remove)
     ≡ keyed 0 ∷ Read 0 Lookup ∷ Read 1 Lookup ∷ keyed 1 ∷ keyed 2 ∷ Read 4 Scan ∷ Apply ∷ Commit ∷ Release 2 ∷ Release 1 ∷ Release 0 ∷ []
 kills = refl
 
-by_state : planned_by scheduler scheduler_route (op (2 ∷ []) (Query (0 ∷ 1 ∷ []))) ≡ keyed 1 ∷ Read 2 Lookup ∷ Read 3 Scan ∷ Emit ∷ Commit ∷ Release 1 ∷ []
+by_state : planned_by scheduler scheduler_route (op (2 ∷ []) (Query (0 ∷ 1 ∷ []))) ≡ shared 1 ∷ Read 2 Lookup ∷ Read 3 Scan ∷ Emit ∷ Commit ∷ Release 1 ∷ []
 by_state = refl
 
 -- ---- names with seats
@@ -125,7 +131,7 @@ adds : planned_by seats seats_route (op (0 ∷ []) Insert)
     ≡ keyed 0 ∷ keyed 1 ∷ Probe (0 ∷ []) ∷ Read 0 Lookup ∷ CheckAbsent ∷ Probe (2 ∷ []) ∷ Read 1 Lookup ∷ CheckDep 2 ∷ Apply ∷ Commit ∷ Release 1 ∷ Release 0 ∷ []
 adds = refl
 
-by_seat : planned_by seats seats_route (op (2 ∷ []) (Query (0 ∷ []))) ≡ keyed 1 ∷ Read 1 Lookup ∷ Emit ∷ Commit ∷ Release 1 ∷ []
+by_seat : planned_by seats seats_route (op (2 ∷ []) (Query (0 ∷ []))) ≡ shared 1 ∷ Read 1 Lookup ∷ Emit ∷ Commit ∷ Release 1 ∷ []
 by_seat = refl
 
 -- a class is left after the last read

@@ -5,6 +5,7 @@ use Rattle.rc_tuple.specs.RisingSet.{gather}
 use Rattle.rc_tuple.specs.ColSet.{union}
 use Rattle.rc_spec.specs.declared.items.Op.{Op}
 use Rattle.rc_spec.specs.declared.items.OpKind.TheVariants.{Query}
+use Rattle.rc_spec.specs.declared.lock.Mode.TheVariants.{Shared}
 use Rattle.rc_spec.specs.declared.spec.Spec.{Spec}
 use Rattle.rc_spec.specs.Acceptance.{IsSealed}
 use Rattle.rc_spec.specs.InRange.{AreBelow, HasOutsAmong}
@@ -22,14 +23,14 @@ outs_among spec s number op f outs e = subst (HasOutsAmong (length spec.columns)
 -- ---- the plan of a query
 
 pub query_made : (spec given : Spec) (pattern classes route first second : List ℕ) (begun reads plan : List Statement) → given ≡ spec → first ≡ route → second ≡ route
-    → classes ≡ classes_of_edges given first → begun ≡ [] → reads ≡ begun ++ locks_and_reads given pattern classes second → plan ≡ reads ++ ending Emit classes
+    → classes ≡ classes_of_edges given first → begun ≡ [] → reads ≡ begun ++ locks_and_reads given Shared pattern classes second → plan ≡ reads ++ ending Emit classes
     → plan ≡ query_plan spec pattern route
 query_made spec given pattern classes route first second begun reads plan same one two of none read end =
     let wanted : classes ≡ classes_of_edges spec route = of ∙ ap (λ (s : Spec). classes_of_edges s first) same ∙ ap (classes_of_edges spec) one in
-    let made : reads ≡ locks_and_reads spec pattern (classes_of_edges spec route) route =
-    read ∙ ap (λ z. z ++ locks_and_reads given pattern classes second) none ∙ ap (λ (s : Spec). locks_and_reads s pattern classes second) same
-    ∙ ap (locks_and_reads spec pattern classes) two ∙ ap (λ z. locks_and_reads spec pattern z route) wanted in
-    end ∙ ap (λ z. z ++ ending Emit classes) made ∙ ap (λ z. locks_and_reads spec pattern (classes_of_edges spec route) route ++ ending Emit z) wanted
+    let made : reads ≡ locks_and_reads spec Shared pattern (classes_of_edges spec route) route =
+    read ∙ ap (λ z. z ++ locks_and_reads given Shared pattern classes second) none ∙ ap (λ (s : Spec). locks_and_reads s Shared pattern classes second) same
+    ∙ ap (locks_and_reads spec Shared pattern classes) two ∙ ap (λ z. locks_and_reads spec Shared pattern z route) wanted in
+    end ∙ ap (λ z. z ++ ending Emit classes) made ∙ ap (λ z. locks_and_reads spec Shared pattern (classes_of_edges spec route) route ++ ending Emit z) wanted
 
 pub query_planned : (spec : Spec) → IsSealed spec → (number : ℕ) (op : Op) → IsOpFound spec number op → (outs pattern need : List ℕ) (plan : List Statement) → op.kind ≡ Query outs
     → pattern ≡ pattern_columns (op_at spec number) → need ≡ gather nat_cmp outs

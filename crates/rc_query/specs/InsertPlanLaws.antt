@@ -13,6 +13,7 @@ use Rattle.rc_tuple.specs.ColSetLaws.{within_from_test, union_left, union_right,
 use Rattle.rc_tuple.specs.RelationLaws.{list_any_in}
 use Rattle.rc_spec.specs.declared.items.Op.{Op}
 use Rattle.rc_spec.specs.declared.items.OpKind.TheVariants.{Insert}
+use Rattle.rc_spec.specs.declared.lock.Mode.TheVariants.{Exclusive}
 use Rattle.rc_spec.specs.declared.spec.Spec.{Spec}
 use Rattle.rc_spec.specs.Adequacy.{IsAdequate}
 use Rattle.rc_spec.specs.Calls.{all_columns}
@@ -49,7 +50,7 @@ covers_probed spec columns visited reached ls xs absent checked c which.All h = 
 probe_reads_fit : (spec : Spec) (op : Op) (need xs es columns visited reached : List ℕ) (ls : List (ℕ × Which)) (absent : Bool) (checked : List ℕ)
     → CoverReads spec ls xs es → IsGoodFrom spec need reached visited es → (rest : List Statement)
     → ((columns visited reached : List ℕ) → Within need visited → AllFit spec op (searching columns visited reached ls (Some xs) absent checked) rest)
-    → AllFit spec op (searching columns visited reached ls (Some xs) absent checked) (locks_and_reads spec columns [] es ++ rest)
+    → AllFit spec op (searching columns visited reached ls (Some xs) absent checked) (locks_and_reads spec Exclusive columns [] es ++ rest)
 probe_reads_fit spec op need xs [] columns visited reached ls absent checked v g rest f = f columns visited reached g
 probe_reads_fit spec op need xs (e ∷ es) columns visited reached ls absent checked v g rest f =
     let k : (choice : Which) × In (class_of spec e, choice) ls × IsKeyBound spec (class_of spec e) choice xs = v e (inl refl) in (
@@ -65,7 +66,7 @@ probe_fits : (spec : Spec) (name pattern need columns visited reached : List ℕ
     → AllFit spec (inserting name pattern) (searching columns visited reached ls last absent checked) (probe_statements spec probe ++ rest)
 probe_fits spec name pattern need columns visited reached ls last absent checked probe n v g rest f = (
   record { known = n; k1 = (refl, tt); k2 = tt; k3 = tt; k4 = tt; k5 = tt; k6 = tt; k7 = tt },
-  subst (AllFit spec (inserting name pattern) (searching probe.columns [] [] ls (Some probe.columns) absent checked)) (sym (append_assoc (locks_and_reads spec probe.columns [] probe.route) (probe.check ∷ []) rest))
+  subst (AllFit spec (inserting name pattern) (searching probe.columns [] [] ls (Some probe.columns) absent checked)) (sym (append_assoc (locks_and_reads spec Exclusive probe.columns [] probe.route) (probe.check ∷ []) rest))
       (probe_reads_fit spec (inserting name pattern) need probe.columns probe.route probe.columns [] [] ls absent checked v g (probe.check ∷ rest) f),
 )
 
@@ -220,7 +221,7 @@ insert_fits spec i a pl route good name pattern w =
     ) in
     let more : List Statement = flat_map (probe_statements spec) (map (dependency_probe spec route) deps) in
     let end : List Statement = ending Apply wanted in
-    locks_fit spec op choice wanted given [] [] [] false [] (rising_classes spec (all_edges spec)) n
+    locks_fit spec op Exclusive refl choice wanted given [] [] [] false [] (rising_classes spec (all_edges spec)) n
     (λ c h. all_bound spec probes c given (λ d m. gather_in nat_cmp nat_order d (all_columns spec) (class_columns_known spec i a pl c h d m))) (λ x z. absurd z) (flat_map (probe_statements spec) probes ++ end)
     (subst (AllFit spec op (searching given [] [] ls None false [])) (sym (append_assoc (probe_statements spec first) more end))
     (probe_fits spec name pattern xs given [] [] ls None false [] first inside (covers first (inl refl)) g (more ++ end)

@@ -7,7 +7,8 @@ use Rattle.rc_tuple.specs.ColSet.{has, is_within, union}
 use Rattle.rc_spec.specs.declared.items.Op.{Op}
 use Rattle.rc_spec.specs.declared.items.OpKind.{OpKind}
 use Rattle.rc_spec.specs.declared.items.OpKind.TheVariants.{Query, Insert, Remove}
-use Rattle.rc_spec.specs.declared.lock.Mode.TheVariants.{Exclusive}
+use Rattle.rc_spec.specs.declared.lock.Mode.{Mode}
+use Rattle.rc_spec.specs.declared.lock.Mode.TheVariants.{Shared, Exclusive}
 use Rattle.rc_spec.specs.declared.spec.Spec.{Spec}
 use Rattle.rc_spec.specs.Calls.{all_columns}
 use Rattle.rc_spec.specs.Decomposition.{edge_at}
@@ -42,9 +43,9 @@ which_where spec columns c = if is_within (class_at spec c).cols columns then wh
 abbrev pub read_mode_where : Spec → List ℕ → ℕ → ReadMode
 read_mode_where spec columns e = if is_within (edge_at spec e).key columns then Lookup else Scan
 
--- Exclusive Locks of some classes, each with its choice of stripes
-abbrev pub locks : (ℕ → Which) → List ℕ → List Statement
-locks choice classes = map (λ c. Lock c (choice c) Exclusive) classes
+-- Locks of some classes in a mode, each with its choice of stripes
+abbrev pub locks : Mode → (ℕ → Which) → List ℕ → List Statement
+locks mode choice classes = map (λ c. Lock c (choice c) mode) classes
 
 -- of the classes that are left to be locked, those that aren't after the edge's class, and those that are
 abbrev pub due : Spec → ℕ → List ℕ → List ℕ
@@ -54,11 +55,11 @@ abbrev pub later : Spec → ℕ → List ℕ → List ℕ
 later spec e left = filter (λ c. not (nat_le c (class_of spec e))) left
 
 -- The Locks and Reads of a route, where some columns are bound and some classes are left to be locked: before each Read those that are due are locked, rising.
-abbrev pub locks_and_reads : Spec → List ℕ → List ℕ → List ℕ → List Statement
-locks_and_reads spec columns left [] = []
-locks_and_reads spec columns left (e ∷ es) =
-    locks (which_where spec columns) (due spec e left)
-    ++ Read e (read_mode_where spec columns e) ∷ locks_and_reads spec (union columns (target_columns spec e)) (later spec e left) es
+abbrev pub locks_and_reads : Spec → Mode → List ℕ → List ℕ → List ℕ → List Statement
+locks_and_reads spec mode columns left [] = []
+locks_and_reads spec mode columns left (e ∷ es) =
+    locks mode (which_where spec columns) (due spec e left)
+    ++ Read e (read_mode_where spec columns e) ∷ locks_and_reads spec mode (union columns (target_columns spec e)) (later spec e left) es
 
 -- the classes that are left to be locked after a route
 abbrev pub left_after : Spec → List ℕ → List ℕ → List ℕ
@@ -71,15 +72,15 @@ ending last classes = last ∷ Commit ∷ map Release (reverse classes)
 
 -- ---- queries and removes, with the route for their need
 
--- a query locks the classes of its route's edges
+-- a query locks the classes of its route's edges Shared
 abbrev pub query_plan : Spec → List ℕ → List ℕ → List Statement
-query_plan spec pattern route = locks_and_reads spec pattern (classes_of_edges spec route) route ++ ending Emit (classes_of_edges spec route)
+query_plan spec pattern route = locks_and_reads spec Shared pattern (classes_of_edges spec route) route ++ ending Emit (classes_of_edges spec route)
 
--- a remove locks all classes that have an edge, those that are left after its reads keyed
+-- a remove locks all classes that have an edge Exclusive, those that are left after its reads keyed
 abbrev pub remove_plan : Spec → List ℕ → List ℕ → List Statement
 remove_plan spec pattern route =
-    locks_and_reads spec pattern (written_classes spec) route
-    ++ (locks (λ c. which.Keyed) (left_after spec (written_classes spec) route) ++ ending Apply (written_classes spec))
+    locks_and_reads spec Exclusive pattern (written_classes spec) route
+    ++ (locks Exclusive (λ c. which.Keyed) (left_after spec (written_classes spec) route) ++ ending Apply (written_classes spec))
 
 -- ---- inserts
 
@@ -114,14 +115,14 @@ reads_unbound spec c probe = has (map (class_of spec) probe.route) c && not (is_
 abbrev pub which_under : Spec → List InsertProbe → ℕ → Which
 which_under spec probes c = if list_any (reads_unbound spec c) probes then which.All else which.Keyed
 
--- a Probe, its Reads and its check
+-- a Probe, its Reads and its check; all classes are locked before
 abbrev pub probe_statements : Spec → InsertProbe → List Statement
-probe_statements spec probe = Probe probe.columns ∷ locks_and_reads spec probe.columns [] probe.route ++ probe.check ∷ []
+probe_statements spec probe = Probe probe.columns ∷ locks_and_reads spec Exclusive probe.columns [] probe.route ++ probe.check ∷ []
 
--- an insert locks all classes that have an edge, and then makes its probes
+-- an insert locks all classes that have an edge Exclusive, and then makes its probes
 abbrev pub insert_plan : Spec → List InsertProbe → List Statement
 insert_plan spec probes =
-    locks (which_under spec probes) (written_classes spec) ++ (flat_map (probe_statements spec) probes ++ ending Apply (written_classes spec))
+    locks Exclusive (which_under spec probes) (written_classes spec) ++ (flat_map (probe_statements spec) probes ++ ending Apply (written_classes spec))
 
 -- ---- the plan of an operation
 

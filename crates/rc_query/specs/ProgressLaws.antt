@@ -13,7 +13,7 @@ use Rattle.rc_tuple.specs.ColSetLaws.{within_from_test, in_union, union_left, un
 use Rattle.rc_spec.specs.declared.items.Op.{Op}
 use Rattle.rc_spec.specs.declared.items.OpKind.{OpKind}
 use Rattle.rc_spec.specs.declared.items.OpKind.TheVariants.{Query, Insert, Remove}
-use Rattle.rc_spec.specs.declared.lock.Mode.TheVariants.{Exclusive}
+use Rattle.rc_spec.specs.declared.lock.Mode.{Mode}
 use Rattle.rc_spec.specs.declared.spec.Spec.{Spec}
 use Rattle.rc_spec.specs.Adequacy.{IsAdequate}
 use Rattle.rc_spec.specs.Calls.{all_columns}
@@ -94,22 +94,16 @@ in_with_locks choice (c ∷ cs) ls x h =
       | inr q ↦ inr (inr q.0, q.1)
     ]
 
--- an Exclusive Lock is of any kind of operation
-exclusive_mode : (kind : OpKind) → HasLockMode kind Exclusive
-exclusive_mode (Query outs) = tt
-exclusive_mode Insert = refl
-exclusive_mode Remove = refl
-
 -- rising Locks before any Probe
-pub locks_fit : (spec : Spec) (op : Op) (choice : ℕ → Which) (cs columns visited reached : List ℕ) (ls : List (ℕ × Which)) (absent : Bool) (checked : List ℕ)
+pub locks_fit : (spec : Spec) (op : Op) (mode : Mode) → HasLockMode op.kind mode → (choice : ℕ → Which) (cs columns visited reached : List ℕ) (ls : List (ℕ × Which)) (absent : Bool) (checked : List ℕ)
     → IsRising nat_cmp cs → ((c : ℕ) → In c cs → c < length spec.classes) → ((c : ℕ) → In c cs → IsKeyBound spec c (choice c) columns)
     → ((x : ℕ × Which) → In x ls → (c : ℕ) → In c cs → x.0 < c)
     → (rest : List Statement) → AllFit spec op (searching columns visited reached (with_locks choice cs ls) None absent checked) rest
-    → AllFit spec op (searching columns visited reached ls None absent checked) (locks choice cs ++ rest)
-locks_fit spec op choice [] columns visited reached ls absent checked r n k b rest h = h
-locks_fit spec op choice (c ∷ cs) columns visited reached ls absent checked r n k b rest h = (
-  record { known = n c (inl refl); k1 = (refl, refl, exclusive_mode op.kind); k2 = λ x q. b x q c (inl refl); k3 = k c (inl refl); k4 = tt; k5 = tt; k6 = tt; k7 = tt },
-  locks_fit spec op choice cs columns visited reached ((c, choice c) ∷ ls) absent checked r.1 (λ d q. n d (inr q)) (λ d q. k d (inr q))
+    → AllFit spec op (searching columns visited reached ls None absent checked) (locks mode choice cs ++ rest)
+locks_fit spec op mode may choice [] columns visited reached ls absent checked r n k b rest h = h
+locks_fit spec op mode may choice (c ∷ cs) columns visited reached ls absent checked r n k b rest h = (
+  record { known = n c (inl refl); k1 = (refl, refl, may); k2 = λ x q. b x q c (inl refl); k3 = k c (inl refl); k4 = tt; k5 = tt; k6 = tt; k7 = tt },
+  locks_fit spec op mode may choice cs columns visited reached ((c, choice c) ∷ ls) absent checked r.1 (λ d q. n d (inr q)) (λ d q. k d (inr q))
       (λ x q d i. elim q [
         | inl e ↦ subst (λ (z : ℕ × Which). z.0 < d) (sym e) (less_from c d (r.0 d i))
         | inr j ↦ b x j d (inr i)
@@ -211,28 +205,28 @@ more_within : (visited columns xs : List ℕ) → Within visited columns → Wit
 more_within visited columns xs w c h = elim (in_union visited xs c h) [ inl q ↦ union_left columns xs c (w c q) | inr q ↦ union_right columns xs c q ]
 
 -- the Locks and Reads of a good route, of a query or a remove
-pub locks_and_reads_fit : (spec : Spec) (op : Op) (need wanted : List ℕ) (es left columns visited reached : List ℕ) (ls : List (ℕ × Which)) → (IsInsert op.kind → ⊥)
+pub locks_and_reads_fit : (spec : Spec) (op : Op) (mode : Mode) → HasLockMode op.kind mode → (need wanted : List ℕ) (es left columns visited reached : List ℕ) (ls : List (ℕ × Which)) → (IsInsert op.kind → ⊥)
     → ((c : ℕ) → In c wanted → c < length spec.classes) → ((e : ℕ) → In e es → In (class_of spec e) wanted)
     → Locks wanted left ls → Within visited columns → IsGoodFrom spec need reached visited es → (rest : List Statement)
     → ((columns visited reached : List ℕ) (ls : List (ℕ × Which)) → Locks wanted (left_after spec left es) ls → Within need visited → Within visited columns
     → AllFit spec op (searching columns visited reached ls None false []) rest)
-    → AllFit spec op (searching columns visited reached ls None false []) (locks_and_reads spec columns left es ++ rest)
-locks_and_reads_fit spec op need wanted [] left columns visited reached ls never n own k w g rest f = f columns visited reached ls k g w
-locks_and_reads_fit spec op need wanted (e ∷ es) left columns visited reached ls never n own k w g rest f =
+    → AllFit spec op (searching columns visited reached ls None false []) (locks_and_reads spec mode columns left es ++ rest)
+locks_and_reads_fit spec op mode may need wanted [] left columns visited reached ls never n own k w g rest f = f columns visited reached ls k g w
+locks_and_reads_fit spec op mode may need wanted (e ∷ es) left columns visited reached ls never n own k w g rest f =
     let choice : ℕ → Which = which_where spec columns in
-    let more : List Statement = locks_and_reads spec (union columns (target_columns spec e)) (later spec e left) es in
+    let more : List Statement = locks_and_reads spec mode (union columns (target_columns spec e)) (later spec e left) es in
     let now : List (ℕ × Which) = with_locks choice (due spec e left) ls in
     let k' : Locks wanted (later spec e left) now = locks_step spec e choice wanted left ls k in
     let locked : (choice : Which) × In (class_of spec e, choice) now = own_locked spec e wanted left now (own e (inl refl)) k' in
-    subst (AllFit spec op (searching columns visited reached ls None false [])) (sym (append_assoc (locks choice (due spec e left)) (Read e (read_mode_where spec columns e) ∷ more) rest))
-    (locks_fit spec op choice (due spec e left) columns visited reached ls false []
+    subst (AllFit spec op (searching columns visited reached ls None false [])) (sym (append_assoc (locks mode choice (due spec e left)) (Read e (read_mode_where spec columns e) ∷ more) rest))
+    (locks_fit spec op mode may choice (due spec e left) columns visited reached ls false []
     (rising_filter nat_cmp (λ c. nat_le c (class_of spec e)) left k.rising)
     (λ c h. n c (k.within c (in_due spec e left c h).0))
     (λ c h. which_bound spec columns c)
     (λ x h c i. k.below x h c (in_due spec e left c i).0)
     (Read e (read_mode_where spec columns e) ∷ (more ++ rest)) (
       read_fits spec op columns visited reached now None false [] e (λ i. absurd (never i)) g.0 (locked.0, locked.1, covers_unprobed spec columns visited reached now false [] (class_of spec e) locked.0),
-      locks_and_reads_fit spec op need wanted es (later spec e left) (union columns (target_columns spec e)) (union visited (target_columns spec e)) ((edge_at spec e).to ∷ reached) now never n
+      locks_and_reads_fit spec op mode may need wanted es (later spec e left) (union columns (target_columns spec e)) (union visited (target_columns spec e)) ((edge_at spec e).to ∷ reached) now never n
           (λ d h. own d (inr h)) k' (more_within visited columns (target_columns spec e) w) g.1 rest f,
     ))
 

@@ -8,6 +8,7 @@ use Rattle.rc_tuple.specs.ColSet.{union}
 use Rattle.rc_tuple.specs.ColSetLaws.{union_left, union_right}
 use Rattle.rc_spec.specs.declared.items.Op.{Op}
 use Rattle.rc_spec.specs.declared.items.OpKind.TheVariants.{Query, Remove}
+use Rattle.rc_spec.specs.declared.lock.Mode.TheVariants.{Shared, Exclusive}
 use Rattle.rc_spec.specs.declared.spec.Spec.{Spec}
 use Rattle.rc_spec.specs.Adequacy.{IsAdequate}
 use Rattle.rc_spec.specs.Calls.{all_columns}
@@ -33,7 +34,7 @@ query_fits spec i pl name pattern outs route g =
     let need : List ℕ = union bound (gather nat_cmp outs) in
     let wanted : List ℕ = classes_of_edges spec route in
     let n : (c : ℕ) → In c wanted → c < length spec.classes = classes_known spec i pl route (good_known spec need route g) in
-    locks_and_reads_fit spec op need wanted route wanted bound [] [] [] (λ z. z) n (class_in spec route)
+    locks_and_reads_fit spec op Shared tt need wanted route wanted bound [] [] [] (λ z. z) n (class_in spec route)
     (no_locks wanted (rising_classes spec route)) (λ c z. absurd z) g (ending Emit wanted)
     (λ columns visited reached ls k w v.
     ending_fits spec op Emit wanted (searching columns visited reached ls None false [])
@@ -68,15 +69,15 @@ remove_fits spec i a pl name pattern route g =
     let left : List ℕ = left_after spec wanted route in
     let op : Op = record { name = name; pattern = pattern; kind = Remove } in
     let n : (c : ℕ) → In c wanted → c < length spec.classes = classes_known spec i pl (all_edges spec) (in_edge spec) in
-    locks_and_reads_fit spec op (all_columns spec) wanted route wanted (gather nat_cmp pattern) [] [] [] (λ z. z) n
+    locks_and_reads_fit spec op Exclusive refl (all_columns spec) wanted route wanted (gather nat_cmp pattern) [] [] [] (λ z. z) n
     (λ e h. class_in spec (all_edges spec) e (edge_in spec e (good_known spec (all_columns spec) route g e h)))
-    (no_locks wanted (rising_classes spec (all_edges spec))) (λ c z. absurd z) g (locks (λ c. which.Keyed) left ++ ending Apply wanted)
+    (no_locks wanted (rising_classes spec (all_edges spec))) (λ c z. absurd z) g (locks Exclusive (λ c. which.Keyed) left ++ ending Apply wanted)
     (λ columns visited reached ls k w v.
     let all : (c : ℕ) → In c wanted → (z : Which) × In (c, z) (with_locks (λ c. which.Keyed) left ls) = λ c h. elim (k.each c h) [
       | inl q ↦ (q.0, with_locks_old (λ c. which.Keyed) left ls (c, q.0) q.1)
       | inr j ↦ (which.Keyed, with_locks_new (λ c. which.Keyed) left ls c j)
     ] in
-    locks_fit spec op (λ c. which.Keyed) left columns visited reached ls false [] k.rising (λ c h. n c (k.within c h))
+    locks_fit spec op Exclusive refl (λ c. which.Keyed) left columns visited reached ls false [] k.rising (λ c h. n c (k.within c h))
     (λ c h d m. v d (w d (class_columns_known spec i a pl c (k.within c h) d m))) k.below (ending Apply wanted)
     (ending_fits spec op Apply wanted (searching columns visited reached (with_locks (λ c. which.Keyed) left ls) None false [])
     (record { known = tt; k1 = (refl, tt); k2 = tt; k3 = tt; k4 = λ e l. all (class_of spec e) (class_in spec (all_edges spec) e (edge_in spec e l)); k5 = tt; k6 = w; k7 = tt })

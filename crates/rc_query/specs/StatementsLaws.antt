@@ -9,7 +9,7 @@ use Rattle.rc_tuple.specs.RisingSet.{put, gather}
 use Rattle.rc_tuple.specs.RisingSetLaws.{nat_order, gather_more}
 use Rattle.rc_tuple.specs.ColSet.{inter, minus, union}
 use Rattle.rc_tuple.specs.ColSetLaws.{has-range}
-use Rattle.rc_spec.specs.declared.lock.Mode.TheVariants.{Exclusive}
+use Rattle.rc_spec.specs.declared.lock.Mode.{Mode}
 use Rattle.rc_spec.specs.declared.spec.Spec.{Spec}
 use Rattle.rc_spec.specs.InRange.{IsInRange}
 use Rattle.rc_spec.specs.Placement.{class_of, IsPlaced}
@@ -34,12 +34,12 @@ classes_more spec es i l =
 
 -- ---- locks and releases
 
-pub locks_more : (choice : ℕ → Which) (before : List Statement) (cs : List ℕ) (i c : ℕ) → slice_get cs i ≡ Some c
-    → (before ++ locks choice (take i cs)) ++ Lock c (choice c) Exclusive ∷ [] ≡ before ++ locks choice (take (i + 1) cs)
-locks_more choice before cs i c e =
-    append_assoc before (locks choice (take i cs)) (Lock c (choice c) Exclusive ∷ [])
-    ∙ ap (λ l. before ++ l) (sym (ap (locks choice) (take_more cs i c (slice_get_within cs i c e) ∙ ap (λ z. take i cs ++ z ∷ []) (get_or_from_slice_get cs i c c e))
-    ∙ map-append (λ c. Lock c (choice c) Exclusive) (take i cs) (c ∷ [])))
+pub locks_more : (mode : Mode) (choice : ℕ → Which) (before : List Statement) (cs : List ℕ) (i c : ℕ) → slice_get cs i ≡ Some c
+    → (before ++ locks mode choice (take i cs)) ++ Lock c (choice c) mode ∷ [] ≡ before ++ locks mode choice (take (i + 1) cs)
+locks_more mode choice before cs i c e =
+    append_assoc before (locks mode choice (take i cs)) (Lock c (choice c) mode ∷ [])
+    ∙ ap (λ l. before ++ l) (sym (ap (locks mode choice) (take_more cs i c (slice_get_within cs i c e) ∙ ap (λ z. take i cs ++ z ∷ []) (get_or_from_slice_get cs i c c e))
+    ∙ map-append (λ c. Lock c (choice c) mode) (take i cs) (c ∷ [])))
 
 pub releases_more : (before : List Statement) (cs : List ℕ) (i c : ℕ) → slice_get cs i ≡ Some c
     → (before ++ map Release (reverse (drop (i + 1) cs))) ++ Release c ∷ [] ≡ before ++ map Release (reverse (drop i cs))
@@ -68,24 +68,24 @@ regroup : {A : Type 0} (xs ys : List A) (x : A) (zs : List A) → ((xs ++ ys) ++
 regroup xs ys x zs = append_assoc (xs ++ ys) (x ∷ []) zs ∙ append_assoc xs ys (x ∷ zs)
 
 -- the statements of one more edge, as they are made
-pub record IsReadMade (spec : Spec) (columns classes : List ℕ) (e : ℕ) (now next : List Statement) (columns1 classes1 : List ℕ) : Type 0 where
+pub record IsReadMade (spec : Spec) (mode : Mode) (columns classes : List ℕ) (e : ℕ) (now next : List Statement) (columns1 classes1 : List ℕ) : Type 0 where
   pub bound : columns1 ≡ union columns (target_columns spec e)
   pub left : classes1 ≡ later spec e classes
-  pub plan : next ≡ (now ++ locks (which_where spec columns) (due spec e classes)) ++ Read e (read_mode_where spec columns e) ∷ []
+  pub plan : next ≡ (now ++ locks mode (which_where spec columns) (due spec e classes)) ++ Read e (read_mode_where spec columns e) ∷ []
 
-pub reads_more : (spec : Spec) (columns classes es : List ℕ) (i : ℕ) (now next : List Statement) (columns1 classes1 : List ℕ) → i < length es
-    → IsReadMade spec columns classes (get_or es i 0) now next columns1 classes1
-    → next ++ locks_and_reads spec columns1 classes1 (drop (i + 1) es) ≡ now ++ locks_and_reads spec columns classes (drop i es)
-reads_more spec columns classes es i now next columns1 classes1 l m =
+pub reads_more : (spec : Spec) (mode : Mode) (columns classes es : List ℕ) (i : ℕ) (now next : List Statement) (columns1 classes1 : List ℕ) → i < length es
+    → IsReadMade spec mode columns classes (get_or es i 0) now next columns1 classes1
+    → next ++ locks_and_reads spec mode columns1 classes1 (drop (i + 1) es) ≡ now ++ locks_and_reads spec mode columns classes (drop i es)
+reads_more spec mode columns classes es i now next columns1 classes1 l m =
     let e : ℕ = get_or es i 0 in
     let rest : List ℕ = drop (i + 1) es in
-    let front : List Statement = locks (which_where spec columns) (due spec e classes) in
+    let front : List Statement = locks mode (which_where spec columns) (due spec e classes) in
     let read : Statement = Read e (read_mode_where spec columns e) in
-    ap (λ z. z ++ locks_and_reads spec columns1 classes1 rest) m.plan
-    ∙ ap (λ z. ((now ++ front) ++ read ∷ []) ++ locks_and_reads spec z classes1 rest) m.bound
-    ∙ ap (λ z. ((now ++ front) ++ read ∷ []) ++ locks_and_reads spec (union columns (target_columns spec e)) z rest) m.left
-    ∙ regroup now front read (locks_and_reads spec (union columns (target_columns spec e)) (later spec e classes) rest)
-    ∙ ap (λ l. now ++ locks_and_reads spec columns classes l) (sym (drop_more es i 0 l))
+    ap (λ z. z ++ locks_and_reads spec mode columns1 classes1 rest) m.plan
+    ∙ ap (λ z. ((now ++ front) ++ read ∷ []) ++ locks_and_reads spec mode z classes1 rest) m.bound
+    ∙ ap (λ z. ((now ++ front) ++ read ∷ []) ++ locks_and_reads spec mode (union columns (target_columns spec e)) z rest) m.left
+    ∙ regroup now front read (locks_and_reads spec mode (union columns (target_columns spec e)) (later spec e classes) rest)
+    ∙ ap (λ l. now ++ locks_and_reads spec mode columns classes l) (sym (drop_more es i 0 l))
 
 pub left_more : (spec : Spec) (classes es : List ℕ) (i : ℕ) (classes1 : List ℕ) → i < length es → classes1 ≡ later spec (get_or es i 0) classes
     → left_after spec classes1 (drop (i + 1) es) ≡ left_after spec classes (drop i es)

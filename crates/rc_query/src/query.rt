@@ -12,7 +12,7 @@ use crate::operation::pattern_of;
 use crate::statements::{classes_of_edges, push_ending, push_locks_and_reads};
 use rc_plan::{Plan, Statement};
 use rc_route::route_for;
-use rc_spec::{Accepted, OpKind};
+use rc_spec::{Accepted, Mode, OpKind};
 use rc_tuple::{ColSet, Memory};
 use std::alloc::Global;
 
@@ -32,14 +32,21 @@ fn plan_search(
     let route = route_for(alloc, accepted, pattern, pattern.union(outs))?;
     let classes = classes_of_edges(spec, route.list());
     let mut plan = Plan::new(alloc);
-    push_locks_and_reads(&mut plan, spec, pattern, classes, route.list())?;
+    push_locks_and_reads(
+        &mut plan,
+        spec,
+        Mode::Shared,
+        pattern,
+        classes,
+        route.list(),
+    )?;
     push_ending(&mut plan, Statement::Emit, classes)?;
     Ok(plan)
 }
 
 /// The plan of a query, by the number of its operation. It reads the chosen route for the pattern and the outputs, each
-/// edge by look-up where its key is bound, and locks the classes of those edges: before a read each that isn't after
-/// its edge's class, keyed where its columns are bound. (PLDI 2011, query planning; PLDI 2012, locks in query plans.)
+/// edge by look-up where its key is bound, and locks the classes of those edges Shared: before a read each that isn't
+/// after its edge's class, keyed where its columns are bound. (PLDI 2011, query planning; PLDI 2012, locks in query plans.)
 pub fn plan_query(alloc: Global, accepted: &Accepted, op: u8) -> Result<Plan, Memory>
     requires known { op < length accepted.now.ops }
     requires query { IsQuery (op_at accepted.now op).kind }

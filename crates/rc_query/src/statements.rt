@@ -63,20 +63,20 @@ fn target_columns(spec: &Spec, edge: u8) -> ColSet
     spec.bound(spec.edges.list()[edge as usize].to)
 }
 
-/// Appends a lock of each class, rising, where some columns are bound.
+/// Appends a lock of each class in a mode, rising, where some columns are bound.
 fn push_locks(
     plan: &mut Plan,
     spec: &Spec,
+    mode: Mode,
     columns: ColSet,
     classes: ClassSet,
 ) -> Result<(), Memory>
     requires { (c : ℕ) → In c classes → c < length spec.now.classes }
-    ensures { OnOk result (plan.new ≡ plan.old ++ locks (which_where spec.now columns) classes) }
+    ensures { OnOk result (plan.new ≡ plan.old ++ locks mode (which_where spec.now columns) classes) }
 {
     for place in 0..classes.len() {
         let class = classes.nth(place).unwrap();
         let which = which_where(spec, columns, class);
-        let mode = Mode::Exclusive;
         plan.push(Statement::Lock { class, which, mode })?;
     }
     Ok(())
@@ -95,11 +95,12 @@ fn classes_up_to(class: u8) -> ClassSet
     classes
 }
 
-/// Appends the locks and reads of a route, where some columns are bound and some classes are left to be locked: before
-/// each read those that aren't after its edge's class are locked, rising. Answers the classes that are left then.
+/// Appends the locks and reads of a route, where some columns are bound and some classes are left to be locked in a mode:
+/// before each read those that aren't after its edge's class are locked, rising. Answers the classes that are left then.
 pub fn push_locks_and_reads(
     plan: &mut Plan,
     spec: &Spec,
+    mode: Mode,
     columns: ColSet,
     classes: ClassSet,
     route: &[u8],
@@ -108,17 +109,19 @@ pub fn push_locks_and_reads(
     requires classes { (c : ℕ) → In c classes → c < length spec.now.classes }
     requires range { IsInRange spec.now }
     requires placed { IsPlaced spec.now }
-    ensures plan { OnOk result (plan.new ≡ plan.old ++ locks_and_reads spec.now columns classes route.now) }
+    ensures plan { OnOk result (plan.new ≡ plan.old ++ locks_and_reads spec.now mode columns classes route.now) }
     ensures left { IfOk result (λ left. left ≡ left_after spec.now classes route.now) }
 {
     let mut columns = columns;
     let mut left = classes;
     for edge in route {
         let due = classes_up_to(spec.class_of(*edge));
-        push_locks(plan, spec, columns, left.inter(due))?;
+        push_locks(plan, spec, mode, columns, left.inter(due))?;
         left = left.minus(due);
-        let mode = read_mode_where(spec, columns, *edge);
-        plan.push(Statement::Read { edge: *edge, mode })?;
+        plan.push(Statement::Read {
+            edge: *edge,
+            mode: read_mode_where(spec, columns, *edge),
+        })?;
         columns = columns.union(target_columns(spec, *edge));
     }
     Ok(left)

@@ -2,25 +2,20 @@
 
 ghost use Rattle.rc_plan.specs.PlanRules.{IsKnown};
 
-use rc_plan::{Plan, PlanRefusal, PlanRule, Statement, Which, print_plan};
-use rc_spec::{Class, Mode, Name, Op, OpKind, Spec};
+use rc_plan::{Plan, PlanRefusal, PlanRule, Statement, print_plan};
+use rc_spec::{Name, Op, OpKind, Spec};
 use rc_tuple::{ColSet, Cols, Dep, Memory};
 use std::alloc::Global;
 use std::process::Abort;
 use std::test::Fail;
 
-/// A specification with the operation `del`, the lock class `k2` and twelve dependencies.
+/// A specification with the operation `del` and twelve dependencies.
 fn example(alloc: Global) -> Result<Spec, Memory> {
     let mut spec = Spec::new(alloc);
     spec.ops.push(Op {
         name: Name::from_slice(alloc, b"del")?,
         pattern: Cols::new(alloc),
         kind: OpKind::Insert,
-    })?;
-    spec.classes.push(Class {
-        name: Name::from_slice(alloc, b"k2")?,
-        stripes: 4,
-        cols: ColSet::empty(),
     })?;
     for _ in 0..12 {
         let left = ColSet::empty();
@@ -43,27 +38,6 @@ fn prints(
     let plan = Plan::from_slice(alloc, &[statement])?;
     let text = print_plan(alloc, spec, 0, &plan)?;
     assert_eq!(rt; text.as_slice(), want);
-    Ok(())
-}
-
-#[test]
-fn prints_shared_locks(rt: HostRuntime) -> Result<(), Fail> {
-    let alloc = rt.alloc();
-    let spec = example(alloc)?;
-    assert_eq!(rt; spec.classes.list().len(), 1);
-    for (which, want) in [
-        (Which::All, b"plan del\nlock k2 all shared\n".as_slice()),
-        (Which::Keyed, b"plan del\nlock k2 keyed shared\n"),
-    ] {
-        let (class, mode) = (0, Mode::Shared);
-        prints(
-            &rt,
-            alloc,
-            &spec,
-            Statement::Lock { class, which, mode },
-            want,
-        )?;
-    }
     Ok(())
 }
 

@@ -15,5 +15,5 @@ loop-place-preserved c =
     let found : slice_get c.args.classes c.loop-place.place ≡ Some c.unwrap-class.result = sym c.nth.ensures.value ∙ c.unwrap-class.ensures in
     c.in_ok-push.ensures.ok
     ∙ ap (λ l. l ++ Lock c.unwrap-class.result c.which_under-which.result Exclusive ∷ []) c.loop-place.invariant
-    ∙ ap (λ w. (c.args.plan.now ++ locks (which_under c.args.spec.now c.args.probes.now) (take c.loop-place.place c.args.classes)) ++ Lock c.unwrap-class.result w Exclusive ∷ []) c.which_under-which.ensures
-    ∙ locks_more (which_under c.args.spec.now c.args.probes.now) c.args.plan.now c.args.classes c.loop-place.place c.unwrap-class.result found
+    ∙ ap (λ w. (c.args.plan.now ++ locks Exclusive (which_under c.args.spec.now c.args.probes.now) (take c.loop-place.place c.args.classes)) ++ Lock c.unwrap-class.result w Exclusive ∷ []) c.which_under-which.ensures
+    ∙ locks_more Exclusive (which_under c.args.spec.now c.args.probes.now) c.args.plan.now c.args.classes c.loop-place.place c.unwrap-class.result found

@@ -1,6 +1,7 @@
 use Rattle.std.proofs.Common.{◌≡◌, ◌++◌, take}
+use Rattle.rc_spec.specs.declared.lock.Mode.TheVariants.{Exclusive}
 use Rattle.rc_query.specs.Planned.{locks, which_under}
 use Rattle.rc_mutate.proofs.insert.push_locks.Given as goal
 
 abbrev pub invariant-loop-place : goal.invariant-loop-place
-invariant-loop-place l = l.plan ≡ l.initial.plan ++ locks (which_under l.spec l.probes) (take l.place l.classes)
+invariant-loop-place l = l.plan ≡ l.initial.plan ++ locks Exclusive (which_under l.spec l.probes) (take l.place l.classes)

@@ -10,4 +10,4 @@ pub loop-place-preserved : goal.loop-place-preserved
 loop-place-preserved c =
     let found : slice_get c.args.classes c.loop-place.place ≡ Some c.unwrap-class.result = sym c.nth.ensures.value ∙ c.unwrap-class.ensures in
     c.in_ok-push.ensures.ok ∙ ap (λ l. l ++ Lock c.unwrap-class.result which.Keyed Exclusive ∷ []) c.loop-place.invariant
-    ∙ locks_more (λ k. which.Keyed) c.args.plan.now c.args.classes c.loop-place.place c.unwrap-class.result found
+    ∙ locks_more Exclusive (λ k. which.Keyed) c.args.plan.now c.args.classes c.loop-place.place c.unwrap-class.result found

@@ -1,7 +1,8 @@
 use Rattle.std.proofs.Common.{◌≡◌, ◌++◌, take}
 use Rattle.rc_plan.specs.declared.statement.Which.TheVariants as which
+use Rattle.rc_spec.specs.declared.lock.Mode.TheVariants.{Exclusive}
 use Rattle.rc_query.specs.Planned.{locks}
 use Rattle.rc_mutate.proofs.remove.push_keyed_locks.Given as goal
 
 abbrev pub invariant-loop-place : goal.invariant-loop-place
-invariant-loop-place l = l.plan ≡ l.initial.plan ++ locks (λ c. which.Keyed) (take l.place l.classes)
+invariant-loop-place l = l.plan ≡ l.initial.plan ++ locks Exclusive (λ c. which.Keyed) (take l.place l.classes)

@@ -1,7 +1,6 @@
 use Rattle.std.proofs.Common.{◌≡◌, ◌∙◌, ap, sym, Some, ◌++◌, ◌∷◌, [], take}
 use Rattle.std.specs.List.{slice_get}
 use Rattle.rc_tuple.specs.RisingSetLaws.{slice_get_in}
-use Rattle.rc_spec.specs.declared.lock.Mode.TheVariants.{Exclusive}
 use Rattle.rc_plan.specs.declared.statement.Statement.TheVariants.{Lock}
 use Rattle.rc_query.specs.Planned.{locks, which_where}
 use Rattle.rc_query.specs.StatementsLaws.{locks_more}
@@ -14,6 +13,6 @@ pub loop-place-preserved : goal.loop-place-preserved
 loop-place-preserved c =
     let found : slice_get c.args.classes c.loop-place.place ≡ Some c.unwrap-class.result = sym c.nth.ensures.value ∙ c.unwrap-class.ensures in
     c.in_ok-push.ensures.ok
-    ∙ ap (λ l. l ++ Lock c.unwrap-class.result c.which_where-which.result Exclusive ∷ []) c.loop-place.invariant
-    ∙ ap (λ w. (c.args.plan.now ++ locks (which_where c.args.spec.now c.args.columns) (take c.loop-place.place c.args.classes)) ++ Lock c.unwrap-class.result w Exclusive ∷ []) c.which_where-which.ensures
-    ∙ locks_more (which_where c.args.spec.now c.args.columns) c.args.plan.now c.args.classes c.loop-place.place c.unwrap-class.result found
+    ∙ ap (λ l. l ++ Lock c.unwrap-class.result c.which_where-which.result c.args.mode ∷ []) c.loop-place.invariant
+    ∙ ap (λ w. (c.args.plan.now ++ locks c.args.mode (which_where c.args.spec.now c.args.columns) (take c.loop-place.place c.args.classes)) ++ Lock c.unwrap-class.result w c.args.mode ∷ []) c.which_where-which.ensures
+    ∙ locks_more c.args.mode (which_where c.args.spec.now c.args.columns) c.args.plan.now c.args.classes c.loop-place.place c.unwrap-class.result found
