@@ -6,7 +6,7 @@ use Rattle.rc_tuple.specs.RisingSet.{In}
 use Rattle.rc_tuple.specs.RelationLaws.{satisfies_none}
 use Rattle.rc_spec.specs.Acceptance.{IsSealed}
 use Rattle.rc_spec.specs.Fragments.{EdgeRow, fragment_of}
-use Rattle.rc_spec.specs.FragmentsLaws.{in_all_rows, in_fragments}
+use Rattle.rc_spec.specs.FragmentsLaws.{empty_law}
 use Rattle.rc_spec.specs.Placement.{class_of}
 use Rattle.rc_spec.specs.PlacementLaws.{class_of_known, physical_stripe_below}
 use Rattle.rc_spec.specs.Stripes.{physical_stripe, stripe_total}
@@ -71,14 +71,6 @@ module _ (shapes : List EdgeShape) where
 
 -- ---- the empty relation
 
-no_member : (ws : List EdgeRow) → ((w : EdgeRow) → In w ws → ⊥) → ws ≡ []
-no_member [] f = refl
-no_member (w ∷ ws) f = absurd (f w (inl refl))
-
--- its fragments have no row
-pub fragment_of-none : (spec : Spec) (n : ℕ) → fragment_of spec [] n ≡ []
-fragment_of-none spec n = no_member (fragment_of spec [] n) (λ w m. (in_all_rows spec [] w (in_fragments spec [] (n ∷ []) w m).0).projected.1)
-
 pub empty_relation : (spec : Spec) (fs : List FragmentRows) (ms : List (Option Mode)) → table_of_fragments fs ≡ edge_table spec → length fs ≡ stripe_total spec
     → ((f : FragmentRows) → In f fs → IsEmptyFragment (edge_table spec) f) → IsOfRelation spec (stripes_of fs ms) []
 empty_relation spec fs ms t l each = record {
@@ -87,5 +79,5 @@ empty_relation spec fs ms t l each = record {
   satisfies = satisfies_none spec.deps;
   few = omega arith;
   stripes = stripes_of-length fs ms ∙ l;
-  rows = λ n k. none_offered (edge_table spec) fs each ms n (omega (arith, k, l)) ∙ ap Some (sym (fragment_of-none spec n));
+  rows = λ n k. none_offered (edge_table spec) fs each ms n (omega (arith, k, l)) ∙ ap Some (sym (empty_law spec n));
 }

@@ -18,9 +18,8 @@ ghost use Rattle.rc_machine.specs.Applied.{AreTakenAlike, CanApply, CanRemove, H
 ghost use Rattle.rc_machine.specs.Machine.{AreAsTaken};
 ghost use Rattle.rc_machine.specs.Apply.{AreAddable, AreAllThere, AreExclusive, IsAddable, all_changed, stripe_in};
 
-use crate::stripe::physical_stripe;
 use rc_fragment::Holder;
-use rc_spec::{OpKind, Reply, Spec};
+use rc_spec::{OpKind, Reply, Spec, physical_stripe};
 use rc_tuple::{Memory, Tuple};
 
 /// Does what Apply says and answers. Where memory is wanted all rows are as they were taken, which they are before.

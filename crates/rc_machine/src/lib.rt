@@ -9,7 +9,6 @@ mod machine;
 mod read;
 mod step;
 mod stop;
-mod stripe;
 
 pub use machine::run_plan;
 pub use stop::Stop;

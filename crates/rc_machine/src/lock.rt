@@ -18,10 +18,9 @@ ghost use Rattle.rc_machine.specs.Locks.{HasLocked, IsRefusedTake};
 ghost use Rattle.rc_machine.specs.declared.stop.Stop.TheVariants as stop;
 
 use crate::Stop;
-use crate::stripe::physical_stripe;
 use rc_fragment::{Holder, TakeStop};
 use rc_plan::Which;
-use rc_spec::{Mode, Spec, band_start};
+use rc_spec::{Mode, Spec, band_start, physical_stripe};
 use rc_tuple::{Memory, Tuple};
 use std::alloc::Global;
 

@@ -14,10 +14,9 @@ ghost use Rattle.rc_plan.specs.declared.statement.ReadMode.TheVariants as read_m
 ghost use Rattle.rc_machine.specs.Machine.{rows_now, stripes_held};
 ghost use Rattle.rc_machine.specs.Read.{AreGood, AreReaders, HasMerged, HasMergedAll, HasMergedOn, IsCovered, IsReader};
 
-use crate::stripe::physical_stripe;
 use rc_fragment::{Fragment, Holder};
 use rc_plan::ReadMode;
-use rc_spec::{Spec, band_start};
+use rc_spec::{Spec, band_start, physical_stripe};
 use rc_tuple::{Memory, Tuple, Tuples, distinct};
 use std::alloc::Global;
 

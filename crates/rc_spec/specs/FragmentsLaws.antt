@@ -19,7 +19,7 @@ use Rattle.rc_spec.specs.Decomposition.{bound, edge_at}
 use Rattle.rc_spec.specs.Fragments.{EdgeRow, edge_row_cmp, edge_numbers, numbered_rows, all_rows, tuples_of_edge, row_stripe, fragments_of, fragment_of, all_stripes}
 use Rattle.rc_spec.specs.HeathLaws.{AreProjections}
 use Rattle.rc_spec.specs.InRange.{IsInRange}
-use Rattle.rc_spec.specs.Laws.{StripesHoldAll, FragmentsAreParts, FragmentsArePieces, InstancesRepresent}
+use Rattle.rc_spec.specs.Laws.{EmptyHasNoRows, StripesHoldAll, FragmentsAreParts, FragmentsArePieces, InstancesRepresent}
 use Rattle.rc_spec.specs.Placement.{class_of, IsPlaced}
 use Rattle.rc_spec.specs.PlacementLaws.{class_of_known, physical_stripe_below}
 use Rattle.rc_spec.specs.Stripes.{stripe_total}
@@ -166,3 +166,10 @@ instances_law spec range populated ok placed r i h =
     (λ w m. (in_each_fragment spec r (all_stripes spec) w m).0)
     (λ w m. each_fragment_in spec r (all_stripes spec) w m (row_stripe_known spec range placed r w m)))
     populated.column
+
+no_member : (ws : List EdgeRow) → ((w : EdgeRow) → In w ws → ⊥) → ws ≡ []
+no_member [] f = refl
+no_member (w ∷ ws) f = absurd (f w (inl refl))
+
+pub empty_law : EmptyHasNoRows
+empty_law spec n = no_member (fragment_of spec [] n) (λ w m. (in_all_rows spec [] w (in_fragments spec [] (n ∷ []) w m).0).projected.1)

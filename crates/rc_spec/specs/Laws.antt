@@ -54,3 +54,7 @@ FragmentsArePieces = (spec : Spec) (r : List Pairs) (stripes : List ℕ) (stripe
 abbrev pub InstancesRepresent : Type 0
 InstancesRepresent = (spec : Spec) → IsInRange spec → HasColumnAndNode spec → IsAdequate spec → IsPlaced spec
     → (r : List Pairs) → IsRelation (all_columns spec) r → Satisfies r spec.deps → represented_by spec (flat_map (fragment_of spec r) (all_stripes spec)) ≡ r
+
+-- the fragments of the empty relation have no row
+abbrev pub EmptyHasNoRows : Type 0
+EmptyHasNoRows = (spec : Spec) (stripe : ℕ) → fragment_of spec [] stripe ≡ []

@@ -1,4 +1,6 @@
-ghost use Rattle.std.specs.Prelude.{◌≡◌, IfOk};
+//! Calls and replies.
+
+ghost use Rattle.std.specs.Prelude.{◌≡◌, ◌↔◌, IfOk, IsTrue};
 
 use rc_tuple::{Memory, SmallList, Tuple, Vals};
 
@@ -27,6 +29,32 @@ impl Call {
 /// Rows of values, each in the order of a query's outputs.
 pub type RowList = SmallList<Vals>;
 
+/// Another list of the same rows.
+pub fn copy_rows(rows: &RowList) -> Result<RowList, Memory>
+    ensures { IfOk result (λ copy. copy ≡ rows.now) }
+{
+    let mut copy = RowList::new(rows.alloc());
+    for row in rows.list() {
+        copy.push(row.copy()?)?;
+    }
+    Ok(copy)
+}
+
+/// Whether the rows are the same, in the same order.
+fn are_same_rows(rows: &[Vals], others: &[Vals]) -> bool
+    ensures { IsTrue result ↔ (rows.now ≡ others.now) }
+{
+    if rows.len() != others.len() {
+        return false;
+    }
+    for place in 0..rows.len() {
+        if rows[place].list() != others[place].list() {
+            return false;
+        }
+    }
+    true
+}
+
 /// What a call answers.
 #[derive(Debug, Drop)]
 pub enum Reply {
@@ -44,4 +72,37 @@ pub enum Reply {
     Removed(Tuple),
     /// No tuple matches.
     Absent,
+}
+
+impl Reply {
+    /// Another reply that says the same.
+    pub fn copy(&self) -> Result<Reply, Memory>
+        ensures { IfOk result (λ reply. reply ≡ self.now) }
+    {
+        match self {
+            Reply::Rows(rows) => Ok(Reply::Rows(copy_rows(rows)?)),
+            Reply::Many(count) => Ok(Reply::Many(*count)),
+            Reply::Inserted => Ok(Reply::Inserted),
+            Reply::Present => Ok(Reply::Present),
+            Reply::Conflict(dep) => Ok(Reply::Conflict(*dep)),
+            Reply::Removed(tuple) => Ok(Reply::Removed(tuple.copy()?)),
+            Reply::Absent => Ok(Reply::Absent),
+        }
+    }
+
+    /// Whether both say the same.
+    pub fn equals(&self, other: &Reply) -> bool
+        ensures { IsTrue result ↔ (self.now ≡ other.now) }
+    {
+        match (self, other) {
+            (Reply::Rows(rows), Reply::Rows(others)) => are_same_rows(rows.list(), others.list()),
+            (Reply::Many(count), Reply::Many(other)) => count == other,
+            (Reply::Inserted, Reply::Inserted) => true,
+            (Reply::Present, Reply::Present) => true,
+            (Reply::Conflict(dep), Reply::Conflict(other)) => dep == other,
+            (Reply::Removed(tuple), Reply::Removed(other)) => tuple.order(other).is_eq(),
+            (Reply::Absent, Reply::Absent) => true,
+            _ => false,
+        }
+    }
 }

@@ -2,7 +2,7 @@ ghost use Rattle.std.specs.Prelude.{◌≡◌, ◌↔◌, ◌<◌, ◌≤◌, �
 ghost use Rattle.rc_tuple.specs.Tuple.{Pairs};
 ghost use Rattle.rc_spec.specs.Acceptance.{IsAccepted, IsFirstBroken, IsItemOf, IsKept, checks};
 ghost use Rattle.rc_spec.specs.First.{EachHolds};
-ghost use Rattle.rc_spec.specs.Laws.{AdequacyLosesNoTuple, AgreeingTuplesShareStripes, FragmentsAreParts, FragmentsArePieces, InstancesRepresent, RowsFallWithTuples, StripesAreOfOneClass, StripesHoldAll};
+ghost use Rattle.rc_spec.specs.Laws.{AdequacyLosesNoTuple, AgreeingTuplesShareStripes, EmptyHasNoRows, FragmentsAreParts, FragmentsArePieces, InstancesRepresent, RowsFallWithTuples, StripesAreOfOneClass, StripesHoldAll};
 ghost use Rattle.rc_spec.specs.Placement.{IsPlaced};
 ghost use Rattle.rc_spec.specs.Stripes.{physical_stripe, stripe_total};
 ghost use Rattle.rc_spec.specs.declared.refusal.Refusal.{Refusal};
@@ -63,4 +63,9 @@ pub fn fragments_are_parts()
 /// placed.
 pub fn instances_represent()
     ensures { InstancesRepresent }
+{}
+
+/// The fragments of the empty relation have no row.
+pub fn empty_has_no_rows()
+    ensures { EmptyHasNoRows }
 {}

@@ -12,8 +12,9 @@ pub enum Mode {
 pub enum Found {
     /// The pass with this number holds the stripe alone.
     Pass(u32),
-    /// So many passes read the stripe.
+    /// So many passes are counted as readers of the stripe. Those that found a writer and turn back count too, until they
+    /// are out again.
     Readers(u32),
-    /// The pass with this number waits for the readers of the stripe to leave.
+    /// The pass with this number, which shares the stripe, is taking its own hold of the fragment.
     Latch(u32),
 }

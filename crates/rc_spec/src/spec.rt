@@ -1,8 +1,8 @@
 ghost use Rattle.std.specs.Prelude.{◌≡◌, ◌<◌, length};
 ghost use Rattle.rc_spec.specs.Calls.{all_columns};
-ghost use Rattle.rc_spec.specs.Decomposition.{bound, source_and_key};
+ghost use Rattle.rc_spec.specs.Decomposition.{bound, edge_at, source_and_key};
 ghost use Rattle.rc_spec.specs.InRange.{IsInRange};
-ghost use Rattle.rc_spec.specs.Placement.{class_of};
+ghost use Rattle.rc_spec.specs.Placement.{class_at, class_of, op_at};
 ghost use Rattle.rc_spec.specs.Spec.{empty};
 
 use crate::{Class, Column, Edge, Node, Op, Place};
@@ -69,6 +69,30 @@ impl Spec {
             cols = cols.with(col);
         }
         cols
+    }
+
+    /// The edge with this number.
+    pub fn edge(&self, number: u8) -> &Edge
+        requires { number < length self.now.edges }
+        ensures { result.now ≡ edge_at self.now number }
+    {
+        &self.edges.list()[number as usize]
+    }
+
+    /// The lock class with this number.
+    pub fn class(&self, number: u8) -> &Class
+        requires { number < length self.now.classes }
+        ensures { result.now ≡ class_at self.now number }
+    {
+        &self.classes.list()[number as usize]
+    }
+
+    /// The operation with this number.
+    pub fn op(&self, number: u8) -> &Op
+        requires { number < length self.now.ops }
+        ensures { result.now ≡ op_at self.now number }
+    {
+        &self.ops.list()[number as usize]
     }
 
     /// The columns that a node binds.

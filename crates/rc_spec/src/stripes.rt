@@ -2,9 +2,8 @@
 
 ghost use Rattle.std.specs.Prelude.{◌≡◌, ◌<◌, ◌≤◌, length};
 ghost use Rattle.std.specs.List.{sum_by};
-ghost use Rattle.rc_tuple.specs.ColSet.{Within};
-ghost use Rattle.rc_tuple.specs.Tuple.{IsTuple, cols_of};
-ghost use Rattle.rc_spec.specs.Stripes.{mix, hash_of, stripe_of, band_start, stripe_total};
+ghost use Rattle.rc_spec.specs.Placement.{IsPlaced};
+ghost use Rattle.rc_spec.specs.Stripes.{mix, hash_of, stripe_of, band_start, physical_stripe, stripe_total};
 
 use crate::{Class, Spec};
 use rc_tuple::{ColSet, Tuple};
@@ -22,10 +21,9 @@ fn hash_of(cols: ColSet, tuple: &Tuple) -> u32
     hash
 }
 
-/// The stripe of the class on which the tuple falls, from 0. The tuple has the class's columns, and the class a
-/// stripe.
+/// The stripe of the class on which the tuple falls, from 0, where the class has a stripe. A column that the tuple hasn't
+/// counts as 0.
 pub fn stripe_of(class: &Class, tuple: &Tuple) -> u32
-    requires columns { Within class.now.cols (cols_of tuple.now) }
     requires some { 0 < class.now.stripes }
     ensures value { result ≡ stripe_of class.now tuple.now }
     ensures below { result < class.now.stripes }
@@ -68,4 +66,14 @@ pub fn stripe_total(spec: &Spec) -> u32
     ensures { result ≡ stripe_total spec.now }
 {
     stripes_of(spec.classes.list())
+}
+
+/// The number, among all stripes, of the class's stripe on which the tuple falls.
+pub fn physical_stripe(spec: &Spec, class: u8, tuple: &Tuple) -> u32
+    requires known { class < length spec.now.classes }
+    requires placed { IsPlaced spec.now }
+    ensures value { result ≡ physical_stripe spec.now class tuple.now }
+    ensures below { result < stripe_total spec.now }
+{
+    band_start(spec, class) + stripe_of(spec.class(class), tuple)
 }

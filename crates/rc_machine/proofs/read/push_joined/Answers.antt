@@ -23,13 +23,6 @@ pub physical_stripe-stripe-requires-clause-known : goal.physical_stripe-stripe-r
 physical_stripe-stripe-requires-clause-known g c =
     subst (λ z. z < length c.args.spec.now.classes) (sym c.class_of-class.ensures) (class_of_known c.args.spec.now c.args.edge c.requires.sealed.in_range (c.requires.sealed.accepted.placed.p1 c.args.edge c.requires.known))
 
-pub physical_stripe-stripe-requires-clause-columns : goal.physical_stripe-stripe-requires-clause-columns
-physical_stripe-stripe-requires-clause-columns g c =
-    let l : c.class_of-class.result < length c.args.spec.now.classes = subst (λ z. z < length c.args.spec.now.classes) (sym c.class_of-class.ensures) (class_of_known c.args.spec.now c.args.edge c.requires.sealed.in_range (c.requires.sealed.accepted.placed.p1 c.args.edge c.requires.known)) in
-    let is : class_at c.args.spec.now c.class_of-class.result ≡ c.index-list-class.result = class_found c.args.spec.now c.list.result.now c.class_of-class.result c.index-list-class.result c.list.ensures l c.index-list-class.is in
-    let w : Within c.index-list-class.result.cols (cols_of c.args.binding.now) = subst (λ z. Within c.index-list-class.result.cols z) c.cols.ensures.cols (within_from_test c.index-list-class.result.cols c.cols.result (sym c.within.ensures.found ∙ c.if-within.true)) in
-    subst (λ (z : Class). Within z.cols (cols_of c.args.binding.now)) (sym is) w
-
 pub push_found-requires-clause-held : goal.push_found-requires-clause-held
 push_found-requires-clause-held g c =
     let l : c.class_of-class.result < length c.args.spec.now.classes = subst (λ z. z < length c.args.spec.now.classes) (sym c.class_of-class.ensures) (class_of_known c.args.spec.now c.args.edge c.requires.sealed.in_range (c.requires.sealed.accepted.placed.p1 c.args.edge c.requires.known)) in
@@ -37,7 +30,7 @@ push_found-requires-clause-held g c =
     let w : Within (class_at c.args.spec.now c.class_of-class.result).cols (cols_of c.args.binding.now) = subst (λ (z : Class). Within z.cols (cols_of c.args.binding.now)) (sym is)
     (subst (λ z. Within c.index-list-class.result.cols z) c.cols.ensures.cols (within_from_test c.index-list-class.result.cols c.cols.result (sym c.within.ensures.found ∙ c.if-within.true))) in
     let v : Within (class_at c.args.spec.now (class_of c.args.spec.now c.args.edge)).cols (cols_of c.args.binding.now) = subst (λ z. Within (class_at c.args.spec.now z).cols (cols_of c.args.binding.now)) c.class_of-class.ensures w in
-    subst (λ z. In z (stripes_held (g.H.Holder.held c.args.holder.now))) (sym (c.physical_stripe-stripe.ensures ∙ ap (λ z. physical_stripe c.args.spec.now z c.args.binding.now) c.class_of-class.ensures)) (c.requires.covered.keyed v)
+    subst (λ z. In z (stripes_held (g.H.Holder.held c.args.holder.now))) (sym (c.physical_stripe-stripe.ensures.value ∙ ap (λ z. physical_stripe c.args.spec.now z c.args.binding.now) c.class_of-class.ensures)) (c.requires.covered.keyed v)
 
 pub returns-then-within : goal.returns-then-within
 returns-then-within g c =
@@ -46,7 +39,7 @@ returns-then-within g c =
     let w : Within (class_at c.args.spec.now c.class_of-class.result).cols (cols_of c.args.binding.now) = subst (λ (z : Class). Within z.cols (cols_of c.args.binding.now)) (sym is)
     (subst (λ z. Within c.index-list-class.result.cols z) c.cols.ensures.cols (within_from_test c.index-list-class.result.cols c.cols.result (sym c.within.ensures.found ∙ c.if-within.true))) in
     let v : Within (class_at c.args.spec.now (class_of c.args.spec.now c.args.edge)).cols (cols_of c.args.binding.now) = subst (λ z. Within (class_at c.args.spec.now z).cols (cols_of c.args.binding.now)) c.class_of-class.ensures w in
-    let stripe : c.physical_stripe-stripe.result ≡ physical_stripe c.args.spec.now (class_of c.args.spec.now c.args.edge) c.args.binding.now = c.physical_stripe-stripe.ensures ∙ ap (λ z. physical_stripe c.args.spec.now z c.args.binding.now) c.class_of-class.ensures in
+    let stripe : c.physical_stripe-stripe.result ≡ physical_stripe c.args.spec.now (class_of c.args.spec.now c.args.edge) c.args.binding.now = c.physical_stripe-stripe.ensures.value ∙ ap (λ z. physical_stripe c.args.spec.now z c.args.binding.now) c.class_of-class.ensures in
     on_ok c.push_found.result (λ f. keyed_is_all c.args.spec.now c.requires.sealed c.args.edge c.requires.known c.args.binding.now (g.H.Holder.held c.args.holder.now) c.requires.good c.args.merges.now.items c.push_found.new.merges.items v
     (subst (λ z. HasMergedOn c.args.binding.now c.args.edge (g.H.Holder.held c.args.holder.now) (z ∷ []) c.args.merges.now.items c.push_found.new.merges.items) stripe f)) c.push_found.ensures
 

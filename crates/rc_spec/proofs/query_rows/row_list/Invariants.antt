@@ -1,5 +1,5 @@
 use Rattle.std.proofs.Common.{◌≡◌, map}
-use Rattle.rc_rel.proofs.scan.row_list.Given as goal
+use Rattle.rc_spec.proofs.query_rows.row_list.Given as goal
 
 abbrev pub invariant-loop-row : goal.invariant-loop-row
 invariant-loop-row l = l.list ≡ map (λ row. row.items) l.yielded

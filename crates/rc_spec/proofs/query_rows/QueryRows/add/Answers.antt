@@ -1,0 +1,12 @@
+use Rattle.std.proofs.Common.{ap, ◌∙◌, map}
+use Rattle.rc_tuple.specs.RisingSet.{put}
+use Rattle.rc_spec.specs.Plain.{row_cmp}
+use Rattle.rc_spec.specs.Rows.{rows_in}
+use Rattle.rc_spec.specs.RowsLaws.{rows_in-insert}
+use Rattle.rc_spec.proofs.query_rows.QueryRows.add.Goals as goal
+
+pub returns-clause-ok : goal.returns-clause-ok
+returns-clause-ok c =
+    ap (map (λ row. row.items)) c.in_ok-insert.ensures.keys ∙ rows_in-insert c.into_vec.result c.self.inside.rows.keys
+    ∙ ap (λ row. put row_cmp row (rows_in c.self.inside.rows)) (c.into_vec.ensures ∙ c.in_ok-row.ensures)
+    ∙ ap (put row_cmp _) c.self.view_is

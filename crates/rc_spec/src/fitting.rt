@@ -1,0 +1,36 @@
+//! Whether a call fits a specification.
+
+ghost use Rattle.std.specs.Prelude.{◌≡◌, ◌↔◌, IsTrue};
+ghost use Rattle.std.specs.Ordering.{nat_cmp};
+ghost use Rattle.rc_tuple.specs.RisingSet.{In, gather};
+ghost use Rattle.rc_spec.specs.Calls.{Fits, value_columns};
+ghost use Rattle.rc_spec.specs.InRange.{IsInRange};
+
+use crate::{Call, Op, OpKind, Spec};
+use rc_tuple::ColSet;
+
+/// The set of the columns whose values a call of the operation gives.
+fn columns_given(spec: &Spec, op: &Op) -> ColSet
+    requires range { IsInRange spec.now }
+    requires known { In op.now spec.now.ops }
+    ensures { result ≡ gather nat_cmp (value_columns spec.now op.now.pattern op.now.kind) }
+{
+    match op.kind {
+        OpKind::Insert => spec.all_columns(),
+        OpKind::Query { .. } | OpKind::Remove => ColSet::from_list(op.pattern.list()),
+    }
+}
+
+/// Whether the call's operation is one of the specification's, and its arguments have a value for each column that a
+/// call of the operation gives, and no other. Takes no memory.
+pub fn fits(spec: &Spec, call: &Call) -> bool
+    requires { IsInRange spec.now }
+    ensures { IsTrue result ↔ Fits spec.now call.now }
+{
+    if call.op as usize >= spec.ops.list().len() {
+        return false;
+    }
+    call.args
+        .cols()
+        .equals(columns_given(spec, spec.op(call.op)))
+}
