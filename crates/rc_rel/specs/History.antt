@@ -1,5 +1,5 @@
 -- Histories of calls on the plain relation.
-use Rattle.std.specs.Prelude.{◌≡◌, ℕ, ◌==◌, List, [], ◌∷◌, filter, map, length}
+use Rattle.std.specs.Prelude.{◌≡◌, ℕ, ◌+◌, ◌==◌, List, [], ◌∷◌, filter, map, length, if◌then◌else◌}
 use Rattle.std.specs.List.{range_with_len, flat_map, AllByRecursion}
 use Rattle.rc_tuple.specs.Tuple.{Pairs}
 use Rattle.rc_spec.specs.declared.spec.Spec.{Spec}
@@ -8,6 +8,7 @@ use Rattle.rc_spec.specs.Calls.{Fits}
 use Rattle.rc_spec.specs.Plain.{plain}
 use Rattle.rc_rel.specs.declared.entry.Step.{Step}
 use Rattle.rc_rel.specs.declared.entry.Entry.{Entry}
+use Rattle.rc_rel.specs.declared.entry.Placed.{Placed}
 
 -- all steps of a history, in order
 abbrev pub steps_of : List Entry → List Step
@@ -42,6 +43,15 @@ states spec history = states_from spec [] (steps_of history)
 -- a pass's own entries
 abbrev pub own : List Entry → ℕ → List Entry
 own history pass = filter (λ e. e.pass == pass) history
+
+-- a pass's own entries with their places, where the first entry has the place n
+abbrev pub placed_from : ℕ → List Entry → ℕ → List Placed
+placed_from n [] pass = []
+placed_from n (e ∷ history) pass =
+    if e.pass == pass then record { place = n; entry = e } ∷ placed_from (n + 1) history pass else placed_from (n + 1) history pass
+
+abbrev pub own_placed : List Entry → ℕ → List Placed
+own_placed history pass = placed_from 0 history pass
 
 -- each pass numbers its own entries from 0 on
 abbrev pub IsNumbered : List Entry → Type 0

@@ -3,3 +3,4 @@ pub mod Match
 pub mod Over
 pub mod Kept
 pub mod HistoryLaws
+pub mod OwnLaws

@@ -1,4 +1,5 @@
 ghost use Rattle.rc_rel.specs.HistoryLaws.{StatesSatisfy, StatesAreRelations};
+ghost use Rattle.rc_rel.specs.OwnLaws.{NumberedGoesOn, OwnAreFew, PlacedAreOwn, ReplaysAreFew};
 
 /// Every state of a history satisfies the dependencies of its specification.
 pub fn states_satisfy()
@@ -8,4 +9,20 @@ pub fn states_satisfy()
 /// Every state of a history whose calls fit is a set of tuples over all columns of its specification.
 pub fn states_are_relations()
     ensures { StatesAreRelations }
+{}
+
+/// A numbered history stays so with one more entry that has its pass's next number.
+pub fn numbered_goes_on()
+    ensures { NumberedGoesOn }
+{}
+
+/// Without their places, the entries that a pass has with their places are its own entries.
+pub fn placed_are_own()
+    ensures { PlacedAreOwn }
+{}
+
+/// A pass has at most as many entries as the history, and a replay at most as many tuples as the history has steps.
+pub fn histories_are_few()
+    ensures own { OwnAreFew }
+    ensures replay { ReplaysAreFew }
 {}

@@ -10,7 +10,9 @@ mod plain_rel;
 mod replaying;
 mod scan;
 
-pub use entry::{Entry, Step, Steps};
-pub use laws::{states_are_relations, states_satisfy};
+pub use entry::{Entry, MAX_ENTRIES, Placed, Step, Steps};
+pub use laws::{
+    histories_are_few, numbered_goes_on, placed_are_own, states_are_relations, states_satisfy,
+};
 pub use plain_rel::PlainRel;
 pub use replaying::replay;
