@@ -1,9 +1,7 @@
 -- A history whose turns are made one after another is a run of the workload.
-use Rattle.std.proofs.Common.{◌≡◌, ℕ, ◌+◌, ◌<◌, Bool, true, false, cond, eqb, List, [], ◌∷◌, ◌++◌, length, map, refl, sym, ap, ◌∙◌, inl, inr, subst, arith}
-use Rattle.std.specs.List.{filter, range_with_len, AllByRecursion}
-use Rattle.std.proofs.lemmas.Bool.{eqb-true}
-use Rattle.std.proofs.lemmas.List.{append_assoc, append-nil, map-append, map-id, length-append}
-use Rattle.std.proofs.lemmas.List.FromFn.{map-range_with_len_more}
+use Rattle.std.proofs.Common.{◌≡◌, ℕ, ◌+◌, ◌<◌, Bool, true, false, cond, eqb, List, [], ◌∷◌, ◌++◌, length, map, refl, sym, ap, ◌∙◌, inl, inr, subst}
+use Rattle.std.specs.List.{filter, AllByRecursion}
+use Rattle.std.proofs.lemmas.List.{append_assoc, append-nil}
 use Rattle.rc_tuple.specs.RisingSet.{In}
 use Rattle.rc_tuple.specs.RisingSetLaws.{in_append}
 use Rattle.rc_spec.specs.declared.spec.Spec.{Spec}
@@ -12,11 +10,11 @@ use Rattle.rc_rel.specs.declared.entry.Step.{Step}
 use Rattle.rc_rel.specs.declared.entry.Entry.{Entry}
 use Rattle.rc_rel.specs.History.{AllFit, AreLegalFrom, IsLegal, IsNumbered, replay, own, calls_of, steps_of}
 use Rattle.rc_rel.specs.HistoryLaws.{AllFit-more, AreLegalFrom-append, steps_of-append}
+use Rattle.rc_rel.specs.OwnLaws.{numbered_more}
 use Rattle.rc_work.specs.declared.work.Turn.{Turn}
 use Rattle.rc_work.specs.declared.work.Work.{Work}
 use Rattle.rc_work.specs.Fitting.{TurnsFit, RoundsFit, HasThreads}
 use Rattle.rc_work.specs.Runs.{MakesRound, MakesRounds, Runs, HasSingleSteps}
-use Rattle.rc_work.specs.RunsLaws.{own-append}
 use Rattle.rc_runner.specs.InTurn.{made_entry, in_turn, in_rounds}
 
 -- what holds of the entries so far
@@ -34,26 +32,8 @@ nothing_yet spec threads = record { legal = tt; numbered = λ k. refl; threads_k
 pub steps_more : (history : List Entry) (e : Entry) (s : Step) → e.steps ≡ s ∷ [] → steps_of (history ++ e ∷ []) ≡ steps_of history ++ s ∷ []
 steps_more history e s h = steps_of-append history (e ∷ []) ∙ ap (λ l. steps_of history ++ l) (append-nil e.steps ∙ h)
 
-numbers_more : (nths : List ℕ) (n k : ℕ) → nths ≡ range_with_len 0 n → k ≡ n → nths ++ k ∷ [] ≡ range_with_len 0 (n + 1)
-numbers_more nths n k h e =
-    let z : 0 + n ≡ n = omega arith in
-    ap (λ l. l ++ k ∷ []) h ∙ ap (λ x. range_with_len 0 n ++ x ∷ []) e
-    ∙ sym (sym (map-id (range_with_len 0 (n + 1))) ∙ map-range_with_len_more (λ x. x) 0 n n z ∙ ap (λ l. l ++ n ∷ []) (map-id (range_with_len 0 n)))
-
 pub own_one : (e : Entry) (k : ℕ) (b : Bool) → eqb e.pass k ≡ b → own (e ∷ []) k ≡ cond b (e ∷ []) []
 own_one e k b h = ap (λ x. cond x (e ∷ []) []) h
-
-numbered_at : (history : List Entry) (e : Entry) (k : ℕ) (b : Bool) → eqb e.pass k ≡ b → IsNumbered history → e.nth ≡ length (own history e.pass)
-    → map (λ (x : Entry). x.nth) (own (history ++ e ∷ []) k) ≡ range_with_len 0 (length (own (history ++ e ∷ []) k))
-numbered_at history e k true h n f =
-    let here : own (history ++ e ∷ []) k ≡ own history k ++ e ∷ [] = own-append history (e ∷ []) k ∙ ap (λ l. own history k ++ l) (own_one e k true h) in
-    let count : e.nth ≡ length (own history k) = f ∙ ap (λ p. length (own history p)) (eqb-true e.pass k h) in
-    ap (map (λ (x : Entry). x.nth)) here ∙ map-append (λ (x : Entry). x.nth) (own history k) (e ∷ [])
-    ∙ numbers_more (map (λ (x : Entry). x.nth) (own history k)) (length (own history k)) e.nth (n k) count
-    ∙ ap (range_with_len 0) (sym (ap length here ∙ length-append (own history k) (e ∷ [])))
-numbered_at history e k false h n f =
-    let here : own (history ++ e ∷ []) k ≡ own history k = own-append history (e ∷ []) k ∙ ap (λ l. own history k ++ l) (own_one e k false h) ∙ append-nil (own history k) in
-    ap (map (λ (x : Entry). x.nth)) here ∙ n k ∙ ap (λ (l : List Entry). range_with_len 0 (length l)) (sym here)
 
 one_more : {A : Type 0} (P : A → Type 0) (xs : List A) (x : A) → ((y : A) → In y xs → P y) → P x → (y : A) → In y (xs ++ x ∷ []) → P y
 one_more P xs x h p y m = elim (in_append y xs (x ∷ []) m) [ inl n ↦ h y n | inr (inl e) ↦ subst P (sym e) p | inr (inr n) ↦ elim n [ ] ]
@@ -65,7 +45,7 @@ so_far_more spec threads history turn lt h =
     let s : Step = record { call = turn.call; reply = (plain spec (replay spec history) turn.call).reply } in
     record {
       legal = subst (λ (l : List Step). AreLegalFrom spec [] l) (sym (steps_more history e s refl)) (AreLegalFrom-append spec [] (steps_of history) (s ∷ []) h.legal (refl, tt));
-      numbered = λ k. numbered_at history e k (eqb turn.thread k) refl h.numbered refl;
+      numbered = numbered_more history e h.numbered refl;
       threads_known = one_more (λ (x : Entry). x.pass < threads) history e h.threads_known lt;
       single = one_more (λ (x : Entry). length x.steps ≡ 1) history e h.single refl;
     }

@@ -14,7 +14,7 @@ use Rattle.rc_rel.specs.declared.entry.Step.{Step}
 use Rattle.rc_rel.specs.declared.entry.Entry.{Entry}
 use Rattle.rc_rel.specs.History.{after_steps, own, replay, steps_of}
 use Rattle.rc_rel.specs.HistoryLaws.{after_steps-append}
-use Rattle.rc_work.specs.RunsLaws.{own-append}
+use Rattle.rc_rel.specs.OwnLaws.{own-append}
 use Rattle.rc_runner.specs.Running.{AreCounts, IsAfter}
 use Rattle.rc_runner.proofs.InTurnLemmas.{own_one, steps_more}
 
@@ -60,15 +60,6 @@ counts_more history items counts e n same known is old thread below =
     go false h within all =
         let z : length (own history thread) + 0 ≡ length (own history thread) = omega arith in
         get_or-set_other counts e.pass thread n 0 (λ t. eqb-false e.pass thread h (sym t)) ∙ old thread within ∙ sym (all ∙ count_one history e thread false h ∙ z)
-
--- a thread has at most all entries
-pub own_few : (history : List Entry) (k : ℕ) → length (own history k) ≤ length history
-own_few [] k = omega arith
-own_few (e ∷ history) k = go (eqb e.pass k) (own_few history k)
-  where
-    go : (b : Bool) → length (own history k) ≤ length history → length (cond b (e ∷ own history k) (own history k)) ≤ length (e ∷ history)
-    go true h = omega (arith, h)
-    go false h = omega (arith, h)
 
 -- ---- what is left of a list
 

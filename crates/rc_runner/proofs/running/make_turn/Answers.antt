@@ -3,7 +3,8 @@ use Rattle.std.proofs.lemmas.List.{get_or_default}
 use Rattle.rc_rel.specs.declared.entry.Entry.{Entry}
 use Rattle.rc_rel.specs.declared.entry.Step.{Step}
 use Rattle.rc_rel.specs.History.{own}
-use Rattle.rc_runner.proofs.RunLemmas.{after_more, counts_more, own_few}
+use Rattle.rc_rel.specs.OwnLaws.{own_few}
+use Rattle.rc_runner.proofs.RunLemmas.{after_more, counts_more}
 use Rattle.rc_runner.proofs.running.make_turn.Goals as goal
 
 pub overflow_add-nth : goal.overflow_add-nth
