@@ -16,7 +16,7 @@ use Rattle.rc_answer.specs.declared.status.Status.TheVariants.{Done}
 use Rattle.rc_answer.specs.declared.status.Stop.{Stop}
 use Rattle.rc_answer.specs.declared.status.Stop.TheVariants.{Memory, Sink}
 use Rattle.rc_tuple.specs.Tuple.{Pairs}
-use Rattle.rc_plan.specs.Compiled.{PlannedSpec}
+use Rattle.rc_plan.specs.Compiled.{SpecWithPlans}
 use Rattle.rc_rel.specs.declared.entry.Entry.{Entry}
 use Rattle.rc_rel.specs.History.{replay}
 use Rattle.rc_work.specs.Report.{report}
@@ -55,7 +55,7 @@ report_answers input reading spec rest work read is accepted made text status re
         (subst (λ (s : Spec). IsReport s work text status) (sym is.value) report)
 
 -- the plans, and what is printed of a run and of the rows that its instance represents
-pub run_report : (accepted here : Spec) (made : PlannedSpec) (work : Work) (history entries : List Entry) (rows printed : List Pairs) → made.spec ≡ accepted → ArePlanned accepted made.plans
+pub run_report : (accepted here : Spec) (made : SpecWithPlans) (work : Work) (history entries : List Entry) (rows printed : List Pairs) → made.spec ≡ accepted → ArePlanned accepted made.plans
     → Runs made.spec work history → HasSingleSteps history → here ≡ made.spec → entries ≡ history → rows ≡ replay made.spec history → printed ≡ rows
     → IsReport accepted work (plans_text accepted made.plans ++ printed_lines (report here work.ranks entries printed)) Done
 run_report accepted here made work history entries rows printed same planned runs single is all found given = record {

@@ -8,7 +8,7 @@ use Rattle.rc_io.specs.BytesLaws.{adds_more, adds_prefix_longer, adds_prefix_mor
 use Rattle.rc_text.specs.Lines.{printed_lines}
 use Rattle.rc_spec.specs.declared.spec.Spec.{Spec}
 use Rattle.rc_plan.specs.declared.statement.Statement.{Statement}
-use Rattle.rc_plan.specs.Compiled.{IsCompiled, PlannedSpec, plan_at}
+use Rattle.rc_plan.specs.Compiled.{IsCompiled, SpecWithPlans, plan_at}
 use Rattle.rc_plan.specs.PlanText.{plan_text}
 use Rattle.rc_query.specs.Planned.{IsPlanned}
 use Rattle.rc_spec.specs.Placement.{op_at}
@@ -68,10 +68,10 @@ part_writes A old new (Err Sink) e part = part
 -- ---- the plans, and then `end`
 
 -- what a compiled specification keeps is a planned plan for each operation
-pub made_planned : (accepted inside : Spec) (plans : List (List Statement)) (made : PlannedSpec) → record { spec = inside; plans = plans } ≡ made → IsCompiled inside plans → made.spec ≡ accepted
+pub made_planned : (accepted inside : Spec) (plans : List (List Statement)) (made : SpecWithPlans) → record { spec = inside; plans = plans } ≡ made → IsCompiled inside plans → made.spec ≡ accepted
     → ((op : ℕ) → op < length accepted.ops → IsPlanned accepted (op_at accepted op) (plan_at made.plans op)) → ArePlanned accepted made.plans
 made_planned accepted inside plans made view compiled same each = record {
-  count = sym (ap (λ (p : PlannedSpec). length p.plans) view) ∙ compiled.planned.count ∙ ap (λ (p : PlannedSpec). length p.spec.ops) view ∙ ap (λ (s : Spec). length s.ops) same;
+  count = sym (ap (λ (p : SpecWithPlans). length p.plans) view) ∙ compiled.planned.count ∙ ap (λ (p : SpecWithPlans). length p.spec.ops) view ∙ ap (λ (s : Spec). length s.ops) same;
   each = each;
 }
 
@@ -82,7 +82,7 @@ abbrev pub end_line : List ℕ
 end_line = printed_lines (codes "end" ∷ [])
 
 -- what holds of the plans that a compiled specification keeps holds of the accepted one's
-pub of_accepted : (P : List ℕ → Type 0) (accepted : Spec) (made : PlannedSpec) → made.spec ≡ accepted → P (plans_text made.spec made.plans) → P (plans_text accepted made.plans)
+pub of_accepted : (P : List ℕ → Type 0) (accepted : Spec) (made : SpecWithPlans) → made.spec ≡ accepted → P (plans_text made.spec made.plans) → P (plans_text accepted made.plans)
 of_accepted P accepted made same h = subst (λ (s : Spec). P (plans_text s made.plans)) same h
 
 pub plans_begun : (A : List ℕ → Status → Type 0) (plans others : List ℕ) (a b : Option (List ℕ)) → A (plans ++ others) Done → AddsPrefix a plans b → WritesPart A a b

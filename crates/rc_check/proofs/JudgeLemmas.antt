@@ -16,16 +16,16 @@ use Rattle.rc_plan.specs.declared.refusal.PlanRefusal.{PlanRefusal}
 use Rattle.rc_plan.specs.declared.refusal.PlanRule.{PlanRule}
 use Rattle.rc_plan.specs.declared.refusal.PlanRule.TheVariants.{K1}
 use Rattle.rc_plan.specs.declared.statement.Statement.{Statement}
-use Rattle.rc_plan.specs.PlanRules.{AreKnown, IsComplete, IsFirstBrokenPlanRule, IsKept, IsKnown, Keeps, KeepsPlanRules, KeepsThere, check_at, checks_at, plan_checks, progress_at}
+use Rattle.rc_plan.specs.PlanRules.{AreKnown, IsComplete, IsFirstBrokenPlanRule, IsKeptInPlan, IsKnown, StatementKeeps, KeepsPlanRules, KeepsThere, check_at, checks_at, plan_checks, progress_at}
 use Rattle.rc_plan.specs.PlanRulesLaws.{refused_law, rules_from_checks}
 
 -- an answer to all checks says whether the plan keeps the rules
-pub ok_judged : {B : Type 0} (spec : Spec) (op : Op) (plan : List Statement) (answer : Result B PlanRefusal) → Judges (IsKept spec op plan) (plan_checks plan) answer
+pub ok_judged : {B : Type 0} (spec : Spec) (op : Op) (plan : List Statement) (answer : Result B PlanRefusal) → Judges (IsKeptInPlan spec op plan) (plan_checks plan) answer
     → IsOk answer ↔ KeepsPlanRules spec op plan
 ok_judged spec op plan (Ok value) j = ((λ h. rules_from_checks spec op plan j), λ k. refl)
 ok_judged spec op plan (Err refusal) j = ((λ h. absurd (false≢true h)), λ k. absurd (refused_law spec op plan refusal j k))
 
-pub err_judged : {B : Type 0} (spec : Spec) (op : Op) (plan : List Statement) (answer : Result B PlanRefusal) → Judges (IsKept spec op plan) (plan_checks plan) answer
+pub err_judged : {B : Type 0} (spec : Spec) (op : Op) (plan : List Statement) (answer : Result B PlanRefusal) → Judges (IsKeptInPlan spec op plan) (plan_checks plan) answer
     → IfErr answer (IsFirstBrokenPlanRule spec op plan)
 err_judged spec op plan (Ok value) j = tt
 err_judged spec op plan (Err refusal) j = j
@@ -34,10 +34,10 @@ err_judged spec op plan (Err refusal) j = j
 
 -- a statement that was found keeps a rule exactly where the test for it says so
 pub rule_kept : (spec others : Spec) (op same : Op) (plan : List Statement) (n : ℕ) (x : Statement) (rule : PlanRule) (b : Bool) → others ≡ spec → same ≡ op → slice_get plan n ≡ Some x
-    → (b ≡ true) ↔ Keeps others same rule (progress_at spec op plan n) x → (b ≡ true) ↔ IsKept spec op plan (check_at n rule)
+    → (b ≡ true) ↔ StatementKeeps others same rule (progress_at spec op plan n) x → (b ≡ true) ↔ IsKeptInPlan spec op plan (check_at n rule)
 rule_kept spec others op same plan n x rule b s o there test =
-    let at_spec : (b ≡ true) ↔ Keeps spec same rule (progress_at spec op plan n) x = subst (λ (z : Spec). (b ≡ true) ↔ Keeps z same rule (progress_at spec op plan n) x) s test in
-    let at_op : (b ≡ true) ↔ Keeps spec op rule (progress_at spec op plan n) x = subst (λ (z : Op). (b ≡ true) ↔ Keeps spec z rule (progress_at spec op plan n) x) o at_spec in
+    let at_spec : (b ≡ true) ↔ StatementKeeps spec same rule (progress_at spec op plan n) x = subst (λ (z : Spec). (b ≡ true) ↔ StatementKeeps z same rule (progress_at spec op plan n) x) s test in
+    let at_op : (b ≡ true) ↔ StatementKeeps spec op rule (progress_at spec op plan n) x = subst (λ (z : Op). (b ≡ true) ↔ StatementKeeps spec z rule (progress_at spec op plan n) x) o at_spec in
     subst (λ (z : Option Statement). (b ≡ true) ↔ KeepsThere spec op rule (progress_at spec op plan n) z) (sym there) at_op
 
 -- the first check that fails, behind some that hold
@@ -61,20 +61,20 @@ op_known spec n range l = range.known_ops (op_at spec n) (get_or_in spec.ops n n
 
 -- a statement is refused, and those before it keep all rules
 pub refused_statement : {B : Type 0} (spec : Spec) (op : Op) (plan : List Statement) (n : ℕ) (answer : Result B PlanRefusal) (y : PlanRefusal) → n < length plan
-    → ((k : ℕ) → k < n → EachHolds (IsKept spec op plan) (checks_at k)) → answer ≡ Err y → IsFirstFailing (IsKept spec op plan) (checks_at n) y
-    → Judges (IsKept spec op plan) (plan_checks plan) answer
+    → ((k : ℕ) → k < n → EachHolds (IsKeptInPlan spec op plan) (checks_at k)) → answer ≡ Err y → IsFirstFailing (IsKeptInPlan spec op plan) (checks_at n) y
+    → Judges (IsKeptInPlan spec op plan) (plan_checks plan) answer
 refused_statement spec op plan n answer y l before e first =
-    judged_err (IsKept spec op plan) (plan_checks plan) answer y y e refl
-    (first_left (IsKept spec op plan) (flat_map checks_at (range_with_len 0 (length plan))) (check_at (length plan) K1 ∷ []) y
-    (first_listed (IsKept spec op plan) checks_at (length plan) n y l before first))
+    judged_err (IsKeptInPlan spec op plan) (plan_checks plan) answer y y e refl
+    (first_left (IsKeptInPlan spec op plan) (flat_map checks_at (range_with_len 0 (length plan))) (check_at (length plan) K1 ∷ []) y
+    (first_listed (IsKeptInPlan spec op plan) checks_at (length plan) n y l before first))
 
 -- all statements keep all rules, and the end is tested
-pub judged_end : {B : Type 0} (spec : Spec) (op : Op) (plan : List Statement) (answer : Result B PlanRefusal) (b : Bool) → ((k : ℕ) → k < length plan → EachHolds (IsKept spec op plan) (checks_at k))
+pub judged_end : {B : Type 0} (spec : Spec) (op : Op) (plan : List Statement) (answer : Result B PlanRefusal) (b : Bool) → ((k : ℕ) → k < length plan → EachHolds (IsKeptInPlan spec op plan) (checks_at k))
     → (b ≡ true) ↔ IsComplete (progress_at spec op plan (length plan)) → IsOk answer ↔ (b ≡ true) → IfErr answer (λ y. y ≡ check_at (length plan) K1)
-    → Judges (IsKept spec op plan) (plan_checks plan) answer
+    → Judges (IsKeptInPlan spec op plan) (plan_checks plan) answer
 judged_end spec op plan answer b all test ok err =
     let there : slice_get plan (length plan) ≡ None = slice_get_past plan (length plan) (omega arith) in
-    let kept : (b ≡ true) ↔ IsKept spec op plan (check_at (length plan) K1) =
+    let kept : (b ≡ true) ↔ IsKeptInPlan spec op plan (check_at (length plan) K1) =
     subst (λ (z : Option Statement). (b ≡ true) ↔ KeepsThere spec op K1 (progress_at spec op plan (length plan)) z) (sym there) test in
-    judged_append (IsKept spec op plan) (flat_map checks_at (range_with_len 0 (length plan))) (check_at (length plan) K1 ∷ []) answer
-    (each_listed (IsKept spec op plan) checks_at (length plan) all) (judged_one (IsKept spec op plan) (check_at (length plan) K1) answer b kept ok err)
+    judged_append (IsKeptInPlan spec op plan) (flat_map checks_at (range_with_len 0 (length plan))) (check_at (length plan) K1 ∷ []) answer
+    (each_listed (IsKeptInPlan spec op plan) checks_at (length plan) all) (judged_one (IsKeptInPlan spec op plan) (check_at (length plan) K1) answer b kept ok err)

@@ -1,7 +1,7 @@
 ghost use Rattle.std.specs.Prelude.{◌≡◌, ◌<◌, ◌^◌, ◌↔◌, length, IfErr, IsOk, IsTrue};
 ghost use Rattle.rc_spec.specs.First.{Judges};
 ghost use Rattle.rc_spec.specs.Placement.{op_at};
-ghost use Rattle.rc_plan.specs.PlanRules.{AreKnown, IsFirstBrokenPlanRule, IsKept, KeepsPlanRules, checks_at, progress_at};
+ghost use Rattle.rc_plan.specs.PlanRules.{AreKnown, IsFirstBrokenPlanRule, IsKeptInPlan, KeepsPlanRules, checks_at, progress_at};
 ghost use Rattle.rc_check.specs.Sets.{sets_of};
 
 use crate::checks::keeps_k7;
@@ -37,7 +37,7 @@ fn check_statement(
     requires known { AreKnown accepted.now plan.now }
     requires there { at < length plan.now }
     requires before { before.now ≡ sets_of (progress_at accepted.now (op_at accepted.now number) plan.now at) }
-    ensures { Judges (IsKept accepted.now (op_at accepted.now number) plan.now) (checks_at at) result }
+    ensures { Judges (IsKeptInPlan accepted.now (op_at accepted.now number) plan.now) (checks_at at) result }
 {
     let spec = accepted.spec();
     let op = &spec.ops.list()[number as usize];

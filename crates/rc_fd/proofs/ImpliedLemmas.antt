@@ -16,17 +16,17 @@ use Rattle.rc_fd.specs.FollowsLaws.{follows_subset, follows_dependency, follows_
 -- ---- one turn over the dependencies
 
 -- the right sides of the first n dependencies whose left sides lie in the set have been taken
-pub record IsTaken (deps : List Dep) (set all : List ℕ) (n : ℕ) : Type 0 where
+pub record AreFirstTaken (deps : List Dep) (set all : List ℕ) (n : ℕ) : Type 0 where
   pub holds : Within set all
   pub follows : Follows deps set all
   pub takes : (k : ℕ) (o : Dep) → k < n → Within (get_or deps k o).left set → Within (get_or deps k o).right all
 
-pub taken_first : (deps : List Dep) (set : List ℕ) → IsTaken deps set set 0
+pub taken_first : (deps : List Dep) (set : List ℕ) → AreFirstTaken deps set set 0
 taken_first deps set = record { holds = λ c h. h; follows = follows_subset deps set set (λ c h. h); takes = λ k o h. absurd (omega arith) }
 
 -- the columns may grow if the next right side is then among them
-taken_next : (deps : List Dep) (set all new : List ℕ) (n : ℕ) (d : Dep) → n < length deps → d ≡ get_or deps n d → IsTaken deps set all n
-    → Within all new → Follows deps set new → (Within d.left set → Within d.right new) → IsTaken deps set new (n + 1)
+taken_next : (deps : List Dep) (set all new : List ℕ) (n : ℕ) (d : Dep) → n < length deps → d ≡ get_or deps n d → AreFirstTaken deps set all n
+    → Within all new → Follows deps set new → (Within d.left set → Within d.right new) → AreFirstTaken deps set new (n + 1)
 taken_next deps set all new n d l e t w f g = record { holds = λ c h. w c (t.holds c h); follows = f; takes = step }
   where
     step : (k : ℕ) (o : Dep) → k < n + 1 → Within (get_or deps k o).left set → Within (get_or deps k o).right new
@@ -37,19 +37,19 @@ taken_next deps set all new n d l e t w f g = record { holds = λ c h. w c (t.ho
           subst (λ (z : Dep). Within z.left set → Within z.right new) (sym i) g v)
     ]
 
-pub taken_more : (deps : List Dep) (set all new : List ℕ) (n : ℕ) (d : Dep) → n < length deps → d ≡ get_or deps n d → IsTaken deps set all n
-    → Within d.left set → new ≡ union all d.right → IsTaken deps set new (n + 1)
+pub taken_more : (deps : List Dep) (set all new : List ℕ) (n : ℕ) (d : Dep) → n < length deps → d ≡ get_or deps n d → AreFirstTaken deps set all n
+    → Within d.left set → new ≡ union all d.right → AreFirstTaken deps set new (n + 1)
 taken_more deps set all new n d l e t w f =
-    subst (λ z. IsTaken deps set z (n + 1)) (sym f)
+    subst (λ z. AreFirstTaken deps set z (n + 1)) (sym f)
     (taken_next deps set all (union all d.right) n d l e t (union_left all d.right)
     (follows_union deps set all d.right t.follows
     (follows_transitive deps set d.left d.right (follows_subset deps set d.left w) (follows_dependency deps d (subst (λ z. In z deps) (sym e) (get_or_in deps n d l)))))
     (λ v. union_right all d.right))
 
-pub taken_same : (deps : List Dep) (set all : List ℕ) (n : ℕ) (d : Dep) → n < length deps → d ≡ get_or deps n d → IsTaken deps set all n → (Within d.left set → ⊥) → IsTaken deps set all (n + 1)
+pub taken_same : (deps : List Dep) (set all : List ℕ) (n : ℕ) (d : Dep) → n < length deps → d ≡ get_or deps n d → AreFirstTaken deps set all n → (Within d.left set → ⊥) → AreFirstTaken deps set all (n + 1)
 taken_same deps set all n d l e t w = taken_next deps set all all n d l e t (λ c h. h) t.follows (λ v. absurd (w v))
 
-pub taken_all : (deps : List Dep) (set all : List ℕ) (n : ℕ) → length deps ≤ n → IsTaken deps set all n → (d : Dep) → In d deps → Within d.left set → Within d.right all
+pub taken_all : (deps : List Dep) (set all : List ℕ) (n : ℕ) → length deps ≤ n → AreFirstTaken deps set all n → (d : Dep) → In d deps → Within d.left set → Within d.right all
 taken_all deps set all n l t d m = in_from_places (λ (z : Dep). Within z.left set → Within z.right all) d deps (λ k h. t.takes k d (omega arith)) d m
 
 -- ---- a set to which a turn adds nothing

@@ -3,7 +3,7 @@
 ghost use Rattle.std.specs.Prelude.{◌≡◌, ℕ, ◌+◌, ◌<◌, ◌≤◌, List, Option, None, length, take, vec_len, IfOk, IfErr, OnErr, IsErrOf};
 ghost use Rattle.rc_io.specs.Bytes.{Takes, IsEmpty};
 ghost use Rattle.rc_io.specs.Counts.{Rose};
-ghost use Rattle.rc_io.specs.Faults.{IsTaken};
+ghost use Rattle.rc_io.specs.Faults.{IsCountTaken};
 
 use std::alloc::{AllocError, Global};
 
@@ -75,7 +75,7 @@ pub fn read_all<S: Source>(alloc: Global, source: &mut S, limit: u64) -> Result<
     ensures all { IfOk result (λ v. Takes (S.left source.old) v.items (S.left source.new)
         × IsEmpty (S.left source.new)) }
     ensures within { IfOk result (λ v. vec_len v ≤ limit) }
-    ensures taken { IfErr result (λ fault. (bytes : List ℕ) × IsTaken fault limit (length bytes)
+    ensures taken { IfErr result (λ fault. (bytes : List ℕ) × IsCountTaken fault limit (length bytes)
         × Takes (S.left source.old) bytes (S.left source.new)) }
     ensures failed { IsErrOf result ReadFault.Source →
         Rose (S.faults source.old) (S.faults source.new) }

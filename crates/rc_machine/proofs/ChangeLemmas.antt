@@ -15,8 +15,8 @@ use Rattle.rc_spec.specs.declared.spec.Spec.{Spec}
 use Rattle.rc_spec.specs.Acceptance.{IsSealed}
 use Rattle.rc_spec.specs.Calls.{Fits}
 use Rattle.rc_spec.specs.CountedRows.{all_lowered, all_raised, count_at, is_row_at, lowered, raised, row_in, with_count}
-use Rattle.rc_spec.specs.CountedRowsLaws.{AreCountedRows, AreCountedRows-fragments_of, AreCountedRows-with_count, in_with_count, rising_with_count, with_count_new, with_count_old}
-use Rattle.rc_spec.specs.Fragments.{EdgeRow, all_rows, edge_numbers, edge_row_cmp, fragment_of, fragments_of, on_stripes, row_stripe}
+use Rattle.rc_spec.specs.CountedRowsLaws.{AreCountedRows, AreCountedRows-rows_on, AreCountedRows-with_count, in_with_count, rising_with_count, with_count_new, with_count_old}
+use Rattle.rc_spec.specs.Fragments.{EdgeRow, all_rows, edge_numbers, edge_row_cmp, fragment_of, rows_on, on_stripes, row_stripe}
 use Rattle.rc_spec.specs.FragmentsLaws.{edge_row_order}
 use Rattle.rc_spec.specs.Placement.{class_of, op_at}
 use Rattle.rc_spec.specs.Plain.{plain}
@@ -193,7 +193,7 @@ pub stripes_kept : (change : Change) (spec : Spec) (t : Pairs) (edges : List ℕ
 stripes_kept change spec t edges held = sym (stripes_named (all_changed change spec t edges held)) ∙ ap stripes_of (locks_kept change spec t edges held) ∙ stripes_named held
 
 -- a relation's part on one of some stripes
-part_of : (spec : Spec) (r : List Pairs) (stripes : List ℕ) (stripe : ℕ) → In stripe stripes → on_stripes spec (stripe ∷ []) (fragments_of spec r stripes) ≡ fragment_of spec r stripe
+part_of : (spec : Spec) (r : List Pairs) (stripes : List ℕ) (stripe : ℕ) → In stripe stripes → on_stripes spec (stripe ∷ []) (rows_on spec r stripes) ≡ fragment_of spec r stripe
 part_of spec r stripes stripe m =
     filter-filter (λ w. has (stripe ∷ []) (row_stripe spec w)) (λ w. has stripes (row_stripe spec w))
     (λ w h. has_in stripes (row_stripe spec w) (elim (in_has (stripe ∷ []) (row_stripe spec w) h) [ inl q ↦ subst (λ z. In z stripes) (sym q) m | inr z ↦ absurd z ])) (all_rows spec r)
@@ -225,29 +225,29 @@ module _ (spec : Spec) (sealed : IsSealed spec) (plan : List Statement) (call : 
         sym q.2.taken ∙ a.rows q.0 q.1 ∙ ap (fragment_of spec r) q.2.stripe;
   }
 
-  ends : (r : List Pairs) → AreOfRelation spec held r → eval spec plan call (fragments_of spec r (stripes_held held))
-      ≡ record { bindings = bs; named = locks_of held; reply = Some answer; rows = all_done change spec t (edge_numbers spec) (fragments_of spec r (stripes_held held)) }
+  ends : (r : List Pairs) → AreOfRelation spec held r → eval spec plan call (rows_on spec r (stripes_held held))
+      ≡ record { bindings = bs; named = locks_of held; reply = Some answer; rows = all_done change spec t (edge_numbers spec) (rows_on spec r (stripes_held held)) }
   ends = evaluated spec sealed plan call fits x rest bs held at answer (all_done change spec t (edge_numbers spec)) f
 
   named : (r : List Pairs) → AreOfRelation spec (all_changed change spec t (edge_numbers spec) held) r
-      → (eval spec plan call (fragments_of spec r (stripes_held (all_changed change spec t (edge_numbers spec) held)))).named ≡ locks_of (all_changed change spec t (edge_numbers spec) held)
-  named r a = ap (λ z. (eval spec plan call (fragments_of spec r z)).named) stripes_same ∙ ap (λ (z : RunState). z.named) (ends r (before r a)) ∙ sym locks_same
+      → (eval spec plan call (rows_on spec r (stripes_held (all_changed change spec t (edge_numbers spec) held)))).named ≡ locks_of (all_changed change spec t (edge_numbers spec) held)
+  named r a = ap (λ z. (eval spec plan call (rows_on spec r z)).named) stripes_same ∙ ap (λ (z : RunState). z.named) (ends r (before r a)) ∙ sym locks_same
 
   replied : (r : List Pairs) → AreOfRelation spec (all_changed change spec t (edge_numbers spec) held) r
-      → (eval spec plan call (fragments_of spec r (stripes_held (all_changed change spec t (edge_numbers spec) held)))).reply ≡ Some answer
-  replied r a = ap (λ z. (eval spec plan call (fragments_of spec r z)).reply) stripes_same ∙ ap (λ (z : RunState). z.reply) (ends r (before r a))
+      → (eval spec plan call (rows_on spec r (stripes_held (all_changed change spec t (edge_numbers spec) held)))).reply ≡ Some answer
+  replied r a = ap (λ z. (eval spec plan call (rows_on spec r z)).reply) stripes_same ∙ ap (λ (z : RunState). z.reply) (ends r (before r a))
 
   rows : (r : List Pairs) → AreOfRelation spec (all_changed change spec t (edge_numbers spec) held) r → (h : HeldStripe) → In h (all_changed change spec t (edge_numbers spec) held)
       → h.now ≡ fragment_of spec (plain spec r call).relation h.stripe
   rows r a' h m =
       let a : AreOfRelation spec held r = before r a' in
       let S : List ℕ = stripes_held held in
-      let all : List EdgeRow = fragments_of spec r S in
+      let all : List EdgeRow = rows_on spec r S in
       let s : Serves spec plan call r (locks_of held) = serves spec sealed plan call fits planned r held a (ap (λ (z : RunState). z.named) (ends r a)) in
-      let after : all_done change spec t (edge_numbers spec) all ≡ fragments_of spec (plain spec r call).relation S =
-      sym (ap (λ (z : RunState). z.rows) (ends r a)) ∙ ap (λ z. (eval spec plan call (fragments_of spec r z)).rows) (sym (stripes_named held)) ∙ s.rows ∙ ap (fragments_of spec (plain spec r call).relation) (stripes_named held) in
+      let after : all_done change spec t (edge_numbers spec) all ≡ rows_on spec (plain spec r call).relation S =
+      sym (ap (λ (z : RunState). z.rows) (ends r a)) ∙ ap (λ z. (eval spec plan call (rows_on spec r z)).rows) (sym (stripes_named held)) ∙ s.rows ∙ ap (rows_on spec (plain spec r call).relation) (stripes_named held) in
       let part : h.now ≡ on_stripes spec (h.stripe ∷ []) (all_done change spec t (edge_numbers spec) all) =
-      parts_changed change local spec t (edge_numbers spec) held all (AreCountedRows-fragments_of spec r S)
+      parts_changed change local spec t (edge_numbers spec) held all (AreCountedRows-rows_on spec r S)
       (λ g n. at.unchanged g n ∙ a.rows g n ∙ sym (part_of spec r S g.stripe (map_in (λ (h : HeldStripe). h.stripe) g held n))) h m in
       part ∙ ap (on_stripes spec (h.stripe ∷ [])) after
       ∙ part_of spec (plain spec r call).relation S h.stripe (subst (In h.stripe) stripes_same (map_in (λ (h : HeldStripe). h.stripe) h (all_changed change spec t (edge_numbers spec) held) m))

@@ -18,7 +18,7 @@ use Rattle.rc_spec.specs.declared.items.OpKind.TheVariants.{Query, Insert, Remov
 use Rattle.rc_spec.specs.declared.spec.Spec.{Spec}
 use Rattle.rc_spec.specs.Acceptance.{IsSealed}
 use Rattle.rc_spec.specs.Calls.{Fits, all_columns, value_columns}
-use Rattle.rc_spec.specs.Fragments.{EdgeRow, fragments_of}
+use Rattle.rc_spec.specs.Fragments.{EdgeRow, rows_on}
 use Rattle.rc_spec.specs.Placement.{no_op, op_at}
 use Rattle.rc_fragment.specs.Holder.{AreOfRelation, HeldStripe}
 use Rattle.rc_plan.specs.declared.statement.Statement.{Statement}
@@ -32,7 +32,7 @@ use Rattle.rc_plan.specs.PlanRules.{IsInsert, KeepsAll, Progress, after, given_c
 use Rattle.rc_plan.specs.RunLaws.{IsSearching, run-replied, searching}
 use Rattle.rc_plan.specs.StripeLocks.{StripeLock, stripes_of}
 use Rattle.rc_machine.specs.Machine.{HasEvaluated, HasServed, locks_of, stripes_held}
-use Rattle.rc_machine.specs.Run.{IsAt, IsOn, IsTaken}
+use Rattle.rc_machine.specs.Run.{IsAt, IsOn, IsClassTaken}
 use Rattle.rc_machine.proofs.RunLemmas.{has_evaluated, has_served, unchanged_rows}
 
 whole_by : (spec : Spec) (t : Pairs) (pattern : List ℕ) (kind : OpKind) → IsInsert kind → cols_of t ≡ gather nat_cmp (value_columns spec pattern kind) → cols_of t ≡ all_columns spec
@@ -65,7 +65,7 @@ module _ (spec : Spec) (sealed : IsSealed spec) (plan : List Statement) (call : 
     rises : IsRising nat_cmp (cols_of call.args)
     rises = fits.1.tuple.rising
 
-    taken_now : (c : ℕ) (choice : Which) → IsTaken spec at.progress (stripes_of (locks_of held)) c choice → IsTaken spec (after spec at.progress (Probe xs)) (stripes_of (locks_of held)) c choice
+    taken_now : (c : ℕ) (choice : Which) → IsClassTaken spec at.progress (stripes_of (locks_of held)) c choice → IsClassTaken spec (after spec at.progress (Probe xs)) (stripes_of (locks_of held)) c choice
     taken_now c which.Keyed g = λ cover. cover
     taken_now c which.All g = g
 
@@ -102,7 +102,7 @@ module _ (spec : Spec) (sealed : IsSealed spec) (plan : List Statement) (call : 
   check_search : (r : List Pairs) (s : Pairs) (p : Progress) (bs : List Pairs) (ns : List StripeLock) (absent : Bool) (checked : List ℕ) → IsSearching spec r s p bs ns → IsSearching spec r s (record p { absent = absent; checked = checked }) bs ns
   check_search r s p bs ns absent checked f = record { phase = f.phase; within = f.within; reached = f.reached; rising = f.rising; columns = f.columns; nodes = f.nodes; guards = f.guards }
 
-  same_taken : (p : Progress) (ns : List StripeLock) (absent : Bool) (checked : List ℕ) (c : ℕ) (choice : Which) → IsTaken spec p (stripes_of ns) c choice → IsTaken spec (record p { absent = absent; checked = checked }) (stripes_of ns) c choice
+  same_taken : (p : Progress) (ns : List StripeLock) (absent : Bool) (checked : List ℕ) (c : ℕ) (choice : Which) → IsClassTaken spec p (stripes_of ns) c choice → IsClassTaken spec (record p { absent = absent; checked = checked }) (stripes_of ns) c choice
   same_taken p ns absent checked c which.Keyed g = g
   same_taken p ns absent checked c which.All g = g
 
@@ -130,7 +130,7 @@ module _ (spec : Spec) (sealed : IsSealed spec) (plan : List Statement) (call : 
     columns_rise = at.columns_rise;
     on = λ r a. check_on r (op_at spec call.op).kind at.progress bs (locks_of held) true at.progress.checked (at.on r a);
     runs = λ r a stripes w. at.runs r a stripes w
-        ∙ ap (λ b. run spec (op_at spec call.op).kind call.args rest (cond b (record { bindings = bs; named = locks_of held; reply = Some Present; rows = fragments_of spec r stripes }) (searching bs (locks_of held) (fragments_of spec r stripes)))) e;
+        ∙ ap (λ b. run spec (op_at spec call.op).kind call.args rest (cond b (record { bindings = bs; named = locks_of held; reply = Some Present; rows = rows_on spec r stripes }) (searching bs (locks_of held) (rows_on spec r stripes)))) e;
   }
 
   -- and after the check of a dependency that no binding breaks
@@ -146,7 +146,7 @@ module _ (spec : Spec) (sealed : IsSealed spec) (plan : List Statement) (call : 
     columns_rise = at.columns_rise;
     on = λ r a. check_on r (op_at spec call.op).kind at.progress bs (locks_of held) at.progress.absent (dep ∷ at.progress.checked) (at.on r a);
     runs = λ r a stripes w. at.runs r a stripes w
-        ∙ ap (λ b. run spec (op_at spec call.op).kind call.args rest (cond b (record { bindings = bs; named = locks_of held; reply = Some (Conflict dep); rows = fragments_of spec r stripes }) (searching bs (locks_of held) (fragments_of spec r stripes)))) e;
+        ∙ ap (λ b. run spec (op_at spec call.op).kind call.args rest (cond b (record { bindings = bs; named = locks_of held; reply = Some (Conflict dep); rows = rows_on spec r stripes }) (searching bs (locks_of held) (rows_on spec r stripes)))) e;
   }
 
   -- ---- ends
@@ -155,15 +155,15 @@ module _ (spec : Spec) (sealed : IsSealed spec) (plan : List Statement) (call : 
   pub evaluated : (x : Statement) (rest : List Statement) (bs : List Pairs) (held : List HeldStripe) (at : IsAt spec plan call (x ∷ rest) bs held) (answer : Reply) (change : List EdgeRow → List EdgeRow)
       → ((rows : List EdgeRow) → run_one spec (op_at spec call.op).kind call.args (searching bs (locks_of held) rows) x ≡ record { bindings = bs; named = locks_of held; reply = Some answer; rows = change rows })
       → (r : List Pairs) → AreOfRelation spec held r
-      → eval spec plan call (fragments_of spec r (stripes_held held)) ≡ record { bindings = bs; named = locks_of held; reply = Some answer; rows = change (fragments_of spec r (stripes_held held)) }
+      → eval spec plan call (rows_on spec r (stripes_held held)) ≡ record { bindings = bs; named = locks_of held; reply = Some answer; rows = change (rows_on spec r (stripes_held held)) }
   evaluated x rest bs held at answer change f r a =
-      at.runs r a (stripes_held held) (λ c m. m) ∙ ap (run spec (op_at spec call.op).kind call.args rest) (f (fragments_of spec r (stripes_held held)))
-      ∙ run-replied spec (op_at spec call.op).kind call.args rest bs (locks_of held) answer (change (fragments_of spec r (stripes_held held)))
+      at.runs r a (stripes_held held) (λ c m. m) ∙ ap (run spec (op_at spec call.op).kind call.args rest) (f (rows_on spec r (stripes_held held)))
+      ∙ run-replied spec (op_at spec call.op).kind call.args rest bs (locks_of held) answer (change (rows_on spec r (stripes_held held)))
 
   module _ (planned : IsPlanOf spec call.op plan) (x : Statement) (rest : List Statement) (bs : List Pairs) (held : List HeldStripe) (at : IsAt spec plan call (x ∷ rest) bs held) (answer : Reply)
       (f : (rows : List EdgeRow) → run_one spec (op_at spec call.op).kind call.args (searching bs (locks_of held) rows) x ≡ record { bindings = bs; named = locks_of held; reply = Some answer; rows = rows }) where
     ends : (r : List Pairs) → AreOfRelation spec held r
-        → eval spec plan call (fragments_of spec r (stripes_held held)) ≡ record { bindings = bs; named = locks_of held; reply = Some answer; rows = fragments_of spec r (stripes_held held) }
+        → eval spec plan call (rows_on spec r (stripes_held held)) ≡ record { bindings = bs; named = locks_of held; reply = Some answer; rows = rows_on spec r (stripes_held held) }
     ends = evaluated x rest bs held at answer (λ rows. rows) f
 
     -- a statement that replies and changes nothing ends a run as evaluation does

@@ -29,7 +29,7 @@ use Rattle.rc_spec.specs.Contents.{how_many}
 use Rattle.rc_spec.specs.ContentsLaws.{target_within}
 use Rattle.rc_spec.specs.CountedRows.{row_in}
 use Rattle.rc_spec.specs.CountedRowsLaws.{AllHeld}
-use Rattle.rc_spec.specs.Decomposition.{bound, edge_at}
+use Rattle.rc_spec.specs.Decomposition.{bound, edge_at, target_columns}
 use Rattle.rc_spec.specs.Fragments.{EdgeRow, fragment_of, row_stripe}
 use Rattle.rc_spec.specs.FragmentsLaws.{all_rows_in, fragments_in, in_all_rows, in_fragments}
 use Rattle.rc_spec.specs.HeathLaws.{IsReached}
@@ -47,7 +47,7 @@ use Rattle.rc_plan.specs.declared.statement.Which.{Which}
 use Rattle.rc_plan.specs.declared.statement.Which.TheVariants as which
 use Rattle.rc_plan.specs.InsertLaws.{HasNamed}
 use Rattle.rc_plan.specs.MatchLaws.{all_seen_match}
-use Rattle.rc_plan.specs.PlanRules.{FindsTuples, IsInsert, IsQuery, KeepsAll, target_columns}
+use Rattle.rc_plan.specs.PlanRules.{FindsTuples, IsInsert, IsQuery, KeepsAll}
 use Rattle.rc_plan.specs.RemoveLaws.{covered_without_probe}
 use Rattle.rc_plan.specs.RunLaws.{cols_of-project}
 use Rattle.rc_plan.specs.StripeLocks.{stripes_of}

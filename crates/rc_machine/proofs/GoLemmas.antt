@@ -17,7 +17,7 @@ use Rattle.rc_spec.specs.declared.spec.Spec.{Spec}
 use Rattle.rc_spec.specs.Acceptance.{IsSealed}
 use Rattle.rc_spec.specs.Calls.{Fits}
 use Rattle.rc_spec.specs.CountedRows.{lowered, raised}
-use Rattle.rc_spec.specs.Fragments.{EdgeRow, edge_numbers, fragments_of}
+use Rattle.rc_spec.specs.Fragments.{EdgeRow, edge_numbers, rows_on}
 use Rattle.rc_spec.specs.Placement.{op_at}
 use Rattle.rc_spec.specs.Plain.{plain}
 use Rattle.rc_fragment.specs.declared.held.Held.{Held}
@@ -84,7 +84,7 @@ module _ (spec : Spec) (sealed : IsSealed spec) (plan : List Statement) (call : 
   lock_refused one last answer g =
       let r : List Pairs = one.0 in
       let a : AreOfRelation spec new r = one.1 in
-      let all : List EdgeRow = fragments_of spec r (stripes_held new) in
+      let all : List EdgeRow = rows_on spec r (stripes_held new) in
       let is : rows_taken new ≡ all = taken_together spec r new a in
       let ran : eval spec plan call all ≡ run spec (op_at spec call.op).kind call.args (Lock c choice mode ∷ rest) (searching bs (locks_of held) all) =
       at.runs r (fewer spec r held f.more new f.beside a) (stripes_held new)
@@ -154,7 +154,7 @@ module _ (spec : Spec) (sealed : IsSealed spec) (plan : List Statement) (call : 
     plainly_inserted k =
         let e = evaluated spec sealed plan call fits Apply rest bs held at Inserted (all_done raised spec call.args (edge_numbers spec)) (insert_runs k) one.0 one.1 in
         same_some (plain spec one.0 call).reply Inserted
-        (sym (serves spec sealed plan call fits planned one.0 held one.1 (ap (λ (z : RunState). z.named) e)).reply ∙ ap (λ z. (eval spec plan call (fragments_of spec one.0 z)).reply) (stripes_named held) ∙ ap (λ (z : RunState). z.reply) e)
+        (sym (serves spec sealed plan call fits planned one.0 held one.1 (ap (λ (z : RunState). z.named) e)).reply ∙ ap (λ z. (eval spec plan call (rows_on spec one.0 z)).reply) (stripes_named held) ∙ ap (λ (z : RunState). z.reply) e)
 
     pub can_apply : (kind : OpKind) → (op_at spec call.op).kind ≡ kind → CanApply spec kind call.args bs held
     can_apply (Query outs) k = may_apply outs k

@@ -13,8 +13,8 @@ use Rattle.rc_spec.specs.declared.items.OpKind.TheVariants.{Query, Insert, Remov
 use Rattle.rc_spec.specs.declared.spec.Spec.{Spec}
 use Rattle.rc_spec.specs.Acceptance.{IsSealed}
 use Rattle.rc_spec.specs.Contents.{join}
-use Rattle.rc_spec.specs.Decomposition.{bound, edge_at}
-use Rattle.rc_spec.specs.Fragments.{all_rows, fragments_of, tuples_of_edge}
+use Rattle.rc_spec.specs.Decomposition.{bound, edge_at, target_columns}
+use Rattle.rc_spec.specs.Fragments.{all_rows, rows_on, tuples_of_edge}
 use Rattle.rc_spec.specs.HeathLaws.{IsJoined, in_join}
 use Rattle.rc_spec.specs.Placement.{class_at, class_of, op_at}
 use Rattle.rc_spec.specs.Stripes.{physical_stripe}
@@ -28,12 +28,12 @@ use Rattle.rc_plan.specs.declared.statement.Statement.TheVariants.{Read}
 use Rattle.rc_plan.specs.declared.statement.Which.{Which}
 use Rattle.rc_plan.specs.declared.statement.Which.TheVariants as which
 use Rattle.rc_plan.specs.Evaluation.{band, run}
-use Rattle.rc_plan.specs.PlanRules.{Covers, HasProbed, IsFindable, IsInsert, KeepsAll, MayRead, Progress, after, target_columns}
+use Rattle.rc_plan.specs.PlanRules.{Covers, HasProbed, IsFindable, IsInsert, KeepsAll, MayRead, Progress, after}
 use Rattle.rc_plan.specs.RunLaws.{IsSearching, read_keeps, read_same, searching}
 use Rattle.rc_plan.specs.StripeLocks.{stripes_of}
 use Rattle.rc_machine.specs.Machine.{locks_of, rows_now, stripes_held}
 use Rattle.rc_machine.specs.Read.{AreGood, AreReaders}
-use Rattle.rc_machine.specs.Run.{IsAt, IsOn, IsTaken}
+use Rattle.rc_machine.specs.Run.{IsAt, IsOn, IsClassTaken}
 use Rattle.rc_machine.proofs.ReadLemmas.{row_there, target_rises}
 use Rattle.rc_machine.proofs.RunLemmas.{now_together, stripes_named}
 
@@ -71,7 +71,7 @@ module _ (spec : Spec) (sealed : IsSealed spec) (plan : List Statement) (call : 
     | inr n ↦ (at.on r a).search.nodes (edge_at spec e).from n
   ]
 
-  all_taken : (choice : Which) → IsTaken spec at.progress (stripes_of (locks_of held)) (class_of spec e) choice → Covers spec at.progress (class_of spec e) choice → (b : Pairs) → Within at.progress.columns (cols_of b)
+  all_taken : (choice : Which) → IsClassTaken spec at.progress (stripes_of (locks_of held)) (class_of spec e) choice → Covers spec at.progress (class_of spec e) choice → (b : Pairs) → Within at.progress.columns (cols_of b)
       → (Within (class_at spec (class_of spec e)).cols (cols_of b) → ⊥) → (stripe : ℕ) → In stripe (band spec (class_of spec e)) → In stripe (stripes_of (locks_of held))
   all_taken which.Keyed taken cover b w n stripe m = absurd (n (λ k q. w k (taken cover k q)))
   all_taken which.All taken cover b w n stripe m = taken stripe m
@@ -96,12 +96,12 @@ module _ (spec : Spec) (sealed : IsSealed spec) (plan : List Statement) (call : 
   pub are_good : (r : List Pairs) → AreOfRelation spec held r → AreGood spec held
   are_good r a = good_stripes spec sealed held at.unchanged r a
 
-  taken_more : (c : ℕ) (choice : Which) → IsTaken spec at.progress (stripes_of (locks_of held)) c choice → IsTaken spec (after spec at.progress (Read e mode)) (stripes_of (locks_of held)) c choice
+  taken_more : (c : ℕ) (choice : Which) → IsClassTaken spec at.progress (stripes_of (locks_of held)) c choice → IsClassTaken spec (after spec at.progress (Read e mode)) (stripes_of (locks_of held)) c choice
   taken_more c which.Keyed g = λ cover k q. union_left at.progress.columns (target_columns spec e) k (g cover k q)
   taken_more c which.All g = g
 
   module _ (joined : List Pairs) (is : joined ≡ join bs (tuples_of_edge e (rows_now held))) where
-    same_at : (r : List Pairs) (a : AreOfRelation spec held r) (stripes : List ℕ) → Within (stripes_held held) stripes → join bs (tuples_of_edge e (fragments_of spec r stripes)) ≡ join bs (tuples_of_edge e (all_rows spec r))
+    same_at : (r : List Pairs) (a : AreOfRelation spec held r) (stripes : List ℕ) → Within (stripes_held held) stripes → join bs (tuples_of_edge e (rows_on spec r stripes)) ≡ join bs (tuples_of_edge e (all_rows spec r))
     same_at r a stripes w =
         let o : IsOn spec r (op_at spec call.op).kind call.args at.progress bs (locks_of held) = at.on r a in
         read_same spec sealed.in_range sealed.accepted.adequate sealed.accepted.placed r a.relation a.satisfies o.sought o.rising at.progress bs (locks_of held) stripes e mode o.search edge keeps.k3
@@ -143,5 +143,5 @@ module _ (spec : Spec) (sealed : IsSealed spec) (plan : List Statement) (call : 
             no_probe = o.no_probe;
           };
       runs = λ r a stripes w.
-          at.runs r a stripes w ∙ ap (λ z. run spec (op_at spec call.op).kind call.args rest (searching z (locks_of held) (fragments_of spec r stripes))) (same_at r a stripes w ∙ sym (joined_all r a));
+          at.runs r a stripes w ∙ ap (λ z. run spec (op_at spec call.op).kind call.args rest (searching z (locks_of held) (rows_on spec r stripes))) (same_at r a stripes w ∙ sym (joined_all r a));
     }

@@ -15,7 +15,7 @@ use Rattle.rc_spec.specs.declared.lock.Mode.TheVariants.{Shared, Exclusive}
 use Rattle.rc_spec.specs.declared.spec.Spec.{Spec}
 use Rattle.rc_spec.specs.Acceptance.{IsSealed}
 use Rattle.rc_spec.specs.Calls.{Fits}
-use Rattle.rc_spec.specs.Fragments.{EdgeRow, all_rows, edge_row_cmp, fragment_of, fragments_of, row_stripe}
+use Rattle.rc_spec.specs.Fragments.{EdgeRow, all_rows, edge_row_cmp, fragment_of, rows_on, row_stripe}
 use Rattle.rc_spec.specs.FragmentsLaws.{edge_row_order, fragments_in, in_fragments, rising_fragments}
 use Rattle.rc_spec.specs.Placement.{no_op, op_at, KeepsO}
 use Rattle.rc_spec.specs.Plain.{plain}
@@ -38,9 +38,9 @@ stripes_named (h ∷ held) = ap (λ z. h.stripe ∷ z) (stripes_named held)
 
 -- rows that are a relation's fragments on each stripe are its fragments of all
 put_together : (spec : Spec) (r : List Pairs) (held : List HeldStripe) (part : HeldStripe → List EdgeRow) → ((h : HeldStripe) → In h held → part h ≡ fragment_of spec r h.stripe)
-    → gather edge_row_cmp (flat_map part held) ≡ fragments_of spec r (stripes_held held)
+    → gather edge_row_cmp (flat_map part held) ≡ rows_on spec r (stripes_held held)
 put_together spec r held part f =
-    same_rising edge_row_cmp edge_row_order (gather edge_row_cmp (flat_map part held)) (fragments_of spec r (stripes_held held)) (rising_gather edge_row_cmp edge_row_order (flat_map part held)) (rising_fragments spec r (stripes_held held))
+    same_rising edge_row_cmp edge_row_order (gather edge_row_cmp (flat_map part held)) (rows_on spec r (stripes_held held)) (rising_gather edge_row_cmp edge_row_order (flat_map part held)) (rising_fragments spec r (stripes_held held))
     (λ w m.
     let q : (h : HeldStripe) × In h held × In w (part h) = in_flat_map part w held (in_gather edge_row_cmp edge_row_order w (flat_map part held) m) in
     let a : In w (all_rows spec r) × In (row_stripe spec w) (q.0.stripe ∷ []) = in_fragments spec r (q.0.stripe ∷ []) w (subst (In w) (f q.0 q.1) q.2) in
@@ -51,18 +51,18 @@ put_together spec r held part f =
     let q : (h : HeldStripe) × In h held × (row_stripe spec w ≡ h.stripe) = in_map (λ (h : HeldStripe). h.stripe) (row_stripe spec w) held a.1 in
     gather_in edge_row_cmp edge_row_order w (flat_map part held) (flat_map_in part w q.0 held q.1 (subst (In w) (sym (f q.0 q.1)) (fragments_in spec r (q.0.stripe ∷ []) w a.0 (inl q.2)))))
 
-pub taken_together : (spec : Spec) (r : List Pairs) (held : List HeldStripe) → AreOfRelation spec held r → rows_taken held ≡ fragments_of spec r (stripes_held held)
+pub taken_together : (spec : Spec) (r : List Pairs) (held : List HeldStripe) → AreOfRelation spec held r → rows_taken held ≡ rows_on spec r (stripes_held held)
 taken_together spec r held a = put_together spec r held (λ (h : HeldStripe). h.taken) a.rows
 
-pub now_together : (spec : Spec) (r : List Pairs) (held : List HeldStripe) → ((h : HeldStripe) → In h held → h.now ≡ fragment_of spec r h.stripe) → rows_now held ≡ fragments_of spec r (stripes_held held)
+pub now_together : (spec : Spec) (r : List Pairs) (held : List HeldStripe) → ((h : HeldStripe) → In h held → h.now ≡ fragment_of spec r h.stripe) → rows_now held ≡ rows_on spec r (stripes_held held)
 now_together spec r held f = put_together spec r held (λ (h : HeldStripe). h.now) f
 
 -- what is the same on some stripes is so on each
-pub same_on_each : (spec : Spec) (r s : List Pairs) (stripes : List ℕ) → fragments_of spec r stripes ≡ fragments_of spec s stripes → (stripe : ℕ) → In stripe stripes → fragment_of spec r stripe ≡ fragment_of spec s stripe
+pub same_on_each : (spec : Spec) (r s : List Pairs) (stripes : List ℕ) → rows_on spec r stripes ≡ rows_on spec s stripes → (stripe : ℕ) → In stripe stripes → fragment_of spec r stripe ≡ fragment_of spec s stripe
 same_on_each spec r s stripes e stripe m =
     same_rising edge_row_cmp edge_row_order (fragment_of spec r stripe) (fragment_of spec s stripe) (rising_fragments spec r (stripe ∷ [])) (rising_fragments spec s (stripe ∷ [])) (half r s e) (half s r (sym e))
   where
-    half : (r s : List Pairs) → fragments_of spec r stripes ≡ fragments_of spec s stripes → (w : EdgeRow) → In w (fragment_of spec r stripe) → In w (fragment_of spec s stripe)
+    half : (r s : List Pairs) → rows_on spec r stripes ≡ rows_on spec s stripes → (w : EdgeRow) → In w (fragment_of spec r stripe) → In w (fragment_of spec s stripe)
     half r s e w n =
         let a : In w (all_rows spec r) × In (row_stripe spec w) (stripe ∷ []) = in_fragments spec r (stripe ∷ []) w n in
         let k : In (row_stripe spec w) stripes = elim a.1 [ inl q ↦ subst (λ z. In z stripes) (sym q) m | inr z ↦ absurd z ] in
@@ -82,18 +82,18 @@ module _ (spec : Spec) (sealed : IsSealed spec) (plan : List Statement) (call : 
   known_op = slice_get_within spec.ops call.op fits.0 fits.1.known
 
   -- a run that named exactly the held stripes serves its call
-  pub serves : (r : List Pairs) (held : List HeldStripe) → AreOfRelation spec held r → (eval spec plan call (fragments_of spec r (stripes_held held))).named ≡ locks_of held → Serves spec plan call r (locks_of held)
+  pub serves : (r : List Pairs) (held : List HeldStripe) → AreOfRelation spec held r → (eval spec plan call (rows_on spec r (stripes_held held))).named ≡ locks_of held → Serves spec plan call r (locks_of held)
   serves r held a e =
       plans_law spec sealed.in_range sealed.populated sealed.accepted.adequate sealed.accepted.placed call fits.0 fits.1 (subst (KeepsO spec) is_op (sealed.accepted.ops call.op known_op))
       plan planned.known (subst (λ (op : Op). KeepsPlanRules spec op plan) is_op planned.rules) r a.relation a.satisfies (locks_of held)
-      (λ lock m. (lock.1, subst (In lock) (ap (λ z. (eval spec plan call (fragments_of spec r z)).named) (stripes_named held) ∙ e) m, suffices_itself lock.1))
+      (λ lock m. (lock.1, subst (In lock) (ap (λ z. (eval spec plan call (rows_on spec r z)).named) (stripes_named held) ∙ e) m, suffices_itself lock.1))
 
   module _ (held : List HeldStripe) (rises : IsRising nat_cmp (stripes_held held)) (answer : Reply)
-      (named : (r : List Pairs) → AreOfRelation spec held r → (eval spec plan call (fragments_of spec r (stripes_held held))).named ≡ locks_of held)
-      (replied : (r : List Pairs) → AreOfRelation spec held r → (eval spec plan call (fragments_of spec r (stripes_held held))).reply ≡ Some answer)
+      (named : (r : List Pairs) → AreOfRelation spec held r → (eval spec plan call (rows_on spec r (stripes_held held))).named ≡ locks_of held)
+      (replied : (r : List Pairs) → AreOfRelation spec held r → (eval spec plan call (rows_on spec r (stripes_held held))).reply ≡ Some answer)
       (rows : (r : List Pairs) → AreOfRelation spec held r → (h : HeldStripe) → In h held → h.now ≡ fragment_of spec (plain spec r call).relation h.stripe) where
-    at_held : (r : List Pairs) → fragments_of spec r (stripes_of (locks_of held)) ≡ fragments_of spec r (stripes_held held)
-    at_held r = ap (fragments_of spec r) (stripes_named held)
+    at_held : (r : List Pairs) → rows_on spec r (stripes_of (locks_of held)) ≡ rows_on spec r (stripes_held held)
+    at_held r = ap (rows_on spec r) (stripes_named held)
 
     same_answer : (x y : Reply) → Some x ≡ Some y → x ≡ y
     same_answer x y e = cc
@@ -115,23 +115,23 @@ module _ (spec : Spec) (sealed : IsSealed spec) (plan : List Statement) (call : 
     pub has_evaluated : (r : List Pairs) → AreOfRelation spec held r → HasEvaluated spec plan call held answer
     has_evaluated r a =
         let s : Serves spec plan call r (locks_of held) = serves r held a (named r a) in
-        let start : rows_taken held ≡ fragments_of spec r (stripes_held held) = taken_together spec r held a in
-        let after : rows_now held ≡ fragments_of spec (plain spec r call).relation (stripes_held held) = now_together spec (plain spec r call).relation held (rows r a) in
+        let start : rows_taken held ≡ rows_on spec r (stripes_held held) = taken_together spec r held a in
+        let after : rows_now held ≡ rows_on spec (plain spec r call).relation (stripes_held held) = now_together spec (plain spec r call).relation held (rows r a) in
         record {
           reply = ap (λ z. (eval spec plan call z).reply) start ∙ replied r a;
           named = ap (λ z. (eval spec plan call z).named) start ∙ named r a;
           rows = ap (λ z. (eval spec plan call z).rows) (start ∙ sym (at_held r)) ∙ s.rows ∙ at_held (plain spec r call).relation ∙ sym after;
           rising = rises;
-          taken = ap (rows_as_taken spec call.args answer) after ∙ ap (λ x. rows_as_taken spec call.args x (fragments_of spec (plain spec r call).relation (stripes_held held))) (sym (plain_answer r a))
+          taken = ap (rows_as_taken spec call.args answer) after ∙ ap (λ x. rows_as_taken spec call.args x (rows_on spec (plain spec r call).relation (stripes_held held))) (sym (plain_answer r a))
               ∙ ap (rows_as_taken spec call.args (plain spec r call).reply) (sym (at_held (plain spec r call).relation)) ∙ s.taken ∙ at_held r ∙ sym start;
         }
 
   -- where nothing changed, a stripe has its rows of the relation after
-  pub unchanged_rows : (held : List HeldStripe) → AreAsTaken held → (r : List Pairs) (a : AreOfRelation spec held r) → (eval spec plan call (fragments_of spec r (stripes_held held))).named ≡ locks_of held
-      → (eval spec plan call (fragments_of spec r (stripes_held held))).rows ≡ fragments_of spec r (stripes_held held) → (h : HeldStripe) → In h held → h.now ≡ fragment_of spec (plain spec r call).relation h.stripe
+  pub unchanged_rows : (held : List HeldStripe) → AreAsTaken held → (r : List Pairs) (a : AreOfRelation spec held r) → (eval spec plan call (rows_on spec r (stripes_held held))).named ≡ locks_of held
+      → (eval spec plan call (rows_on spec r (stripes_held held))).rows ≡ rows_on spec r (stripes_held held) → (h : HeldStripe) → In h held → h.now ≡ fragment_of spec (plain spec r call).relation h.stripe
   unchanged_rows held same r a e f h m =
       let s : Serves spec plan call r (locks_of held) = serves r held a e in
-      let at_held : (r : List Pairs) → fragments_of spec r (stripes_of (locks_of held)) ≡ fragments_of spec r (stripes_held held) = λ r. ap (fragments_of spec r) (stripes_named held) in
-      let all : fragments_of spec r (stripes_held held) ≡ fragments_of spec (plain spec r call).relation (stripes_held held) =
+      let at_held : (r : List Pairs) → rows_on spec r (stripes_of (locks_of held)) ≡ rows_on spec r (stripes_held held) = λ r. ap (rows_on spec r) (stripes_named held) in
+      let all : rows_on spec r (stripes_held held) ≡ rows_on spec (plain spec r call).relation (stripes_held held) =
       sym f ∙ ap (λ z. (eval spec plan call z).rows) (sym (at_held r)) ∙ s.rows ∙ at_held (plain spec r call).relation in
       same h m ∙ a.rows h m ∙ same_on_each spec r (plain spec r call).relation (stripes_held held) all h.stripe (map_in (λ (h : HeldStripe). h.stripe) h held m)

@@ -22,7 +22,7 @@ use Rattle.rc_spec.specs.declared.spec.Spec.{Spec}
 use Rattle.rc_spec.specs.Acceptance.{IsSealed}
 use Rattle.rc_spec.specs.Calls.{Fits, all_columns, value_columns}
 use Rattle.rc_spec.specs.InRange.{AreBelow, IsInRange, IsOpAmong}
-use Rattle.rc_spec.specs.Fragments.{EdgeRow, fragments_of}
+use Rattle.rc_spec.specs.Fragments.{EdgeRow, rows_on}
 use Rattle.rc_spec.specs.Placement.{class_at, no_op, op_at}
 use Rattle.rc_spec.specs.StripesLaws.{band_before}
 use Rattle.rc_fragment.specs.Holder.{AreOfRelation, HeldStripe, IsAbove}
@@ -40,7 +40,7 @@ use Rattle.rc_plan.specs.StripeLocks.{StripeLock, mode_number, stripe_lock_cmp, 
 use Rattle.rc_plan.specs.StripeLocksLaws.{AreIn, AreIn-more, named_before, named_now, stripe_lock_order, stripes_of_in}
 use Rattle.rc_machine.specs.Locks.{HasLocked}
 use Rattle.rc_machine.specs.Machine.{locks_of, stripes_held}
-use Rattle.rc_machine.specs.Run.{IsAt, IsOn, IsTaken}
+use Rattle.rc_machine.specs.Run.{IsAt, IsOn, IsClassTaken}
 
 -- ---- rising lists
 
@@ -174,11 +174,11 @@ module _ (spec : Spec) (sealed : IsSealed spec) (plan : List Statement) (call : 
       of_locked : AreOfLocked spec (after spec at.progress (Lock c choice mode)) (gather stripe_lock_cmp (locks_of held ++ named_by spec c choice mode bs))
       of_locked = of_locked_one spec sealed.accepted.placed (op_at spec call.op).kind call.args at.progress (Lock c choice mode) (searching bs (locks_of held) []) class at.classes
 
-      taken_now : (choice : Which) → IsKeyBound spec c choice at.progress.columns → IsTaken spec (after spec at.progress (Lock c choice mode)) (stripes_of (gather stripe_lock_cmp (locks_of held ++ named_by spec c choice mode bs))) c choice
+      taken_now : (choice : Which) → IsKeyBound spec c choice at.progress.columns → IsClassTaken spec (after spec at.progress (Lock c choice mode)) (stripes_of (gather stripe_lock_cmp (locks_of held ++ named_by spec c choice mode bs))) c choice
       taken_now which.Keyed k = λ cover. k
       taken_now which.All k = λ stripe m. named_now stripe (locks_of held) mode (stripes_locked spec c which.All bs) m
 
-      taken_before : (d : ℕ) (way : Which) → IsTaken spec at.progress (stripes_of (locks_of held)) d way → IsTaken spec (after spec at.progress (Lock c choice mode)) (stripes_of (gather stripe_lock_cmp (locks_of held ++ named_by spec c choice mode bs))) d way
+      taken_before : (d : ℕ) (way : Which) → IsClassTaken spec at.progress (stripes_of (locks_of held)) d way → IsClassTaken spec (after spec at.progress (Lock c choice mode)) (stripes_of (gather stripe_lock_cmp (locks_of held ++ named_by spec c choice mode bs))) d way
       taken_before d which.Keyed g = g
       taken_before d which.All g = λ stripe m. named_before stripe (locks_of held) (named_by spec c choice mode bs) (g stripe m)
 
@@ -191,7 +191,7 @@ module _ (spec : Spec) (sealed : IsSealed spec) (plan : List Statement) (call : 
             inside = o.inside;
             search = lock_keeps spec sealed.in_range sealed.accepted.adequate sealed.accepted.placed r a.relation a.satisfies o.sought o.rising at.progress bs (locks_of held) c choice mode o.search class keeps.k3;
             taken = λ x m. elim m [
-              | inl e ↦ subst (λ (z : ℕ × Which). IsTaken spec (after spec at.progress (Lock c choice mode)) (stripes_of (gather stripe_lock_cmp (locks_of held ++ named_by spec c choice mode bs))) z.0 z.1) (sym e) (taken_now choice keeps.k3)
+              | inl e ↦ subst (λ (z : ℕ × Which). IsClassTaken spec (after spec at.progress (Lock c choice mode)) (stripes_of (gather stripe_lock_cmp (locks_of held ++ named_by spec c choice mode bs))) z.0 z.1) (sym e) (taken_now choice keeps.k3)
               | inr n ↦ taken_before x.0 x.1 (o.taken x n)
             ];
             insert = λ i. record {
@@ -221,5 +221,5 @@ module _ (spec : Spec) (sealed : IsSealed spec) (plan : List Statement) (call : 
             (λ s m.
             let q : (h : HeldStripe) × In h held × (s ≡ h.stripe) = in_map (λ (h : HeldStripe). h.stripe) s held m in
             w s (subst (λ z. In z (stripes_held new)) (sym q.2) (map_in (λ (h : HeldStripe). h.stripe) q.0 new (subst (In q.0) (sym f.beside) (append_in_left q.0 held f.more q.1)))))
-            ∙ ap (λ ns. run spec (op_at spec call.op).kind call.args rest (searching bs ns (fragments_of spec r stripes))) (sym locks_are);
+            ∙ ap (λ ns. run spec (op_at spec call.op).kind call.args rest (searching bs ns (rows_on spec r stripes))) (sym locks_are);
       }

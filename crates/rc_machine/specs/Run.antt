@@ -10,7 +10,7 @@ use Rattle.rc_spec.specs.declared.items.OpKind.{OpKind}
 use Rattle.rc_spec.specs.declared.lock.Mode.TheVariants.{Exclusive}
 use Rattle.rc_spec.specs.declared.spec.Spec.{Spec}
 use Rattle.rc_spec.specs.Calls.{all_columns}
-use Rattle.rc_spec.specs.Fragments.{EdgeRow, fragments_of}
+use Rattle.rc_spec.specs.Fragments.{EdgeRow, rows_on}
 use Rattle.rc_spec.specs.Placement.{class_at, op_at}
 use Rattle.rc_fragment.specs.Holder.{AreOffered, AreOfRelation, HeldStripe, IsHeld}
 use Rattle.rc_plan.specs.declared.statement.Statement.{Statement}
@@ -26,9 +26,9 @@ use Rattle.rc_plan.specs.StripeLocksLaws.{AreIn}
 use Rattle.rc_machine.specs.Machine.{AreAsTaken, HasEvaluated, HasServed, locks_of, stripes_held}
 
 -- what is known of a locked class: where keyed locks cover a read, the bindings have the columns that choose a stripe, and else all of its stripes are named
-abbrev pub IsTaken : Spec → Progress → List ℕ → ℕ → Which → Type 0
-IsTaken spec p stripes c which.Keyed = Covers spec p c which.Keyed → Within (class_at spec c).cols p.columns
-IsTaken spec p stripes c which.All = (stripe : ℕ) → In stripe (band spec c) → In stripe stripes
+abbrev pub IsClassTaken : Spec → Progress → List ℕ → ℕ → Which → Type 0
+IsClassTaken spec p stripes c which.Keyed = Covers spec p c which.Keyed → Within (class_at spec c).cols p.columns
+IsClassTaken spec p stripes c which.All = (stripe : ℕ) → In stripe (band spec c) → In stripe stripes
 
 -- an insert locks before its first Probe, where its tuple is the one binding, and so on the tuple's stripes
 pub record IsFromTuple (spec : Spec) (t : Pairs) (p : Progress) (bs : List Pairs) (ns : List StripeLock) : Type 0 where
@@ -41,7 +41,7 @@ pub record IsOn (spec : Spec) (r : List Pairs) (kind : OpKind) (t : Pairs) (p : 
   pub rising : IsRising pair_cmp sought
   pub inside : Within (cols_of sought) (all_columns spec)
   pub search : IsSearching spec r sought p bs ns
-  pub taken : (x : ℕ × Which) → In x p.locked → IsTaken spec p (stripes_of ns) x.0 x.1
+  pub taken : (x : ℕ × Which) → In x p.locked → IsClassTaken spec p (stripes_of ns) x.0 x.1
   pub insert : IsInsert kind → IsFromTuple spec t p bs ns
   pub no_probe : (IsInsert kind → ⊥) → p.probe ≡ None
 
@@ -57,7 +57,7 @@ pub record IsAt (spec : Spec) (plan : List Statement) (call : Call) (rest : List
   pub columns_rise : (b : Pairs) → In b bs → IsRising nat_cmp (cols_of b)
   pub on : (r : List Pairs) → AreOfRelation spec held r → IsOn spec r (op_at spec call.op).kind call.args progress bs (locks_of held)
   pub runs : (r : List Pairs) → AreOfRelation spec held r → (stripes : List ℕ) → Within (stripes_held held) stripes
-      → eval spec plan call (fragments_of spec r stripes) ≡ run spec (op_at spec call.op).kind call.args rest (searching bs (locks_of held) (fragments_of spec r stripes))
+      → eval spec plan call (rows_on spec r stripes) ≡ run spec (op_at spec call.op).kind call.args rest (searching bs (locks_of held) (rows_on spec r stripes))
 
 -- the rows taken of held stripes are those that were offered, and what is offered of the others stays
 pub record AreTold (told : ℕ → Option (List EdgeRow)) (held : List HeldStripe) (offered : ℕ → Option (List EdgeRow)) : Type 0 where

@@ -7,7 +7,7 @@ use Rattle.rc_plan.specs.declared.statement.Statement.{Statement}
 use Rattle.rc_plan.specs.PlanRules.{AreKnown, KeepsPlanRules}
 
 -- a specification, and plans by the numbers of its operations
-pub record PlannedSpec : Type 0 where
+pub record SpecWithPlans : Type 0 where
   pub spec : Spec
   pub plans : List (List Statement)
 

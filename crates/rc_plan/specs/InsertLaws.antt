@@ -23,7 +23,7 @@ use Rattle.rc_spec.specs.Adequacy.{IsAdequate}
 use Rattle.rc_spec.specs.Calls.{all_columns}
 use Rattle.rc_spec.specs.Contents.{join}
 use Rattle.rc_spec.specs.ContentsLaws.{target_within}
-use Rattle.rc_spec.specs.Fragments.{EdgeRow, all_rows, tuples_of_edge, fragments_of, fragment_of}
+use Rattle.rc_spec.specs.Fragments.{EdgeRow, all_rows, tuples_of_edge, rows_on, fragment_of}
 use Rattle.rc_spec.specs.HeathLaws.{IsSeen, IsReached}
 use Rattle.rc_spec.specs.InRange.{IsInRange}
 use Rattle.rc_spec.specs.Placement.{class_at, class_of, IsPlaced}
@@ -39,7 +39,8 @@ use Rattle.rc_plan.specs.ConflictLaws.{list_any_none, within_or_not, IsUnbroken,
 use Rattle.rc_spec.specs.CountedRows.{row_in, with_rows}
 use Rattle.rc_spec.specs.CountedRowsLaws.{AllHeld, with_rows-fragments, without_rows-with, fragment_of-insert}
 use Rattle.rc_plan.specs.Evaluation.{RunState, dep_at, some_left, some_differs, stripes_locked, named_by, run, rows_as_taken}
-use Rattle.rc_plan.specs.PlanRules.{Phase, Progress, target_columns, after, AreKnown, IsLocked, IsAtRisk, Covers, KeepsAll, KeepsFrom}
+use Rattle.rc_plan.specs.PlanRules.{Phase, Progress, after, AreKnown, IsLocked, IsAtRisk, Covers, KeepsAll, KeepsFrom}
+use Rattle.rc_spec.specs.Decomposition.{target_columns}
 use Rattle.rc_plan.specs.RunLaws.{cols_of-project, EndsAs, searching, IsSearching, run-replied, stripes_grow, lock_keeps, read_keeps, read_same}
 use Rattle.rc_plan.specs.StripeLocks.{StripeLock, stripe_lock_cmp, stripes_of}
 use Rattle.rc_plan.specs.StripeLocksLaws.{named_before, named_now, AreIn, AreIn-more, not_named, physical_stripe-agreeing, physical_stripe-in_band, striping_in_target}
@@ -200,8 +201,8 @@ module _ (spec : Spec) (range : IsInRange spec) (ok : IsAdequate spec) (placed :
   InsertEnds one two = EndsAs spec t one two r (plain_by Insert pattern spec.deps t r) stripes
 
   insert_ends : (plan : List Statement) (bs : List Pairs) (ns : List StripeLock) (reply : Reply) (new : List Pairs) (rows all : List EdgeRow) → AreIn Exclusive ns
-      → plain_by Insert pattern spec.deps t r ≡ record { reply = reply; relation = new } → rows ≡ fragments_of spec new stripes
-      → rows_as_taken spec t reply (fragments_of spec new stripes) ≡ fragments_of spec r stripes
+      → plain_by Insert pattern spec.deps t r ≡ record { reply = reply; relation = new } → rows ≡ rows_on spec new stripes
+      → rows_as_taken spec t reply (rows_on spec new stripes) ≡ rows_on spec r stripes
       → ((stripe : ℕ) → (In stripe (stripes_of ns) → ⊥) → fragment_of spec new stripe ≡ fragment_of spec r stripe)
       → InsertEnds (run spec Insert t plan (record { bindings = bs; named = ns; reply = Some reply; rows = rows })) (run spec Insert t plan (record { bindings = bs; named = ns; reply = Some reply; rows = all }))
   insert_ends plan bs ns reply new rows all x e f back g =
@@ -299,8 +300,8 @@ module _ (spec : Spec) (range : IsInRange spec) (ok : IsAdequate spec) (placed :
   -- ---- whole runs
 
   pub insert_runs : (plan : List Statement) (p : Progress) (s : Pairs) (bs : List Pairs) (ns : List StripeLock) → IsInserting spec r t pattern p s bs ns → AreKnown spec plan → KeepsFrom spec (insert_op name pattern) p plan
-      → Within (stripes_of (run spec Insert t plan (searching bs ns (fragments_of spec r stripes))).named) stripes
-      → InsertEnds (run spec Insert t plan (searching bs ns (fragments_of spec r stripes))) (run spec Insert t plan (searching bs ns (all_rows spec r)))
+      → Within (stripes_of (run spec Insert t plan (searching bs ns (rows_on spec r stripes))).named) stripes
+      → InsertEnds (run spec Insert t plan (searching bs ns (rows_on spec r stripes))) (run spec Insert t plan (searching bs ns (all_rows spec r)))
   insert_runs [] p s bs ns f known keeps v = absurd (let e : Phase.Searching ≡ Phase.Committed = sym f.search.phase ∙ keeps.0 in cc)
   insert_runs (Lock c choice mode ∷ plan) p s bs ns f known keeps v =
       insert_runs plan (after spec p (Lock c choice mode)) s bs (gather stripe_lock_cmp (ns ++ named_by spec c choice mode bs))
@@ -310,12 +311,12 @@ module _ (spec : Spec) (range : IsInRange spec) (ok : IsAdequate spec) (placed :
   insert_runs (Read e mode ∷ plan) p s bs ns f known keeps v =
       let l : e < length spec.edges = known (Read e mode) (inl refl) in
       let all : List Pairs = join bs (tuples_of_edge e (all_rows spec r)) in
-      let same : join bs (tuples_of_edge e (fragments_of spec r stripes)) ≡ all =
+      let same : join bs (tuples_of_edge e (rows_on spec r stripes)) ≡ all =
       read_same spec range ok placed r i h s (up_at p s bs f.probing) p bs ns stripes e mode f.search l keeps.0.k3
-      (λ c n. v c (stripes_grow spec Insert t (Read e mode ∷ plan) (searching bs ns (fragments_of spec r stripes)) c n)) in
-      subst (λ z. InsertEnds (run spec Insert t plan (searching z ns (fragments_of spec r stripes))) (run spec Insert t plan (searching all ns (all_rows spec r)))) (sym same)
+      (λ c n. v c (stripes_grow spec Insert t (Read e mode ∷ plan) (searching bs ns (rows_on spec r stripes)) c n)) in
+      subst (λ z. InsertEnds (run spec Insert t plan (searching z ns (rows_on spec r stripes))) (run spec Insert t plan (searching all ns (all_rows spec r)))) (sym same)
       (insert_runs plan (after spec p (Read e mode)) s all ns (read_inserting p s bs ns e mode f (up_at p s bs f.probing) l keeps.0) (λ x m. known x (inr m)) keeps.1
-      (subst (λ z. Within (stripes_of (run spec Insert t plan (searching z ns (fragments_of spec r stripes))).named) stripes) same v))
+      (subst (λ z. Within (stripes_of (run spec Insert t plan (searching z ns (rows_on spec r stripes))).named) stripes) same v))
   insert_runs (CheckAbsent ∷ plan) p s bs ns f known keeps v =
       go (some_left bs) refl (λ g. insert_runs plan (after spec p CheckAbsent) s bs ns (still g) (λ x m. known x (inr m)) keeps.1) v
     where
@@ -345,15 +346,15 @@ module _ (spec : Spec) (range : IsInRange spec) (ok : IsAdequate spec) (placed :
       }
 
       go : (b : Bool) → some_left bs ≡ b
-          → (some_left bs ≡ false → Within (stripes_of (run spec Insert t plan (searching bs ns (fragments_of spec r stripes))).named) stripes
-          → InsertEnds (run spec Insert t plan (searching bs ns (fragments_of spec r stripes))) (run spec Insert t plan (searching bs ns (all_rows spec r))))
-          → Within (stripes_of (run spec Insert t plan (cond b (present (fragments_of spec r stripes)) (searching bs ns (fragments_of spec r stripes)))).named) stripes
-          → InsertEnds (run spec Insert t plan (cond b (present (fragments_of spec r stripes)) (searching bs ns (fragments_of spec r stripes))))
+          → (some_left bs ≡ false → Within (stripes_of (run spec Insert t plan (searching bs ns (rows_on spec r stripes))).named) stripes
+          → InsertEnds (run spec Insert t plan (searching bs ns (rows_on spec r stripes))) (run spec Insert t plan (searching bs ns (all_rows spec r))))
+          → Within (stripes_of (run spec Insert t plan (cond b (present (rows_on spec r stripes)) (searching bs ns (rows_on spec r stripes)))).named) stripes
+          → InsertEnds (run spec Insert t plan (cond b (present (rows_on spec r stripes)) (searching bs ns (rows_on spec r stripes))))
           (run spec Insert t plan (cond b (present (all_rows spec r)) (searching bs ns (all_rows spec r))))
       go true g ih w =
           let b : (b : Pairs) × In b bs = one_left bs g in
           let u : (u : Pairs) × In u r × (project xs t ≡ project xs u) × (b.0 ≡ project p.visited u) = found_one xs p.visited bs seen keeps.0.k6.1 b.0 b.1 in
-          insert_ends plan bs ns Present r (fragments_of spec r stripes) (all_rows spec r) f.exclusive
+          insert_ends plan bs ns Present r (rows_on spec r stripes) (all_rows spec r) f.exclusive
           (insert-present pattern spec.deps t r (list_any_in (agree_on pattern t) r u.0 u.1 (test_from_agree pattern t u.0 (to_pattern u.0 u.2)))) refl refl (λ stripe g. refl)
       go false g ih w = ih g w
   insert_runs (CheckDep dep ∷ plan) p s bs ns f known keeps v =
@@ -396,14 +397,14 @@ module _ (spec : Spec) (range : IsInRange spec) (ok : IsAdequate spec) (placed :
       ]
 
       go : (b : Bool) → some_differs spec dep t bs ≡ b
-          → (some_differs spec dep t bs ≡ false → Within (stripes_of (run spec Insert t plan (searching bs ns (fragments_of spec r stripes))).named) stripes
-          → InsertEnds (run spec Insert t plan (searching bs ns (fragments_of spec r stripes))) (run spec Insert t plan (searching bs ns (all_rows spec r))))
-          → Within (stripes_of (run spec Insert t plan (cond b (conflict (fragments_of spec r stripes)) (searching bs ns (fragments_of spec r stripes)))).named) stripes
-          → InsertEnds (run spec Insert t plan (cond b (conflict (fragments_of spec r stripes)) (searching bs ns (fragments_of spec r stripes))))
+          → (some_differs spec dep t bs ≡ false → Within (stripes_of (run spec Insert t plan (searching bs ns (rows_on spec r stripes))).named) stripes
+          → InsertEnds (run spec Insert t plan (searching bs ns (rows_on spec r stripes))) (run spec Insert t plan (searching bs ns (all_rows spec r))))
+          → Within (stripes_of (run spec Insert t plan (cond b (conflict (rows_on spec r stripes)) (searching bs ns (rows_on spec r stripes)))).named) stripes
+          → InsertEnds (run spec Insert t plan (cond b (conflict (rows_on spec r stripes)) (searching bs ns (rows_on spec r stripes))))
           (run spec Insert t plan (cond b (conflict (all_rows spec r)) (searching bs ns (all_rows spec r))))
       go true g ih w =
           let u : (u : Pairs) × In u r × (project xs t ≡ project xs u) × (agree_on (dep_at spec dep).right u t ≡ false) = differs_so xs p.visited bs dep seen keeps.0.k6.1 keeps.0.k6.2 g in
-          insert_ends plan bs ns (Conflict dep) r (fragments_of spec r stripes) (all_rows spec r) f.exclusive
+          insert_ends plan bs ns (Conflict dep) r (rows_on spec r stripes) (all_rows spec r) f.exclusive
           (insert-absent pattern spec.deps t r (Some dep) (list_any_none (agree_on pattern t) r (λ x m e. none x m (agree_from_test pattern t x e)))
           (conflict_with spec r h t dep number.0 number.1 u.0 u.1 u.2 u.3 earlier)) refl refl (λ stripe g. refl)
       go false g ih w = ih g w
@@ -416,8 +417,8 @@ module _ (spec : Spec) (range : IsInRange spec) (ok : IsAdequate spec) (placed :
       ] in
       let on : AllHeld spec (stripes_of ns) t = insert_is_named p s bs ns f keeps.0.k4 in
       let held : AllHeld spec stripes t = λ e l. v (physical_stripe spec (class_of spec e) (row_in spec t e))
-      (stripes_grow spec Insert t (Apply ∷ plan) (searching bs ns (fragments_of spec r stripes)) (physical_stripe spec (class_of spec e) (row_in spec t e)) (on e l)) in
-      insert_ends plan bs ns Inserted (put tuple_cmp t r) (with_rows spec t (fragments_of spec r stripes)) (with_rows spec t (all_rows spec r)) f.exclusive
+      (stripes_grow spec Insert t (Apply ∷ plan) (searching bs ns (rows_on spec r stripes)) (physical_stripe spec (class_of spec e) (row_in spec t e)) (on e l)) in
+      insert_ends plan bs ns Inserted (put tuple_cmp t r) (with_rows spec t (rows_on spec r stripes)) (with_rows spec t (all_rows spec r)) f.exclusive
       (insert-absent pattern spec.deps t r None (list_any_none (agree_on pattern t) r (λ x m e. none x m (agree_from_test pattern t x e))) (no_conflict spec r h t unbroken))
       (with_rows-fragments spec r stripes t out held) (without_rows-with spec r stripes t i.rising out held) (fragment_of-insert spec r (stripes_of ns) t out on)
   insert_runs (Emit ∷ plan) p s bs ns f known keeps v = absurd keeps.0.k1.1

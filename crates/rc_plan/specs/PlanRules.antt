@@ -12,7 +12,7 @@ use Rattle.rc_spec.specs.declared.lock.Mode.TheVariants.{Exclusive}
 use Rattle.rc_spec.specs.declared.spec.Spec.{Spec}
 use Rattle.rc_spec.specs.Adequacy.{IsLossless}
 use Rattle.rc_spec.specs.Calls.{all_columns, value_columns}
-use Rattle.rc_spec.specs.Decomposition.{bound, edge_at}
+use Rattle.rc_spec.specs.Decomposition.{edge_at, target_columns}
 use Rattle.rc_spec.specs.First.{IsFirstFailing}
 use Rattle.rc_spec.specs.Placement.{class_at, class_of}
 use Rattle.rc_plan.specs.declared.refusal.PlanRefusal.{PlanRefusal}
@@ -57,10 +57,6 @@ pattern_columns op = gather nat_cmp op.pattern
 -- the columns of a call's tuple: an insert has all, a query and a remove have the pattern's
 abbrev pub given_columns : Spec → Op → List ℕ
 given_columns spec op = gather nat_cmp (value_columns spec op.pattern op.kind)
-
--- the columns that the target of an edge binds
-abbrev pub target_columns : Spec → ℕ → List ℕ
-target_columns spec e = bound spec (edge_at spec e).to
 
 abbrev pub at_start : Spec → Op → Progress
 at_start spec op = record {
@@ -242,14 +238,14 @@ KeepsK7 spec op p _ = Unit {0}
 -- ---- all rules
 
 -- the statement keeps the rule
-abbrev pub Keeps : Spec → Op → PlanRule → Progress → Statement → Type 0
-Keeps spec op K1 p x = KeepsK1 op.kind p x
-Keeps spec op K2 p x = KeepsK2 p x
-Keeps spec op K3 p x = KeepsK3 spec p x
-Keeps spec op K4 p x = KeepsK4 spec p x
-Keeps spec op K5 p x = KeepsK5 spec p x
-Keeps spec op K6 p x = KeepsK6 spec op p x
-Keeps spec op K7 p x = KeepsK7 spec op p x
+abbrev pub StatementKeeps : Spec → Op → PlanRule → Progress → Statement → Type 0
+StatementKeeps spec op K1 p x = KeepsK1 op.kind p x
+StatementKeeps spec op K2 p x = KeepsK2 p x
+StatementKeeps spec op K3 p x = KeepsK3 spec p x
+StatementKeeps spec op K4 p x = KeepsK4 spec p x
+StatementKeeps spec op K5 p x = KeepsK5 spec p x
+StatementKeeps spec op K6 p x = KeepsK6 spec op p x
+StatementKeeps spec op K7 p x = KeepsK7 spec op p x
 
 -- the statement keeps all rules
 pub record KeepsAll (spec : Spec) (op : Op) (p : Progress) (x : Statement) : Type 0 where
@@ -278,12 +274,12 @@ progress_at spec op plan n = fold (after spec) (at_start spec op) (take n plan)
 
 -- the end of the plan is tested by K1 alone
 abbrev pub KeepsThere : Spec → Op → PlanRule → Progress → Option Statement → Type 0
-KeepsThere spec op rule p (Some x) = Keeps spec op rule p x
+KeepsThere spec op rule p (Some x) = StatementKeeps spec op rule p x
 KeepsThere spec op rule p None = IsComplete p
 
 -- A refusal speaks of a rule and a statement: the statement keeps the rule. A check is written as the refusal that its failure gives.
-abbrev pub IsKept : Spec → Op → List Statement → PlanRefusal → Type 0
-IsKept spec op plan check = KeepsThere spec op check.rule (progress_at spec op plan check.at) (slice_get plan check.at)
+abbrev pub IsKeptInPlan : Spec → Op → List Statement → PlanRefusal → Type 0
+IsKeptInPlan spec op plan check = KeepsThere spec op check.rule (progress_at spec op plan check.at) (slice_get plan check.at)
 
 abbrev pub plan_rules : List PlanRule
 plan_rules = K1 ∷ K2 ∷ K3 ∷ K4 ∷ K5 ∷ K6 ∷ K7 ∷ []
@@ -301,4 +297,4 @@ plan_checks plan = flat_map checks_at (range_with_len 0 (length plan)) ++ check_
 
 -- the first broken rule, with the number of the first statement that breaks it
 abbrev pub IsFirstBrokenPlanRule : Spec → Op → List Statement → PlanRefusal → Type 0
-IsFirstBrokenPlanRule spec op plan refusal = IsFirstFailing (IsKept spec op plan) (plan_checks plan) refusal
+IsFirstBrokenPlanRule spec op plan refusal = IsFirstFailing (IsKeptInPlan spec op plan) (plan_checks plan) refusal

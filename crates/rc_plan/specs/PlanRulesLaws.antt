@@ -14,7 +14,7 @@ use Rattle.rc_plan.specs.declared.refusal.PlanRule.{PlanRule}
 use Rattle.rc_plan.specs.declared.refusal.PlanRule.TheVariants.{K1, K2, K3, K4, K5, K6, K7}
 use Rattle.rc_plan.specs.declared.statement.Statement.{Statement}
 use Rattle.rc_plan.specs.Laws.{PlanChecksAreRules, RefusedPlansBreakRules, OneFirstBrokenPlanRule}
-use Rattle.rc_plan.specs.PlanRules.{Progress, at_start, after, KeepsAll, KeepsFrom, KeepsPlanRules, IsComplete, KeepsThere, IsKept, plan_rules, check_at, checks_at, plan_checks}
+use Rattle.rc_plan.specs.PlanRules.{Progress, at_start, after, KeepsAll, KeepsFrom, KeepsPlanRules, IsComplete, KeepsThere, IsKeptInPlan, plan_rules, check_at, checks_at, plan_checks}
 
 -- ---- by number, from some progress on
 
@@ -75,7 +75,7 @@ rule_in K7 = inr (inr (inr (inr (inr (inr (inl refl))))))
 
 module _ (spec : Spec) (op : Op) (plan : List Statement) where
   abbrev K : PlanRefusal → Type 0
-  K = IsKept spec op plan
+  K = IsKeptInPlan spec op plan
 
   rules_there : (n : ℕ) (p : Progress) (x : Option Statement) → n < length plan → KeepsAllThere spec op p x → (slice_get plan n ≡ None → ⊥) → x ≡ slice_get plan n
       → (rule : PlanRule) → KeepsThere spec op rule p x
@@ -132,7 +132,7 @@ pub checks_law : PlanChecksAreRules
 checks_law spec op plan = (rules_from_checks spec op plan, checks_from_rules spec op plan)
 
 pub refused_law : RefusedPlansBreakRules
-refused_law spec op plan refusal f keeps = first_not_each (IsKept spec op plan) (plan_checks plan) refusal f (checks_from_rules spec op plan keeps)
+refused_law spec op plan refusal f keeps = first_not_each (IsKeptInPlan spec op plan) (plan_checks plan) refusal f (checks_from_rules spec op plan keeps)
 
 pub one_first_law : OneFirstBrokenPlanRule
-one_first_law spec op plan a b f g = one_first (IsKept spec op plan) (plan_checks plan) a b f g
+one_first_law spec op plan a b f g = one_first (IsKeptInPlan spec op plan) (plan_checks plan) a b f g

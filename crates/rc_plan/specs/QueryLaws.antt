@@ -14,7 +14,7 @@ use Rattle.rc_spec.specs.declared.spec.Spec.{Spec}
 use Rattle.rc_spec.specs.Adequacy.{IsAdequate}
 use Rattle.rc_spec.specs.Calls.{all_columns}
 use Rattle.rc_spec.specs.Contents.{join}
-use Rattle.rc_spec.specs.Fragments.{EdgeRow, all_rows, tuples_of_edge, fragments_of}
+use Rattle.rc_spec.specs.Fragments.{EdgeRow, all_rows, tuples_of_edge, rows_on}
 use Rattle.rc_spec.specs.HeathLaws.{IsReached}
 use Rattle.rc_spec.specs.InRange.{IsInRange}
 use Rattle.rc_spec.specs.Placement.{IsPlaced}
@@ -49,8 +49,8 @@ module _ (spec : Spec) (range : IsInRange spec) (ok : IsAdequate spec) (placed :
   QueryEnds one two = EndsAs spec s one two r (plain_by (Query outs) pattern spec.deps s r) stripes
 
   pub query_runs : (plan : List Statement) (p : Progress) (bs : List Pairs) (ns : List StripeLock) → IsSearching spec r s p bs ns → AreKnown spec plan → KeepsFrom spec (query_op name pattern outs) p plan
-      → Within (stripes_of (run spec (Query outs) s plan (searching bs ns (fragments_of spec r stripes))).named) stripes
-      → QueryEnds (run spec (Query outs) s plan (searching bs ns (fragments_of spec r stripes))) (run spec (Query outs) s plan (searching bs ns (all_rows spec r)))
+      → Within (stripes_of (run spec (Query outs) s plan (searching bs ns (rows_on spec r stripes))).named) stripes
+      → QueryEnds (run spec (Query outs) s plan (searching bs ns (rows_on spec r stripes))) (run spec (Query outs) s plan (searching bs ns (all_rows spec r)))
   query_runs [] p bs ns f known keeps v = let e : Phase.Searching ≡ Phase.Committed = sym f.phase ∙ keeps.0 in cc
   query_runs (Lock c choice mode ∷ plan) p bs ns f known keeps v =
       query_runs plan (after spec p (Lock c choice mode)) bs (gather stripe_lock_cmp (ns ++ named_by spec c choice mode bs))
@@ -58,20 +58,20 @@ module _ (spec : Spec) (range : IsInRange spec) (ok : IsAdequate spec) (placed :
   query_runs (Read e mode ∷ plan) p bs ns f known keeps v =
       let l : e < length spec.edges = known (Read e mode) (inl refl) in
       let all : List Pairs = join bs (tuples_of_edge e (all_rows spec r)) in
-      let same : join bs (tuples_of_edge e (fragments_of spec r stripes)) ≡ all =
+      let same : join bs (tuples_of_edge e (rows_on spec r stripes)) ≡ all =
       read_same spec range ok placed r i h s up p bs ns stripes e mode f l keeps.0.k3
-      (λ c n. v c (stripes_grow spec (Query outs) s (Read e mode ∷ plan) (searching bs ns (fragments_of spec r stripes)) c n)) in
-      subst (λ z. QueryEnds (run spec (Query outs) s plan (searching z ns (fragments_of spec r stripes))) (run spec (Query outs) s plan (searching all ns (all_rows spec r)))) (sym same)
+      (λ c n. v c (stripes_grow spec (Query outs) s (Read e mode ∷ plan) (searching bs ns (rows_on spec r stripes)) c n)) in
+      subst (λ z. QueryEnds (run spec (Query outs) s plan (searching z ns (rows_on spec r stripes))) (run spec (Query outs) s plan (searching all ns (all_rows spec r)))) (sym same)
       (query_runs plan (after spec p (Read e mode)) all ns (read_keeps spec range ok placed r i h s up p bs ns e mode f l keeps.0.k5) (λ x m. known x (inr m)) keeps.1
-      (subst (λ z. Within (stripes_of (run spec (Query outs) s plan (searching z ns (fragments_of spec r stripes))).named) stripes) same v))
+      (subst (λ z. Within (stripes_of (run spec (Query outs) s plan (searching z ns (rows_on spec r stripes))).named) stripes) same v))
   query_runs (Emit ∷ plan) p bs ns f known keeps v =
-      let one = run-replied spec (Query outs) s plan bs ns (answer outs bs) (fragments_of spec r stripes) in
+      let one = run-replied spec (Query outs) s plan bs ns (answer outs bs) (rows_on spec r stripes) in
       let two = run-replied spec (Query outs) s plan bs ns (answer outs bs) (all_rows spec r) in
       record {
         reply = ap (λ (z : RunState). z.reply) one ∙ ap Some (emitted p.visited bs f.reached keeps.0.k6.0 keeps.0.k6.1);
         named = ap (λ (z : RunState). z.named) one ∙ sym (ap (λ (z : RunState). z.named) two);
         rows = ap (λ (z : RunState). z.rows) one;
-        taken = taken_answer spec s (rows_of outs (filter (matches s) r)) (nat_le (length (rows_of outs (filter (matches s) r))) 256) (fragments_of spec r stripes);
+        taken = taken_answer spec s (rows_of outs (filter (matches s) r)) (nat_le (length (rows_of outs (filter (matches s) r))) 256) (rows_on spec r stripes);
         others = λ stripe g. refl;
       }
   query_runs (Probe cols ∷ plan) p bs ns f known keeps v = absurd keeps.0.k1.1

@@ -18,7 +18,7 @@ use Rattle.rc_spec.specs.Adequacy.{IsAdequate}
 use Rattle.rc_spec.specs.Calls.{all_columns}
 use Rattle.rc_spec.specs.Contents.{join}
 use Rattle.rc_spec.specs.ContentsLaws.{target_within}
-use Rattle.rc_spec.specs.Fragments.{all_rows, tuples_of_edge, fragments_of}
+use Rattle.rc_spec.specs.Fragments.{all_rows, tuples_of_edge, rows_on}
 use Rattle.rc_spec.specs.HeathLaws.{IsReached}
 use Rattle.rc_spec.specs.InRange.{IsInRange, HasColumnAndNode}
 use Rattle.rc_spec.specs.Placement.{class_at, class_of, IsPlaced}
@@ -32,7 +32,8 @@ use Rattle.rc_spec.specs.CountedRows.{row_in, without_rows}
 use Rattle.rc_spec.specs.CountedRowsLaws.{AllHeld, without_rows-fragments, with_rows-without, fragment_of-remove}
 use Rattle.rc_plan.specs.Evaluation.{RunState, stripes_locked, named_by, remove_least, run}
 use Rattle.rc_plan.specs.MatchLaws.{all_seen_match}
-use Rattle.rc_plan.specs.PlanRules.{Phase, Progress, target_columns, after, AreKnown, IsLocked, Covers, KeepsFrom}
+use Rattle.rc_plan.specs.PlanRules.{Phase, Progress, after, AreKnown, IsLocked, Covers, KeepsFrom}
+use Rattle.rc_spec.specs.Decomposition.{target_columns}
 use Rattle.rc_plan.specs.RunLaws.{cols_of-project, EndsAs, searching, IsSearching, run-replied, stripes_grow, lock_keeps, read_keeps, read_same}
 use Rattle.rc_plan.specs.StripeLocks.{StripeLock, stripe_lock_cmp, stripes_of}
 use Rattle.rc_plan.specs.StripeLocksLaws.{AreIn, AreIn-more, not_named, striping_in_target}
@@ -64,9 +65,9 @@ module _ (spec : Spec) (range : IsInRange spec) (populated : HasColumnAndNode sp
 
   -- the end of a remove, at the tuples that match
   remove_ends : (plan : List Statement) (bs : List Pairs) (ns : List StripeLock) (ts : List Pairs) → ((t : Pairs) → In t ts → In t r × AllHeld spec (stripes_of ns) t) → AreIn Exclusive ns → Within (stripes_of ns) stripes
-      → EndsAs spec s (run spec Remove s plan (remove_least spec ts (searching bs ns (fragments_of spec r stripes)))) (run spec Remove s plan (remove_least spec ts (searching bs ns (all_rows spec r)))) r (removed_first ts r) stripes
+      → EndsAs spec s (run spec Remove s plan (remove_least spec ts (searching bs ns (rows_on spec r stripes)))) (run spec Remove s plan (remove_least spec ts (searching bs ns (all_rows spec r)))) r (removed_first ts r) stripes
   remove_ends plan bs ns [] f x v =
-      let one = run-replied spec Remove s plan bs ns Absent (fragments_of spec r stripes) in
+      let one = run-replied spec Remove s plan bs ns Absent (rows_on spec r stripes) in
       let two = run-replied spec Remove s plan bs ns Absent (all_rows spec r) in
       record {
         reply = ap (λ (z : RunState). z.reply) one;
@@ -76,7 +77,7 @@ module _ (spec : Spec) (range : IsInRange spec) (populated : HasColumnAndNode sp
         others = λ stripe g. refl;
       }
   remove_ends plan bs ns (t ∷ ts) f x v =
-      let one = run-replied spec Remove s plan bs ns (Removed t) (without_rows spec t (fragments_of spec r stripes)) in
+      let one = run-replied spec Remove s plan bs ns (Removed t) (without_rows spec t (rows_on spec r stripes)) in
       let two = run-replied spec Remove s plan bs ns (Removed t) (without_rows spec t (all_rows spec r)) in
       let m : In t r = (f t (inl refl)).0 in
       let on : AllHeld spec (stripes_of ns) t = (f t (inl refl)).1 in
@@ -95,8 +96,8 @@ module _ (spec : Spec) (range : IsInRange spec) (populated : HasColumnAndNode sp
 
   pub remove_runs : (plan : List Statement) (p : Progress) (bs : List Pairs) (ns : List StripeLock) → IsSearching spec r s p bs ns → p.probe ≡ None → AreIn Exclusive ns
       → AreKnown spec plan → KeepsFrom spec (remove_op name pattern) p plan
-      → Within (stripes_of (run spec Remove s plan (searching bs ns (fragments_of spec r stripes))).named) stripes
-      → RemoveEnds (run spec Remove s plan (searching bs ns (fragments_of spec r stripes))) (run spec Remove s plan (searching bs ns (all_rows spec r)))
+      → Within (stripes_of (run spec Remove s plan (searching bs ns (rows_on spec r stripes))).named) stripes
+      → RemoveEnds (run spec Remove s plan (searching bs ns (rows_on spec r stripes))) (run spec Remove s plan (searching bs ns (all_rows spec r)))
   remove_runs [] p bs ns f none x known keeps v = let e : Phase.Searching ≡ Phase.Committed = sym f.phase ∙ keeps.0 in cc
   remove_runs (Lock c choice mode ∷ plan) p bs ns f none x known keeps v =
       remove_runs plan (after spec p (Lock c choice mode)) bs (gather stripe_lock_cmp (ns ++ named_by spec c choice mode bs))
@@ -106,19 +107,19 @@ module _ (spec : Spec) (range : IsInRange spec) (populated : HasColumnAndNode sp
   remove_runs (Read e mode ∷ plan) p bs ns f none x known keeps v =
       let l : e < length spec.edges = known (Read e mode) (inl refl) in
       let all : List Pairs = join bs (tuples_of_edge e (all_rows spec r)) in
-      let same : join bs (tuples_of_edge e (fragments_of spec r stripes)) ≡ all =
+      let same : join bs (tuples_of_edge e (rows_on spec r stripes)) ≡ all =
       read_same spec range ok placed r i h s up p bs ns stripes e mode f l keeps.0.k3
-      (λ c n. v c (stripes_grow spec Remove s (Read e mode ∷ plan) (searching bs ns (fragments_of spec r stripes)) c n)) in
-      subst (λ z. RemoveEnds (run spec Remove s plan (searching z ns (fragments_of spec r stripes))) (run spec Remove s plan (searching all ns (all_rows spec r)))) (sym same)
+      (λ c n. v c (stripes_grow spec Remove s (Read e mode ∷ plan) (searching bs ns (rows_on spec r stripes)) c n)) in
+      subst (λ z. RemoveEnds (run spec Remove s plan (searching z ns (rows_on spec r stripes))) (run spec Remove s plan (searching all ns (all_rows spec r)))) (sym same)
       (remove_runs plan (after spec p (Read e mode)) all ns (read_keeps spec range ok placed r i h s up p bs ns e mode f l keeps.0.k5) none x (λ y m. known y (inr m)) keeps.1
-      (subst (λ z. Within (stripes_of (run spec Remove s plan (searching z ns (fragments_of spec r stripes))).named) stripes) same v))
+      (subst (λ z. Within (stripes_of (run spec Remove s plan (searching z ns (rows_on spec r stripes))).named) stripes) same v))
   remove_runs (Apply ∷ plan) p bs ns f none x known keeps v =
       let are : bs ≡ filter (matches s) r = bindings_match p.visited bs keeps.0.k6 f.rising f.reached in
-      subst (λ z. EndsAs spec s (run spec Remove s plan (remove_least spec bs (searching bs ns (fragments_of spec r stripes)))) (run spec Remove s plan (remove_least spec bs (searching bs ns (all_rows spec r)))) r (removed_first z r) stripes) are
+      subst (λ z. EndsAs spec s (run spec Remove s plan (remove_least spec bs (searching bs ns (rows_on spec r stripes)))) (run spec Remove s plan (remove_least spec bs (searching bs ns (all_rows spec r)))) r (removed_first z r) stripes) are
       (remove_ends plan bs ns bs (λ t m.
       let n : In t r = (in_filter (matches s) t r (subst (In t) are m)).0 in
       (n, found_is_named p bs ns f none keeps.0.k4 t m n)) x
-      (λ c q. v c (stripes_grow spec Remove s (Apply ∷ plan) (searching bs ns (fragments_of spec r stripes)) c q)))
+      (λ c q. v c (stripes_grow spec Remove s (Apply ∷ plan) (searching bs ns (rows_on spec r stripes)) c q)))
   remove_runs (Emit ∷ plan) p bs ns f none x known keeps v = absurd keeps.0.k1.1
   remove_runs (Probe cols ∷ plan) p bs ns f none x known keeps v = absurd keeps.0.k1.1
   remove_runs (CheckAbsent ∷ plan) p bs ns f none x known keeps v = absurd keeps.0.k1.1

@@ -20,8 +20,8 @@ use Rattle.rc_spec.specs.Adequacy.{IsAdequate}
 use Rattle.rc_spec.specs.Calls.{all_columns}
 use Rattle.rc_spec.specs.Contents.{join}
 use Rattle.rc_spec.specs.ContentsLaws.{target_within, lossless_holds}
-use Rattle.rc_spec.specs.Decomposition.{bound}
-use Rattle.rc_spec.specs.Fragments.{EdgeRow, all_rows, tuples_of_edge, row_stripe, fragments_of, fragment_of}
+use Rattle.rc_spec.specs.Decomposition.{bound, target_columns}
+use Rattle.rc_spec.specs.Fragments.{EdgeRow, all_rows, tuples_of_edge, row_stripe, rows_on, fragment_of}
 use Rattle.rc_spec.specs.FragmentsLaws.{in_tuples_of_edge, tuples_of_edge_in, AreProjections-rows, in_fragments, fragments_in}
 use Rattle.rc_spec.specs.HeathLaws.{IsJoined, AreProjections, IsReached, in_join, join_in, rising_join, reached_more}
 use Rattle.rc_spec.specs.InRange.{IsInRange}
@@ -34,7 +34,7 @@ use Rattle.rc_plan.specs.declared.statement.Statement.TheVariants.{Lock, Probe, 
 use Rattle.rc_plan.specs.declared.statement.Which.{Which}
 use Rattle.rc_plan.specs.declared.statement.Which.TheVariants as which
 use Rattle.rc_plan.specs.Evaluation.{RunState, stripes_locked, named_by, some_left, some_differs, remove_least, apply, emit, run_one, run_next, run, rows_as_taken}
-use Rattle.rc_plan.specs.PlanRules.{Phase, Progress, target_columns, after, at_start, given_columns, IsKeyBound, Covers, KeepsK3, KeepsK5}
+use Rattle.rc_plan.specs.PlanRules.{Phase, Progress, after, at_start, given_columns, IsKeyBound, Covers, KeepsK3, KeepsK5}
 use Rattle.rc_plan.specs.StripeLocks.{StripeLock, stripe_lock_cmp, stripes_of}
 use Rattle.rc_plan.specs.StripeLocksLaws.{stripe_lock_order, named_before, named_now, physical_stripe-agreeing, physical_stripe-in_band, striping_in_target}
 
@@ -61,19 +61,19 @@ pub AreProjections-all_rows : (spec : Spec) (r : List Pairs) (e : ℕ) → e < l
 AreProjections-all_rows spec r e l = AreProjections-rows spec r (all_rows spec r) (λ w m. m) (λ w m. m) e l
 
 -- they are among all rows of the edge
-pub edge_of_fragments : (spec : Spec) (r : List Pairs) (stripes : List ℕ) (e : ℕ) (u : Pairs) → In u (tuples_of_edge e (fragments_of spec r stripes)) → In u (tuples_of_edge e (all_rows spec r))
+pub edge_of_fragments : (spec : Spec) (r : List Pairs) (stripes : List ℕ) (e : ℕ) (u : Pairs) → In u (tuples_of_edge e (rows_on spec r stripes)) → In u (tuples_of_edge e (all_rows spec r))
 edge_of_fragments spec r stripes e u h =
-    let q : (w : EdgeRow) × In w (fragments_of spec r stripes) × (w.0 ≡ e) × (u ≡ w.1) = in_tuples_of_edge e (fragments_of spec r stripes) u h in
+    let q : (w : EdgeRow) × In w (rows_on spec r stripes) × (w.0 ≡ e) × (u ≡ w.1) = in_tuples_of_edge e (rows_on spec r stripes) u h in
     subst (λ z. In z (tuples_of_edge e (all_rows spec r))) (sym q.3) (tuples_of_edge_in e (all_rows spec r) q.0 (in_fragments spec r stripes q.0 q.1).0 q.2)
 
 -- and a row that falls on one of the stripes is among them
 pub fragments_of_edge : (spec : Spec) (r : List Pairs) (stripes : List ℕ) (e : ℕ) (u : Pairs) → In u (tuples_of_edge e (all_rows spec r)) → In (physical_stripe spec (class_of spec e) u) stripes
-    → In u (tuples_of_edge e (fragments_of spec r stripes))
+    → In u (tuples_of_edge e (rows_on spec r stripes))
 fragments_of_edge spec r stripes e u h k =
     let q : (w : EdgeRow) × In w (all_rows spec r) × (w.0 ≡ e) × (u ≡ w.1) = in_tuples_of_edge e (all_rows spec r) u h in
     let p : In (row_stripe spec q.0) stripes = subst (λ z. In (physical_stripe spec (class_of spec z) q.0.1) stripes) (sym q.2) (subst (λ z. In (physical_stripe spec (class_of spec e) z) stripes) q.3 k) in
-    subst (λ z. In z (tuples_of_edge e (fragments_of spec r stripes))) (sym q.3)
-    (tuples_of_edge_in e (fragments_of spec r stripes) q.0 (fragments_in spec r stripes q.0 q.1 p) q.2)
+    subst (λ z. In z (tuples_of_edge e (rows_on spec r stripes))) (sym q.3)
+    (tuples_of_edge_in e (rows_on spec r stripes) q.0 (fragments_in spec r stripes q.0 q.1 p) q.2)
 
 -- a join loses nothing where each row that some binding agrees with is there
 pub join_same : (bs us vs : List Pairs) → ((u : Pairs) → In u us → In u vs) → ((b u : Pairs) → In b bs → In u vs → agrees b u ≡ true → In u us) → join bs us ≡ join bs vs
@@ -157,8 +157,8 @@ run-replied spec kind args (x ∷ plan) bs ns reply rows = run-replied spec kind
 pub record EndsAs (spec : Spec) (args : Pairs) (one two : RunState) (r : List Pairs) (outcome : Outcome) (stripes : List ℕ) : Type 0 where
   pub reply : one.reply ≡ Some outcome.reply
   pub named : one.named ≡ two.named
-  pub rows : one.rows ≡ fragments_of spec outcome.relation stripes
-  pub taken : rows_as_taken spec args outcome.reply (fragments_of spec outcome.relation stripes) ≡ fragments_of spec r stripes
+  pub rows : one.rows ≡ rows_on spec outcome.relation stripes
+  pub taken : rows_as_taken spec args outcome.reply (rows_on spec outcome.relation stripes) ≡ rows_on spec r stripes
   pub others : (stripe : ℕ) → (In (stripe, Exclusive) one.named → ⊥) → fragment_of spec outcome.relation stripe ≡ fragment_of spec r stripe
 
 -- ---- the search
@@ -253,9 +253,9 @@ module _ (spec : Spec) (range : IsInRange spec) (ok : IsAdequate spec) (placed :
 
   -- the rows of stripes among which are those named are enough for a Read
   pub read_same : (p : Progress) (bs : List Pairs) (ns : List StripeLock) (stripes : List ℕ) (e : ℕ) (mode : ReadMode) → IsSearching spec r s p bs ns → e < length spec.edges → KeepsK3 spec p (Read e mode)
-      → Within (stripes_of ns) stripes → join bs (tuples_of_edge e (fragments_of spec r stripes)) ≡ join bs (tuples_of_edge e (all_rows spec r))
+      → Within (stripes_of ns) stripes → join bs (tuples_of_edge e (rows_on spec r stripes)) ≡ join bs (tuples_of_edge e (all_rows spec r))
   read_same p bs ns stripes e mode f l k3 v =
-      join_same bs (tuples_of_edge e (fragments_of spec r stripes)) (tuples_of_edge e (all_rows spec r)) (edge_of_fragments spec r stripes e)
+      join_same bs (tuples_of_edge e (rows_on spec r stripes)) (tuples_of_edge e (all_rows spec r)) (edge_of_fragments spec r stripes e)
       (λ b u n q g. fragments_of_edge spec r stripes e u q
       (v (physical_stripe spec (class_of spec e) u)
       (f.guards (class_of spec e, k3.0) k3.1 k3.2 b u n (λ c z. row_columns e l u q c (striping_in_target spec ok placed e l c z)) (agree_from b u g))))

@@ -18,7 +18,7 @@ use Rattle.rc_spec.specs.declared.spec.Spec.{Spec}
 use Rattle.rc_spec.specs.Adequacy.{IsAdequate}
 use Rattle.rc_spec.specs.Calls.{all_columns}
 use Rattle.rc_spec.specs.CallsLaws.{plain_keeps_relation}
-use Rattle.rc_spec.specs.Fragments.{all_rows, fragments_of}
+use Rattle.rc_spec.specs.Fragments.{all_rows, rows_on}
 use Rattle.rc_spec.specs.InRange.{IsInRange, HasColumnAndNode, IsOpAmong}
 use Rattle.rc_spec.specs.Placement.{no_op, op_at, IsPlaced, KeepsO}
 use Rattle.rc_spec.specs.Plain.{Outcome, plain, plain_by}
@@ -26,7 +26,7 @@ use Rattle.rc_spec.specs.PlainLaws.{plain-known, plain_satisfies}
 use Rattle.rc_plan.specs.declared.statement.Statement.{Statement}
 use Rattle.rc_plan.specs.Evaluation.{begun, run, eval}
 use Rattle.rc_plan.specs.InsertLaws.{insert_op, insert_runs}
-use Rattle.rc_plan.specs.Laws.{Serves, AcceptedPlansServe, IsPlanned, eval_replies, rows_after, AllAreHeld, plain_replies, AllServe, AcceptedPlansServeInTurn}
+use Rattle.rc_plan.specs.Laws.{Serves, AcceptedPlansServe, HasAcceptedPlan, eval_replies, rows_after, AllAreHeld, plain_replies, AllServe, AcceptedPlansServeInTurn}
 use Rattle.rc_plan.specs.PlanRules.{at_start, AreKnown, given_columns, KeepsPlanRules}
 use Rattle.rc_plan.specs.QueryLaws.{query_op, query_runs}
 use Rattle.rc_plan.specs.RemoveLaws.{remove_op, remove_runs}
@@ -42,8 +42,8 @@ module _ (spec : Spec) (range : IsInRange spec) (populated : HasColumnAndNode sp
   -- a run on the rows of the stripes, and one on all rows
   abbrev RunsServe : Op → Pairs → List Statement → Type 0
   RunsServe op args plan =
-      Within (stripes_of (run spec op.kind args plan (begun args (fragments_of spec r stripes))).named) stripes
-      → EndsAs spec args (run spec op.kind args plan (begun args (fragments_of spec r stripes))) (run spec op.kind args plan (begun args (all_rows spec r))) r (plain_by op.kind op.pattern spec.deps args r) stripes
+      Within (stripes_of (run spec op.kind args plan (begun args (rows_on spec r stripes))).named) stripes
+      → EndsAs spec args (run spec op.kind args plan (begun args (rows_on spec r stripes))) (run spec op.kind args plan (begun args (all_rows spec r))) r (plain_by op.kind op.pattern spec.deps args r) stripes
 
   pub runs_serve : (name pattern : List ℕ) (kind : OpKind) → (let op : Op = record { name = name; pattern = pattern; kind = kind } in
       IsOpAmong (length spec.columns) op → KeepsO spec op → (args : Pairs) → cols_of args ≡ given_columns spec op
@@ -74,14 +74,14 @@ plans_law spec range populated ok placed call op fits o plan known keeps r i h h
     let stripes : List ℕ = stripes_of held in
     let is : op_at spec call.op ≡ op = get_or_from_slice_get spec.ops call.op op no_op fits.known in
     let among : IsOpAmong (length spec.columns) op = range.known_ops op (slice_get_in spec.ops call.op op fits.known) in
-    let ends : (op' : Op) → op' ≡ op → AreHeld (run spec op'.kind call.args plan (begun call.args (fragments_of spec r stripes))).named held
-    → EndsAs spec call.args (run spec op'.kind call.args plan (begun call.args (fragments_of spec r stripes))) (run spec op'.kind call.args plan (begun call.args (all_rows spec r))) r (plain_by op.kind op.pattern spec.deps call.args r) stripes =
-    λ op' e w. subst (λ (x : Op). EndsAs spec call.args (run spec x.kind call.args plan (begun call.args (fragments_of spec r stripes))) (run spec x.kind call.args plan (begun call.args (all_rows spec r))) r (plain_by op.kind op.pattern spec.deps call.args r) stripes) (sym e)
+    let ends : (op' : Op) → op' ≡ op → AreHeld (run spec op'.kind call.args plan (begun call.args (rows_on spec r stripes))).named held
+    → EndsAs spec call.args (run spec op'.kind call.args plan (begun call.args (rows_on spec r stripes))) (run spec op'.kind call.args plan (begun call.args (all_rows spec r))) r (plain_by op.kind op.pattern spec.deps call.args r) stripes =
+    λ op' e w. subst (λ (x : Op). EndsAs spec call.args (run spec x.kind call.args plan (begun call.args (rows_on spec r stripes))) (run spec x.kind call.args plan (begun call.args (all_rows spec r))) r (plain_by op.kind op.pattern spec.deps call.args r) stripes) (sym e)
     (runs_serve spec range populated ok placed r i h stripes op.name op.pattern op.kind among o call.args fits.columns plan known keeps
-    (held_stripes (run spec op.kind call.args plan (begun call.args (fragments_of spec r stripes))).named held
-    (subst (λ (x : Op). AreHeld (run spec x.kind call.args plan (begun call.args (fragments_of spec r stripes))).named held) e w))) in
-    let d : EndsAs spec call.args (eval spec plan call (fragments_of spec r stripes)) (eval spec plan call (all_rows spec r)) r (plain spec r call) stripes =
-    subst (λ (x : Outcome). EndsAs spec call.args (eval spec plan call (fragments_of spec r stripes)) (eval spec plan call (all_rows spec r)) r x stripes) (sym (plain-known spec r call op fits.known)) (ends (op_at spec call.op) is v) in
+    (held_stripes (run spec op.kind call.args plan (begun call.args (rows_on spec r stripes))).named held
+    (subst (λ (x : Op). AreHeld (run spec x.kind call.args plan (begun call.args (rows_on spec r stripes))).named held) e w))) in
+    let d : EndsAs spec call.args (eval spec plan call (rows_on spec r stripes)) (eval spec plan call (all_rows spec r)) r (plain spec r call) stripes =
+    subst (λ (x : Outcome). EndsAs spec call.args (eval spec plan call (rows_on spec r stripes)) (eval spec plan call (all_rows spec r)) r x stripes) (sym (plain-known spec r call op fits.known)) (ends (op_at spec call.op) is v) in
     record { reply = d.reply; named = d.named; rows = d.rows; taken = d.taken; others = d.others }
 
 -- ---- several calls
@@ -89,18 +89,18 @@ plans_law spec range populated ok placed call op fits o plan known keeps r i h h
 pub plans_in_turn_law : AcceptedPlansServeInTurn
 plans_in_turn_law spec range populated ok placed [] planned r i h held v = record { replies = refl; rows = refl; relation = i; satisfies = h; others = λ stripe g. refl }
 plans_in_turn_law spec range populated ok placed (x ∷ calls) planned r i h held v =
-    let p : IsPlanned spec x = planned x (inl refl) in
+    let p : HasAcceptedPlan spec x = planned x (inl refl) in
     let one : Serves spec x.plan x.call r held = plans_law spec range populated ok placed x.call p.op p.fits p.keeps x.plan p.known p.rules r i h held v.0 in
     let next : List Pairs = (plain spec r x.call).relation in
     let rest : AllServe spec calls next held =
     plans_in_turn_law spec range populated ok placed calls (λ y m. planned y (inr m)) next (plain_keeps_relation spec r x.call (p.op, p.fits) i) (plain_satisfies spec r x.call h) held
     (subst (λ z. AllAreHeld spec calls z held) one.rows v.1) in
-    let first : (eval spec x.plan x.call (fragments_of spec r (stripes_of held))).reply ≡ Some (plain spec r x.call).reply = one.reply in
-    let later : eval_replies spec calls (eval spec x.plan x.call (fragments_of spec r (stripes_of held))).rows ≡ plain_replies spec calls next = ap (eval_replies spec calls) one.rows ∙ rest.replies in
+    let first : (eval spec x.plan x.call (rows_on spec r (stripes_of held))).reply ≡ Some (plain spec r x.call).reply = one.reply in
+    let later : eval_replies spec calls (eval spec x.plan x.call (rows_on spec r (stripes_of held))).rows ≡ plain_replies spec calls next = ap (eval_replies spec calls) one.rows ∙ rest.replies in
     record {
       replies = λ i. first i ∷ later i;
       rows = ap (rows_after spec calls) one.rows ∙ rest.rows;
       relation = rest.relation;
       satisfies = rest.satisfies;
-      others = λ stripe g. rest.others stripe g ∙ one.others stripe (λ m. g (held_exclusive (eval spec x.plan x.call (fragments_of spec r (stripes_of held))).named held v.0 stripe m));
+      others = λ stripe g. rest.others stripe g ∙ one.others stripe (λ m. g (held_exclusive (eval spec x.plan x.call (rows_on spec r (stripes_of held))).named held v.0 stripe m));
     }

@@ -14,9 +14,9 @@ pub struct Compiled {
 }
 
 impl Model for Compiled {
-    ghost use Rattle.rc_plan.specs.Compiled.{PlannedSpec, IsCompiled};
+    ghost use Rattle.rc_plan.specs.Compiled.{SpecWithPlans, IsCompiled};
 
-    ghost Value = { PlannedSpec };
+    ghost Value = { SpecWithPlans };
 
     ghost view = { λ c. record { spec = c.accepted; plans = c.plans.items } };
 

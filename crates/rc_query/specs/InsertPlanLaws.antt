@@ -17,7 +17,7 @@ use Rattle.rc_spec.specs.declared.lock.Mode.TheVariants.{Exclusive}
 use Rattle.rc_spec.specs.declared.spec.Spec.{Spec}
 use Rattle.rc_spec.specs.Adequacy.{IsAdequate}
 use Rattle.rc_spec.specs.Calls.{all_columns}
-use Rattle.rc_spec.specs.Decomposition.{edge_at}
+use Rattle.rc_spec.specs.Decomposition.{edge_at, target_columns}
 use Rattle.rc_spec.specs.InRange.{IsInRange, IsSetBelow, IsDepAmong}
 use Rattle.rc_spec.specs.Placement.{class_at, class_of, IsPlaced}
 use Rattle.rc_plan.specs.declared.statement.Statement.{Statement}
@@ -26,12 +26,12 @@ use Rattle.rc_plan.specs.declared.statement.Which.{Which}
 use Rattle.rc_plan.specs.declared.statement.Which.TheVariants as which
 use Rattle.rc_plan.specs.Evaluation.{no_dep, dep_at}
 use Rattle.rc_plan.specs.PlanRules.{IsKeyBound, Covers, at_start}
-use Rattle.rc_route.specs.GoodRoutes.{target_columns, all_edges, IsGoodFrom, IsGoodRoute}
+use Rattle.rc_route.specs.GoodRoutes.{all_edges, IsGoodFrom, IsGoodRoute}
 use Rattle.rc_route.specs.GoodRoutesLaws.{good_known}
 use Rattle.rc_query.specs.declared.probe.InsertProbe.{InsertProbe}
 use Rattle.rc_query.specs.Laws.{GivesGoodRoutes}
 use Rattle.rc_query.specs.Planned.{written_classes, locks_and_reads, ending, Routing, pattern_probe, dependency_probe, checked_deps, insert_probes, reads_unbound, which_under, probe_statements, insert_plan}
-use Rattle.rc_query.specs.ProgressLaws.{AllFit, searching, with_locks, with_locks_new, in_with_locks, locks_fit, less_from, read_fits, ending_fits, edge_in, in_edge, class_in, classes_known, rising_classes, class_columns_known}
+use Rattle.rc_query.specs.ProgressLaws.{AreAcceptedFrom, searching, with_locks, with_locks_new, in_with_locks, locks_fit, less_from, read_fits, ending_fits, edge_in, in_edge, class_in, classes_known, rising_classes, class_columns_known}
 
 -- ---- Reads behind a Probe
 
@@ -49,8 +49,8 @@ covers_probed spec columns visited reached ls xs absent checked c which.All h = 
 
 probe_reads_fit : (spec : Spec) (op : Op) (need xs es columns visited reached : List ℕ) (ls : List (ℕ × Which)) (absent : Bool) (checked : List ℕ)
     → CoverReads spec ls xs es → IsGoodFrom spec need reached visited es → (rest : List Statement)
-    → ((columns visited reached : List ℕ) → Within need visited → AllFit spec op (searching columns visited reached ls (Some xs) absent checked) rest)
-    → AllFit spec op (searching columns visited reached ls (Some xs) absent checked) (locks_and_reads spec Exclusive columns [] es ++ rest)
+    → ((columns visited reached : List ℕ) → Within need visited → AreAcceptedFrom spec op (searching columns visited reached ls (Some xs) absent checked) rest)
+    → AreAcceptedFrom spec op (searching columns visited reached ls (Some xs) absent checked) (locks_and_reads spec Exclusive columns [] es ++ rest)
 probe_reads_fit spec op need xs [] columns visited reached ls absent checked v g rest f = f columns visited reached g
 probe_reads_fit spec op need xs (e ∷ es) columns visited reached ls absent checked v g rest f =
     let k : (choice : Which) × In (class_of spec e, choice) ls × IsKeyBound spec (class_of spec e) choice xs = v e (inl refl) in (
@@ -62,11 +62,11 @@ probe_reads_fit spec op need xs (e ∷ es) columns visited reached ls absent che
 -- a Probe and its Reads, where the check behind them fits
 probe_fits : (spec : Spec) (name pattern need columns visited reached : List ℕ) (ls : List (ℕ × Which)) (last : Option (List ℕ)) (absent : Bool) (checked : List ℕ) (probe : InsertProbe)
     → Within probe.columns (all_columns spec) → CoverReads spec ls probe.columns probe.route → IsGoodRoute spec need probe.route → (rest : List Statement)
-    → ((columns visited reached : List ℕ) → Within need visited → AllFit spec (inserting name pattern) (searching columns visited reached ls (Some probe.columns) absent checked) (probe.check ∷ rest))
-    → AllFit spec (inserting name pattern) (searching columns visited reached ls last absent checked) (probe_statements spec probe ++ rest)
+    → ((columns visited reached : List ℕ) → Within need visited → AreAcceptedFrom spec (inserting name pattern) (searching columns visited reached ls (Some probe.columns) absent checked) (probe.check ∷ rest))
+    → AreAcceptedFrom spec (inserting name pattern) (searching columns visited reached ls last absent checked) (probe_statements spec probe ++ rest)
 probe_fits spec name pattern need columns visited reached ls last absent checked probe n v g rest f = (
   record { known = n; k1 = (refl, tt); k2 = tt; k3 = tt; k4 = tt; k5 = tt; k6 = tt; k7 = tt },
-  subst (AllFit spec (inserting name pattern) (searching probe.columns [] [] ls (Some probe.columns) absent checked)) (sym (append_assoc (locks_and_reads spec Exclusive probe.columns [] probe.route) (probe.check ∷ []) rest))
+  subst (AreAcceptedFrom spec (inserting name pattern) (searching probe.columns [] [] ls (Some probe.columns) absent checked)) (sym (append_assoc (locks_and_reads spec Exclusive probe.columns [] probe.route) (probe.check ∷ []) rest))
       (probe_reads_fit spec (inserting name pattern) need probe.columns probe.route probe.columns [] [] ls absent checked v g (probe.check ∷ rest) f),
 )
 
@@ -94,10 +94,10 @@ checks_step spec all d left checked k = record {
 }
 
 deps_fit : (spec : Spec) → IsInRange spec → (route : Routing) → GivesGoodRoutes spec route → (name pattern : List ℕ) (ls : List (ℕ × Which)) (all : List ℕ) (rest : List Statement)
-    → ((columns visited reached checked xs : List ℕ) → Within all checked → AllFit spec (inserting name pattern) (searching columns visited reached ls (Some xs) true checked) rest)
+    → ((columns visited reached checked xs : List ℕ) → Within all checked → AreAcceptedFrom spec (inserting name pattern) (searching columns visited reached ls (Some xs) true checked) rest)
     → (left columns visited reached checked last : List ℕ) → Checks spec all left checked
     → ((d : ℕ) → In d left → CoverReads spec ls (dependency_probe spec route d).columns (dependency_probe spec route d).route)
-    → AllFit spec (inserting name pattern) (searching columns visited reached ls (Some last) true checked) (flat_map (probe_statements spec) (map (dependency_probe spec route) left) ++ rest)
+    → AreAcceptedFrom spec (inserting name pattern) (searching columns visited reached ls (Some last) true checked) (flat_map (probe_statements spec) (map (dependency_probe spec route) left) ++ rest)
 deps_fit spec i route good name pattern ls all rest f [] columns visited reached checked last k v =
     f columns visited reached checked last (λ j h. elim (k.each j h) [ inl m ↦ m | inr m ↦ absurd m ])
 deps_fit spec i route good name pattern ls all rest f (d ∷ left) columns visited reached checked last k v =
@@ -107,7 +107,7 @@ deps_fit spec i route good name pattern ls all rest f (d ∷ left) columns visit
     let ys : List ℕ = (dep_at spec d).right in
     let inside : Within xs (all_columns spec) = set_known spec xs known.left in
     let more : List Statement = flat_map (probe_statements spec) (map (dependency_probe spec route) left) in
-    subst (AllFit spec (inserting name pattern) (searching columns visited reached ls (Some last) true checked)) (sym (append_assoc (probe_statements spec (dependency_probe spec route d)) more rest))
+    subst (AreAcceptedFrom spec (inserting name pattern) (searching columns visited reached ls (Some last) true checked)) (sym (append_assoc (probe_statements spec (dependency_probe spec route d)) more rest))
     (probe_fits spec name pattern (union xs ys) columns visited reached ls (Some last) true checked (dependency_probe spec route d) inside (v d (inl refl))
     (good xs (union xs ys) (union_within xs ys (all_columns spec) inside (set_known spec ys known.right))) (more ++ rest)
     (λ columns visited reached w. (
@@ -199,7 +199,7 @@ all_bound spec probes c columns w = go (list_any (reads_unbound spec c) probes)
 
 pub insert_fits : (spec : Spec) → IsInRange spec → IsAdequate spec → IsPlaced spec → (route : Routing) → GivesGoodRoutes spec route
     → (name pattern : List ℕ) → Within pattern (all_columns spec)
-    → AllFit spec (inserting name pattern) (at_start spec (inserting name pattern)) (insert_plan spec (insert_probes spec route (gather nat_cmp pattern)))
+    → AreAcceptedFrom spec (inserting name pattern) (at_start spec (inserting name pattern)) (insert_plan spec (insert_probes spec route (gather nat_cmp pattern)))
 insert_fits spec i a pl route good name pattern w =
     let op : Op = inserting name pattern in
     let given : List ℕ = gather nat_cmp (all_columns spec) in
@@ -223,7 +223,7 @@ insert_fits spec i a pl route good name pattern w =
     let end : List Statement = ending Apply wanted in
     locks_fit spec op Exclusive refl choice wanted given [] [] [] false [] (rising_classes spec (all_edges spec)) n
     (λ c h. all_bound spec probes c given (λ d m. gather_in nat_cmp nat_order d (all_columns spec) (class_columns_known spec i a pl c h d m))) (λ x z. absurd z) (flat_map (probe_statements spec) probes ++ end)
-    (subst (AllFit spec op (searching given [] [] ls None false [])) (sym (append_assoc (probe_statements spec first) more end))
+    (subst (AreAcceptedFrom spec op (searching given [] [] ls None false [])) (sym (append_assoc (probe_statements spec first) more end))
     (probe_fits spec name pattern xs given [] [] ls None false [] first inside (covers first (inl refl)) g (more ++ end)
     (λ columns visited reached v. (
       record { known = tt; k1 = (refl, tt, (xs, refl)); k2 = tt; k3 = tt; k4 = tt; k5 = tt; k6 = (refl, v); k7 = tt },

@@ -11,7 +11,7 @@ use Rattle.rc_spec.specs.declared.lock.Mode.{Mode}
 use Rattle.rc_spec.specs.declared.lock.Mode.TheVariants.{Shared, Exclusive}
 use Rattle.rc_spec.specs.declared.spec.Spec.{Spec}
 use Rattle.rc_spec.specs.Calls.{all_columns}
-use Rattle.rc_spec.specs.Decomposition.{edge_at}
+use Rattle.rc_spec.specs.Decomposition.{edge_at, target_columns}
 use Rattle.rc_spec.specs.Placement.{class_at, class_of}
 use Rattle.rc_plan.specs.declared.statement.ReadMode.{ReadMode}
 use Rattle.rc_plan.specs.declared.statement.ReadMode.TheVariants.{Lookup, Scan}
@@ -21,7 +21,7 @@ use Rattle.rc_plan.specs.declared.statement.Which.{Which}
 use Rattle.rc_plan.specs.declared.statement.Which.TheVariants as which
 use Rattle.rc_plan.specs.Evaluation.{dep_at}
 use Rattle.rc_plan.specs.PlanRules.{pattern_columns}
-use Rattle.rc_route.specs.GoodRoutes.{target_columns, all_edges}
+use Rattle.rc_route.specs.GoodRoutes.{all_edges}
 use Rattle.rc_route.specs.Paths.{IsChosenRoute}
 use Rattle.rc_query.specs.declared.probe.InsertProbe.{InsertProbe}
 

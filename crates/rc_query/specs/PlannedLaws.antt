@@ -22,7 +22,7 @@ use Rattle.rc_route.specs.Paths.{IsChosenRoute}
 use Rattle.rc_query.specs.InsertPlanLaws.{insert_fits}
 use Rattle.rc_query.specs.Laws.{GivesGoodRoutes, IsAcceptedFor, PlansOverGoodRoutesAreAccepted, PlannedPlansAreAccepted, HasPlannedPlan, OnePlannedPlan}
 use Rattle.rc_query.specs.Planned.{Routing, plan_for, planned_by, ChoosesRoutes}
-use Rattle.rc_query.specs.ProgressLaws.{AllFit, known_of_fit, rules_of_fit}
+use Rattle.rc_query.specs.ProgressLaws.{AreAcceptedFrom, known_of_fit, rules_of_fit}
 use Rattle.rc_query.specs.SearchPlanLaws.{query_fits, remove_fits}
 
 -- ---- over any good routes
@@ -32,7 +32,7 @@ set_known spec cols b c m = in_range_below (length spec.columns) c (b c (in_gath
 
 plan_fits : (spec : Spec) → IsInRange spec → IsAdequate spec → IsPlaced spec → (route : Routing) → GivesGoodRoutes spec route
     → (name pattern : List ℕ) (kind : OpKind) → AreBelow (length spec.columns) pattern → HasOutsAmong (length spec.columns) kind
-    → (let op : Op = record { name = name; pattern = pattern; kind = kind } in AllFit spec op (at_start spec op) (plan_for spec route (gather nat_cmp pattern) kind))
+    → (let op : Op = record { name = name; pattern = pattern; kind = kind } in AreAcceptedFrom spec op (at_start spec op) (plan_for spec route (gather nat_cmp pattern) kind))
 plan_fits spec i a pl route good name pattern (Query outs) below outs_below =
     let xs : List ℕ = gather nat_cmp pattern in
     let ys : List ℕ = gather nat_cmp outs in
@@ -44,7 +44,7 @@ plan_fits spec i a pl route good name pattern Remove below outs_below =
 
 pub accepted_over_good_routes : PlansOverGoodRoutesAreAccepted
 accepted_over_good_routes spec i a pl route good op among =
-    let fits : AllFit spec op (at_start spec op) (planned_by spec route op) = plan_fits spec i a pl route good op.name op.pattern op.kind among.pattern among.outs in
+    let fits : AreAcceptedFrom spec op (at_start spec op) (planned_by spec route op) = plan_fits spec i a pl route good op.name op.pattern op.kind among.pattern among.outs in
     record { known = known_of_fit spec op (at_start spec op) (planned_by spec route op) fits; rules = rules_of_fit spec op (at_start spec op) (planned_by spec route op) fits }
 
 -- ---- over the chosen routes

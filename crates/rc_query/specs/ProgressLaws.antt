@@ -18,7 +18,7 @@ use Rattle.rc_spec.specs.declared.spec.Spec.{Spec}
 use Rattle.rc_spec.specs.Adequacy.{IsAdequate}
 use Rattle.rc_spec.specs.Calls.{all_columns}
 use Rattle.rc_spec.specs.ContentsLaws.{target_within}
-use Rattle.rc_spec.specs.Decomposition.{edge_at}
+use Rattle.rc_spec.specs.Decomposition.{edge_at, target_columns}
 use Rattle.rc_spec.specs.InRange.{IsInRange}
 use Rattle.rc_spec.specs.Placement.{class_at, class_of, IsPlaced}
 use Rattle.rc_spec.specs.PlacementLaws.{class_of_known}
@@ -29,13 +29,13 @@ use Rattle.rc_plan.specs.declared.statement.Which.{Which}
 use Rattle.rc_plan.specs.declared.statement.Which.TheVariants as which
 use Rattle.rc_plan.specs.PlanRules.{Phase, Progress, after, IsLocked, HasProbed, IsKnown, AreKnown, HasLockMode, MayRead, IsInsert, IsComplete, KeepsK1, KeepsK2, KeepsK3, KeepsK4, KeepsK5, KeepsK6, KeepsK7, IsKeyBound, Covers, IsFindable, KeepsFrom}
 use Rattle.rc_plan.specs.StripeLocksLaws.{striping_in_target}
-use Rattle.rc_route.specs.GoodRoutes.{target_columns, all_edges, IsStep, IsGoodFrom}
+use Rattle.rc_route.specs.GoodRoutes.{all_edges, IsStep, IsGoodFrom}
 use Rattle.rc_query.specs.Planned.{classes_of_edges, written_classes, which_where, read_mode_where, locks, due, later, locks_and_reads, left_after, ending}
 
 -- ---- statements that keep all rules, with numbers of the specification
 
 -- the statement's numbers are the specification's, and it keeps all rules
-pub record Fits (spec : Spec) (op : Op) (p : Progress) (x : Statement) : Type 0 where
+pub record IsAcceptedAt (spec : Spec) (op : Op) (p : Progress) (x : Statement) : Type 0 where
   pub known : IsKnown spec x
   pub k1 : KeepsK1 op.kind p x
   pub k2 : KeepsK2 p x
@@ -45,16 +45,16 @@ pub record Fits (spec : Spec) (op : Op) (p : Progress) (x : Statement) : Type 0 
   pub k6 : KeepsK6 spec op p x
   pub k7 : KeepsK7 spec op p x
 
-abbrev pub AllFit : Spec → Op → Progress → List Statement → Type 0
-AllFit spec op p [] = IsComplete p
-AllFit spec op p (x ∷ plan) = Fits spec op p x × AllFit spec op (after spec p x) plan
+abbrev pub AreAcceptedFrom : Spec → Op → Progress → List Statement → Type 0
+AreAcceptedFrom spec op p [] = IsComplete p
+AreAcceptedFrom spec op p (x ∷ plan) = IsAcceptedAt spec op p x × AreAcceptedFrom spec op (after spec p x) plan
 
-pub known_of_fit : (spec : Spec) (op : Op) (p : Progress) (plan : List Statement) → AllFit spec op p plan → AreKnown spec plan
+pub known_of_fit : (spec : Spec) (op : Op) (p : Progress) (plan : List Statement) → AreAcceptedFrom spec op p plan → AreKnown spec plan
 known_of_fit spec op p [] f x m = absurd m
 known_of_fit spec op p (y ∷ plan) f x (inl e) = subst (IsKnown spec) (sym e) f.0.known
 known_of_fit spec op p (y ∷ plan) f x (inr m) = known_of_fit spec op (after spec p y) plan f.1 x m
 
-pub rules_of_fit : (spec : Spec) (op : Op) (p : Progress) (plan : List Statement) → AllFit spec op p plan → KeepsFrom spec op p plan
+pub rules_of_fit : (spec : Spec) (op : Op) (p : Progress) (plan : List Statement) → AreAcceptedFrom spec op p plan → KeepsFrom spec op p plan
 rules_of_fit spec op p [] f = f
 rules_of_fit spec op p (x ∷ plan) f =
     (record { k1 = f.0.k1; k2 = f.0.k2; k3 = f.0.k3; k4 = f.0.k4; k5 = f.0.k5; k6 = f.0.k6; k7 = f.0.k7 }, rules_of_fit spec op (after spec p x) plan f.1)
@@ -98,8 +98,8 @@ in_with_locks choice (c ∷ cs) ls x h =
 pub locks_fit : (spec : Spec) (op : Op) (mode : Mode) → HasLockMode op.kind mode → (choice : ℕ → Which) (cs columns visited reached : List ℕ) (ls : List (ℕ × Which)) (absent : Bool) (checked : List ℕ)
     → IsRising nat_cmp cs → ((c : ℕ) → In c cs → c < length spec.classes) → ((c : ℕ) → In c cs → IsKeyBound spec c (choice c) columns)
     → ((x : ℕ × Which) → In x ls → (c : ℕ) → In c cs → x.0 < c)
-    → (rest : List Statement) → AllFit spec op (searching columns visited reached (with_locks choice cs ls) None absent checked) rest
-    → AllFit spec op (searching columns visited reached ls None absent checked) (locks mode choice cs ++ rest)
+    → (rest : List Statement) → AreAcceptedFrom spec op (searching columns visited reached (with_locks choice cs ls) None absent checked) rest
+    → AreAcceptedFrom spec op (searching columns visited reached ls None absent checked) (locks mode choice cs ++ rest)
 locks_fit spec op mode may choice [] columns visited reached ls absent checked r n k b rest h = h
 locks_fit spec op mode may choice (c ∷ cs) columns visited reached ls absent checked r n k b rest h = (
   record { known = n c (inl refl); k1 = (refl, refl, may); k2 = λ x q. b x q c (inl refl); k3 = k c (inl refl); k4 = tt; k5 = tt; k6 = tt; k7 = tt },
@@ -179,7 +179,7 @@ may_read Remove p f = tt
 pub read_fits : (spec : Spec) (op : Op) (columns visited reached : List ℕ) (ls : List (ℕ × Which)) (probe : Option (List ℕ)) (absent : Bool) (checked : List ℕ) (e : ℕ)
     → (IsInsert op.kind → HasProbed (searching columns visited reached ls probe absent checked)) → IsStep spec reached visited e
     → (choice : Which) × In (class_of spec e, choice) ls × Covers spec (searching columns visited reached ls probe absent checked) (class_of spec e) choice
-    → Fits spec op (searching columns visited reached ls probe absent checked) (Read e (read_mode_where spec columns e))
+    → IsAcceptedAt spec op (searching columns visited reached ls probe absent checked) (Read e (read_mode_where spec columns e))
 read_fits spec op columns visited reached ls probe absent checked e i s k = record {
   known = s.known;
   k1 = (refl, may_read op.kind (searching columns visited reached ls probe absent checked) i);
@@ -209,8 +209,8 @@ pub locks_and_reads_fit : (spec : Spec) (op : Op) (mode : Mode) → HasLockMode 
     → ((c : ℕ) → In c wanted → c < length spec.classes) → ((e : ℕ) → In e es → In (class_of spec e) wanted)
     → Locks wanted left ls → Within visited columns → IsGoodFrom spec need reached visited es → (rest : List Statement)
     → ((columns visited reached : List ℕ) (ls : List (ℕ × Which)) → Locks wanted (left_after spec left es) ls → Within need visited → Within visited columns
-    → AllFit spec op (searching columns visited reached ls None false []) rest)
-    → AllFit spec op (searching columns visited reached ls None false []) (locks_and_reads spec mode columns left es ++ rest)
+    → AreAcceptedFrom spec op (searching columns visited reached ls None false []) rest)
+    → AreAcceptedFrom spec op (searching columns visited reached ls None false []) (locks_and_reads spec mode columns left es ++ rest)
 locks_and_reads_fit spec op mode may need wanted [] left columns visited reached ls never n own k w g rest f = f columns visited reached ls k g w
 locks_and_reads_fit spec op mode may need wanted (e ∷ es) left columns visited reached ls never n own k w g rest f =
     let choice : ℕ → Which = which_where spec columns in
@@ -218,7 +218,7 @@ locks_and_reads_fit spec op mode may need wanted (e ∷ es) left columns visited
     let now : List (ℕ × Which) = with_locks choice (due spec e left) ls in
     let k' : Locks wanted (later spec e left) now = locks_step spec e choice wanted left ls k in
     let locked : (choice : Which) × In (class_of spec e, choice) now = own_locked spec e wanted left now (own e (inl refl)) k' in
-    subst (AllFit spec op (searching columns visited reached ls None false [])) (sym (append_assoc (locks mode choice (due spec e left)) (Read e (read_mode_where spec columns e) ∷ more) rest))
+    subst (AreAcceptedFrom spec op (searching columns visited reached ls None false [])) (sym (append_assoc (locks mode choice (due spec e left)) (Read e (read_mode_where spec columns e) ∷ more) rest))
     (locks_fit spec op mode may choice (due spec e left) columns visited reached ls false []
     (rising_filter nat_cmp (λ c. nat_le c (class_of spec e)) left k.rising)
     (λ c h. n c (k.within c (in_due spec e left c h).0))
@@ -253,7 +253,7 @@ distinct_reverse (x ∷ xs) r = subst AreDistinct (sym (reverse-append (x ∷ []
 
 releases_fit : (spec : Spec) (op : Op) (cs : List ℕ) (p : Progress) → p.phase ≡ Phase.Committed → AreDistinct cs
     → ((c : ℕ) → In c cs → (c < length spec.classes) × IsLocked p c × (In c p.released → ⊥))
-    → ((c : ℕ) → IsLocked p c → In c p.released ⊎ In c cs) → AllFit spec op p (map Release cs)
+    → ((c : ℕ) → IsLocked p c → In c p.released ⊎ In c cs) → AreAcceptedFrom spec op p (map Release cs)
 releases_fit spec op [] p e d own all = (e, λ c h. elim (all c h) [ inl q ↦ q | inr z ↦ absurd z ])
 releases_fit spec op (c ∷ cs) p e d own all =
     let here : (c < length spec.classes) × IsLocked p c × (In c p.released → ⊥) = own c (inl refl) in (
@@ -265,10 +265,10 @@ releases_fit spec op (c ∷ cs) p e d own all =
     )
 
 -- the last statement before the Commit, and the Releases of exactly the classes that are locked
-pub ending_fits : (spec : Spec) (op : Op) (last : Statement) (classes : List ℕ) (p : Progress) → Fits spec op p last
+pub ending_fits : (spec : Spec) (op : Op) (last : Statement) (classes : List ℕ) (p : Progress) → IsAcceptedAt spec op p last
     → (after spec p last).phase ≡ Phase.Decided → (after spec p last).released ≡ [] → IsRising nat_cmp classes
     → ((c : ℕ) → In c classes → (c < length spec.classes) × IsLocked (after spec p last) c) → ((c : ℕ) → IsLocked (after spec p last) c → In c classes)
-    → AllFit spec op p (ending last classes)
+    → AreAcceptedFrom spec op p (ending last classes)
 ending_fits spec op last classes p k e none r own all = (
   k,
   (

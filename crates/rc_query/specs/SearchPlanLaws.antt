@@ -21,13 +21,13 @@ use Rattle.rc_plan.specs.PlanRules.{at_start}
 use Rattle.rc_route.specs.GoodRoutes.{all_edges, IsGoodRoute}
 use Rattle.rc_route.specs.GoodRoutesLaws.{good_known}
 use Rattle.rc_query.specs.Planned.{classes_of_edges, written_classes, locks, left_after, ending, query_plan, remove_plan}
-use Rattle.rc_query.specs.ProgressLaws.{AllFit, searching, with_locks, with_locks_old, with_locks_new, in_with_locks, locks_fit, left_after_later, locks_and_reads_fit, ending_fits, edge_in, in_edge, class_in, in_class, classes_known, no_locks, rising_classes, class_columns_known}
+use Rattle.rc_query.specs.ProgressLaws.{AreAcceptedFrom, searching, with_locks, with_locks_old, with_locks_new, in_with_locks, locks_fit, left_after_later, locks_and_reads_fit, ending_fits, edge_in, in_edge, class_in, in_class, classes_known, no_locks, rising_classes, class_columns_known}
 
 -- ---- queries
 
 pub query_fits : (spec : Spec) → IsInRange spec → IsPlaced spec → (name pattern outs route : List ℕ)
     → IsGoodRoute spec (union (gather nat_cmp pattern) (gather nat_cmp outs)) route
-    → (let op : Op = record { name = name; pattern = pattern; kind = Query outs } in AllFit spec op (at_start spec op) (query_plan spec (gather nat_cmp pattern) route))
+    → (let op : Op = record { name = name; pattern = pattern; kind = Query outs } in AreAcceptedFrom spec op (at_start spec op) (query_plan spec (gather nat_cmp pattern) route))
 query_fits spec i pl name pattern outs route g =
     let op : Op = record { name = name; pattern = pattern; kind = Query outs } in
     let bound : List ℕ = gather nat_cmp pattern in
@@ -63,7 +63,7 @@ query_fits spec i pl name pattern outs route g =
 -- ---- removes
 
 pub remove_fits : (spec : Spec) → IsInRange spec → IsAdequate spec → IsPlaced spec → (name pattern route : List ℕ) → IsGoodRoute spec (all_columns spec) route
-    → (let op : Op = record { name = name; pattern = pattern; kind = Remove } in AllFit spec op (at_start spec op) (remove_plan spec (gather nat_cmp pattern) route))
+    → (let op : Op = record { name = name; pattern = pattern; kind = Remove } in AreAcceptedFrom spec op (at_start spec op) (remove_plan spec (gather nat_cmp pattern) route))
 remove_fits spec i a pl name pattern route g =
     let wanted : List ℕ = written_classes spec in
     let left : List ℕ = left_after spec wanted route in

@@ -5,7 +5,8 @@ ghost use Rattle.std.specs.List.{range_with_len};
 ghost use Rattle.rc_tuple.specs.RisingSet.{In};
 ghost use Rattle.rc_spec.specs.InRange.{IsInRange};
 ghost use Rattle.rc_spec.specs.Placement.{IsPlaced};
-ghost use Rattle.rc_route.specs.GoodRoutes.{target_columns};
+
+ghost use Rattle.rc_spec.specs.Decomposition.{target_columns};
 ghost use Rattle.rc_query.specs.Planned.{classes_of_edges, ending, left_after, locks, locks_and_reads, read_mode_where, which_where};
 
 use rc_plan::{Plan, ReadMode, Statement, Which};

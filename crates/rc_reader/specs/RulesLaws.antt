@@ -10,7 +10,7 @@ use Rattle.rc_reader.specs.Answers.{IsSpecRule}
 use Rattle.rc_reader.specs.FormsLaws.{IsFormed, formed}
 
 -- the line of this form breaks no rule, and leaves the specification `next`
-pub record IsTaken (spec : Spec) (form : FormText) (next : Spec) : Type 0 where
+pub record IsSpecLineTaken (spec : Spec) (form : FormText) (next : Spec) : Type 0 where
   pub names : breaks_names spec form ≡ false
   pub known : breaks_known spec form ≡ false
   pub range : breaks_range form ≡ false
@@ -29,7 +29,7 @@ ok_spec spec = Ok spec
 same_spec : (x y : Spec) → ok_spec x ≡ ok_spec y → x ≡ y
 same_spec x y e = cc
 
-pub taken : (spec : Spec) (form : FormText) (next : Spec) → after_form spec form ≡ Ok next → IsTaken spec form next
+pub taken : (spec : Spec) (form : FormText) (next : Spec) → after_form spec form ≡ Ok next → IsSpecLineTaken spec form next
 taken spec form next e =
     let order_test = cond (breaks_order spec form) (Err S7) (ok_spec (with_line spec form)) in
     let limit_test = cond (breaks_limit spec form) (Err S6) order_test in
@@ -46,7 +46,7 @@ taken spec form next e =
 pub record IsLineTaken (spec : Spec) (after : After) : Type 0 where
   pub form : FormText
   pub formed : IsFormed form
-  pub taken : IsTaken spec form after.spec
+  pub taken : IsSpecLineTaken spec form after.spec
   pub ended : is_end form ≡ after.ended
 
 abbrev ok_after : After → Result After LineRule
@@ -75,7 +75,7 @@ line_taken spec bytes after e = bytes_taken spec (plain_words_of bytes) after e
 
 -- a line that is taken leaves P of the specification true
 abbrev pub Keeps : (Spec → Type 0) → Type 0
-Keeps P = (spec : Spec) (form : FormText) (next : Spec) → IsFormed form → IsTaken spec form next → P spec → P (with_line spec form)
+Keeps P = (spec : Spec) (form : FormText) (next : Spec) → IsFormed form → IsSpecLineTaken spec form next → P spec → P (with_line spec form)
 
 pub keeps-after_bytes : (P : Spec → Type 0) → Keeps P → (spec : Spec) (bytes : List ℕ) (after : After) → P spec → after_bytes spec bytes ≡ Ok after → P after.spec
 keeps-after_bytes P keeps spec bytes after holds e =

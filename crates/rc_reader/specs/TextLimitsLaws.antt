@@ -15,7 +15,7 @@ use Rattle.rc_reader.specs.Grammar.{is_end, after_bytes}
 use Rattle.rc_spec.specs.InRange.{HasColumnAndNode}
 use Rattle.rc_reader.specs.TextLimits.{KeepsTextLimits}
 use Rattle.rc_reader.specs.MembersLaws.{each_push}
-use Rattle.rc_reader.specs.RulesLaws.{IsTaken, line_taken, Keeps}
+use Rattle.rc_reader.specs.RulesLaws.{IsSpecLineTaken, line_taken, Keeps}
 
 limits-operation : (spec : Spec) (more : Op) → KeepsTextLimits spec → length spec.ops < 32 → KeepsTextLimits (with_operation spec more)
 limits-operation spec more limits few = record { columns = limits.columns; ops = omega (arith, length_push spec.ops more); stripes = limits.stripes }
@@ -50,7 +50,7 @@ limits-empty = record { columns = lit≤ tt; ops = lit≤ tt; stripes = λ class
 more_than_none : (n : ℕ) → eqb n 0 ≡ false → 0 < n
 more_than_none n e = let other = eqb-false n 0 e in omega arith
 
-populated : (spec next : Spec) (form : FormText) → IsTaken spec form next → is_end form ≡ true → HasColumnAndNode (with_line spec form)
+populated : (spec next : Spec) (form : FormText) → IsSpecLineTaken spec form next → is_end form ≡ true → HasColumnAndNode (with_line spec form)
 populated spec next header_line is_taken e = absurd (false≢true e)
 populated spec next (column_line name kind) is_taken e = absurd (false≢true e)
 populated spec next (dependency_line left right) is_taken e = absurd (false≢true e)

@@ -16,7 +16,7 @@ use Rattle.rc_spec.specs.declared.items.OpKind.TheVariants.{Remove}
 use Rattle.rc_spec.specs.declared.call.Reply.TheVariants.{Removed}
 use Rattle.rc_spec.specs.Plain.{Outcome, first_broken_dependency, removed_first, plain_by}
 use Rattle.rc_spec.specs.PlainLaws.{satisfies_from_none, rising_after, in_after_remove}
-use Rattle.rc_rel.specs.Kept.{IsKept}
+use Rattle.rc_rel.specs.KnownDeps.{IsKnownToSatisfy}
 
 any_agrees_same : (xs ys : List ℕ) → ((c : ℕ) → has xs c ≡ has ys c) → (t : Pairs) (r : List Pairs) → list_any (agree_on xs t) r ≡ list_any (agree_on ys t) r
 any_agrees_same xs ys h t [] = refl
@@ -75,17 +75,17 @@ agreement_found found set list pattern t rows r a b e f =
     ∙ ap (λ l. list_any (agree_on set t) l) (sym f) ∙ sym a
 
 -- a relation that breaks no dependency with one more tuple keeps them, with and without it
-pub kept_with : (deps : List Dep) (t : Pairs) (r : List Pairs) → IsRising tuple_cmp r → first_broken_dependency 1 deps (put tuple_cmp t r) ≡ None → IsKept (put tuple_cmp t r) deps
+pub kept_with : (deps : List Dep) (t : Pairs) (r : List Pairs) → IsRising tuple_cmp r → first_broken_dependency 1 deps (put tuple_cmp t r) ≡ None → IsKnownToSatisfy (put tuple_cmp t r) deps
 kept_with deps t r h e = record { rising = rising_put tuple_cmp tuple_order t r h; satisfies = satisfies_from_none 1 deps (put tuple_cmp t r) e }
 
-pub kept_without : (deps : List Dep) (t : Pairs) (r : List Pairs) → IsRising tuple_cmp r → first_broken_dependency 1 deps (put tuple_cmp t r) ≡ None → IsKept r deps
+pub kept_without : (deps : List Dep) (t : Pairs) (r : List Pairs) → IsRising tuple_cmp r → first_broken_dependency 1 deps (put tuple_cmp t r) ≡ None → IsKnownToSatisfy r deps
 kept_without deps t r h e = record {
   rising = h;
   satisfies = satisfies_fewer (put tuple_cmp t r) r deps (λ u m. put_old tuple_cmp tuple_order u t r m) (satisfies_from_none 1 deps (put tuple_cmp t r) e);
 }
 
 -- to leave tuples out keeps what is known
-pub kept_after_remove : (pattern : List ℕ) (deps known : List Dep) (args : Pairs) (r : List Pairs) → IsKept r known → IsKept (plain_by Remove pattern deps args r).relation known
+pub kept_after_remove : (pattern : List ℕ) (deps known : List Dep) (args : Pairs) (r : List Pairs) → IsKnownToSatisfy r known → IsKnownToSatisfy (plain_by Remove pattern deps args r).relation known
 kept_after_remove pattern deps known args r h = record {
   rising = rising_after Remove pattern deps args r h.rising;
   satisfies = satisfies_fewer r (plain_by Remove pattern deps args r).relation known (in_after_remove pattern deps args r) h.satisfies;

@@ -1,6 +1,6 @@
 pub mod History
 pub mod Match
 pub mod Over
-pub mod Kept
+pub mod KnownDeps
 pub mod HistoryLaws
 pub mod OwnLaws

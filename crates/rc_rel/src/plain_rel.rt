@@ -5,7 +5,7 @@ ghost use Rattle.rc_spec.specs.declared.items.OpKind.TheVariants.{Insert, Remove
 ghost use Rattle.rc_spec.specs.Calls.{all_columns, Fits};
 ghost use Rattle.rc_spec.specs.InRange.{IsInRange, AreBelow};
 ghost use Rattle.rc_spec.specs.Plain.{plain, plain_by};
-ghost use Rattle.rc_rel.specs.Kept.{IsKept};
+ghost use Rattle.rc_rel.specs.KnownDeps.{IsKnownToSatisfy};
 ghost use Rattle.rc_rel.specs.Over.{AreOver};
 
 use crate::change::{first_match, put_tuple};
@@ -27,13 +27,13 @@ pub struct PlainRel {
 impl Model for PlainRel {
     ghost use Rattle.std.specs.Prelude.{List};
     ghost use Rattle.rc_tuple.specs.Tuple.{Pairs};
-    ghost use Rattle.rc_rel.specs.Kept.{IsKept};
+    ghost use Rattle.rc_rel.specs.KnownDeps.{IsKnownToSatisfy};
 
     ghost Value = { List Pairs };
 
     ghost view = { λ a. a.tuples.items };
 
-    ghost invariant = { λ a. IsKept a.tuples.items a.known.items };
+    ghost invariant = { λ a. IsKnownToSatisfy a.tuples.items a.known.items };
 }
 
 impl PlainRel {
@@ -87,10 +87,10 @@ fn step(
     requires few { length deps.now ≤ 32 }
     requires pattern { AreBelow 32 op.now.pattern }
     requires over { op.now.kind ≡ Insert → AreOver (cols_of args.now) tuples.old.items }
-    requires kept { IsKept tuples.old.items known.old.items }
+    requires kept { IsKnownToSatisfy tuples.old.items known.old.items }
     ensures ok { IfOk result (λ reply. plain_by op.now.kind op.now.pattern deps.now args.now tuples.old.items ≡ record { reply = reply; relation = tuples.new.items }) }
     ensures err { OnErr result (tuples.new.items ≡ tuples.old.items) }
-    ensures kept { IsKept tuples.new.items known.new.items }
+    ensures kept { IsKnownToSatisfy tuples.new.items known.new.items }
 {
     match &op.kind {
         OpKind::Query { outs } => query(*tuples.allocator(), tuples, outs, args),
@@ -110,10 +110,10 @@ fn insert(
     requires few { length deps.now ≤ 32 }
     requires pattern { AreBelow 32 pattern.now }
     requires over { AreOver (cols_of args.now) tuples.old.items }
-    requires kept { IsKept tuples.old.items known.old.items }
+    requires kept { IsKnownToSatisfy tuples.old.items known.old.items }
     ensures ok { IfOk result (λ reply. plain_by Insert pattern.now deps.now args.now tuples.old.items ≡ record { reply = reply; relation = tuples.new.items }) }
     ensures err { OnErr result (tuples.new.items ≡ tuples.old.items) }
-    ensures kept { IsKept tuples.new.items known.new.items }
+    ensures kept { IsKnownToSatisfy tuples.new.items known.new.items }
 {
     if any_agrees(tuples, args, ColSet::from_list(pattern.list())) {
         return Ok(Reply::Present);

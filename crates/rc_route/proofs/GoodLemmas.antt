@@ -7,8 +7,8 @@ use Rattle.rc_tuple.specs.ColSet.{union, with_column}
 use Rattle.rc_spec.specs.declared.items.Edge.{Edge}
 use Rattle.rc_spec.specs.declared.spec.Spec.{Spec}
 use Rattle.rc_spec.specs.Adequacy.{IsLossless}
-use Rattle.rc_spec.specs.Decomposition.{bound, edge_at}
-use Rattle.rc_route.specs.GoodRoutes.{target_columns, IsStep, IsGoodFrom}
+use Rattle.rc_spec.specs.Decomposition.{bound, edge_at, target_columns}
+use Rattle.rc_route.specs.GoodRoutes.{IsStep, IsGoodFrom}
 use Rattle.rc_route.specs.GoodRoutesLaws.{good_reached}
 
 pub lossless_at : (spec : Spec) (xs ys zs : List ℕ) (b : Bool) → ys ≡ zs → (b ≡ true) ↔ IsLossless spec xs ys → (b ≡ true) ↔ IsLossless spec xs zs

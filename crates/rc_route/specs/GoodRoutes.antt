@@ -5,11 +5,7 @@ use Rattle.rc_tuple.specs.RisingSet.{In}
 use Rattle.rc_tuple.specs.ColSet.{Within, union}
 use Rattle.rc_spec.specs.declared.spec.Spec.{Spec}
 use Rattle.rc_spec.specs.Adequacy.{IsLossless}
-use Rattle.rc_spec.specs.Decomposition.{bound, edge_at}
-
--- the columns that the target of an edge binds
-abbrev pub target_columns : Spec → ℕ → List ℕ
-target_columns spec e = bound spec (edge_at spec e).to
+use Rattle.rc_spec.specs.Decomposition.{edge_at, target_columns}
 
 -- the edges in written order
 abbrev pub all_edges : Spec → List ℕ

@@ -12,10 +12,10 @@ use Rattle.rc_spec.specs.declared.items.Edge.{Edge}
 use Rattle.rc_spec.specs.declared.spec.Spec.{Spec}
 use Rattle.rc_spec.specs.Adequacy.{IsAdequate, IsLossless, KeepsA6, visited}
 use Rattle.rc_spec.specs.Calls.{all_columns}
-use Rattle.rc_spec.specs.Decomposition.{edge_at, no_edge}
+use Rattle.rc_spec.specs.Decomposition.{edge_at, no_edge, target_columns}
 use Rattle.rc_spec.specs.DecompositionLaws.{visited_more}
 use Rattle.rc_spec.specs.InRange.{IsInRange}
-use Rattle.rc_route.specs.GoodRoutes.{target_columns, all_edges, IsStep, IsGoodFrom, IsGoodRoute}
+use Rattle.rc_route.specs.GoodRoutes.{all_edges, IsStep, IsGoodFrom, IsGoodRoute}
 use Rattle.rc_route.specs.ImpliedLaws.{IsDecided, both_decided, either_decided, within_decided, follows_decided}
 
 -- ---- where more nodes were reached

@@ -16,12 +16,12 @@ use Rattle.rc_spec.specs.declared.items.EdgeKind.{EdgeKind}
 use Rattle.rc_spec.specs.declared.items.EdgeKind.TheVariants as kinds
 use Rattle.rc_spec.specs.declared.spec.Spec.{Spec}
 use Rattle.rc_spec.specs.Adequacy.{IsAdequate, KeepsA2, IsRoot, HasEdgeInto}
-use Rattle.rc_spec.specs.Decomposition.{bound, edge_at, no_edge}
+use Rattle.rc_spec.specs.Decomposition.{bound, edge_at, no_edge, target_columns}
 use Rattle.rc_spec.specs.DecompositionLaws.{edge_at_in}
 use Rattle.rc_spec.specs.InRange.{IsInRange, HasColumnAndNode}
 use Rattle.rc_spec.specs.Placement.{class_at, class_of, no_class, striping, IsPlaced}
 use Rattle.rc_spec.specs.PlacementLaws.{class_of_known}
-use Rattle.rc_route.specs.GoodRoutes.{target_columns, IsGoodFrom, IsGoodRoute}
+use Rattle.rc_route.specs.GoodRoutes.{IsGoodFrom, IsGoodRoute}
 use Rattle.rc_route.specs.Paths.{IsPath, end_of, lookup_cost, scan_cost, read_cost, lock_cost, edge_cost, cost, IsPathFor}
 
 -- ---- ends

@@ -14,7 +14,7 @@ use Rattle.rc_tuple.specs.TupleLaws.{tuple_order, same_from_test, test_from_same
 use Rattle.rc_spec.specs.declared.spec.Spec.{Spec}
 use Rattle.rc_spec.specs.Contents.{how_many}
 use Rattle.rc_spec.specs.Decomposition.{bound, edge_at}
-use Rattle.rc_spec.specs.Fragments.{EdgeRow, edge_row_cmp, edge_numbers, all_rows, row_stripe, fragments_of, fragment_of}
+use Rattle.rc_spec.specs.Fragments.{EdgeRow, edge_row_cmp, edge_numbers, all_rows, row_stripe, rows_on, fragment_of}
 use Rattle.rc_spec.specs.FragmentsLaws.{edge_row_order, IsEdgeRow, in_all_rows, all_rows_in, rising_fragments, in_fragments, fragments_in}
 use Rattle.rc_spec.specs.Placement.{class_of}
 use Rattle.rc_spec.specs.Stripes.{physical_stripe}
@@ -240,8 +240,8 @@ some_filter p xs x h e = go (filter p xs) (filter_in p x xs h e)
     go [] h = absurd h
     go (y ∷ ys) h = omega arith
 
-pub AreCountedRows-fragments_of : (spec : Spec) (r : List Pairs) (stripes : List ℕ) → AreCountedRows (fragments_of spec r stripes)
-AreCountedRows-fragments_of spec r stripes = record {
+pub AreCountedRows-rows_on : (spec : Spec) (r : List Pairs) (stripes : List ℕ) → AreCountedRows (rows_on spec r stripes)
+AreCountedRows-rows_on spec r stripes = record {
   rising = rising_fragments spec r stripes;
   once = λ v w h k c d.
       let p : IsEdgeRow spec r v = in_all_rows spec r v (in_fragments spec r stripes v h).0 in
@@ -256,12 +256,12 @@ AreCountedRows-fragments_of spec r stripes = record {
     same_rows : (v w : EdgeRow) → v.0 ≡ w.0 → v.1 ≡ w.1 → v.2 ≡ w.2 → v ≡ w
     same_rows v w c d n = λ i. (c i, d i, n i)
 
-count-fragments_in : (spec : Spec) (r : List Pairs) (stripes : List ℕ) (e : ℕ) (row : Pairs) → e < length spec.edges → In (physical_stripe spec (class_of spec e) row) stripes → count_at e row (fragments_of spec r stripes) ≡ counted spec r e row
+count-fragments_in : (spec : Spec) (r : List Pairs) (stripes : List ℕ) (e : ℕ) (row : Pairs) → e < length spec.edges → In (physical_stripe spec (class_of spec e) row) stripes → count_at e row (rows_on spec r stripes) ≡ counted spec r e row
 count-fragments_in spec r stripes e row l h = elim (zero_or_more (counted spec r e row)) [ inl z ↦ none z | inr m ↦ some m ]
   where
-    none : counted spec r e row ≡ 0 → count_at e row (fragments_of spec r stripes) ≡ counted spec r e row
-    none z = count_none e row (fragments_of spec r stripes) (λ w k c d.
-        let p : 0 < w.2 = (AreCountedRows-fragments_of spec r stripes).positive w k in
+    none : counted spec r e row ≡ 0 → count_at e row (rows_on spec r stripes) ≡ counted spec r e row
+    none z = count_none e row (rows_on spec r stripes) (λ w k c d.
+        let p : 0 < w.2 = (AreCountedRows-rows_on spec r stripes).positive w k in
         let q : IsEdgeRow spec r w = in_all_rows spec r w (in_fragments spec r stripes w k).0 in
         let m : w.2 ≡ 0 = q.count ∙ ap (λ y. counted spec r y w.1) c ∙ ap (counted spec r e) d ∙ z in omega arith) ∙ sym z
 
@@ -269,17 +269,17 @@ count-fragments_in spec r stripes e row l h = elim (zero_or_more (counted spec r
     pick_one [] m = absurd (omega arith)
     pick_one (t ∷ ts) m = (t, inl refl)
 
-    some : 0 < counted spec r e row → count_at e row (fragments_of spec r stripes) ≡ counted spec r e row
+    some : 0 < counted spec r e row → count_at e row (rows_on spec r stripes) ≡ counted spec r e row
     some m =
         let t : (t : Pairs) × In t (filter (λ t. tuple_eq (project (bound spec (edge_at spec e).to) t) row) r) = pick_one (filter (λ t. tuple_eq (project (bound spec (edge_at spec e).to) t) row) r) m in
         let f : In t.0 r × (tuple_eq (project (bound spec (edge_at spec e).to) t.0) row ≡ true) = in_filter (λ t. tuple_eq (project (bound spec (edge_at spec e).to) t) row) t.0 r t.1 in
         let is : project (bound spec (edge_at spec e).to) t.0 ≡ row = same_from_test (project (bound spec (edge_at spec e).to) t.0) row f.1 in
         let a : In (e, row, counted spec r e row) (all_rows spec r) = subst (λ z. In (e, z, counted spec r e z) (all_rows spec r)) is (all_rows_in spec r e t.0 l f.0) in
-        in_count (fragments_of spec r stripes) (AreCountedRows-fragments_of spec r stripes) (e, row, counted spec r e row)
+        in_count (rows_on spec r stripes) (AreCountedRows-rows_on spec r stripes) (e, row, counted spec r e row)
         (fragments_in spec r stripes (e, row, counted spec r e row) a h)
 
-count-fragments_out : (spec : Spec) (r : List Pairs) (stripes : List ℕ) (e : ℕ) (row : Pairs) → (e < length spec.edges → In (physical_stripe spec (class_of spec e) row) stripes → ⊥) → count_at e row (fragments_of spec r stripes) ≡ 0
-count-fragments_out spec r stripes e row f = count_none e row (fragments_of spec r stripes) (λ w k c d.
+count-fragments_out : (spec : Spec) (r : List Pairs) (stripes : List ℕ) (e : ℕ) (row : Pairs) → (e < length spec.edges → In (physical_stripe spec (class_of spec e) row) stripes → ⊥) → count_at e row (rows_on spec r stripes) ≡ 0
+count-fragments_out spec r stripes e row f = count_none e row (rows_on spec r stripes) (λ w k c d.
     let g : In w (all_rows spec r) × In (row_stripe spec w) stripes = in_fragments spec r stripes w k in
     let l : w.0 < length spec.edges = (in_all_rows spec r w g.0).edge in
     let p : In (physical_stripe spec (class_of spec e) row) stripes = subst (λ y. In (physical_stripe spec (class_of spec e) y) stripes) d (subst (λ y. In (physical_stripe spec (class_of spec y) w.1) stripes) c g.1) in
@@ -365,53 +365,53 @@ no_hits spec stripes t e row a f = hits_out spec t e row 0 (length spec.edges)
 
 -- what an insert leaves on the stripes stripes
 pub with_rows-fragments : (spec : Spec) (r : List Pairs) (stripes : List ℕ) (t : Pairs) → (In t r → ⊥) → AllHeld spec stripes t
-    → with_rows spec t (fragments_of spec r stripes) ≡ fragments_of spec (put tuple_cmp t r) stripes
+    → with_rows spec t (rows_on spec r stripes) ≡ rows_on spec (put tuple_cmp t r) stripes
 with_rows-fragments spec r stripes t out a =
-    same_counts (with_rows spec t (fragments_of spec r stripes)) (fragments_of spec (put tuple_cmp t r) stripes)
-    (AreCountedRows-all_raised spec t (edge_numbers spec) (fragments_of spec r stripes) (AreCountedRows-fragments_of spec r stripes)) (AreCountedRows-fragments_of spec (put tuple_cmp t r) stripes)
+    same_counts (with_rows spec t (rows_on spec r stripes)) (rows_on spec (put tuple_cmp t r) stripes)
+    (AreCountedRows-all_raised spec t (edge_numbers spec) (rows_on spec r stripes) (AreCountedRows-rows_on spec r stripes)) (AreCountedRows-rows_on spec (put tuple_cmp t r) stripes)
     (λ e row. go e row (held_cases spec stripes e row))
   where
     go : (e : ℕ) (row : Pairs) → ((e < length spec.edges) × In (physical_stripe spec (class_of spec e) row) stripes) ⊎ (e < length spec.edges → In (physical_stripe spec (class_of spec e) row) stripes → ⊥)
-        → count_at e row (with_rows spec t (fragments_of spec r stripes)) ≡ count_at e row (fragments_of spec (put tuple_cmp t r) stripes)
+        → count_at e row (with_rows spec t (rows_on spec r stripes)) ≡ count_at e row (rows_on spec (put tuple_cmp t r) stripes)
     go e row (inl h) =
-        let x : count_at e row (with_rows spec t (fragments_of spec r stripes)) ≡ count_at e row (fragments_of spec r stripes) + hits spec t e row (edge_numbers spec) =
-        count-all_raised spec t (edge_numbers spec) (fragments_of spec r stripes) (AreCountedRows-fragments_of spec r stripes) e row in
-        let c : count_at e row (fragments_of spec r stripes) ≡ counted spec r e row = count-fragments_in spec r stripes e row h.0 h.1 in
-        let d : count_at e row (fragments_of spec (put tuple_cmp t r) stripes) ≡ counted spec (put tuple_cmp t r) e row = count-fragments_in spec (put tuple_cmp t r) stripes e row h.0 h.1 in
+        let x : count_at e row (with_rows spec t (rows_on spec r stripes)) ≡ count_at e row (rows_on spec r stripes) + hits spec t e row (edge_numbers spec) =
+        count-all_raised spec t (edge_numbers spec) (rows_on spec r stripes) (AreCountedRows-rows_on spec r stripes) e row in
+        let c : count_at e row (rows_on spec r stripes) ≡ counted spec r e row = count-fragments_in spec r stripes e row h.0 h.1 in
+        let d : count_at e row (rows_on spec (put tuple_cmp t r) stripes) ≡ counted spec (put tuple_cmp t r) e row = count-fragments_in spec (put tuple_cmp t r) stripes e row h.0 h.1 in
         let n : hits spec t e row (edge_numbers spec) ≡ cond (tuple_eq (row_in spec t e) row) 1 0 = hits_cond spec t e row h.0 in
         let m : counted spec (put tuple_cmp t r) e row ≡ cond (tuple_eq (row_in spec t e) row) 1 0 + counted spec r e row = put_count (λ u. tuple_eq (row_in spec u e) row) t r out in
         omega arith
     go e row (inr f) =
-        let x : count_at e row (with_rows spec t (fragments_of spec r stripes)) ≡ count_at e row (fragments_of spec r stripes) + hits spec t e row (edge_numbers spec) =
-        count-all_raised spec t (edge_numbers spec) (fragments_of spec r stripes) (AreCountedRows-fragments_of spec r stripes) e row in
-        let c : count_at e row (fragments_of spec r stripes) ≡ 0 = count-fragments_out spec r stripes e row f in
-        let d : count_at e row (fragments_of spec (put tuple_cmp t r) stripes) ≡ 0 = count-fragments_out spec (put tuple_cmp t r) stripes e row f in
+        let x : count_at e row (with_rows spec t (rows_on spec r stripes)) ≡ count_at e row (rows_on spec r stripes) + hits spec t e row (edge_numbers spec) =
+        count-all_raised spec t (edge_numbers spec) (rows_on spec r stripes) (AreCountedRows-rows_on spec r stripes) e row in
+        let c : count_at e row (rows_on spec r stripes) ≡ 0 = count-fragments_out spec r stripes e row f in
+        let d : count_at e row (rows_on spec (put tuple_cmp t r) stripes) ≡ 0 = count-fragments_out spec (put tuple_cmp t r) stripes e row f in
         let n : hits spec t e row (edge_numbers spec) ≡ 0 = no_hits spec stripes t e row a f in
         omega arith
 
 -- what a remove leaves on the stripes stripes
 pub without_rows-fragments : (spec : Spec) (r : List Pairs) (stripes : List ℕ) (t : Pairs) → IsRising tuple_cmp r → In t r → AllHeld spec stripes t
-    → without_rows spec t (fragments_of spec r stripes) ≡ fragments_of spec (without t r) stripes
+    → without_rows spec t (rows_on spec r stripes) ≡ rows_on spec (without t r) stripes
 without_rows-fragments spec r stripes t up inside a =
-    same_counts (without_rows spec t (fragments_of spec r stripes)) (fragments_of spec (without t r) stripes)
-    (AreCountedRows-all_lowered spec t (edge_numbers spec) (fragments_of spec r stripes) (AreCountedRows-fragments_of spec r stripes)) (AreCountedRows-fragments_of spec (without t r) stripes)
+    same_counts (without_rows spec t (rows_on spec r stripes)) (rows_on spec (without t r) stripes)
+    (AreCountedRows-all_lowered spec t (edge_numbers spec) (rows_on spec r stripes) (AreCountedRows-rows_on spec r stripes)) (AreCountedRows-rows_on spec (without t r) stripes)
     (λ e row. go e row (held_cases spec stripes e row))
   where
     go : (e : ℕ) (row : Pairs) → ((e < length spec.edges) × In (physical_stripe spec (class_of spec e) row) stripes) ⊎ (e < length spec.edges → In (physical_stripe spec (class_of spec e) row) stripes → ⊥)
-        → count_at e row (without_rows spec t (fragments_of spec r stripes)) ≡ count_at e row (fragments_of spec (without t r) stripes)
+        → count_at e row (without_rows spec t (rows_on spec r stripes)) ≡ count_at e row (rows_on spec (without t r) stripes)
     go e row (inl h) =
-        let x : count_at e row (without_rows spec t (fragments_of spec r stripes)) ≡ count_at e row (fragments_of spec r stripes) - hits spec t e row (edge_numbers spec) =
-        count-all_lowered spec t (edge_numbers spec) (fragments_of spec r stripes) (AreCountedRows-fragments_of spec r stripes) e row in
-        let c : count_at e row (fragments_of spec r stripes) ≡ counted spec r e row = count-fragments_in spec r stripes e row h.0 h.1 in
-        let d : count_at e row (fragments_of spec (without t r) stripes) ≡ counted spec (without t r) e row = count-fragments_in spec (without t r) stripes e row h.0 h.1 in
+        let x : count_at e row (without_rows spec t (rows_on spec r stripes)) ≡ count_at e row (rows_on spec r stripes) - hits spec t e row (edge_numbers spec) =
+        count-all_lowered spec t (edge_numbers spec) (rows_on spec r stripes) (AreCountedRows-rows_on spec r stripes) e row in
+        let c : count_at e row (rows_on spec r stripes) ≡ counted spec r e row = count-fragments_in spec r stripes e row h.0 h.1 in
+        let d : count_at e row (rows_on spec (without t r) stripes) ≡ counted spec (without t r) e row = count-fragments_in spec (without t r) stripes e row h.0 h.1 in
         let n : hits spec t e row (edge_numbers spec) ≡ cond (tuple_eq (row_in spec t e) row) 1 0 = hits_cond spec t e row h.0 in
         let m : counted spec r e row ≡ cond (tuple_eq (row_in spec t e) row) 1 0 + counted spec (without t r) e row = without_count (λ u. tuple_eq (row_in spec u e) row) t r up inside in
         omega arith
     go e row (inr f) =
-        let x : count_at e row (without_rows spec t (fragments_of spec r stripes)) ≡ count_at e row (fragments_of spec r stripes) - hits spec t e row (edge_numbers spec) =
-        count-all_lowered spec t (edge_numbers spec) (fragments_of spec r stripes) (AreCountedRows-fragments_of spec r stripes) e row in
-        let c : count_at e row (fragments_of spec r stripes) ≡ 0 = count-fragments_out spec r stripes e row f in
-        let d : count_at e row (fragments_of spec (without t r) stripes) ≡ 0 = count-fragments_out spec (without t r) stripes e row f in
+        let x : count_at e row (without_rows spec t (rows_on spec r stripes)) ≡ count_at e row (rows_on spec r stripes) - hits spec t e row (edge_numbers spec) =
+        count-all_lowered spec t (edge_numbers spec) (rows_on spec r stripes) (AreCountedRows-rows_on spec r stripes) e row in
+        let c : count_at e row (rows_on spec r stripes) ≡ 0 = count-fragments_out spec r stripes e row f in
+        let d : count_at e row (rows_on spec (without t r) stripes) ≡ 0 = count-fragments_out spec (without t r) stripes e row f in
         omega arith
 
 -- a stripe on which no row of the tuple falls keeps its rows
@@ -429,7 +429,7 @@ apart_here spec ns p t e row a out l h = go (tuple_eq (row_in spec t e) row) ref
 fragment_same : (spec : Spec) (r r' : List Pairs) (p : ℕ) → ((e : ℕ) (row : Pairs) → e < length spec.edges → In (physical_stripe spec (class_of spec e) row) (p ∷ []) → counted spec r' e row ≡ counted spec r e row)
     → fragment_of spec r' p ≡ fragment_of spec r p
 fragment_same spec r r' p f =
-    same_counts (fragments_of spec r' (p ∷ [])) (fragments_of spec r (p ∷ [])) (AreCountedRows-fragments_of spec r' (p ∷ [])) (AreCountedRows-fragments_of spec r (p ∷ []))
+    same_counts (rows_on spec r' (p ∷ [])) (rows_on spec r (p ∷ [])) (AreCountedRows-rows_on spec r' (p ∷ [])) (AreCountedRows-rows_on spec r (p ∷ []))
     (λ e row. elim (held_cases spec (p ∷ []) e row) [
       | inl h ↦ count-fragments_in spec r' (p ∷ []) e row h.0 h.1 ∙ f e row h.0 h.1 ∙ sym (count-fragments_in spec r (p ∷ []) e row h.0 h.1)
       | inr g ↦ count-fragments_out spec r' (p ∷ []) e row g ∙ sym (count-fragments_out spec r (p ∷ []) e row g)
@@ -479,13 +479,13 @@ not_without t r m =
 
 -- the rows of an inserted tuple taken out
 pub without_rows-with : (spec : Spec) (r : List Pairs) (stripes : List ℕ) (t : Pairs) → IsRising tuple_cmp r → (In t r → ⊥) → AllHeld spec stripes t
-    → without_rows spec t (fragments_of spec (put tuple_cmp t r) stripes) ≡ fragments_of spec r stripes
+    → without_rows spec t (rows_on spec (put tuple_cmp t r) stripes) ≡ rows_on spec r stripes
 without_rows-with spec r stripes t up out a =
     without_rows-fragments spec (put tuple_cmp t r) stripes t (rising_put tuple_cmp tuple_order t r up) (put_new tuple_cmp tuple_order t r) a
-    ∙ ap (λ z. fragments_of spec z stripes) (without_put t r up out)
+    ∙ ap (λ z. rows_on spec z stripes) (without_put t r up out)
 
 -- those of a removed tuple put back
 pub with_rows-without : (spec : Spec) (r : List Pairs) (stripes : List ℕ) (t : Pairs) → IsRising tuple_cmp r → In t r → AllHeld spec stripes t
-    → with_rows spec t (fragments_of spec (without t r) stripes) ≡ fragments_of spec r stripes
+    → with_rows spec t (rows_on spec (without t r) stripes) ≡ rows_on spec r stripes
 with_rows-without spec r stripes t up inside a =
-    with_rows-fragments spec (without t r) stripes t (not_without t r) a ∙ ap (λ z. fragments_of spec z stripes) (put_without t r up inside)
+    with_rows-fragments spec (without t r) stripes t (not_without t r) a ∙ ap (λ z. rows_on spec z stripes) (put_without t r up inside)

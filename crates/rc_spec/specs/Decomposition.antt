@@ -25,6 +25,10 @@ no_edge = record { name = []; from = 0; to = 0; kind = Singleton; key = [] }
 abbrev pub edge_at : Spec → ℕ → Edge
 edge_at spec e = get_or spec.edges e no_edge
 
+-- the columns that an edge's target binds
+abbrev pub target_columns : Spec → ℕ → List ℕ
+target_columns spec e = bound spec (edge_at spec e).to
+
 -- the columns by which a row of an edge is found: those of its source, and its key
 abbrev pub source_and_key : Spec → Edge → List ℕ
 source_and_key spec e = union (bound spec e.from) e.key

@@ -53,12 +53,12 @@ abbrev pub on_stripes : Spec → List ℕ → List EdgeRow → List EdgeRow
 on_stripes spec stripes rows = filter (λ row. has stripes (row_stripe spec row)) rows
 
 -- the rows of all contents that fall on the stripes
-abbrev pub fragments_of : Spec → List Pairs → List ℕ → List EdgeRow
-fragments_of spec r stripes = on_stripes spec stripes (all_rows spec r)
+abbrev pub rows_on : Spec → List Pairs → List ℕ → List EdgeRow
+rows_on spec r stripes = on_stripes spec stripes (all_rows spec r)
 
 -- the fragment of one stripe
 abbrev pub fragment_of : Spec → List Pairs → ℕ → List EdgeRow
-fragment_of spec r stripe = fragments_of spec r (stripe ∷ [])
+fragment_of spec r stripe = rows_on spec r (stripe ∷ [])
 
 -- the numbers of all stripes
 abbrev pub all_stripes : Spec → List ℕ

@@ -16,7 +16,7 @@ use Rattle.rc_spec.specs.declared.spec.Spec.{Spec}
 use Rattle.rc_spec.specs.Contents.{CountedTuple, projections, how_many, content}
 use Rattle.rc_spec.specs.ContentsLaws.{rows_represent}
 use Rattle.rc_spec.specs.Decomposition.{bound, edge_at}
-use Rattle.rc_spec.specs.Fragments.{EdgeRow, edge_row_cmp, edge_numbers, numbered_rows, all_rows, tuples_of_edge, row_stripe, fragments_of, fragment_of, all_stripes}
+use Rattle.rc_spec.specs.Fragments.{EdgeRow, edge_row_cmp, edge_numbers, numbered_rows, all_rows, tuples_of_edge, row_stripe, rows_on, fragment_of, all_stripes}
 use Rattle.rc_spec.specs.HeathLaws.{AreProjections}
 use Rattle.rc_spec.specs.InRange.{IsInRange}
 use Rattle.rc_spec.specs.Laws.{EmptyHasNoRows, StripesHoldAll, FragmentsAreParts, FragmentsArePieces, InstancesRepresent}
@@ -107,15 +107,15 @@ AreProjections-rows spec r ws only each e l = record {
 
 -- ---- fragments by their members
 
-pub in_fragments : (spec : Spec) (r : List Pairs) (stripes : List ℕ) (w : EdgeRow) → In w (fragments_of spec r stripes) → In w (all_rows spec r) × In (row_stripe spec w) stripes
+pub in_fragments : (spec : Spec) (r : List Pairs) (stripes : List ℕ) (w : EdgeRow) → In w (rows_on spec r stripes) → In w (all_rows spec r) × In (row_stripe spec w) stripes
 in_fragments spec r stripes w h =
     let f : In w (all_rows spec r) × (has stripes (row_stripe spec w) ≡ true) = in_filter (λ (v : EdgeRow). has stripes (row_stripe spec v)) w (all_rows spec r) h in
     (f.0, in_has stripes (row_stripe spec w) f.1)
 
-pub fragments_in : (spec : Spec) (r : List Pairs) (stripes : List ℕ) (w : EdgeRow) → In w (all_rows spec r) → In (row_stripe spec w) stripes → In w (fragments_of spec r stripes)
+pub fragments_in : (spec : Spec) (r : List Pairs) (stripes : List ℕ) (w : EdgeRow) → In w (all_rows spec r) → In (row_stripe spec w) stripes → In w (rows_on spec r stripes)
 fragments_in spec r stripes w h k = filter_in (λ (v : EdgeRow). has stripes (row_stripe spec v)) w (all_rows spec r) h (has_in stripes (row_stripe spec w) k)
 
-pub rising_fragments : (spec : Spec) (r : List Pairs) (stripes : List ℕ) → IsRising edge_row_cmp (fragments_of spec r stripes)
+pub rising_fragments : (spec : Spec) (r : List Pairs) (stripes : List ℕ) → IsRising edge_row_cmp (rows_on spec r stripes)
 rising_fragments spec r stripes = rising_filter edge_row_cmp (λ (v : EdgeRow). has stripes (row_stripe spec v)) (all_rows spec r) (rising_all_rows spec r)
 
 -- the rows of several fragments, one after the other
@@ -138,7 +138,7 @@ row_stripe_known spec range placed r w h =
 
 pub parts_law : FragmentsAreParts
 parts_law spec r stripes =
-    same_rising edge_row_cmp edge_row_order (gather edge_row_cmp (flat_map (fragment_of spec r) stripes)) (fragments_of spec r stripes)
+    same_rising edge_row_cmp edge_row_order (gather edge_row_cmp (flat_map (fragment_of spec r) stripes)) (rows_on spec r stripes)
     (rising_gather edge_row_cmp edge_row_order (flat_map (fragment_of spec r) stripes)) (rising_fragments spec r stripes)
     (λ w h.
     let q : In w (all_rows spec r) × In (row_stripe spec w) stripes = in_each_fragment spec r stripes w (in_gather edge_row_cmp edge_row_order w (flat_map (fragment_of spec r) stripes) h) in
@@ -154,7 +154,7 @@ pieces_law spec r stripes p m =
 
 pub stripes_law : StripesHoldAll
 stripes_law spec range placed r =
-    same_rising edge_row_cmp edge_row_order (fragments_of spec r (all_stripes spec)) (all_rows spec r) (rising_fragments spec r (all_stripes spec)) (rising_all_rows spec r)
+    same_rising edge_row_cmp edge_row_order (rows_on spec r (all_stripes spec)) (all_rows spec r) (rising_fragments spec r (all_stripes spec)) (rising_all_rows spec r)
     (λ w h. (in_fragments spec r (all_stripes spec) w h).0)
     (λ w h. fragments_in spec r (all_stripes spec) w h (row_stripe_known spec range placed r w h))
 

@@ -10,7 +10,7 @@ use Rattle.rc_spec.specs.Adequacy.{IsAdequate}
 use Rattle.rc_spec.specs.Calls.{all_columns}
 use Rattle.rc_spec.specs.Contents.{contents, represented}
 use Rattle.rc_spec.specs.Decomposition.{bound, edge_at}
-use Rattle.rc_spec.specs.Fragments.{edge_row_cmp, all_rows, represented_by, row_stripe, on_stripes, fragments_of, fragment_of, all_stripes}
+use Rattle.rc_spec.specs.Fragments.{edge_row_cmp, all_rows, represented_by, row_stripe, on_stripes, rows_on, fragment_of, all_stripes}
 use Rattle.rc_spec.specs.InRange.{IsInRange, HasColumnAndNode}
 use Rattle.rc_spec.specs.Placement.{class_at, class_of, IsPlaced}
 use Rattle.rc_spec.specs.Stripes.{physical_stripe}
@@ -40,15 +40,15 @@ RowsFallWithTuples = (spec : Spec) → IsAdequate spec → IsPlaced spec → (e 
 
 -- each row falls on a stripe, so the fragments of all stripes together are all rows
 abbrev pub StripesHoldAll : Type 0
-StripesHoldAll = (spec : Spec) → IsInRange spec → IsPlaced spec → (r : List Pairs) → fragments_of spec r (all_stripes spec) ≡ all_rows spec r
+StripesHoldAll = (spec : Spec) → IsInRange spec → IsPlaced spec → (r : List Pairs) → rows_on spec r (all_stripes spec) ≡ all_rows spec r
 
 -- the fragments of several stripes are those of each, put together
 abbrev pub FragmentsAreParts : Type 0
-FragmentsAreParts = (spec : Spec) (r : List Pairs) (stripes : List ℕ) → gather edge_row_cmp (flat_map (fragment_of spec r) stripes) ≡ fragments_of spec r stripes
+FragmentsAreParts = (spec : Spec) (r : List Pairs) (stripes : List ℕ) → gather edge_row_cmp (flat_map (fragment_of spec r) stripes) ≡ rows_on spec r stripes
 
 -- of the fragments of several stripes, the rows on one of them are its fragment
 abbrev pub FragmentsArePieces : Type 0
-FragmentsArePieces = (spec : Spec) (r : List Pairs) (stripes : List ℕ) (stripe : ℕ) → In stripe stripes → on_stripes spec (stripe ∷ []) (fragments_of spec r stripes) ≡ fragment_of spec r stripe
+FragmentsArePieces = (spec : Spec) (r : List Pairs) (stripes : List ℕ) (stripe : ℕ) → In stripe stripes → on_stripes spec (stripe ∷ []) (rows_on spec r stripes) ≡ fragment_of spec r stripe
 
 -- the rows of the fragments of all stripes, one fragment after the other, represent the relation
 abbrev pub InstancesRepresent : Type 0

@@ -19,13 +19,13 @@ use Rattle.rc_work.specs.declared.raw.Draft.{Draft}
 use Rattle.rc_work.specs.RawTurnsLaws.{length-onto_last, sum_by-onto_last, each_push, each_onto_last}
 use Rattle.rc_work.specs.LineForms.{FormText, round_line, end_line, call_line, words_read, form_of}
 use Rattle.rc_work.specs.LineRules.{turn_of, with_line}
-use Rattle.rc_work.specs.LineRulesLaws.{IsTaken, taken, turn_of-thread, IsRawTurn-turn_of}
+use Rattle.rc_work.specs.LineRulesLaws.{IsWorkLineTaken, taken, turn_of-thread, IsRawTurn-turn_of}
 use Rattle.rc_work.specs.WorkGrammar.{after_form_of, after_words, after_bytes, broken_at, reading_after, reading_from, threads_by, threads_at, threads_of_words, threads_of_read, threads_of, Headed, headed_by, headed, draft_of, reading_behind, reading_all}
 use Rattle.rc_work.specs.Drafts.{IsRawTurn, IsDraft}
 
 -- ---- a line
 
-IsDraft-with_line : (spec : Spec) (draft : Draft) (form : FormText) (next : Draft) → IsDraft spec draft → IsTaken spec draft form next → IsDraft spec (with_line spec draft form)
+IsDraft-with_line : (spec : Spec) (draft : Draft) (form : FormText) (next : Draft) → IsDraft spec draft → IsWorkLineTaken spec draft form next → IsDraft spec (with_line spec draft form)
 IsDraft-with_line spec draft round_line next is line = record {
   some_thread = is.some_thread;
   few_threads = is.few_threads;

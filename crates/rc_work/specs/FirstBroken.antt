@@ -15,7 +15,7 @@ AreTaken spec draft [] next = draft ≡ next
 AreTaken spec draft (line ∷ lines) next = (between : Draft) × (after_bytes spec draft line.bytes ≡ Ok between) × AreTaken spec between lines next
 
 -- the first line that breaks a rule: those before it are taken
-pub record IsFirstBroken (spec : Spec) (draft : Draft) (lines : List ContentLine) (broken : Broken) : Type 0 where
+pub record IsFirstBrokenWorkLine (spec : Spec) (draft : Draft) (lines : List ContentLine) (broken : Broken) : Type 0 where
   pub front : List ContentLine
   pub line : ContentLine
   pub others : List ContentLine
@@ -43,7 +43,7 @@ pub record AreWhole (spec : Spec) (draft : Draft) (lines : List ContentLine) (wo
 -- what the lines behind the header mean
 abbrev pub LinesMean : ℕ → Spec → Draft → List ContentLine → Result Work Broken → Type 0
 LinesMean past_end spec draft lines (Ok work) = AreWhole spec draft lines work
-LinesMean past_end spec draft lines (Err broken) = IsFirstBroken spec draft lines broken ⊎ RunsOut past_end spec draft lines broken
+LinesMean past_end spec draft lines (Err broken) = IsFirstBrokenWorkLine spec draft lines broken ⊎ RunsOut past_end spec draft lines broken
 
 -- what all lines mean: the first is the header
 abbrev pub ContentMeans : ℕ → Spec → List ContentLine → Result Work Broken → Type 0

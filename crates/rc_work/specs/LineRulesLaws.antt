@@ -33,7 +33,7 @@ unrefused : {X : Type 0} (b : Bool) (rule : LineRule) (gives : Result X LineRule
 unrefused true rule gives next e = absurd cc
 unrefused false rule gives next e = (refl, e)
 
-pub record IsTaken (spec : Spec) (draft : Draft) (form : FormText) (next : Draft) : Type 0 where
+pub record IsWorkLineTaken (spec : Spec) (draft : Draft) (form : FormText) (next : Draft) : Type 0 where
   pub range : breaks_range draft form ≡ false
   pub limit : breaks_limit draft form ≡ false
   pub order : breaks_order draft form ≡ false
@@ -42,7 +42,7 @@ pub record IsTaken (spec : Spec) (draft : Draft) (form : FormText) (next : Draft
   pub kinds : breaks_kinds spec form ≡ false
   pub value : with_line spec draft form ≡ next
 
-pub taken : (spec : Spec) (draft : Draft) (form : FormText) (next : Draft) → after_form spec draft form ≡ Ok next → IsTaken spec draft form next
+pub taken : (spec : Spec) (draft : Draft) (form : FormText) (next : Draft) → after_form spec draft form ≡ Ok next → IsWorkLineTaken spec draft form next
 taken spec draft form next e =
     let kinds_test = cond (breaks_kinds spec form) (Err W3) (ok (with_line spec draft form)) in
     let count_test = cond (breaks_count spec form) (Err W2) kinds_test in
@@ -91,7 +91,7 @@ thread_below threads (Ok number) e =
     ] refl e
 
 -- the thread of a call is below their number
-pub turn_of-thread : (spec : Spec) (draft : Draft) (thread op : List ℕ) (values : List WordText) (next : Draft) → IsTaken spec draft (call_line thread op values) next → (turn_of spec draft thread op values).thread < draft.threads
+pub turn_of-thread : (spec : Spec) (draft : Draft) (thread op : List ℕ) (values : List WordText) (next : Draft) → IsWorkLineTaken spec draft (call_line thread op values) next → (turn_of spec draft thread op values).thread < draft.threads
 turn_of-thread spec draft thread op values next is =
     thread_below draft.threads (u64_of thread) (or_parts (is_none (thread_of draft.threads thread)) (list_any is_too_large values) is.range).0
 
@@ -108,7 +108,7 @@ known_turn spec draft thread op values (Some n) is known range count kinds =
     }
 
 -- the turn of a call is right
-pub IsRawTurn-turn_of : (spec : Spec) (draft : Draft) (thread op : List ℕ) (values : List WordText) (next : Draft) → IsTaken spec draft (call_line thread op values) next → IsRawTurn spec (turn_of spec draft thread op values)
+pub IsRawTurn-turn_of : (spec : Spec) (draft : Draft) (thread op : List ℕ) (values : List WordText) (next : Draft) → IsWorkLineTaken spec draft (call_line thread op values) next → IsRawTurn spec (turn_of spec draft thread op values)
 IsRawTurn-turn_of spec draft thread op values next is =
     known_turn spec draft thread op values (op_number spec op) refl is.operation
     (or_parts (is_none (thread_of draft.threads thread)) (list_any is_too_large values) is.range).1

@@ -4,7 +4,7 @@ use Rattle.rc_text.specs.Lines.{printed_lines}
 use Rattle.rc_io.specs.Bytes.{Adds, AddsPrefix}
 use Rattle.rc_spec.specs.declared.spec.Spec.{Spec}
 use Rattle.rc_instance.specs.Instance.{IsOfRelation}
-use Rattle.rc_plan.specs.Compiled.{PlannedSpec}
+use Rattle.rc_plan.specs.Compiled.{SpecWithPlans}
 use Rattle.rc_rel.specs.History.{replay}
 use Rattle.rc_work.specs.Report.{report}
 use Rattle.rc_answer.specs.Answers.{IsReport}
@@ -17,7 +17,7 @@ pub returns-in_err-write_plans-clause-written : goal.returns-in_err-write_plans-
 returns-in_err-write_plans-clause-written g c =
     let accepted = c.args.accepted in
     let work = c.args.work.now in
-    let made : PlannedSpec = c.in_ok-compiled.compiled in
+    let made : SpecWithPlans = c.in_ok-compiled.compiled in
     let history = c.in_ok-ran.ran.journal.items in
     let rows : List Pairs = c.in_ok-rows.rows in
     let planned : ArePlanned accepted made.plans =
@@ -36,7 +36,7 @@ pub returns-in_err-write_report-clause-written : goal.returns-in_err-write_repor
 returns-in_err-write_report-clause-written g c =
     let accepted = c.args.accepted in
     let work = c.args.work.now in
-    let made : PlannedSpec = c.in_ok-compiled.compiled in
+    let made : SpecWithPlans = c.in_ok-compiled.compiled in
     let history = c.in_ok-ran.ran.journal.items in
     let rows : List Pairs = c.in_ok-rows.rows in
     let planned : ArePlanned accepted made.plans =
@@ -58,7 +58,7 @@ pub returns-clause-written : goal.returns-clause-written
 returns-clause-written g c =
     let accepted = c.args.accepted in
     let work = c.args.work.now in
-    let made : PlannedSpec = c.in_ok-compiled.compiled in
+    let made : SpecWithPlans = c.in_ok-compiled.compiled in
     let history = c.in_ok-ran.ran.journal.items in
     let rows : List Pairs = c.in_ok-rows.rows in
     let planned : ArePlanned accepted made.plans =

@@ -11,7 +11,7 @@ use Rattle.rc_spec.specs.Placement.{op_at}
 use Rattle.rc_plan.specs.declared.refusal.PlanRefusal.{PlanRefusal}
 use Rattle.rc_plan.specs.declared.refusal.PlanRule.TheVariants.{K1}
 use Rattle.rc_plan.specs.declared.statement.Statement.{Statement}
-use Rattle.rc_plan.specs.PlanRules.{IsComplete, IsKept, IsKnown, after, at_start, check_at, checks_at, plan_checks, progress_at}
+use Rattle.rc_plan.specs.PlanRules.{IsComplete, IsKeptInPlan, IsKnown, after, at_start, check_at, checks_at, plan_checks, progress_at}
 use Rattle.rc_plan.specs.PlanRulesLaws.{progress_more}
 use Rattle.rc_check.specs.Sets.{sets_of}
 use Rattle.rc_check.proofs.JudgeLemmas.{err_judged, judged_end, known_at, ok_judged, op_found, op_known, refused_statement}
@@ -32,9 +32,9 @@ returns-in_err-check_statement c =
     let n : ℕ = c.loop-at.at in
     let below : n < length plan = omega (arith, c.loop-at-test.true, ap (λ (l : List Statement). length l) c.list-statements.ensures) in
     let answer = err_from_is_err_and c.from_residual.result c.from_residual.ensures.1 in
-    let judged : Judges (IsKept spec op plan) (plan_checks plan) c.from_residual.result =
+    let judged : Judges (IsKeptInPlan spec op plan) (plan_checks plan) c.from_residual.result =
     refused_statement spec op plan n c.from_residual.result answer.0 below c.loop-at.invariant.kept answer.1
-    (subst (λ (y : PlanRefusal). Judges {B = Unit {0}} (IsKept spec op plan) (checks_at n) (Err y)) (sym answer.2) c.in_err-check_statement.ensures) in
+    (subst (λ (y : PlanRefusal). Judges {B = Unit {0}} (IsKeptInPlan spec op plan) (checks_at n) (Err y)) (sym answer.2) c.in_err-check_statement.ensures) in
     record { accepted = ok_judged spec op plan c.from_residual.result judged; first = err_judged spec op plan c.from_residual.result judged }
 
 pub after-known-requires-clause-known : goal.after-known-requires-clause-known
@@ -62,7 +62,7 @@ loop-at-preserved c =
           c.after-known.ensures (progress_at spec op plan n) c.loop-at.invariant.known
           ∙ ap (λ (s : Spec). sets_of (after s (progress_at spec op plan n) x)) c.spec-spec.ensures.value
           ∙ ap sets_of (sym (progress_more spec (at_start spec op) plan n x there));
-      kept = below_more (λ k. EachHolds (IsKept spec op plan) (checks_at k)) n c.loop-at.invariant.kept c.in_ok-check_statement.ensures;
+      kept = below_more (λ k. EachHolds (IsKeptInPlan spec op plan) (checks_at k)) n c.loop-at.invariant.kept c.in_ok-check_statement.ensures;
     }
 
 pub returns : goal.returns
@@ -75,6 +75,6 @@ returns c =
     let end : n ≡ length plan = omega arith in
     let complete = subst (λ k. (c.is_complete.result ≡ true) ↔ IsComplete (progress_at spec op plan k)) end (c.is_complete.ensures (progress_at spec op plan n) c.loop-at.invariant.known) in
     let refusal = subst (λ k. IfErr c.unless.result (λ (y : PlanRefusal). y ≡ check_at k K1)) all c.unless.ensures.refusal in
-    let judged : Judges (IsKept spec op plan) (plan_checks plan) c.unless.result =
+    let judged : Judges (IsKeptInPlan spec op plan) (plan_checks plan) c.unless.result =
     judged_end spec op plan c.unless.result c.is_complete.result (λ k l. c.loop-at.invariant.kept k (omega arith)) complete c.unless.ensures.ok refusal in
     record { accepted = ok_judged spec op plan c.unless.result judged; first = err_judged spec op plan c.unless.result judged }

@@ -10,7 +10,7 @@ use Rattle.rc_spec.specs.Placement.{op_at}
 use Rattle.rc_plan.specs.declared.refusal.PlanRefusal.{PlanRefusal}
 use Rattle.rc_plan.specs.declared.refusal.PlanRule.TheVariants.{K1, K2, K3, K4, K5, K6, K7}
 use Rattle.rc_plan.specs.declared.statement.Statement.{Statement}
-use Rattle.rc_plan.specs.PlanRules.{IsKept, IsKnown, check_at, progress_at}
+use Rattle.rc_plan.specs.PlanRules.{IsKeptInPlan, IsKnown, check_at, progress_at}
 use Rattle.rc_check.proofs.JudgeLemmas.{known_at, op_found, op_known, refused_behind, rule_kept}
 use Rattle.rc_check.proofs.check.check_statement.Goals as goal
 
@@ -71,7 +71,7 @@ returns-in_err-unless c =
     let op : Op = op_at spec c.args.number in
     let same : c.index-list-number.result ≡ op =
     sym (op_found spec c.spec-spec.result.now c.list.result.now c.args.number c.index-list-number.result c.spec-spec.ensures.value c.list.ensures c.requires.operation c.index-list-number.is) in
-    let P : PlanRefusal → Type 0 = IsKept spec op plan in
+    let P : PlanRefusal → Type 0 = IsKeptInPlan spec op plan in
     let p = progress_at spec op plan n in
     let kept1 : (c.keeps_k1.result ≡ true) ↔ P (check_at n K1) = rule_kept spec c.spec-spec.result.now op c.index-list-number.result plan n x K1 c.keeps_k1.result c.spec-spec.ensures.value same there (c.keeps_k1.ensures p c.requires.before) in
     let answer = err_from_is_err_and c.from_residual.result c.from_residual.ensures.1 in
@@ -89,7 +89,7 @@ returns-in_err-unless-2 c =
     let op : Op = op_at spec c.args.number in
     let same : c.index-list-number.result ≡ op =
     sym (op_found spec c.spec-spec.result.now c.list.result.now c.args.number c.index-list-number.result c.spec-spec.ensures.value c.list.ensures c.requires.operation c.index-list-number.is) in
-    let P : PlanRefusal → Type 0 = IsKept spec op plan in
+    let P : PlanRefusal → Type 0 = IsKeptInPlan spec op plan in
     let p = progress_at spec op plan n in
     let kept1 : (c.keeps_k1.result ≡ true) ↔ P (check_at n K1) = rule_kept spec c.spec-spec.result.now op c.index-list-number.result plan n x K1 c.keeps_k1.result c.spec-spec.ensures.value same there (c.keeps_k1.ensures p c.requires.before) in
     let kept2 : (c.keeps_k2.result ≡ true) ↔ P (check_at n K2) = rule_kept spec c.spec-spec.result.now op c.index-list-number.result plan n x K2 c.keeps_k2.result c.spec-spec.ensures.value same there (c.keeps_k2.ensures p c.requires.before) in
@@ -108,7 +108,7 @@ returns-in_err-unless-3 c =
     let op : Op = op_at spec c.args.number in
     let same : c.index-list-number.result ≡ op =
     sym (op_found spec c.spec-spec.result.now c.list.result.now c.args.number c.index-list-number.result c.spec-spec.ensures.value c.list.ensures c.requires.operation c.index-list-number.is) in
-    let P : PlanRefusal → Type 0 = IsKept spec op plan in
+    let P : PlanRefusal → Type 0 = IsKeptInPlan spec op plan in
     let p = progress_at spec op plan n in
     let kept1 : (c.keeps_k1.result ≡ true) ↔ P (check_at n K1) = rule_kept spec c.spec-spec.result.now op c.index-list-number.result plan n x K1 c.keeps_k1.result c.spec-spec.ensures.value same there (c.keeps_k1.ensures p c.requires.before) in
     let kept2 : (c.keeps_k2.result ≡ true) ↔ P (check_at n K2) = rule_kept spec c.spec-spec.result.now op c.index-list-number.result plan n x K2 c.keeps_k2.result c.spec-spec.ensures.value same there (c.keeps_k2.ensures p c.requires.before) in
@@ -128,7 +128,7 @@ returns-in_err-unless-4 c =
     let op : Op = op_at spec c.args.number in
     let same : c.index-list-number.result ≡ op =
     sym (op_found spec c.spec-spec.result.now c.list.result.now c.args.number c.index-list-number.result c.spec-spec.ensures.value c.list.ensures c.requires.operation c.index-list-number.is) in
-    let P : PlanRefusal → Type 0 = IsKept spec op plan in
+    let P : PlanRefusal → Type 0 = IsKeptInPlan spec op plan in
     let p = progress_at spec op plan n in
     let kept1 : (c.keeps_k1.result ≡ true) ↔ P (check_at n K1) = rule_kept spec c.spec-spec.result.now op c.index-list-number.result plan n x K1 c.keeps_k1.result c.spec-spec.ensures.value same there (c.keeps_k1.ensures p c.requires.before) in
     let kept2 : (c.keeps_k2.result ≡ true) ↔ P (check_at n K2) = rule_kept spec c.spec-spec.result.now op c.index-list-number.result plan n x K2 c.keeps_k2.result c.spec-spec.ensures.value same there (c.keeps_k2.ensures p c.requires.before) in
@@ -149,7 +149,7 @@ returns-in_err-unless-5 c =
     let op : Op = op_at spec c.args.number in
     let same : c.index-list-number.result ≡ op =
     sym (op_found spec c.spec-spec.result.now c.list.result.now c.args.number c.index-list-number.result c.spec-spec.ensures.value c.list.ensures c.requires.operation c.index-list-number.is) in
-    let P : PlanRefusal → Type 0 = IsKept spec op plan in
+    let P : PlanRefusal → Type 0 = IsKeptInPlan spec op plan in
     let p = progress_at spec op plan n in
     let kept1 : (c.keeps_k1.result ≡ true) ↔ P (check_at n K1) = rule_kept spec c.spec-spec.result.now op c.index-list-number.result plan n x K1 c.keeps_k1.result c.spec-spec.ensures.value same there (c.keeps_k1.ensures p c.requires.before) in
     let kept2 : (c.keeps_k2.result ≡ true) ↔ P (check_at n K2) = rule_kept spec c.spec-spec.result.now op c.index-list-number.result plan n x K2 c.keeps_k2.result c.spec-spec.ensures.value same there (c.keeps_k2.ensures p c.requires.before) in
@@ -171,7 +171,7 @@ returns-in_err-unless-6 c =
     let op : Op = op_at spec c.args.number in
     let same : c.index-list-number.result ≡ op =
     sym (op_found spec c.spec-spec.result.now c.list.result.now c.args.number c.index-list-number.result c.spec-spec.ensures.value c.list.ensures c.requires.operation c.index-list-number.is) in
-    let P : PlanRefusal → Type 0 = IsKept spec op plan in
+    let P : PlanRefusal → Type 0 = IsKeptInPlan spec op plan in
     let p = progress_at spec op plan n in
     let kept1 : (c.keeps_k1.result ≡ true) ↔ P (check_at n K1) = rule_kept spec c.spec-spec.result.now op c.index-list-number.result plan n x K1 c.keeps_k1.result c.spec-spec.ensures.value same there (c.keeps_k1.ensures p c.requires.before) in
     let kept2 : (c.keeps_k2.result ≡ true) ↔ P (check_at n K2) = rule_kept spec c.spec-spec.result.now op c.index-list-number.result plan n x K2 c.keeps_k2.result c.spec-spec.ensures.value same there (c.keeps_k2.ensures p c.requires.before) in
@@ -194,7 +194,7 @@ returns c =
     let op : Op = op_at spec c.args.number in
     let same : c.index-list-number.result ≡ op =
     sym (op_found spec c.spec-spec.result.now c.list.result.now c.args.number c.index-list-number.result c.spec-spec.ensures.value c.list.ensures c.requires.operation c.index-list-number.is) in
-    let P : PlanRefusal → Type 0 = IsKept spec op plan in
+    let P : PlanRefusal → Type 0 = IsKeptInPlan spec op plan in
     let p = progress_at spec op plan n in
     let kept1 : (c.keeps_k1.result ≡ true) ↔ P (check_at n K1) = rule_kept spec c.spec-spec.result.now op c.index-list-number.result plan n x K1 c.keeps_k1.result c.spec-spec.ensures.value same there (c.keeps_k1.ensures p c.requires.before) in
     let kept2 : (c.keeps_k2.result ≡ true) ↔ P (check_at n K2) = rule_kept spec c.spec-spec.result.now op c.index-list-number.result plan n x K2 c.keeps_k2.result c.spec-spec.ensures.value same there (c.keeps_k2.ensures p c.requires.before) in

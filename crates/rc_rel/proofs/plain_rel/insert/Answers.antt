@@ -5,7 +5,7 @@ use Rattle.rc_tuple.specs.declared.dep.Dep.{Dep}
 use Rattle.rc_spec.specs.declared.call.Reply.TheVariants.{Inserted}
 use Rattle.rc_spec.specs.Plain.{Outcome, first_broken_dependency}
 use Rattle.rc_spec.specs.PlainLaws.{insert-present, insert-absent}
-use Rattle.rc_rel.specs.Kept.{IsKept}
+use Rattle.rc_rel.specs.KnownDeps.{IsKnownToSatisfy}
 use Rattle.rc_rel.proofs.ChangeLemmas.{agreement_found, kept_with, kept_without}
 use Rattle.rc_rel.proofs.plain_rel.insert.Goals as goal
 
@@ -29,8 +29,8 @@ pub returns-in_err-put_tuple-clause-kept : goal.returns-in_err-put_tuple-clause-
 returns-in_err-put_tuple-clause-kept c =
     let none : first_broken_dependency 1 c.args.deps.now (put tuple_cmp c.args.args.now c.args.tuples.now.items) ≡ None =
     ap (λ (l : List Pairs). first_broken_dependency 1 c.args.deps.now (put tuple_cmp c.args.args.now l)) (sym c.deref-3.ensures.value) ∙ sym c.in_default.ensures in
-    subst (λ (l : List Dep). IsKept c.put_tuple.new.tuples.items l) (sym c.in_ok-remember.ensures.ok)
-    (subst (λ (l : List Pairs). IsKept l c.args.deps.now) (sym c.in_err-put_tuple.ensures.err)
+    subst (λ (l : List Dep). IsKnownToSatisfy c.put_tuple.new.tuples.items l) (sym c.in_ok-remember.ensures.ok)
+    (subst (λ (l : List Pairs). IsKnownToSatisfy l c.args.deps.now) (sym c.in_err-put_tuple.ensures.err)
     (kept_without c.args.deps.now c.args.args.now c.args.tuples.now.items c.requires.kept.rising none))
 
 pub returns-clause-ok : goal.returns-clause-ok
@@ -47,7 +47,7 @@ pub returns-clause-kept : goal.returns-clause-kept
 returns-clause-kept c =
     let none : first_broken_dependency 1 c.args.deps.now (put tuple_cmp c.args.args.now c.args.tuples.now.items) ≡ None =
     ap (λ (l : List Pairs). first_broken_dependency 1 c.args.deps.now (put tuple_cmp c.args.args.now l)) (sym c.deref-3.ensures.value) ∙ sym c.in_default.ensures in
-    subst (λ (l : List Dep). IsKept c.put_tuple.new.tuples.items l) (sym c.in_ok-remember.ensures.ok)
-    (subst (λ (l : List Pairs). IsKept l c.args.deps.now)
+    subst (λ (l : List Dep). IsKnownToSatisfy c.put_tuple.new.tuples.items l) (sym c.in_ok-remember.ensures.ok)
+    (subst (λ (l : List Pairs). IsKnownToSatisfy l c.args.deps.now)
     (ap (λ (t : Pairs). put tuple_cmp t c.args.tuples.now.items) (sym c.in_ok-tuple.ensures) ∙ sym c.in_ok-put_tuple.ensures.ok)
     (kept_with c.args.deps.now c.args.args.now c.args.tuples.now.items c.requires.kept.rising none))

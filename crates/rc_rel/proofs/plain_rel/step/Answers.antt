@@ -1,11 +1,11 @@
 use Rattle.std.proofs.Common.{List, [], ap, subst}
 use Rattle.rc_tuple.specs.Tuple.{Pairs}
 use Rattle.rc_spec.specs.Plain.{Outcome}
-use Rattle.rc_rel.specs.Kept.{IsKept}
+use Rattle.rc_rel.specs.KnownDeps.{IsKnownToSatisfy}
 use Rattle.rc_rel.proofs.ChangeLemmas.{kept_after_remove}
 use Rattle.rc_rel.proofs.plain_rel.step.Goals as goal
 
 pub returns-in-Remove-clause-kept : goal.returns-in-Remove-clause-kept
 returns-in-Remove-clause-kept c =
-    subst (λ (l : List Pairs). IsKept l c.args.known.now.items) (ap (λ (o : Outcome). o.relation) c.remove.ensures)
+    subst (λ (l : List Pairs). IsKnownToSatisfy l c.args.known.now.items) (ap (λ (o : Outcome). o.relation) c.remove.ensures)
     (kept_after_remove [] [] c.args.known.now.items c.args.args.now c.args.tuples.now.items c.requires.kept)

@@ -4,7 +4,7 @@ use Rattle.rc_answer.specs.Writes.{Writes}
 use Rattle.rc_top.specs.Answer.{IsAnswer}
 use Rattle.rc_top.specs.Ends.{Ends, status_of}
 use Rattle.rc_answer.specs.declared.status.Status.{Status}
-use Rattle.rc_io.specs.Faults.{IsTaken}
+use Rattle.rc_io.specs.Faults.{IsCountTaken}
 use Rattle.rc_io.specs.declared.source.ReadFault.{ReadFault}
 use Rattle.rc_top.proofs.EndLemmas.{read_ends, long_ends}
 use Rattle.rc_top.proofs.top.read_and_answer.Goals as goal
@@ -27,5 +27,5 @@ returns-in-Err-TooLong-clause-answers g c = λ input told.
     let ended : Ends (IsAnswer c.args.command input) (g.K.Sink.held c.args.sink.now) (g.K.Sink.held c.refuse_size.new.sink) (status_of c.refuse_size.result) =
     long_ends c.args.command input bytes (g.S.Source.left c.args.source.now) (g.S.Source.left c.read_all.new.source)
     (g.K.Sink.held c.args.sink.now) (g.K.Sink.held c.refuse_size.new.sink) c.refuse_size.result
-    told taken (subst (λ (fault : ReadFault). IsTaken fault (2 ^ 24) (length bytes)) c.in-Err-TooLong.field-0-is beyond) c.refuse_size.ensures.written in
+    told taken (subst (λ (fault : ReadFault). IsCountTaken fault (2 ^ 24) (length bytes)) c.in-Err-TooLong.field-0-is beyond) c.refuse_size.ensures.written in
     subst (λ (status : Status). Ends (IsAnswer c.args.command input) (g.K.Sink.held c.args.sink.now) (g.K.Sink.held c.refuse_size.new.sink) status) (sym c.status_of-in-Err-TooLong.ensures) ended
