@@ -15,7 +15,7 @@ use Rattle.rc_edges.specs.EdgeMap.{Counted, row_of}
 use Rattle.rc_fragment.specs.Container.{now_in}
 use Rattle.rc_fragment.specs.Fragment.{AreAllRows, HasShape, IsThere, IsLookedUp, IsScan}
 use Rattle.rc_fragment.specs.Listing.{listing, shapes, found_by, AreStored}
-use Rattle.rc_fragment.specs.Sources.{by_source, found_in, found_at, now_at, listed_in, IsRowOf}
+use Rattle.rc_fragment.specs.Sources.{by_source, found_in, found_at, now_at, listed_in, IsStoredRow}
 use Rattle.rc_fragment.specs.declared.container.Container.{Container}
 use Rattle.rc_fragment.specs.declared.edge_rows.EdgeRows.{EdgeRows}
 use Rattle.rc_fragment.specs.declared.shape.EdgeShape.{EdgeShape}
@@ -99,9 +99,9 @@ module _ (edges : List EdgeRows) (all : AreStored edges) (e : ℕ) (x : EdgeRows
       let q : x.shape ≡ shape = cc in
       subst (λ z. IsScan z (listing now_in edges) e source (listed_in (fin.get (by_source x.sources.entries) source))) q (scanned source (fin.get (by_source x.sources.entries) source) refl)
 
-  pub all_rows : (ts : List Pairs) → ((t : Pairs) → In t ts → IsRowOf x t) → ((t : Pairs) → IsRowOf x t → In t ts) → AreAllRows (listing now_in edges) e ts
+  pub all_rows : (ts : List Pairs) → ((t : Pairs) → In t ts → IsStoredRow x t) → ((t : Pairs) → IsStoredRow x t → In t ts) → AreAllRows (listing now_in edges) e ts
   all_rows ts kept walked = record {
-    only = λ t m. let k : IsRowOf x t = kept t m in found_row edges all e x number k.0 k.1 (t, k.2) (there k.0 k.1 (t, k.2) k.3);
+    only = λ t m. let k : IsStoredRow x t = kept t m in found_row edges all e x number k.0 k.1 (t, k.2) (there k.0 k.1 (t, k.2) k.3);
     each = λ t h.
         walked t (
           project x.shape.source t,

@@ -66,8 +66,8 @@ listed_in None = []
 listed_in (Some c) = listed (now_in c)
 
 -- the row is kept at some source and key
-abbrev pub IsRowOf : EdgeRows → Pairs → Type 0
-IsRowOf rows t = (source : Pairs) × (key : Pairs) × (n : ℕ) × (now_at rows source key ≡ Some (t, n))
+abbrev pub IsStoredRow : EdgeRows → Pairs → Type 0
+IsStoredRow rows t = (source : Pairs) × (key : Pairs) × (n : ℕ) × (now_at rows source key ≡ Some (t, n))
 
 -- two edges' rows that are the same
 pub record AreSame (old new : EdgeRows) : Type 0 where

@@ -5,7 +5,7 @@ ghost use Rattle.std.specs.FinMap as fin;
 ghost use Rattle.rc_tuple.specs.RisingSet.{In};
 ghost use Rattle.rc_tuple.specs.Tuple.{Pairs};
 ghost use Rattle.rc_edges.specs.EdgeMap.{IsRowOf, count_of, lowered, row_of, written};
-ghost use Rattle.rc_fragment.specs.Sources.{AreOfKind, AreSame, Becomes, IsRowOf, IsSingle, by_source, seen_of, listed_in, now_at, taken_at};
+ghost use Rattle.rc_fragment.specs.Sources.{AreOfKind, AreSame, Becomes, IsStoredRow, IsSingle, by_source, seen_of, listed_in, now_at, taken_at};
 
 use crate::EdgeShape;
 use crate::container::Container;
@@ -117,8 +117,8 @@ impl EdgeRows {
 
     /// All rows, in no particular order.
     pub fn all(&self) -> Result<Tuples, Memory>
-        ensures only { IfOk result (λ rows. (t : Pairs) → In t rows → IsRowOf self.now t) }
-        ensures each { IfOk result (λ rows. (t : Pairs) → IsRowOf self.now t → In t rows) }
+        ensures only { IfOk result (λ rows. (t : Pairs) → In t rows → IsStoredRow self.now t) }
+        ensures each { IfOk result (λ rows. (t : Pairs) → IsStoredRow self.now t → In t rows) }
     {
         let mut rows = Tuples::new(self.alloc);
         for (_, container) in &self.sources {
