@@ -13,15 +13,13 @@ use crate::texts::{CASES, Case};
 use rc_place::accept;
 use rc_reader::read_spec_only;
 use rc_spec::Accepted;
+use rc_text::MAX_TEXT_BYTES;
 use std::alloc::Global;
 use std::process::ExitCode;
 use std::{env, io};
 
 /// How many tuples are on the stripe.
 const SIZES: [u64; 3] = [1_000, 10_000, 100_000];
-
-/// The most bytes that a specification may have.
-const MAX_BYTES: usize = 1 << 24;
 
 /// Measures each kind at each size; the status is 1 where it could not be done.
 fn main(rt: HostRuntime) -> ExitCode {
@@ -65,7 +63,7 @@ fn measure_case(
 
 /// The specification of a text, accepted.
 fn accepted_of(alloc: Global, text: &[u8]) -> Result<Accepted, Fault> {
-    if text.len() > MAX_BYTES {
+    if text.len() > MAX_TEXT_BYTES {
         return Err(Fault::Refused);
     }
     let spec = read_spec_only(alloc, text)?;

@@ -17,7 +17,7 @@ fn source_of(accepted: &Accepted, edge: u8, tuple: &Tuple) -> Result<Tuple, Memo
     ensures { IfOk result (λ part. part ≡ project (bound accepted.now (edge_at accepted.now edge).from) tuple.now) }
 {
     let spec = accepted.spec();
-    let shape = &spec.edges.list()[edge as usize];
+    let shape = spec.edge(edge);
     tuple.project(spec.bound(shape.from))
 }
 
@@ -26,7 +26,7 @@ fn key_of(accepted: &Accepted, edge: u8, tuple: &Tuple) -> Result<Tuple, Memory>
     requires { edge < length accepted.now.edges }
     ensures { IfOk result (λ part. part ≡ project (edge_at accepted.now edge).key tuple.now) }
 {
-    let shape = &accepted.spec().edges.list()[edge as usize];
+    let shape = accepted.spec().edge(edge);
     tuple.project(shape.key)
 }
 
@@ -36,7 +36,7 @@ fn row_of(accepted: &Accepted, edge: u8, tuple: &Tuple) -> Result<Option<Tuple>,
     ensures { IfOk result (λ row. IfSome row (λ row. cols_of row ≡ bound accepted.now (edge_at accepted.now edge).to)) }
 {
     let spec = accepted.spec();
-    let shape = &spec.edges.list()[edge as usize];
+    let shape = spec.edge(edge);
     let target = spec.bound(shape.to);
     let row = tuple.project(target)?;
     if row.cols().equals(target) {
@@ -72,7 +72,7 @@ fn is_singleton(accepted: &Accepted, edge: u8) -> bool
     requires { edge < length accepted.now.edges }
     ensures { (edge_at accepted.now edge).kind ≡ Singleton → IsTrue result }
 {
-    let shape = &accepted.spec().edges.list()[edge as usize];
+    let shape = accepted.spec().edge(edge);
     matches!(&shape.kind, EdgeKind::Singleton)
 }
 

@@ -12,14 +12,13 @@ use rc_spec::{Item, Refusal, Rule, Spec};
 use rc_tuple::ColSet;
 
 /// Tests the edge with this number by its rules, one after another.
-#[tactic(auto, using(rc_spec::specs::DecompositionLaws::edge_known))]
 fn check_edge(spec: &Spec, number: u8, before: ColSet) -> Result<(), Refusal>
     requires known { number < length spec.now.edges }
     requires range { IsInRange spec.now }
     requires before { before ≡ visited spec.now number }
     ensures { Judges (IsKept spec.now) (at_one items.Edge edge_rules number) result }
 {
-    let edge = &spec.edges.list()[number as usize];
+    let edge = spec.edge(number);
     let item = Item::Edge(number);
     Refusal::unless(keeps_a3(spec, edge), Rule::A3, item)?;
     Refusal::unless(keeps_a4(spec, edge), Rule::A4, item)?;

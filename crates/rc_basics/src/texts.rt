@@ -3,17 +3,15 @@
 use crate::fault::Fault;
 use crate::reading::{byte_lines, first_word, number, text_of};
 use rc_text::{
-    Line, Lines, NumFault, Word, WordFault, Words, push_bytes, push_quoted, push_u64, read_u64,
+    Line, Lines, MAX_TEXT_BYTES, NumFault, Word, WordFault, Words, push_bytes, push_quoted,
+    push_u64, read_u64,
 };
 use rc_tuple::Memory;
-
-/// The longest text of which the lines are read.
-const LONGEST: usize = 1 << 24;
 
 /// Lists the content lines of the input, each with its number and with the place behind it, and then the number
 /// past the last line.
 pub(crate) fn list_lines(input: &[u8], out: &mut Vec<u8>) -> Result<(), Fault> {
-    if input.len() > LONGEST {
+    if input.len() > MAX_TEXT_BYTES {
         return Err(Fault::NoForm);
     }
     push_lines(out, Lines::new(input, 0, 1), input.len())?;
@@ -22,7 +20,7 @@ pub(crate) fn list_lines(input: &[u8], out: &mut Vec<u8>) -> Result<(), Fault> {
 
 /// Lists the lines behind the first content line, which are read on from where it ends.
 pub(crate) fn list_lines_behind(input: &[u8], out: &mut Vec<u8>) -> Result<(), Fault> {
-    if input.len() > LONGEST {
+    if input.len() > MAX_TEXT_BYTES {
         return Err(Fault::NoForm);
     }
     let Some(first) = Lines::new(input, 0, 1).next_line() else {

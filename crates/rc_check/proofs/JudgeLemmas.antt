@@ -1,17 +1,14 @@
 -- The answer to the checks of a plan.
-use Rattle.std.proofs.Common.{◌≡◌, ℕ, ◌<◌, ◌↔◌, List, [], ◌∷◌, ◌++◌, length, get_or, Bool, true, false, Option, None, Some, Result, Ok, Err, refl, sym, ap, subst, ◌∙◌, arith}
+use Rattle.std.proofs.Common.{◌≡◌, ℕ, ◌<◌, ◌↔◌, List, [], ◌∷◌, ◌++◌, length, Bool, true, false, Option, None, Some, Result, Ok, Err, refl, sym, subst, arith}
 use Rattle.std.specs.List.{flat_map, range_with_len, slice_get}
 use Rattle.std.specs.Result.{IsOk, IfErr}
 use Rattle.std.proofs.lemmas.Bool.{false≢true}
 use Rattle.std.proofs.lemmas.Option.{slice_get_past}
-use Rattle.rc_tuple.specs.RisingSetLaws.{slice_get_in, get_or_in}
+use Rattle.rc_tuple.specs.RisingSetLaws.{slice_get_in}
 use Rattle.rc_spec.specs.declared.items.Op.{Op}
 use Rattle.rc_spec.specs.declared.spec.Spec.{Spec}
 use Rattle.rc_spec.specs.First.{EachHolds, IsFirstFailing, Judges}
 use Rattle.rc_spec.specs.FirstLaws.{each_listed, first_here, first_listed, first_left, judged_append, judged_err, judged_one}
-use Rattle.rc_spec.specs.DecompositionLaws.{at_found}
-use Rattle.rc_spec.specs.InRange.{IsInRange, IsOpAmong}
-use Rattle.rc_spec.specs.Placement.{no_op, op_at}
 use Rattle.rc_plan.specs.declared.refusal.PlanRefusal.{PlanRefusal}
 use Rattle.rc_plan.specs.declared.refusal.PlanRule.{PlanRule}
 use Rattle.rc_plan.specs.declared.refusal.PlanRule.TheVariants.{K1}
@@ -49,13 +46,6 @@ refused_behind P before after x answer y b holds test ok e same =
 -- the statement that was found by its number
 pub known_at : (spec : Spec) (plan : List Statement) (n : ℕ) (x : Statement) → AreKnown spec plan → slice_get plan n ≡ Some x → IsKnown spec x
 known_at spec plan n x known there = known x (slice_get_in plan n x there)
-
--- the operation that was found by its number
-pub op_found : (spec others : Spec) (ops : List Op) (n : ℕ) (op : Op) → others ≡ spec → ops ≡ others.ops → n < length spec.ops → op ≡ get_or ops n op → op_at spec n ≡ op
-op_found spec others ops n op same list l found = at_found ops spec.ops n no_op op (list ∙ ap (λ (s : Spec). s.ops) same) l found
-
-pub op_known : (spec : Spec) (n : ℕ) → IsInRange spec → n < length spec.ops → IsOpAmong (length spec.columns) (op_at spec n)
-op_known spec n range l = range.known_ops (op_at spec n) (get_or_in spec.ops n no_op l)
 
 -- ---- the statements in order
 

@@ -40,7 +40,7 @@ fn check_statement(
     ensures { Judges (IsKeptInPlan accepted.now (op_at accepted.now number) plan.now) (checks_at at) result }
 {
     let spec = accepted.spec();
-    let op = &spec.ops.list()[number as usize];
+    let op = spec.op(number);
     let statement = &plan.list()[at as usize];
     unless(keeps_k1(&op.kind, before, statement), PlanRule::K1, at)?;
     unless(keeps_k2(before, statement), PlanRule::K2, at)?;
@@ -65,7 +65,7 @@ pub fn check_plan(accepted: &Accepted, op: u8, plan: &Plan) -> Result<(), PlanRe
 {
     let spec = accepted.spec();
     let statements = plan.list();
-    let mut known = ProgressSets::at_start(spec, &spec.ops.list()[op as usize]);
+    let mut known = ProgressSets::at_start(spec, spec.op(op));
     for (at, statement) in statements.iter().enumerate() {
         check_statement(accepted, op, plan, at as u32, &known)?;
         known = known.after(spec, statement);

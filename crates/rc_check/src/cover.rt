@@ -28,7 +28,7 @@ fn striping(spec: &Spec, class: u8) -> ColSet
     requires { class < length spec.now.classes }
     ensures { result ≡ (class_at spec.now class).cols }
 {
-    spec.classes.list()[class as usize].cols
+    spec.class(class).cols
 }
 
 /// Whether the columns that choose a stripe are bound, where a Lock takes those of the bindings.

@@ -158,9 +158,7 @@ impl ProgressSets {
                 probe: Some(cols),
                 ..self
             },
-            Statement::Read { edge, .. } => {
-                self.after_read(spec, spec.edges.list()[edge as usize].to)
-            }
+            Statement::Read { edge, .. } => { self.after_read(spec, spec.edge(edge).to) }
             Statement::CheckAbsent => ProgressSets {
                 absent: true,
                 ..self

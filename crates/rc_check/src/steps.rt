@@ -59,7 +59,7 @@ pub(crate) fn keeps_k5(spec: &Spec, before: &ProgressSets, statement: &Statement
 {
     match *statement {
         Statement::Read { edge, mode } => {
-            let edge = &spec.edges.list()[edge as usize];
+            let edge = spec.edge(edge);
             is_reached(before, edge.from) && can_be_joined(spec, before, edge, mode)
         }
         _ => true,

@@ -12,7 +12,7 @@ use Rattle.rc_spec.specs.declared.items.Edge.{Edge}
 use Rattle.rc_spec.specs.declared.spec.Spec.{Spec}
 use Rattle.rc_spec.specs.Adequacy.{KeepsA2}
 use Rattle.rc_spec.specs.InRange.{IsInRange}
-use Rattle.rc_graph.specs.Order.{CanBeNext, IsNext, IsTopologicalOrder}
+use Rattle.rc_spec.specs.Order.{CanBeNext, IsNext, IsTopologicalOrder}
 use Rattle.rc_graph.specs.Walks.{Reaches}
 use Rattle.rc_graph.specs.WalksLaws.{reaches_one, reaches_before, reaches_circle}
 use Rattle.rc_tuple.specs.GrowthLaws.{missing, missing_lt}

@@ -3,14 +3,13 @@ ghost use Rattle.rc_spec.specs.Acceptance.{IsItemOf, IsKept, graph_checks};
 ghost use Rattle.rc_spec.specs.First.{EachHolds, IsFirstFailing};
 ghost use Rattle.rc_spec.specs.InRange.{IsInRange, HasColumnAndNode};
 ghost use Rattle.rc_graph.specs.Fault.{IfRefused};
-ghost use Rattle.rc_graph.specs.Order.{IsTopologicalOrder};
+ghost use Rattle.rc_spec.specs.Order.{IsTopologicalOrder};
 ghost use Rattle.rc_graph.specs.declared.check.CheckFault.TheVariants as faults;
 
-use crate::NodeOrder;
 use crate::circles::first_breaking_a2;
 use crate::entries::first_breaking_a1;
 use crate::order::order_nodes;
-use rc_spec::{Item, Refusal, Rule, Spec};
+use rc_spec::{Item, NodeOrder, Refusal, Rule, Spec};
 use rc_tuple::Memory;
 use std::alloc::Global;
 

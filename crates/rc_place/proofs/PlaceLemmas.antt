@@ -2,10 +2,7 @@
 use Rattle.std.proofs.Common.{◌≡◌, ℕ, ◌+◌, ◌<◌, List, ◌∷◌, ◌++◌, length, get_or, Result, Err, sym, ap, ◌∙◌, subst}
 use Rattle.std.proofs.lemmas.List.{append_assoc}
 use Rattle.std.proofs.lemmas.List.Sums.{sum_by_more}
-use Rattle.rc_tuple.specs.RisingSet.{In}
-use Rattle.rc_tuple.specs.RisingSetLaws.{get_or_in}
 use Rattle.rc_spec.specs.declared.items.Class.{Class}
-use Rattle.rc_spec.specs.declared.items.Op.{Op}
 use Rattle.rc_spec.specs.declared.refusal.Item.{Item}
 use Rattle.rc_spec.specs.declared.refusal.Refusal.{Refusal}
 use Rattle.rc_spec.specs.declared.refusal.Rule.{Rule}
@@ -15,8 +12,7 @@ use Rattle.rc_spec.specs.declared.refusal.Rule.TheVariants.{P1, P2, P3, P4, P5, 
 use Rattle.rc_spec.specs.Acceptance.{IsKept, check_on, on_each, at_each, op_rules, placement_checks}
 use Rattle.rc_spec.specs.DecompositionLaws.{at_found}
 use Rattle.rc_spec.specs.First.{IsFirstFailing, Judges}
-use Rattle.rc_spec.specs.InRange.{IsInRange, IsOpAmong}
-use Rattle.rc_spec.specs.Placement.{no_class, no_op, stripes_of_first}
+use Rattle.rc_spec.specs.Placement.{no_class, stripes_of_first}
 use Rattle.rc_spec.specs.FirstLaws.{first_here, first_left, first_numbered, judged_err}
 
 -- the item with this number is refused, and all before it keep the rule
@@ -37,11 +33,6 @@ pub stripes_of_more : (spec : Spec) (classes : List Class) (n : ℕ) (class : Cl
 stripes_of_more spec classes n class same l found =
     sum_by_more (λ (k : Class). k.stripes) spec.classes n no_class l
     ∙ ap (λ (k : Class). stripes_of_first spec n + k.stripes) (at_found classes spec.classes n no_class class same l found)
-
--- the numbers of an operation that was found are the specification's
-pub op_known : (spec : Spec) (ops : List Op) (n : ℕ) (op : Op) → IsInRange spec → ops ≡ spec.ops → n < length spec.ops → op ≡ get_or ops n op → IsOpAmong (length spec.columns) op
-op_known spec ops n op range same l found =
-    range.known_ops op (subst (λ (x : Op). In x spec.ops) (at_found ops spec.ops n no_op op same l found) (get_or_in spec.ops n no_op l))
 
 -- the first of some lists of checks has one that fails
 pub refused_among : {B : Type 0} (P : Refusal → Type 0) (xs ys : List Refusal) (answer : Result B Refusal) (y x : Refusal) → answer ≡ Err y → y ≡ x → IsFirstFailing P xs x

@@ -2,13 +2,14 @@ ghost use Rattle.std.specs.Prelude.{◌≡◌, ◌++◌, IfOk, IfErr, IsOk};
 ghost use Rattle.rc_spec.specs.Acceptance.{IsAccepted, IsFirstBroken, IsItemOf, IsKept, adequacy_checks, placement_checks};
 ghost use Rattle.rc_spec.specs.First.{Judges};
 ghost use Rattle.rc_spec.specs.InRange.{IsInRange, HasColumnAndNode};
+ghost use Rattle.rc_spec.specs.Order.{IsTopologicalOrder};
 ghost use Rattle.rc_graph.specs.Fault.{IfRefused};
 ghost use Rattle.rc_place.specs.Fault.{IfHandedBack};
 
 use crate::check_place;
 use rc_adequate::check_adequate;
 use rc_graph::{CheckFault, check_graph};
-use rc_spec::{Accepted, Refusal, Spec};
+use rc_spec::{Accepted, NodeOrder, Refusal, Spec};
 use std::alloc::Global;
 
 /// Why a specification was not accepted.
@@ -29,16 +30,17 @@ fn check_adequate_and_place(spec: &Spec) -> Result<(), Refusal>
     check_place(spec)
 }
 
-/// Tests a specification by all rules.
-fn check_all(alloc: Global, spec: &Spec) -> Result<(), CheckFault>
+/// Tests a specification by all rules, and orders its nodes.
+fn check_all(alloc: Global, spec: &Spec) -> Result<NodeOrder, CheckFault>
     requires range { IsInRange spec.now }
     requires populated { HasColumnAndNode spec.now }
     ensures accepted { IsOk result → IsAccepted spec.now }
+    ensures order { IfOk result (IsTopologicalOrder spec.now) }
     ensures first { IfErr result (IfRefused (IsFirstBroken spec.now)) }
 {
-    check_graph(alloc, spec)?;
+    let graph = check_graph(alloc, spec)?;
     match check_adequate_and_place(spec) {
-        Ok(()) => Ok(()),
+        Ok(()) => Ok(graph.order),
         Err(refusal) => Err(CheckFault::Refused(refusal)),
     }
 }
@@ -58,7 +60,7 @@ pub fn accept(alloc: Global, spec: Spec) -> Result<Accepted, AcceptFault>
     ensures item { IfErr result (IfHandedBack (λ back refusal. IsItemOf spec refusal.item)) }
 {
     match check_all(alloc, &spec) {
-        Ok(()) => Ok(Accepted::seal(spec)),
+        Ok(order) => Ok(Accepted::seal(spec, order)),
         Err(CheckFault::Memory) => Err(AcceptFault::Memory),
         Err(CheckFault::Refused(refusal)) => Err(AcceptFault::Refused(spec, refusal)),
     }

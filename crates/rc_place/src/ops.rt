@@ -57,7 +57,7 @@ fn check_op(spec: &Spec, number: u8) -> Result<(), Refusal>
     requires range { IsInRange spec.now }
     ensures { Judges (IsKept spec.now) (at_one items.Operation op_rules number) result }
 {
-    let op = &spec.ops.list()[number as usize];
+    let op = spec.op(number);
     let item = Item::Operation(number);
     Refusal::unless(keeps_o1(op), Rule::O1, item)?;
     Refusal::unless(keeps_o2(spec, op), Rule::O2, item)?;

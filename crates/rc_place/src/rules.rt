@@ -5,11 +5,8 @@ ghost use Rattle.rc_spec.specs.Decomposition.{edge_at};
 ghost use Rattle.rc_spec.specs.InRange.{IsInRange};
 ghost use Rattle.rc_spec.specs.Placement.{places_of, striping, stripes_of_first, KeepsP1, KeepsP2, KeepsP3, KeepsP4, KeepsP5, KeepsP6};
 
-use rc_spec::{Class, EdgeKind, Spec};
+use rc_spec::{Class, EdgeKind, MAX_STRIPES, Spec};
 use rc_tuple::ColSet;
-
-/// How many stripes all classes may have together.
-const MAX_STRIPES: u64 = 256;
 
 /// How many placements the edge has.
 fn count_places(spec: &Spec, edge: u8) -> usize
@@ -38,18 +35,17 @@ fn striping(spec: &Spec, edge: u8) -> ColSet
     requires placed { KeepsP1 spec.now edge }
     ensures { result ≡ striping spec.now edge }
 {
-    spec.classes.list()[spec.class_of(edge) as usize].cols
+    spec.class(spec.class_of(edge)).cols
 }
 
 /// Whether source and key have the columns of the edge's class.
-#[tactic(auto, using(rc_spec::specs::DecompositionLaws::edge_known))]
 pub(crate) fn keeps_p2(spec: &Spec, number: u8) -> bool
     requires known { number < length spec.now.edges }
     requires range { IsInRange spec.now }
     requires placed { KeepsP1 spec.now number }
     ensures { IsTrue result ↔ KeepsP2 spec.now number }
 {
-    let edge = &spec.edges.list()[number as usize];
+    let edge = spec.edge(number);
     striping(spec, number).within(spec.source_and_key(edge))
 }
 
@@ -78,14 +74,13 @@ pub(crate) fn keeps_p4(class: &Class) -> bool
 }
 
 /// Whether the edge is of kind hash, or its source has all columns of its class.
-#[tactic(auto, using(rc_spec::specs::DecompositionLaws::edge_known))]
 pub(crate) fn keeps_p5(spec: &Spec, number: u8) -> bool
     requires known { number < length spec.now.edges }
     requires range { IsInRange spec.now }
     requires placed { KeepsP1 spec.now number }
     ensures { IsTrue result ↔ KeepsP5 spec.now number }
 {
-    let edge = &spec.edges.list()[number as usize];
+    let edge = spec.edge(number);
     match edge.kind {
         EdgeKind::Hash => true,
         EdgeKind::Ordered | EdgeKind::List | EdgeKind::Singleton => {
@@ -100,5 +95,5 @@ pub(crate) fn keeps_p6(spec: &Spec, class: u8, stripes: u64) -> bool
     requires stripes { stripes ≡ stripes_of_first spec.now (class + 1) }
     ensures { IsTrue result ↔ KeepsP6 spec.now class }
 {
-    spec.classes.list()[class as usize].stripes > 0 && stripes <= MAX_STRIPES
+    spec.class(class).stripes > 0 && stripes <= MAX_STRIPES as u64
 }

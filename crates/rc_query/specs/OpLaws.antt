@@ -1,5 +1,5 @@
 -- Laws of an operation found by its number, and of columns that it names.
-use Rattle.std.proofs.Common.{◌≡◌, ℕ, ◌<◌, ◌≤◌, List, [], ◌∷◌, length, get_or, inl, refl, ap, subst, ◌∙◌, arith}
+use Rattle.std.proofs.Common.{◌≡◌, ℕ, ◌<◌, ◌≤◌, List, [], ◌∷◌, length, inl, refl, sym, ap, subst, ◌∙◌, arith}
 use Rattle.std.specs.Ordering.{nat_cmp}
 use Rattle.rc_tuple.specs.RisingSet.{In, gather}
 use Rattle.rc_tuple.specs.RisingSetLaws.{nat_order, get_or_in, in_gather, gather_in}
@@ -9,20 +9,18 @@ use Rattle.rc_spec.specs.declared.items.Op.{Op}
 use Rattle.rc_spec.specs.declared.spec.Spec.{Spec}
 use Rattle.rc_spec.specs.Acceptance.{IsSealed}
 use Rattle.rc_spec.specs.Calls.{all_columns}
-use Rattle.rc_spec.specs.DecompositionLaws.{at_found}
 use Rattle.rc_spec.specs.InRange.{AreBelow, IsOpAmong}
 use Rattle.rc_spec.specs.Placement.{op_at, no_op, KeepsO}
 
 -- ---- an operation that was found
 
--- the operation with a number, as it was found in the list of a specification
+-- the operation with a number, as it was read from a specification
 pub record IsOpFound (spec : Spec) (number : ℕ) (op : Op) : Type 0 where
   pub known : number < length spec.ops
   pub same : op_at spec number ≡ op
 
-pub op_found : (spec given : Spec) (ops : List Op) (number : ℕ) (op : Op) → given ≡ spec → ops ≡ given.ops → number < length spec.ops → op ≡ get_or ops number op → IsOpFound spec number op
-op_found spec given ops number op same list l found =
-    record { known = l; same = at_found ops spec.ops number no_op op (list ∙ ap (λ (s : Spec). s.ops) same) l found }
+pub op_found : (spec given : Spec) (number : ℕ) (op : Op) → given ≡ spec → number < length spec.ops → op ≡ op_at given number → IsOpFound spec number op
+op_found spec given number op same l is = record { known = l; same = sym (is ∙ ap (λ (s : Spec). op_at s number) same) }
 
 pub op_among : (spec : Spec) → IsSealed spec → (number : ℕ) (op : Op) → IsOpFound spec number op → IsOpAmong (length spec.columns) op
 op_among spec s number op f = subst (IsOpAmong (length spec.columns)) f.same (s.in_range.known_ops (op_at spec number) (get_or_in spec.ops number no_op f.known))

@@ -17,7 +17,6 @@ use Rattle.rc_spec.specs.PlacementLaws.{class_of_known}
 use Rattle.rc_plan.specs.declared.statement.Statement.{Statement}
 use Rattle.rc_plan.specs.declared.statement.Statement.TheVariants.{Lock, Read, Release}
 use Rattle.rc_plan.specs.declared.statement.Which.{Which}
-
 use Rattle.rc_spec.specs.Decomposition.{target_columns}
 use Rattle.rc_query.specs.Planned.{classes_of_edges, locks, which_where, read_mode_where, due, later, locks_and_reads, left_after}
 

@@ -15,6 +15,6 @@ pub fn pattern_of(accepted: &Accepted, op: u8) -> ColSet
     ensures known { Within result (all_columns accepted.now) }
     ensures sealed { IsSealed accepted.now }
 {
-    let op = &accepted.spec().ops.list()[op as usize];
+    let op = accepted.spec().op(op);
     ColSet::from_list(op.pattern.list())
 }

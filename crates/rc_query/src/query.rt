@@ -54,7 +54,7 @@ pub fn plan_query(alloc: Global, accepted: &Accepted, op: u8) -> Result<Plan, Me
     ensures accepted { IfOk result (IsPlanOf accepted.now op) }
 {
     let pattern = pattern_of(accepted, op);
-    let query = &accepted.spec().ops.list()[op as usize];
+    let query = accepted.spec().op(op);
     match &query.kind {
         OpKind::Query { outs } => {
             plan_search(alloc, accepted, pattern, ColSet::from_list(outs.list()))

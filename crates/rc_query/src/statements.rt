@@ -5,7 +5,6 @@ ghost use Rattle.std.specs.List.{range_with_len};
 ghost use Rattle.rc_tuple.specs.RisingSet.{In};
 ghost use Rattle.rc_spec.specs.InRange.{IsInRange};
 ghost use Rattle.rc_spec.specs.Placement.{IsPlaced};
-
 ghost use Rattle.rc_spec.specs.Decomposition.{target_columns};
 ghost use Rattle.rc_query.specs.Planned.{classes_of_edges, ending, left_after, locks, locks_and_reads, read_mode_where, which_where};
 
@@ -35,7 +34,7 @@ fn which_where(spec: &Spec, columns: ColSet, class: u8) -> Which
     requires { class < length spec.now.classes }
     ensures { result ≡ which_where spec.now columns class }
 {
-    if spec.classes.list()[class as usize].cols.within(columns) {
+    if spec.class(class).cols.within(columns) {
         Which::Keyed
     } else {
         Which::All
@@ -47,7 +46,7 @@ fn read_mode_where(spec: &Spec, columns: ColSet, edge: u8) -> ReadMode
     requires { edge < length spec.now.edges }
     ensures { result ≡ read_mode_where spec.now columns edge }
 {
-    if spec.edges.list()[edge as usize].key.within(columns) {
+    if spec.edge(edge).key.within(columns) {
         ReadMode::Lookup
     } else {
         ReadMode::Scan
@@ -61,7 +60,7 @@ fn target_columns(spec: &Spec, edge: u8) -> ColSet
     requires range { IsInRange spec.now }
     ensures { result ≡ target_columns spec.now edge }
 {
-    spec.bound(spec.edges.list()[edge as usize].to)
+    spec.bound(spec.edge(edge).to)
 }
 
 /// Appends a lock of each class in a mode, rising, where some columns are bound.

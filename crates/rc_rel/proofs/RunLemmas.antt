@@ -1,7 +1,5 @@
 -- What a step's answer says of the relation after it.
-use Rattle.std.proofs.Common.{◌≡◌, ℕ, ◌<◌, ◌≤◌, List, length, get_or, Some, Result, Ok, Err, sym, ap, ◌∙◌, subst, arith}
-use Rattle.std.specs.List.{slice_get}
-use Rattle.std.proofs.lemmas.Option.{get_or_from_slice_get}
+use Rattle.std.proofs.Common.{◌≡◌, ℕ, ◌<◌, ◌≤◌, List, length, Result, Ok, Err, sym, ap, ◌∙◌, subst, arith}
 use Rattle.std.specs.Result.{IfOk, OnErr}
 use Rattle.rc_tuple.specs.RisingSet.{In}
 use Rattle.rc_tuple.specs.RisingSetLaws.{each_in, in_each}
@@ -30,10 +28,6 @@ pub same_outcome : (result : Result Reply Memory) (o p : Outcome) (new : List Pa
     → p ≡ o → IfOk result (λ reply. o ≡ record { reply = reply; relation = new }) → IfOk result (λ reply. p ≡ record { reply = reply; relation = new })
 same_outcome (Ok reply) o p new e h = e ∙ h
 same_outcome (Err x) o p new e h = tt
-
--- the operation that the code reads is the one that the call names
-pub op_read : (ops list : List Op) (i : ℕ) (op found : Op) → list ≡ ops → found ≡ get_or list i found → slice_get ops i ≡ Some op → found ≡ op
-op_read ops list i op found e f h = f ∙ ap (λ l. get_or l i found) e ∙ get_or_from_slice_get ops i op found h
 
 -- a pattern's columns are below 32
 pub pattern_below : (spec : Spec) (op : Op) → IsInRange spec → In op spec.ops → AreBelow 32 op.pattern

@@ -12,12 +12,16 @@ use Rattle.rc_spec.specs.PlainLaws.{plain_grows}
 use Rattle.rc_rel.specs.declared.entry.Step.{Step}
 use Rattle.rc_rel.specs.declared.entry.Entry.{Entry}
 use Rattle.rc_rel.specs.declared.entry.Placed.{Placed}
-use Rattle.rc_rel.specs.History.{IsNumbered, own, placed_from, after_steps, replay, steps_of}
+use Rattle.rc_rel.specs.HistoryLaws.{steps_of-append}
+use Rattle.rc_rel.specs.History.{IsNumbered, calls_of, own, placed_from, after_steps, replay, steps_of}
 
 -- ---- own entries
 
 pub own-append : (xs ys : List Entry) (pass : ℕ) → own (xs ++ ys) pass ≡ own xs pass ++ own ys pass
 own-append xs ys pass = filter-append (λ e. eqb e.pass pass) xs ys
+
+pub calls_of-append : (xs ys : List Entry) → calls_of (xs ++ ys) ≡ calls_of xs ++ calls_of ys
+calls_of-append xs ys = ap (map (λ (s : Step). s.call)) (steps_of-append xs ys) ∙ map-append (λ (s : Step). s.call) (steps_of xs) (steps_of ys)
 
 own_one : (e : Entry) (k : ℕ) (b : Bool) → eqb e.pass k ≡ b → own (e ∷ []) k ≡ cond b (e ∷ []) []
 own_one e k b h = ap (λ x. cond x (e ∷ []) []) h

@@ -65,7 +65,7 @@ impl PlainRel {
         ensures err { OnErr result (self.new ≡ self.old) }
         ensures over { AreOver (all_columns spec.now) self.new }
     {
-        let op = &spec.ops.list()[call.op as usize];
+        let op = spec.op(call.op);
         step(
             &mut self.tuples,
             &mut self.known,

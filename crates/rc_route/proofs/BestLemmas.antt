@@ -12,7 +12,7 @@ use Rattle.rc_spec.specs.Adequacy.{HasEdgeInto}
 use Rattle.rc_spec.specs.Decomposition.{edge_at}
 use Rattle.rc_spec.specs.DecompositionLaws.{edge_at_in}
 use Rattle.rc_spec.specs.First.{EachHolds}
-use Rattle.rc_graph.specs.Order.{IsNext, IsTopologicalOrder}
+use Rattle.rc_spec.specs.Order.{IsNext, IsTopologicalOrder}
 use Rattle.rc_route.specs.Paths.{IsPath, end_of, IsPathFromRoot}
 use Rattle.rc_route.specs.PathsLaws.{path_end, path_short, edges_known, in_get, edge_into, into_edge}
 use Rattle.rc_route.specs.Search.{IsFirstLeast, IsFirstLeastOrNone, path_at, IsLeastTo, EndsAt, cost_by, AreLeastPaths}

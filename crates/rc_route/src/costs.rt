@@ -37,7 +37,7 @@ fn read_cost(spec: &Spec, pattern: ColSet, edge: u8) -> u64
     requires { edge < length spec.now.edges }
     ensures { result ≡ read_cost spec.now pattern edge }
 {
-    let edge = &spec.edges.list()[edge as usize];
+    let edge = spec.edge(edge);
     if edge.key.within(pattern) {
         lookup_cost(edge.kind)
     } else {
@@ -52,8 +52,8 @@ fn lock_cost(spec: &Spec, pattern: ColSet, edge: u8) -> u64
     requires placed { IsPlaced spec.now }
     ensures { result ≡ lock_cost spec.now pattern edge }
 {
-    let class = &spec.classes.list()[spec.class_of(edge) as usize];
-    let source = spec.bound(spec.edges.list()[edge as usize].from);
+    let class = spec.class(spec.class_of(edge));
+    let source = spec.bound(spec.edge(edge).from);
     if class.cols.within(pattern.union(source)) {
         1
     } else {

@@ -65,7 +65,7 @@ fn after_edges(spec: &Spec, before: Progress, edges: &[u8]) -> Option<Progress>
         if !is_step(spec, reached, visited, *edge) {
             return None;
         }
-        let target = spec.edges.list()[*edge as usize].to;
+        let target = spec.edge(*edge).to;
         reached = reached.with(target);
         visited = visited.union(spec.bound(target));
     }

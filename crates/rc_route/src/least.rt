@@ -2,31 +2,15 @@
 
 ghost use Rattle.std.specs.Prelude.{◌≡◌, [], IfOk, IfSome, MatchOption};
 ghost use Rattle.rc_tuple.specs.ColSet.{Within};
-ghost use Rattle.rc_spec.specs.Acceptance.{IsSealed};
 ghost use Rattle.rc_spec.specs.Calls.{all_columns};
-ghost use Rattle.rc_graph.specs.Order.{IsTopologicalOrder};
 ghost use Rattle.rc_route.specs.GoodRoutes.{IsGoodRoute};
 ghost use Rattle.rc_route.specs.Paths.{IsLeastPath, SomeNodeBinds};
 
 use crate::Route;
 use crate::search::{last_node, least_paths};
-use rc_graph::{CheckFault, NodeOrder, check_graph};
-use rc_spec::{Accepted, Spec};
+use rc_spec::Accepted;
 use rc_tuple::{ColSet, Memory};
 use std::alloc::Global;
-
-/// The nodes of an accepted specification, in an order in which each edge leads forward.
-fn node_order(alloc: Global, spec: &Spec) -> Result<NodeOrder, Memory>
-    requires { IsSealed spec.now }
-    ensures { IfOk result (IsTopologicalOrder spec.now) }
-{
-    match check_graph(alloc, spec) {
-        Ok(graph) => Ok(graph.order),
-        Err(CheckFault::Memory) => Err(Memory),
-        // An accepted specification breaks no rule.
-        Err(CheckFault::Refused(_)) => unreachable!(),
-    }
-}
 
 /// The least path for a need where the columns of a pattern are bound, or `None`, exactly where no node binds the need.
 /// Among all paths from the root whose last node binds the need it is the one of least `cost`; of those the one whose
@@ -44,8 +28,7 @@ pub fn least_path(
     ensures good { IfOk result (λ found. IfSome found (IsGoodRoute accepted.now need)) }
 {
     let spec = accepted.spec();
-    let order = node_order(alloc, spec)?;
-    let paths = least_paths(alloc, spec, pattern, order.list())?;
+    let paths = least_paths(alloc, spec, pattern, accepted.order())?;
     match last_node(spec, pattern, need, &paths) {
         None => Ok(None),
         Some(node) => Ok(Some(paths[node as usize].copy()?)),

@@ -6,7 +6,7 @@ ghost use Rattle.rc_spec.specs.Acceptance.{IsSealed};
 ghost use Rattle.rc_spec.specs.Decomposition.{edge_at};
 ghost use Rattle.rc_spec.specs.First.{EachHolds};
 ghost use Rattle.rc_spec.specs.InRange.{IsInRange};
-ghost use Rattle.rc_graph.specs.Order.{IsTopologicalOrder};
+ghost use Rattle.rc_spec.specs.Order.{IsTopologicalOrder};
 ghost use Rattle.rc_route.specs.Paths.{IsPathFromRoot};
 ghost use Rattle.rc_route.specs.Search.{path_at, EndsAt, IsFirstLeastOrNone, cost_by, Binds, cost_to, AreLeastPaths};
 
@@ -25,7 +25,7 @@ fn cost_by(spec: &Spec, pattern: ColSet, paths: &[Route], edge: u8) -> u64
     ensures value { result ≡ cost_by spec.now pattern paths.now edge }
     ensures few { result < u64.MAX }
 {
-    let path = &paths[spec.edges.list()[edge as usize].from as usize];
+    let path = &paths[spec.edge(edge).from as usize];
     cost_of(spec, pattern, path.list()) + edge_cost(spec, pattern, edge)
 }
 
@@ -39,7 +39,7 @@ fn last_edge(spec: &Spec, pattern: ColSet, paths: &[Route], node: u8) -> Option<
     let mut best = None;
     let mut lowest = u64::MAX;
     for edge in 0..spec.edges.list().len() as u8 {
-        if spec.edges.list()[edge as usize].to == node {
+        if spec.edge(edge).to == node {
             let price = cost_by(spec, pattern, paths, edge);
             if price < lowest {
                 best = Some(edge);
@@ -57,7 +57,7 @@ fn path_by(spec: &Spec, paths: &[Route], edge: u8) -> Result<Route, Memory>
     requires count { length paths.now ≡ length spec.now.nodes }
     ensures { IfOk result (λ path. path ≡ path_at paths.now (edge_at spec.now edge).from ++ edge ∷ []) }
 {
-    let mut path = paths[spec.edges.list()[edge as usize].from as usize].copy()?;
+    let mut path = paths[spec.edge(edge).from as usize].copy()?;
     path.push(edge)?;
     Ok(path)
 }

@@ -13,12 +13,18 @@ use Rattle.rc_spec.specs.declared.spec.Spec.{Spec}
 use Rattle.rc_spec.specs.Calls.{all_columns, value_columns, FitsAt, Fits}
 use Rattle.rc_spec.specs.Plain.{Outcome, plain}
 use Rattle.rc_spec.specs.PlainLaws.{rising_after, each_after, plain-known}
+use Rattle.rc_spec.specs.Placement.{no_op, op_at}
+use Rattle.std.proofs.lemmas.Option.{get_or_from_slice_get}
 
 -- an insert's arguments are over all columns
 pub insert_columns : (spec : Spec) (call : Call) (op : Op) → FitsAt spec call op → op.kind ≡ Insert → cols_of call.args ≡ all_columns spec
 insert_columns spec call op fits e =
     fits.columns ∙ ap (λ k. gather nat_cmp (value_columns spec op.pattern k)) e
     ∙ gather-rising nat_cmp nat_order (all_columns spec) (rising_range 0 (length spec.columns))
+
+-- a call that fits, fits the operation with its number
+pub fits_at_op : (spec : Spec) (call : Call) → Fits spec call → FitsAt spec call (op_at spec call.op)
+fits_at_op spec call fits = subst (FitsAt spec call) (sym (get_or_from_slice_get spec.ops call.op fits.0 no_op fits.1.known)) fits.1
 
 -- a call that fits leaves a relation over all columns
 pub plain_keeps_relation : (spec : Spec) (r : List Pairs) (call : Call) → Fits spec call → IsRelation (all_columns spec) r → IsRelation (all_columns spec) (plain spec r call).relation

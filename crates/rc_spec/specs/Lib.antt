@@ -15,8 +15,11 @@ pub mod Fragments
 pub mod FragmentsLaws
 pub mod HeathLaws
 pub mod InRange
+pub mod JoinLaws
 pub mod Laws
 pub mod Names
+pub mod Order
+pub mod OrderLaws
 pub mod Placement
 pub mod PlacementLaws
 pub mod Plain

@@ -1,35 +1,44 @@
 ghost use Rattle.std.specs.Prelude.{◌≡◌, ◌<◌, length};
 ghost use Rattle.rc_spec.specs.Acceptance.{IsSealed};
+ghost use Rattle.rc_spec.specs.Order.{IsTopologicalOrder};
 ghost use Rattle.rc_spec.specs.Placement.{class_of};
 
 use crate::Spec;
+use rc_tuple::SmallList;
 use std::marker::Model;
 
+/// Node numbers, in an order in which each edge leads forward.
+pub type NodeOrder = SmallList<u8>;
+
 /// A specification that meets all rules: it is in range, its decomposition is adequate and well placed, and each
-/// operation keeps its rule.
+/// operation keeps its rule. It keeps the order of the nodes that the test of the graph found, so that nobody looks
+/// for it again; contracts see the specification alone.
 #[derive(Debug, Drop)]
 pub struct Accepted {
     spec: Spec,
+    order: NodeOrder,
 }
 
 impl Model for Accepted {
     ghost use Rattle.rc_spec.specs.declared.spec.Spec.{Spec};
-    ghost use Rattle.rc_spec.specs.Acceptance.{IsSealed};
+    ghost use Rattle.rc_spec.specs.Order.{IsSealedWith};
 
     ghost Value = { Spec };
 
     ghost view = { λ a. a.spec };
 
-    ghost invariant = { λ a. IsSealed a.spec };
+    ghost invariant = { λ a. IsSealedWith a.spec a.order };
 }
 
 impl Accepted {
-    /// Keeps a specification that meets all rules, is in range, and has a column and a node.
-    pub fn seal(spec: Spec) -> Accepted
-        requires { IsSealed spec }
+    /// Keeps a specification that meets all rules, is in range, and has a column and a node, with an order of its nodes
+    /// in which each edge leads forward.
+    pub fn seal(spec: Spec, order: NodeOrder) -> Accepted
+        requires sealed { IsSealed spec }
+        requires order { IsTopologicalOrder spec order }
         ensures { result ≡ spec }
     {
-        Accepted { spec }
+        Accepted { spec, order }
     }
 
     /// The specification.
@@ -38,6 +47,14 @@ impl Accepted {
         ensures sealed { IsSealed self.now }
     {
         &self.spec
+    }
+
+    /// All nodes in topological order: at each place stands the first written node whose edges all come from nodes
+    /// before it.
+    pub fn order(&self) -> &[u8]
+        ensures { IsTopologicalOrder self.now result.now }
+    {
+        self.order.list()
     }
 
     /// The number of the class on which an edge is placed.

@@ -30,7 +30,6 @@ pub fn fits(spec: &Spec, call: &Call) -> bool
     if call.op as usize >= spec.ops.list().len() {
         return false;
     }
-    call.args
-        .cols()
-        .equals(columns_given(spec, spec.op(call.op)))
+    let given = columns_given(spec, spec.op(call.op));
+    call.args.cols().equals(given)
 }

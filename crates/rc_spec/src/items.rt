@@ -16,14 +16,18 @@ pub enum ColKind {
 /// A column of the relation; its number is its place in the list of columns.
 #[derive(Debug, Drop)]
 pub struct Column {
+    /// Its name.
     pub name: Name,
+    /// What its values stand for.
     pub kind: ColKind,
 }
 
 /// A node of the decomposition with the columns that it binds (PLDI 2011, decompositions).
 #[derive(Debug, Drop)]
 pub struct Node {
+    /// Its name.
     pub name: Name,
+    /// The columns that it binds; the root binds none.
     pub cols: ColSet,
 }
 
@@ -43,10 +47,15 @@ pub enum EdgeKind {
 /// An edge of the decomposition, from one node to another, by node numbers, with its key columns.
 #[derive(Debug, Drop)]
 pub struct Edge {
+    /// Its name.
     pub name: Name,
+    /// The number of the node that it leads from, its source.
     pub from: u8,
+    /// The number of the node that it leads to, its target.
     pub to: u8,
+    /// The kind of container that keeps its rows.
     pub kind: EdgeKind,
+    /// The columns by which its rows are told apart at one row of the source.
     pub key: ColSet,
 }
 
@@ -54,15 +63,20 @@ pub struct Edge {
 /// striping).
 #[derive(Debug, Drop)]
 pub struct Class {
+    /// Its name.
     pub name: Name,
+    /// How many stripes it has.
     pub stripes: u32,
+    /// The columns whose values choose a stripe.
     pub cols: ColSet,
 }
 
 /// The placement of an edge on a lock class, by their numbers (PLDI 2012, lock placement).
 #[derive(Clone, Copy, Debug, PartialEq, Eq)]
 pub struct Place {
+    /// The number of the edge.
     pub edge: u8,
+    /// The number of the class.
     pub class: u8,
 }
 
@@ -80,7 +94,10 @@ pub enum OpKind {
 /// An operation with its pattern columns, in written order.
 #[derive(Debug, Drop)]
 pub struct Op {
+    /// Its name.
     pub name: Name,
+    /// The columns by which it finds tuples, in written order.
     pub pattern: Cols,
+    /// What it does with them.
     pub kind: OpKind,
 }

@@ -1,5 +1,6 @@
 ghost use Rattle.std.specs.Prelude.{◌≡◌, ◌↔◌, ◌<◌, ◌≤◌, ℕ, length};
 ghost use Rattle.rc_tuple.specs.Tuple.{Pairs};
+ghost use Rattle.rc_spec.specs.OrderLaws.{EdgesLeadForward, NodesStandOnce};
 ghost use Rattle.rc_spec.specs.Acceptance.{IsAccepted, IsFirstBroken, IsItemOf, IsKept, checks};
 ghost use Rattle.rc_spec.specs.First.{EachHolds};
 ghost use Rattle.rc_spec.specs.Laws.{AdequacyLosesNoTuple, AgreeingTuplesShareStripes, EmptyHasNoRows, FragmentsAreParts, FragmentsArePieces, InstancesRepresent, RowsFallWithTuples, StripesAreOfOneClass, StripesHoldAll};
@@ -68,4 +69,14 @@ pub fn instances_represent()
 /// The fragments of the empty relation have no row.
 pub fn empty_has_no_rows()
     ensures { EmptyHasNoRows }
+{}
+
+/// In a topological order the source of each edge stands before its target.
+pub fn edges_lead_forward()
+    ensures { EdgesLeadForward }
+{}
+
+/// In a topological order each node stands once, and nothing else.
+pub fn nodes_stand_once()
+    ensures { NodesStandOnce }
 {}

@@ -3,9 +3,11 @@
 
 mod accepted;
 mod call;
+mod counted_rows;
 mod fitting;
 mod items;
 mod laws;
+mod limits;
 mod lock;
 mod named;
 mod query_rows;
@@ -13,18 +15,20 @@ mod refusal;
 mod spec;
 mod stripes;
 
-pub use accepted::Accepted;
+pub use accepted::{Accepted, NodeOrder};
 pub use call::{Call, Reply, RowList, copy_rows};
+pub use counted_rows::{CountedRow, count_at, lowered, raised};
 pub use fitting::fits;
 pub use items::{Class, ColKind, Column, Edge, EdgeKind, Name, Node, Op, OpKind, Place};
 pub use laws::{
-    adequacy_loses_no_tuple, checks_are_rules, empty_has_no_rows, fragments_are_parts,
-    instances_represent, refused_is_not_accepted, rows_fall_with_tuples, stripes_are_few,
-    stripes_hold_all, stripes_part_tuples,
+    adequacy_loses_no_tuple, checks_are_rules, edges_lead_forward, empty_has_no_rows,
+    fragments_are_parts, instances_represent, nodes_stand_once, refused_is_not_accepted,
+    rows_fall_with_tuples, stripes_are_few, stripes_hold_all, stripes_part_tuples,
 };
+pub use limits::{MAX_CLASSES, MAX_DEPS, MAX_EDGES, MAX_NODES, MAX_ROWS, MAX_STRIPES};
 pub use lock::{Found, Mode};
 pub use named::Named;
-pub use query_rows::{MAX_ROWS, QueryRows};
+pub use query_rows::QueryRows;
 pub use refusal::{Item, Refusal, Rule, print_refusal};
 pub use spec::{Classes, Columns, Deps, Edges, Nodes, Ops, Places, Spec};
 pub use stripes::{band_start, physical_stripe, stripe_of, stripe_total};

@@ -6,14 +6,11 @@ ghost use Rattle.rc_tuple.specs.Tuple.{pick};
 ghost use Rattle.rc_spec.specs.Plain.{at_most_256, row_cmp};
 ghost use Rattle.rc_spec.specs.Rows.{rows_in};
 
-use crate::{Reply, RowList};
+use crate::{MAX_ROWS, Reply, RowList};
 use rc_tuple::{Cols, Memory, Tuple, Vals};
 use std::alloc::Global;
 use std::collections::BTreeSet;
 use std::marker::Model;
-
-/// The most rows that a query answers one by one; of more it answers their number.
-pub const MAX_ROWS: usize = 256;
 
 /// Distinct rows of a query's outputs, rising by their values in the outputs' order.
 #[derive(Debug, Drop)]

@@ -113,10 +113,10 @@ impl Item {
     {
         match self {
             Item::Node(node) => spec.nodes.list()[node as usize].name(),
-            Item::Edge(edge) => spec.edges.list()[edge as usize].name(),
+            Item::Edge(edge) => spec.edge(edge).name(),
             Item::Column(column) => spec.columns.list()[column as usize].name(),
-            Item::Lock(class) => spec.classes.list()[class as usize].name(),
-            Item::Operation(op) => spec.ops.list()[op as usize].name(),
+            Item::Lock(class) => spec.class(class).name(),
+            Item::Operation(op) => spec.op(op).name(),
         }
     }
 }

@@ -1,7 +1,7 @@
 ghost use Rattle.std.specs.Prelude.{◌≡◌, ◌<◌, length};
 ghost use Rattle.rc_spec.specs.Calls.{all_columns};
 ghost use Rattle.rc_spec.specs.Decomposition.{bound, edge_at, source_and_key};
-ghost use Rattle.rc_spec.specs.InRange.{IsInRange};
+ghost use Rattle.rc_spec.specs.InRange.{IsEdgeAmong, IsInRange, IsOpAmong, IsSetBelow};
 ghost use Rattle.rc_spec.specs.Placement.{class_at, class_of, op_at};
 ghost use Rattle.rc_spec.specs.Spec.{empty};
 
@@ -33,12 +33,19 @@ pub type Ops = SmallList<Op>;
 /// A relational specification with its decomposition, its lock placement and its operations.
 #[derive(Debug, Drop)]
 pub struct Spec {
+    /// The columns of the relation.
     pub columns: Columns,
+    /// Its functional dependencies.
     pub deps: Deps,
+    /// The nodes of the decomposition, the root first.
     pub nodes: Nodes,
+    /// The edges of the decomposition.
     pub edges: Edges,
+    /// The lock classes, in the order in which they are locked.
     pub classes: Classes,
+    /// Which class each edge is placed on.
     pub places: Places,
+    /// The declared operations.
     pub ops: Ops,
 }
 
@@ -71,26 +78,29 @@ impl Spec {
         cols
     }
 
-    /// The edge with this number.
+    /// The edge with this number. In a specification in range its numbers are the specification's own.
     pub fn edge(&self, number: u8) -> &Edge
         requires { number < length self.now.edges }
-        ensures { result.now ≡ edge_at self.now number }
+        ensures value { result.now ≡ edge_at self.now number }
+        ensures known { IsInRange self.now → IsEdgeAmong (length self.now.nodes) (length self.now.columns) result.now }
     {
         &self.edges.list()[number as usize]
     }
 
-    /// The lock class with this number.
+    /// The lock class with this number. In a specification in range its columns are the specification's own.
     pub fn class(&self, number: u8) -> &Class
         requires { number < length self.now.classes }
-        ensures { result.now ≡ class_at self.now number }
+        ensures value { result.now ≡ class_at self.now number }
+        ensures known { IsInRange self.now → IsSetBelow (length self.now.columns) result.now.cols }
     {
         &self.classes.list()[number as usize]
     }
 
-    /// The operation with this number.
+    /// The operation with this number. In a specification in range its columns are the specification's own.
     pub fn op(&self, number: u8) -> &Op
         requires { number < length self.now.ops }
-        ensures { result.now ≡ op_at self.now number }
+        ensures value { result.now ≡ op_at self.now number }
+        ensures known { IsInRange self.now → IsOpAmong (length self.now.columns) result.now }
     {
         &self.ops.list()[number as usize]
     }

@@ -6,6 +6,9 @@ ghost use Rattle.rc_text.specs.Lines.{lines_of, without_last, bytes_of_line, is_
 use crate::bytes::skip_blanks;
 use std::marker::Model;
 
+/// The most bytes of a text whose lines are read.
+pub const MAX_TEXT_BYTES: usize = 1 << 24;
+
 /// A content line: one that is neither blank nor a comment.
 #[derive(Clone, Copy, Debug, PartialEq, Eq)]
 pub struct Line<'a> {

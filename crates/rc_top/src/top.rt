@@ -10,11 +10,9 @@ ghost use Rattle.rc_command.specs.declared.command.Command.{Command};
 use rc_answer::{Status, Stop, answer, refuse_size};
 use rc_command::{Command, command_in};
 use rc_io::{ReadFault, Sink, Source, WriteFault, read_all, write_all};
+use rc_text::MAX_TEXT_BYTES;
 use rc_tuple::Memory;
 use std::alloc::Global;
-
-/// The most bytes that an input may have.
-const MAX_BYTES: u64 = 1 << 24;
 
 /// Does what the words ask. `words[0]` is the program's name; the commands are `check`, `plan` and `run`,
 /// and each reads the source to its end, or until 2^24 + 1 bytes are taken.
@@ -103,7 +101,7 @@ fn read_and_answer<S: Source, K: Sink>(
     ensures source_count { S.faults source.old ≤ S.faults source.new }
     ensures sink_count { K.faults sink.old ≤ K.faults sink.new }
 {
-    match read_all(alloc, source, MAX_BYTES) {
+    match read_all(alloc, source, MAX_TEXT_BYTES as u64) {
         Ok(text) => status_of(answer(alloc, command, &text, sink)),
         Err(ReadFault::TooLong) => status_of(refuse_size(sink)),
         Err(ReadFault::Source) => Status::SourceFailed,

@@ -11,6 +11,9 @@ use std::alloc::Global;
 use std::cmp::Ordering;
 use std::marker::Model;
 
+/// The most bytes of a text.
+pub const MAX_LEN: usize = 64;
+
 /// A text of 0 to 64 bytes, which contracts see as the list of its bytes. Texts are ordered by their bytes.
 #[derive(Drop, Debug)]
 pub struct Name64 {

@@ -1,22 +1,13 @@
 -- Laws of runs.
-use Rattle.std.proofs.Common.{◌≡◌, ℕ, eqb, List, [], ◌∷◌, ◌++◌, map, ap, ◌∙◌}
+use Rattle.std.proofs.Common.{◌≡◌, ℕ, List, [], ◌∷◌, ◌++◌, ap, ◌∙◌}
 use Rattle.std.specs.List.{flat_map}
-use Rattle.std.proofs.lemmas.List.{map-append}
-use Rattle.std.proofs.lemmas.List.Elements.{filter-append}
 use Rattle.rc_spec.specs.declared.spec.Spec.{Spec}
-use Rattle.rc_rel.specs.declared.entry.Step.{Step}
 use Rattle.rc_rel.specs.declared.entry.Entry.{Entry}
-use Rattle.rc_rel.specs.History.{own, calls_of, steps_of}
-use Rattle.rc_rel.specs.HistoryLaws.{steps_of-append}
+use Rattle.rc_rel.specs.History.{own, calls_of}
+use Rattle.rc_rel.specs.OwnLaws.{own-append, calls_of-append}
 use Rattle.rc_work.specs.declared.work.Turn.{Turn}
 use Rattle.rc_work.specs.declared.work.Work.{Work}
 use Rattle.rc_work.specs.Runs.{thread_calls, MakesRounds, Runs}
-
-pub own-append : (xs ys : List Entry) (pass : ℕ) → own (xs ++ ys) pass ≡ own xs pass ++ own ys pass
-own-append xs ys pass = filter-append (λ e. eqb e.pass pass) xs ys
-
-pub calls_of-append : (xs ys : List Entry) → calls_of (xs ++ ys) ≡ calls_of xs ++ calls_of ys
-calls_of-append xs ys = ap (map (λ (s : Step). s.call)) (steps_of-append xs ys) ∙ map-append (λ (s : Step). s.call) (steps_of xs) (steps_of ys)
 
 -- in rounds one after another, each thread makes its calls over all rounds in order
 pub calls_of_rounds : (rounds : List (List Turn)) (entries : List Entry) (thread : ℕ) → MakesRounds rounds entries

@@ -213,7 +213,7 @@ pub fn print_step(alloc: Global, spec: &Spec, ranks: &Ranks, step: &Step) -> Res
     requires { Fits spec.now step.now.call }
     ensures { IfOk result (λ text. text.items ≡ words_text (step_words spec.now ranks.now step.now)) }
 {
-    let op = &spec.ops.list()[step.call.op as usize];
+    let op = spec.op(step.call.op);
     let mut text = Vec::new(alloc);
     push_bytes(&mut text, op.name.list())?;
     push_values_and_reply(&mut text, spec, ranks, op, step)?;
@@ -230,7 +230,7 @@ pub(crate) fn push_step(
     requires { Fits spec.now step.now.call }
     ensures { OnOk result (out.new.items ≡ out.old.items ++ spaced (step_words spec.now ranks.now step.now)) }
 {
-    let op = &spec.ops.list()[step.call.op as usize];
+    let op = spec.op(step.call.op);
     push_spaced(out, op.name.list())?;
     push_values_and_reply(out, spec, ranks, op, step)
 }

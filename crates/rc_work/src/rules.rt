@@ -17,8 +17,14 @@ use rc_reader::{LineFault, LineRule, number_among};
 use rc_spec::{ColKind, Spec};
 use rc_text::{Word, read_u64};
 use rc_tuple::Memory;
-use rc_values::Name64;
+use rc_values::{MAX_LEN, Name64};
 use std::alloc::Global;
+
+/// The most rounds of a workload.
+const MAX_ROUNDS: usize = 64;
+
+/// The most calls of a workload.
+const MAX_CALLS: usize = 20_000;
 
 /// The thread that a word names, if it is below the number of threads.
 fn thread_of(threads: u32, word: &[u8]) -> Option<u32>
@@ -36,7 +42,7 @@ fn is_too_large(word: &Word<'_>) -> bool
 {
     match word {
         Word::Plain(word) => read_u64(word).is_err(),
-        Word::Quoted(text) => text.len() > 64,
+        Word::Quoted(text) => text.len() > MAX_LEN,
     }
 }
 
@@ -61,7 +67,7 @@ fn raw_value(alloc: Global, word: &Word<'_>) -> Result<Option<RawValue>, Memory>
             Ok(number) => Ok(Some(RawValue::Number(number))),
             Err(_) => Ok(None),
         },
-        Word::Quoted(text) if text.len() <= 64 => {
+        Word::Quoted(text) if text.len() <= MAX_LEN => {
             Ok(Some(RawValue::Text(Name64::new(alloc, text)?)))
         }
         Word::Quoted(_) => Ok(None),
@@ -109,7 +115,7 @@ fn has_wrong_kind(spec: &Spec, cols: &[u8], values: &[RawValue]) -> bool
 fn add_round(draft: &mut Draft) -> Result<(), LineFault>
     ensures { (spec : Spec) → TakesLine result draft.new (after_form spec draft.old round_line) }
 {
-    if draft.rounds.list().len() >= 64 {
+    if draft.rounds.list().len() >= MAX_ROUNDS {
         return Err(LineFault::Broken(LineRule::S6));
     }
     if draft.ended {
@@ -146,7 +152,7 @@ fn add_call(
     if has_too_large(values) {
         return Err(LineFault::Broken(LineRule::S5));
     }
-    if draft.rounds.calls() >= 20_000 {
+    if draft.rounds.calls() >= MAX_CALLS {
         return Err(LineFault::Broken(LineRule::S6));
     }
     if draft.rounds.list().is_empty() {

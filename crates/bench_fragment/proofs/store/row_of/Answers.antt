@@ -1,6 +1,5 @@
-use Rattle.std.proofs.Common.{rules, sym, subst}
+use Rattle.std.proofs.Common.{sym, subst}
 use Rattle.rc_spec.specs.Acceptance.{IsSealed}
-use Rattle.rc_spec.specs.DecompositionLaws.{edge_known}
 use Rattle.rc_spec.specs.declared.spec.Spec.{Spec}
 use Rattle.bench_fragment.proofs.store.row_of.Goals as goal
 
@@ -8,4 +7,4 @@ pub bound-target-requires : goal.bound-target-requires
 bound-target-requires c =
     let spec : Spec = c.spec-spec.result.now in
     let sealed : IsSealed spec = subst IsSealed (sym c.spec-spec.ensures.value) c.spec-spec.ensures.sealed in
-    (edge_known spec c.list.result.now c.args.edge c.index-list-edge.result sealed.in_range c.list.ensures (search rules) c.index-list-edge.is).to
+    (c.edge-shape.ensures.known sealed.in_range).to

@@ -6,6 +6,7 @@ use Rattle.std.proofs.lemmas.Result.{err_from_is_err_and}
 use Rattle.rc_spec.specs.declared.items.Op.{Op}
 use Rattle.rc_spec.specs.declared.spec.Spec.{Spec}
 use Rattle.rc_spec.specs.First.{EachHolds, Judges}
+use Rattle.rc_spec.specs.DecompositionLaws.{op_among}
 use Rattle.rc_spec.specs.InRange.{IsOpAmong}
 use Rattle.rc_spec.specs.Placement.{op_at}
 use Rattle.rc_plan.specs.declared.refusal.PlanRefusal.{PlanRefusal}
@@ -14,15 +15,15 @@ use Rattle.rc_plan.specs.declared.statement.Statement.{Statement}
 use Rattle.rc_plan.specs.PlanRules.{IsComplete, IsKeptInPlan, IsKnown, after, at_start, check_at, checks_at, plan_checks, progress_at}
 use Rattle.rc_plan.specs.PlanRulesLaws.{progress_more}
 use Rattle.rc_check.specs.Sets.{sets_of}
-use Rattle.rc_check.proofs.JudgeLemmas.{err_judged, judged_end, known_at, ok_judged, op_found, op_known, refused_statement}
+use Rattle.rc_check.proofs.JudgeLemmas.{err_judged, judged_end, known_at, ok_judged, refused_statement}
 use Rattle.rc_check.proofs.check.check_plan.Goals as goal
 
 pub at_start-known-requires-clause-known : goal.at_start-known-requires-clause-known
 at_start-known-requires-clause-known c =
     let spec : Spec = c.args.accepted.now in
-    let same = op_found spec c.spec-spec.result.now c.list.result.now c.args.op c.index-list-op.result c.spec-spec.ensures.value c.list.ensures c.requires.operation c.index-list-op.is in
-    subst (λ (s : Spec). IsOpAmong (length s.columns) c.index-list-op.result) (sym c.spec-spec.ensures.value)
-    (subst (IsOpAmong (length spec.columns)) same (op_known spec c.args.op c.spec-spec.ensures.sealed.in_range c.requires.operation))
+    let same = sym (c.op.ensures.value ∙ ap (λ (s : Spec). op_at s c.args.op) c.spec-spec.ensures.value) in
+    subst (λ (s : Spec). IsOpAmong (length s.columns) c.op.result.now) (sym c.spec-spec.ensures.value)
+    (subst (IsOpAmong (length spec.columns)) same (op_among spec c.args.op c.spec-spec.ensures.sealed.in_range c.requires.operation))
 
 pub returns-in_err-check_statement : goal.returns-in_err-check_statement
 returns-in_err-check_statement c =

@@ -1,5 +1,5 @@
 use Rattle.std.proofs.Common.{ℕ, ◌<◌}
-use Rattle.rc_graph.specs.Order.{CanBeNext}
+use Rattle.rc_spec.specs.Order.{CanBeNext}
 use Rattle.rc_graph.proofs.order.next_node.Given as goal
 
 abbrev pub invariant-loop-node : goal.invariant-loop-node

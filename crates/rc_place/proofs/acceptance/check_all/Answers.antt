@@ -12,10 +12,10 @@ returns-in-Ok-clause-accepted c = λ ok.
     let spec = c.args.spec.now in
     accepted_from_checks spec
     (subst (EachHolds (IsKept spec)) (sym (append_assoc (graph_checks spec) (adequacy_checks spec) (placement_checks spec)))
-    (each_append (IsKept spec) (graph_checks spec) (adequacy_checks spec ++ placement_checks spec) c.in_ok-check_graph.ensures.kept c.in-Ok.ensures))
+    (each_append (IsKept spec) (graph_checks spec) (adequacy_checks spec ++ placement_checks spec) c.in_ok-graph.ensures.kept c.in-Ok.ensures))
 
 pub returns-in-Err-clause-first : goal.returns-in-Err-clause-first
 returns-in-Err-clause-first c =
     let spec = c.args.spec.now in
     subst (λ (l : List Refusal). IsFirstFailing (IsKept spec) l c.in-Err.refusal) (sym (append_assoc (graph_checks spec) (adequacy_checks spec) (placement_checks spec)))
-    (first_right (IsKept spec) (graph_checks spec) (adequacy_checks spec ++ placement_checks spec) c.in-Err.refusal c.in_ok-check_graph.ensures.kept c.in-Err.ensures)
+    (first_right (IsKept spec) (graph_checks spec) (adequacy_checks spec ++ placement_checks spec) c.in-Err.refusal c.in_ok-graph.ensures.kept c.in-Err.ensures)

@@ -18,35 +18,35 @@ use Rattle.rc_query.proofs.query.plan_query.Goals as goal
 pub from_list-requires : goal.from_list-requires
 from_list-requires c = λ k m.
     let spec = c.args.accepted.now in
-    let op : Op = c.index-list-op.result in
-    let found : IsOpFound spec c.args.op op = op_found spec c.spec.result.now c.list.result.now c.args.op op c.spec.ensures.value c.list.ensures c.requires.known c.index-list-op.is in
-    below_32 spec c.spec.ensures.sealed c.in-Query.outs (outs_among spec c.spec.ensures.sealed c.args.op op found c.in-Query.outs c.in-Query.is) k (subst (In k) c.list-in-Query.ensures m)
+    let op : Op = c.op-query.result.now in
+    let found : IsOpFound spec c.args.op op = op_found spec c.spec.result.now c.args.op op c.spec.ensures.value c.requires.known c.op-query.ensures.value in
+    below_32 spec c.spec.ensures.sealed c.in-Query.outs (outs_among spec c.spec.ensures.sealed c.args.op op found c.in-Query.outs c.in-Query.is) k (subst (In k) c.list.ensures m)
 
 pub plan_search-requires-clause-some : goal.plan_search-requires-clause-some
 plan_search-requires-clause-some c =
     let spec = c.args.accepted.now in
-    let op : Op = c.index-list-op.result in
-    let found : IsOpFound spec c.args.op op = op_found spec c.spec.result.now c.list.result.now c.args.op op c.spec.ensures.value c.list.ensures c.requires.known c.index-list-op.is in
-    let outs : c.from_list.result ≡ gather nat_cmp c.in-Query.outs = c.from_list.ensures.value ∙ ap (gather nat_cmp) c.list-in-Query.ensures in
+    let op : Op = c.op-query.result.now in
+    let found : IsOpFound spec c.args.op op = op_found spec c.spec.result.now c.args.op op c.spec.ensures.value c.requires.known c.op-query.ensures.value in
+    let outs : c.from_list.result ≡ gather nat_cmp c.in-Query.outs = c.from_list.ensures.value ∙ ap (gather nat_cmp) c.list.ensures in
     union_some c.pattern_of-pattern.result c.from_list.result
     (λ e. gather_some c.in-Query.outs ((op_keeps spec c.spec.ensures.sealed c.args.op op found).o3 c.in-Query.outs c.in-Query.is).some (sym outs ∙ e))
 
 pub plan_search-requires-clause-known : goal.plan_search-requires-clause-known
 plan_search-requires-clause-known c =
     let spec = c.args.accepted.now in
-    let op : Op = c.index-list-op.result in
-    let found : IsOpFound spec c.args.op op = op_found spec c.spec.result.now c.list.result.now c.args.op op c.spec.ensures.value c.list.ensures c.requires.known c.index-list-op.is in
-    let outs : c.from_list.result ≡ gather nat_cmp c.in-Query.outs = c.from_list.ensures.value ∙ ap (gather nat_cmp) c.list-in-Query.ensures in
+    let op : Op = c.op-query.result.now in
+    let found : IsOpFound spec c.args.op op = op_found spec c.spec.result.now c.args.op op c.spec.ensures.value c.requires.known c.op-query.ensures.value in
+    let outs : c.from_list.result ≡ gather nat_cmp c.in-Query.outs = c.from_list.ensures.value ∙ ap (gather nat_cmp) c.list.ensures in
     union_within c.pattern_of-pattern.result c.from_list.result (all_columns spec) c.pattern_of-pattern.ensures.known
     (subst (λ z. Within z (all_columns spec)) (sym outs) (columns_known spec c.in-Query.outs (outs_among spec c.spec.ensures.sealed c.args.op op found c.in-Query.outs c.in-Query.is)))
 
 pub returns-clause-planned : goal.returns-clause-planned
 returns-clause-planned c =
     let spec = c.args.accepted.now in
-    let op : Op = c.index-list-op.result in
-    let found : IsOpFound spec c.args.op op = op_found spec c.spec.result.now c.list.result.now c.args.op op c.spec.ensures.value c.list.ensures c.requires.known c.index-list-op.is in
+    let op : Op = c.op-query.result.now in
+    let found : IsOpFound spec c.args.op op = op_found spec c.spec.result.now c.args.op op c.spec.ensures.value c.requires.known c.op-query.ensures.value in
     let pattern : List ℕ = c.pattern_of-pattern.result in
-    let outs : c.from_list.result ≡ gather nat_cmp c.in-Query.outs = c.from_list.ensures.value ∙ ap (gather nat_cmp) c.list-in-Query.ensures in
+    let outs : c.from_list.result ≡ gather nat_cmp c.in-Query.outs = c.from_list.ensures.value ∙ ap (gather nat_cmp) c.list.ensures in
     IfOk-weaker c.plan_search.result
     (λ (plan : List Statement). (route : Routing) → ChoosesRoutes spec route → plan ≡ query_plan spec pattern (route pattern (union pattern c.from_list.result)))
     (IsPlanned spec (op_at spec c.args.op))

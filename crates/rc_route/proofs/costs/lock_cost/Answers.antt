@@ -1,26 +1,24 @@
-use Rattle.std.proofs.Common.{◌≡◌, ◌<◌, length, arith, ap, ◌∙◌}
+use Rattle.std.proofs.Common.{◌≡◌, ◌<◌, length, arith, sym, ap, ◌∙◌}
 use Rattle.rc_spec.specs.declared.items.Class.{Class}
+use Rattle.rc_spec.specs.declared.items.Edge.{Edge}
 use Rattle.rc_spec.specs.Placement.{class_at, class_of}
 use Rattle.rc_spec.specs.PlacementLaws.{class_of_known}
-use Rattle.rc_route.proofs.EdgeLemmas.{source_known, source_found, class_found, lock_all}
+use Rattle.rc_route.proofs.EdgeLemmas.{lock_all}
 use Rattle.rc_route.proofs.costs.lock_cost.Goals as goal
 
-pub bounds-list-class_of : goal.bounds-list-class_of
-bounds-list-class_of c =
+pub class-class-requires : goal.class-class-requires
+class-class-requires c =
     let known : class_of c.args.spec.now c.args.edge < length c.args.spec.now.classes = class_of_known c.args.spec.now c.args.edge c.requires.range (c.requires.placed.p1 c.args.edge c.requires.known) in
-    omega (arith, c.class_of.ensures, ap length c.list.ensures)
-
-pub bound-source-requires : goal.bound-source-requires
-bound-source-requires c = source_known c.args.spec.now c.list-2.result.now c.args.edge c.index-list-edge.result c.requires.range c.list-2.ensures c.requires.known c.index-list-edge.is
+    omega (arith, c.class_of.ensures)
 
 pub returns-else-within : goal.returns-else-within
 returns-else-within c =
     let spec = c.args.spec.now in
-    let class : Class = c.index-list-class_of.result in
+    let class : Class = c.class-class.result.now in
     let known : class_of spec c.args.edge < length spec.classes = class_of_known spec c.args.edge c.requires.range (c.requires.placed.p1 c.args.edge c.requires.known) in
     let same : class_at spec (class_of spec c.args.edge) ≡ class =
-    class_found spec c.list.result.now c.class_of.result c.args.edge class c.list.ensures c.class_of.ensures (omega (arith, c.class_of.ensures)) c.index-list-class_of.is in
+    ap (class_at spec) (sym c.class_of.ensures) ∙ sym c.class-class.ensures.value in
     c.from.ensures
     ∙ lock_all spec c.args.pattern c.args.edge class _ c.bound-source.result c.union.result c.within.result same
-    (source_found spec c.list-2.result.now c.args.edge c.index-list-edge.result c.list-2.ensures c.requires.known c.index-list-edge.is)
+    (ap (λ (e : Edge). e.from) c.edge.ensures.value)
     c.bound-source.ensures c.union.ensures.value c.within.ensures.found c.if-within.false

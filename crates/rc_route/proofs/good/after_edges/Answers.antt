@@ -2,7 +2,6 @@ use Rattle.std.proofs.Common.{◌≡◌, ◌<◌, ◌≤◌, ℕ, List, ◌+◌,
 use Rattle.rc_tuple.specs.ColSet.{union, with_column}
 use Rattle.rc_spec.specs.declared.items.Edge.{Edge}
 use Rattle.rc_spec.specs.Decomposition.{bound, edge_at}
-use Rattle.rc_spec.specs.DecompositionLaws.{edge_at_found, edge_known}
 use Rattle.rc_spec.specs.InRange.{IsEdgeAmong}
 use Rattle.rc_route.specs.GoodRoutes.{IsStep, IsGoodFrom}
 use Rattle.rc_route.proofs.GoodLemmas.{good_more, both_ways}
@@ -12,10 +11,9 @@ pub with-reached-requires : goal.with-reached-requires
 with-reached-requires c =
     let spec = c.args.spec.now in
     let n : ℕ = get_or c.args.edges.now c.loop-edge.edge-index 0 in
-    let e : Edge = c.index-list-edge.result in
+    let e : Edge = c.edge.result.now in
     let step : IsStep spec c.loop-edge.reached c.loop-edge.visited n = c.is_step.ensures.0 c.if-not-is_step.false in
-    let known : IsEdgeAmong (length spec.nodes) (length spec.columns) e = edge_known spec c.list.result.now n e c.requires c.list.ensures step.known c.index-list-edge.is in
-    let same : e.to ≡ (get_or c.list.result.now n e).to = ap (λ (z : Edge). z.to) c.index-list-edge.is in
+    let known : IsEdgeAmong (length spec.nodes) (length spec.columns) e = c.edge.ensures.known c.requires in
     let to : e.to < length spec.nodes = known.to in
     let few : length spec.nodes ≤ 16 = c.requires.nodes in omega arith
 
@@ -23,10 +21,9 @@ pub bound-requires : goal.bound-requires
 bound-requires c =
     let spec = c.args.spec.now in
     let n : ℕ = get_or c.args.edges.now c.loop-edge.edge-index 0 in
-    let e : Edge = c.index-list-edge.result in
+    let e : Edge = c.edge.result.now in
     let step : IsStep spec c.loop-edge.reached c.loop-edge.visited n = c.is_step.ensures.0 c.if-not-is_step.false in
-    let known : IsEdgeAmong (length spec.nodes) (length spec.columns) e = edge_known spec c.list.result.now n e c.requires c.list.ensures step.known c.index-list-edge.is in
-    let same : e.to ≡ (get_or c.list.result.now n e).to = ap (λ (z : Edge). z.to) c.index-list-edge.is in
+    let known : IsEdgeAmong (length spec.nodes) (length spec.columns) e = c.edge.ensures.known c.requires in
     let to : e.to < length spec.nodes = known.to in omega arith
 
 pub loop-edge-preserved : goal.loop-edge-preserved
@@ -35,11 +32,11 @@ loop-edge-preserved c = λ need rest.
     let i : ℕ = c.loop-edge.edge-index in
     let edges : List ℕ = c.args.edges.now in
     let n : ℕ = get_or edges i 0 in
-    let e : Edge = c.index-list-edge.result in
+    let e : Edge = c.edge.result.now in
     let l : i < length edges = omega arith in
     let step : IsStep spec c.loop-edge.reached c.loop-edge.visited n = c.is_step.ensures.0 c.if-not-is_step.false in
-    let same : edge_at spec n ≡ e = edge_at_found spec c.list.result.now n e c.list.ensures step.known c.index-list-edge.is in
-    let to : (get_or c.list.result.now n e).to ≡ (edge_at spec n).to = ap (λ (z : Edge). z.to) (sym c.index-list-edge.is ∙ sym same) in
+    let same : e ≡ edge_at spec n = c.edge.ensures.value in
+    let to : e.to ≡ (edge_at spec n).to = ap (λ (z : Edge). z.to) same in
     let reached : c.with-reached.result ≡ with_column c.loop-edge.reached (edge_at spec n).to = c.with-reached.ensures.value ∙ ap (with_column c.loop-edge.reached) to in
     let visited : c.union-visited.result ≡ union c.loop-edge.visited (bound spec (edge_at spec n).to) = c.union-visited.ensures.value ∙ ap (union c.loop-edge.visited) (c.bound.ensures ∙ ap (bound spec) to) in
     let more = good_more spec need c.loop-edge.reached c.loop-edge.visited edges rest i l step in

@@ -3,7 +3,7 @@ use Rattle.rc_tuple.specs.RisingSet.{In}
 use Rattle.rc_spec.specs.declared.spec.Spec.{Spec}
 use Rattle.rc_spec.specs.Acceptance.{IsSealed}
 use Rattle.rc_spec.specs.DecompositionLaws.{at_found}
-use Rattle.rc_graph.specs.Order.{IsTopologicalOrder}
+use Rattle.rc_spec.specs.Order.{IsTopologicalOrder}
 use Rattle.rc_route.specs.Paths.{IsLeastPath, SomeNodeBinds}
 use Rattle.rc_route.specs.PathsLaws.{paths_are_good}
 use Rattle.rc_route.specs.Search.{AreLeastPaths, IsFirstLeast, Binds, cost_to, path_at}
@@ -14,8 +14,8 @@ use Rattle.rc_route.proofs.least.least_path.Goals as goal
 pub last_node-requires-clause-paths : goal.last_node-requires-clause-paths
 last_node-requires-clause-paths c = λ x m.
     let spec = c.spec-spec.result.now in
-    let top : IsTopologicalOrder spec c.list.result.now = subst (IsTopologicalOrder spec) (sym c.list.ensures) c.in_ok-order.ensures in
-    least_begin spec c.args.pattern c.list.result.now c.in_ok-paths.paths.items top c.in_ok-paths.ensures x (subst (In x) c.deref.ensures.value m)
+    let top : IsTopologicalOrder spec c.order.result.now = subst (λ (s : Spec). IsTopologicalOrder s c.order.result.now) (sym c.spec-spec.ensures.value) c.order.ensures in
+    least_begin spec c.args.pattern c.order.result.now c.in_ok-paths.paths.items top c.in_ok-paths.ensures x (subst (In x) c.deref.ensures.value m)
 
 pub returns-in-None-clause-least : goal.returns-in-None-clause-least
 returns-in-None-clause-least c = subst (λ (s : Spec). SomeNodeBinds s c.args.need → ⊥) c.spec-spec.ensures.value (λ b. c.in-None.ensures b.0 b.1 b.2)
@@ -25,13 +25,13 @@ returns-clause-least c =
     let spec = c.spec-spec.result.now in
     let sealed : IsSealed spec = subst IsSealed (sym c.spec-spec.ensures.value) c.spec-spec.ensures.sealed in
     let paths : List (List ℕ) = c.in_ok-paths.paths.items in
-    let top : IsTopologicalOrder spec c.list.result.now = subst (IsTopologicalOrder spec) (sym c.list.ensures) c.in_ok-order.ensures in
+    let top : IsTopologicalOrder spec c.order.result.now = subst (λ (s : Spec). IsTopologicalOrder s c.order.result.now) (sym c.spec-spec.ensures.value) c.order.ensures in
     let v : ℕ = c.in-Some.node in
     let best : IsFirstLeast (Binds spec c.args.need) (cost_to spec c.args.pattern paths) (length spec.nodes) v =
     subst (λ z. IsFirstLeast (Binds spec c.args.need) (cost_to spec c.args.pattern z) (length spec.nodes) v) c.deref.ensures.value c.in-Some.ensures in
     let found : IsLeastPath spec c.args.pattern c.args.need (path_at paths v) =
-    found_path spec c.args.pattern sealed.in_range sealed.populated paths c.args.need v (least_to spec c.args.pattern c.list.result.now paths top c.in_ok-paths.ensures) best in
-    let areleast : AreLeastPaths spec c.args.pattern c.list.result.now paths = c.in_ok-paths.ensures in
+    found_path spec c.args.pattern sealed.in_range sealed.populated paths c.args.need v (least_to spec c.args.pattern c.order.result.now paths top c.in_ok-paths.ensures) best in
+    let areleast : AreLeastPaths spec c.args.pattern c.order.result.now paths = c.in_ok-paths.ensures in
     let count : length paths ≡ length spec.nodes = areleast.count in
     let below : v < length spec.nodes = best.below in
     let path : path_at paths v ≡ c.index.result.now = at_found paths paths v [] c.index.result.now refl (omega arith) c.index.ensures in

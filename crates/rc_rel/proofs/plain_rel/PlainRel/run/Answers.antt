@@ -1,39 +1,41 @@
 use Rattle.std.proofs.Common.{◌≡◌, List, sym, ap, subst, ◌∙◌}
 use Rattle.std.specs.Result.{OnErr}
+use Rattle.std.proofs.lemmas.Option.{get_or_from_slice_get}
 use Rattle.rc_tuple.specs.RisingSetLaws.{slice_get_in}
 use Rattle.rc_tuple.specs.Tuple.{Pairs, cols_of}
 use Rattle.rc_tuple.specs.declared.dep.Dep.{Dep}
 use Rattle.rc_spec.specs.declared.items.Op.{Op}
 use Rattle.rc_spec.specs.Calls.{all_columns}
 use Rattle.rc_spec.specs.InRange.{AreBelow}
+use Rattle.rc_spec.specs.Placement.{no_op}
 use Rattle.rc_spec.specs.Plain.{Outcome, plain, plain_by}
 use Rattle.rc_spec.specs.PlainLaws.{plain-known}
 use Rattle.rc_rel.specs.Over.{AreOver}
-use Rattle.rc_rel.proofs.RunLemmas.{holds_after, same_outcome, op_read, pattern_below, over_arguments, over_outcome}
+use Rattle.rc_rel.proofs.RunLemmas.{holds_after, same_outcome, pattern_below, over_arguments, over_outcome}
 use Rattle.rc_rel.proofs.plain_rel.PlainRel.run.Goals as goal
 
 pub step-requires-clause-pattern : goal.step-requires-clause-pattern
 step-requires-clause-pattern c =
     let op : Op = c.requires.fits.0 in
-    let read : c.index-list-call.result ≡ op = op_read c.args.spec.now.ops c.list.result.now c.args.call.now.op op c.index-list-call.result c.list.ensures c.index-list-call.is c.requires.fits.1.known in
+    let read : c.op-op.result.now ≡ op = c.op-op.ensures.value ∙ get_or_from_slice_get c.args.spec.now.ops c.args.call.now.op op no_op c.requires.fits.1.known in
     subst (λ (o : Op). AreBelow 32 o.pattern) (sym read) (pattern_below c.args.spec.now op c.requires.range (slice_get_in c.args.spec.now.ops c.args.call.now.op op c.requires.fits.1.known))
 
 pub step-requires-clause-over : goal.step-requires-clause-over
 step-requires-clause-over c =
     let op : Op = c.requires.fits.0 in
-    let read : c.index-list-call.result ≡ op = op_read c.args.spec.now.ops c.list.result.now c.args.call.now.op op c.index-list-call.result c.list.ensures c.index-list-call.is c.requires.fits.1.known in
+    let read : c.op-op.result.now ≡ op = c.op-op.ensures.value ∙ get_or_from_slice_get c.args.spec.now.ops c.args.call.now.op op no_op c.requires.fits.1.known in
     λ e. subst (λ (r : List Pairs). AreOver (cols_of c.args.call.now.args) r) (sym c.self.view_is)
     (over_arguments c.args.spec.now c.args.call.now op c.args.self.now c.requires.fits.1 c.requires.over (sym (ap (λ (o : Op). o.kind) read) ∙ e))
 
 pub returns-clause-ok : goal.returns-clause-ok
 returns-clause-ok c =
     let op : Op = c.requires.fits.0 in
-    let read : c.index-list-call.result ≡ op = op_read c.args.spec.now.ops c.list.result.now c.args.call.now.op op c.index-list-call.result c.list.ensures c.index-list-call.is c.requires.fits.1.known in
+    let read : c.op-op.result.now ≡ op = c.op-op.ensures.value ∙ get_or_from_slice_get c.args.spec.now.ops c.args.call.now.op op no_op c.requires.fits.1.known in
     same_outcome c.step.result _ (plain c.args.spec.now c.args.self.now c.args.call.now) c.step.new.tuples.items
     (plain-known c.args.spec.now c.args.self.now c.args.call.now op c.requires.fits.1.known
     ∙ ap (λ (o : Op). plain_by o.kind o.pattern c.args.spec.now.deps c.args.call.now.args c.args.self.now) (sym read)
-    ∙ ap (λ (deps : List Dep). plain_by c.index-list-call.result.kind c.index-list-call.result.pattern deps c.args.call.now.args c.args.self.now) (sym c.list-2.ensures)
-    ∙ ap (λ (r : List Pairs). plain_by c.index-list-call.result.kind c.index-list-call.result.pattern c.list-2.result.now c.args.call.now.args r) (sym c.self.view_is))
+    ∙ ap (λ (deps : List Dep). plain_by c.op-op.result.now.kind c.op-op.result.now.pattern deps c.args.call.now.args c.args.self.now) (sym c.list.ensures)
+    ∙ ap (λ (r : List Pairs). plain_by c.op-op.result.now.kind c.op-op.result.now.pattern c.list.result.now c.args.call.now.args r) (sym c.self.view_is))
     c.step.ensures.ok
 
 pub returns-clause-over : goal.returns-clause-over

@@ -4,6 +4,7 @@ use Rattle.std.specs.List.{slice_get}
 use Rattle.rc_tuple.specs.RisingSet.{In, AreDistinct}
 use Rattle.rc_spec.specs.declared.items.Edge.{Edge}
 use Rattle.rc_spec.specs.declared.spec.Spec.{Spec}
+use Rattle.rc_spec.specs.Acceptance.{IsSealed}
 use Rattle.rc_spec.specs.InRange.{AreBelow}
 
 -- each edge that ends at the node begins at one of those before
@@ -35,3 +36,8 @@ pub record HasEachNodeOnce (spec : Spec) (order : List ℕ) : Type 0 where
   pub each : (v : ℕ) → v < length spec.nodes → In v order
   pub once : AreDistinct order
   pub known : AreBelow (length spec.nodes) order
+
+-- a specification that meets all rules, with its nodes in topological order
+pub record IsSealedWith (spec : Spec) (order : List ℕ) : Type 0 where
+  pub sealed : IsSealed spec
+  pub topological : IsTopologicalOrder spec order

@@ -8,7 +8,7 @@ use Rattle.rc_tuple.specs.RisingSetLaws.{in_slice_get}
 use Rattle.rc_spec.specs.declared.spec.Spec.{Spec}
 use Rattle.rc_spec.specs.First.{EachHolds}
 use Rattle.rc_spec.specs.InRange.{IsInRange}
-use Rattle.rc_graph.specs.Order.{IsNext, IsTopologicalOrder, LeadsForward, HasEachNodeOnce}
+use Rattle.rc_spec.specs.Order.{IsNext, IsTopologicalOrder, LeadsForward, HasEachNodeOnce}
 
 -- what stands in a first part stands in the whole, before the part's end
 in_take : (xs : List ℕ) (k x : ℕ) → In x (take k xs) → (i : ℕ) × (i < k) × (slice_get xs i ≡ Some x)

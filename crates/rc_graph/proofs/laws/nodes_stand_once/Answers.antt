@@ -1,5 +1,0 @@
-use Rattle.rc_graph.specs.OrderLaws.{nodes_stand_once}
-use Rattle.rc_graph.proofs.laws.nodes_stand_once.Goals as goal
-
-pub returns : goal.returns
-returns c = nodes_stand_once
