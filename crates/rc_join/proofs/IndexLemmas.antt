@@ -17,7 +17,7 @@ use Rattle.rc_edges.specs.RowsLaws.{get-written}
 use Rattle.rc_maps.specs.Keyed.{Key}
 use Rattle.rc_maps.specs.KeyedLaws.{get-whole, whole-changed}
 use Rattle.rc_maps.specs.HashedLaws.{pointwise_same, test, key_eq}
-use Rattle.rc_plan.specs.ReadLaws.{join_by_columns}
+use Rattle.rc_spec.specs.JoinLaws.{join_by_columns}
 use Rattle.rc_spec.specs.Contents.{join}
 use Rattle.rc_join.specs.Index.{Entries, IsAdded, IsIndexed, found_at, tuples_in, tuples_of, whole_of}
 

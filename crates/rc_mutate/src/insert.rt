@@ -38,7 +38,7 @@ fn reads_unbound(spec: &Spec, class: u8, probe: &InsertProbe) -> bool
     requires { class < length spec.now.classes }
     ensures { result ≡ reads_unbound spec.now class probe.now }
 {
-    let cols = spec.classes.list()[class as usize].cols;
+    let cols = spec.class(class).cols;
     reads_class(spec, probe.route.list(), class) && !cols.within(probe.columns)
 }
 

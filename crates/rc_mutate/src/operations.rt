@@ -18,7 +18,7 @@ fn plan_op(alloc: Global, accepted: &Accepted, op: u8) -> Result<Plan, Memory>
     ensures planned { IfOk result (IsPlanned accepted.now (op_at accepted.now op)) }
     ensures accepted { IfOk result (IsPlanOf accepted.now op) }
 {
-    let operation = &accepted.spec().ops.list()[op as usize];
+    let operation = accepted.spec().op(op);
     match &operation.kind {
         OpKind::Query { outs: _ } => plan_query(alloc, accepted, op),
         OpKind::Insert => plan_insert(alloc, accepted, op),

@@ -1,3 +1,4 @@
 mod Example
 mod ExamplePlans
+mod RowLemmas
 mod TextLemmas

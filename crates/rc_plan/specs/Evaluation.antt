@@ -1,27 +1,28 @@
 -- What a plan does on a list of rows: its reply, the stripes that it names, and the rows after it. (PLDI 2011 and PLDI 2012, evaluation of query plans.)
 use Rattle.std.specs.Prelude.{ℕ, ◌-◌, Bool, true, false, List, [], ◌∷◌, ◌++◌, Option, None, Some, map, not, is_some, if◌then◌else◌, get_or}
-use Rattle.std.specs.List.{list_any, range_with_len}
+use Rattle.std.specs.List.{list_any}
 use Rattle.rc_tuple.specs.RisingSet.{gather}
 use Rattle.rc_tuple.specs.Tuple.{Pairs, project, agree_on}
 use Rattle.rc_tuple.specs.declared.dep.Dep.{Dep}
 use Rattle.rc_spec.specs.declared.call.Call.{Call}
 use Rattle.rc_spec.specs.declared.call.Reply.{Reply}
 use Rattle.rc_spec.specs.declared.call.Reply.TheVariants.{Rows, Many, Inserted, Present, Conflict, Removed, Absent}
+use Rattle.rc_spec.specs.declared.items.Op.{Op}
 use Rattle.rc_spec.specs.declared.items.OpKind.{OpKind}
 use Rattle.rc_spec.specs.declared.items.OpKind.TheVariants.{Query, Insert, Remove}
 use Rattle.rc_spec.specs.declared.lock.Mode.{Mode}
 use Rattle.rc_spec.specs.declared.spec.Spec.{Spec}
 use Rattle.rc_spec.specs.Contents.{join}
 use Rattle.rc_spec.specs.Fragments.{EdgeRow, tuples_of_edge, all_rows}
-use Rattle.rc_spec.specs.Placement.{class_at, op_at}
+use Rattle.rc_spec.specs.Placement.{op_at}
 use Rattle.rc_spec.specs.Plain.{at_most_256, rows_of}
-use Rattle.rc_spec.specs.Stripes.{band_start, physical_stripe}
+use Rattle.rc_spec.specs.Stripes.{physical_stripe}
 use Rattle.rc_plan.specs.declared.statement.Statement.{Statement}
 use Rattle.rc_plan.specs.declared.statement.Statement.TheVariants.{Lock, Probe, Read, CheckAbsent, CheckDep, Apply, Emit, Commit, Release}
 use Rattle.rc_plan.specs.declared.statement.Which.{Which}
 use Rattle.rc_plan.specs.declared.statement.Which.TheVariants as which
 use Rattle.rc_spec.specs.CountedRows.{with_rows, without_rows}
-use Rattle.rc_plan.specs.StripeLocks.{StripeLock, stripe_lock_cmp}
+use Rattle.rc_plan.specs.StripeLocks.{StripeLock, stripe_lock_cmp, band}
 
 -- where a run stands
 pub record RunState : Type 0 where
@@ -33,10 +34,6 @@ pub record RunState : Type 0 where
   pub rows : List EdgeRow
 
 -- ---- what the statements speak of
-
--- all physical stripes of a class
-abbrev pub band : Spec → ℕ → List ℕ
-band spec c = range_with_len (band_start spec c) (class_at spec c).stripes
 
 -- the stripes of a class that a Lock takes: those on which the bindings fall, or all
 abbrev pub stripes_locked : Spec → ℕ → Which → List Pairs → List ℕ
@@ -83,35 +80,35 @@ emit (Query outs) state = record state { reply = Some (answer outs state.binding
 emit Insert state = state
 emit Remove state = state
 
--- one statement, where there is no reply yet
-abbrev pub run_one : Spec → OpKind → Pairs → RunState → Statement → RunState
-run_one spec kind args state (Lock c choice mode) = record state { named = gather stripe_lock_cmp (state.named ++ named_by spec c choice mode state.bindings) }
-run_one spec kind args state (Probe cols) = record state { bindings = project cols args ∷ [] }
-run_one spec kind args state (Read e mode) = record state { bindings = join state.bindings (tuples_of_edge e state.rows) }
-run_one spec kind args state CheckAbsent = if some_left state.bindings then record state { reply = Some Present } else state
-run_one spec kind args state (CheckDep dep) = if some_differs spec dep args state.bindings then record state { reply = Some (Conflict dep) } else state
-run_one spec kind args state Apply = apply spec kind args state
-run_one spec kind args state Emit = emit kind state
-run_one spec kind args state Commit = state
-run_one spec kind args state (Release c) = state
+-- one statement of the plan of an operation, at a call, where there is no reply yet
+abbrev pub run_one : Spec → Op → Call → RunState → Statement → RunState
+run_one spec op call state (Lock c choice mode) = record state { named = gather stripe_lock_cmp (state.named ++ named_by spec c choice mode state.bindings) }
+run_one spec op call state (Probe cols) = record state { bindings = project cols call.args ∷ [] }
+run_one spec op call state (Read e mode) = record state { bindings = join state.bindings (tuples_of_edge e state.rows) }
+run_one spec op call state CheckAbsent = if some_left state.bindings then record state { reply = Some Present } else state
+run_one spec op call state (CheckDep dep) = if some_differs spec dep call.args state.bindings then record state { reply = Some (Conflict dep) } else state
+run_one spec op call state Apply = apply spec op.kind call.args state
+run_one spec op call state Emit = emit op.kind state
+run_one spec op call state Commit = state
+run_one spec op call state (Release c) = state
 
 -- after the reply nothing changes
-abbrev pub run_next : Spec → OpKind → Pairs → RunState → Statement → RunState
-run_next spec kind args state x = if is_some state.reply then state else run_one spec kind args state x
+abbrev pub run_next : Spec → Op → Call → RunState → Statement → RunState
+run_next spec op call state x = if is_some state.reply then state else run_one spec op call state x
 
-abbrev pub run : Spec → OpKind → Pairs → List Statement → RunState → RunState
-run spec kind args [] state = state
-run spec kind args (x ∷ plan) state = run spec kind args plan (run_next spec kind args state x)
+abbrev pub run : Spec → Op → Call → List Statement → RunState → RunState
+run spec op call [] state = state
+run spec op call (x ∷ plan) state = run spec op call plan (run_next spec op call state x)
 
 -- ---- evaluation
 
 -- a run begins with the call's tuple as its one binding
-abbrev pub begun : Pairs → List EdgeRow → RunState
-begun args rows = record { bindings = args ∷ []; named = []; reply = None; rows = rows }
+abbrev pub begun : Call → List EdgeRow → RunState
+begun call rows = record { bindings = call.args ∷ []; named = []; reply = None; rows = rows }
 
 -- the plan of the call's operation, on these rows
 abbrev pub eval : Spec → List Statement → Call → List EdgeRow → RunState
-eval spec plan call rows = run spec (op_at spec call.op).kind call.args plan (begun call.args rows)
+eval spec plan call rows = run spec (op_at spec call.op) call plan (begun call rows)
 
 -- the stripes that a call touches, each with its mode: those that evaluation on all rows names
 abbrev pub touched : Spec → List Statement → Call → List Pairs → List StripeLock

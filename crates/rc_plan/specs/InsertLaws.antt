@@ -41,15 +41,19 @@ use Rattle.rc_spec.specs.CountedRowsLaws.{AllHeld, with_rows-fragments, without_
 use Rattle.rc_plan.specs.Evaluation.{RunState, dep_at, some_left, some_differs, stripes_locked, named_by, run, rows_as_taken}
 use Rattle.rc_plan.specs.PlanRules.{Phase, Progress, after, AreKnown, IsLocked, IsAtRisk, Covers, KeepsAll, KeepsFrom}
 use Rattle.rc_spec.specs.Decomposition.{target_columns}
-use Rattle.rc_plan.specs.RunLaws.{cols_of-project, EndsAs, searching, IsSearching, run-replied, stripes_grow, lock_keeps, read_keeps, read_same}
-use Rattle.rc_plan.specs.StripeLocks.{StripeLock, stripe_lock_cmp, stripes_of}
-use Rattle.rc_plan.specs.StripeLocksLaws.{named_before, named_now, AreIn, AreIn-more, not_named, physical_stripe-agreeing, physical_stripe-in_band, striping_in_target}
+use Rattle.rc_plan.specs.RunLaws.{cols_of-project, EndsAs, run-replied, stripes_grow, lock_keeps, read_keeps, read_same}
+use Rattle.rc_plan.specs.StripeLocks.{StripeLock, stripe_lock_cmp, stripes_of, AreIn}
+use Rattle.rc_plan.specs.StripeLocksLaws.{named_before, named_now, AreIn-more, not_named, physical_stripe-agreeing, physical_stripe-in_band, striping_in_target}
+use Rattle.rc_spec.specs.declared.call.Call.{Call}
+use Rattle.rc_plan.specs.Search.{searching, IsSearching}
+use Rattle.rc_plan.specs.NamedStripes.{HasNamed}
 
 abbrev pub insert_op : List ℕ → List ℕ → Op
 insert_op name pattern = record { name = name; pattern = pattern; kind = Insert }
 
 -- a dependency that has to be checked, and is less than one that was, was checked too
-checked_before : (spec : Spec) (name pattern : List ℕ) (plan : List Statement) (p : Progress) → KeepsFrom spec (insert_op name pattern) p plan → p.phase ≡ Phase.Searching
+checked_before : (spec : Spec) (name pattern : List ℕ) (plan : List Statement) (p : Progress) → KeepsFrom spec (insert_op name pattern) p plan
+    → p.phase ≡ Phase.Searching
     → (dep later : ℕ) → In later p.checked → dep < later → 0 < dep → dep ≤ length spec.deps → IsAtRisk spec (insert_op name pattern) dep → In dep p.checked
 checked_before spec name pattern [] p keeps e dep m h l z n w = absurd (let f : Phase.Searching ≡ Phase.Committed = sym e ∙ keeps.0 in cc)
 checked_before spec name pattern (Lock c choice mode ∷ plan) p keeps e dep m h l z n w = checked_before spec name pattern plan (after spec p (Lock c choice mode)) keeps.1 e dep m h l z n w
@@ -78,28 +82,26 @@ none_left : (bs : List Pairs) → some_left bs ≡ false → (b : Pairs) → In 
 none_left [] e b h = h
 none_left (x ∷ bs) e b h = true≢false e
 
--- what a Lock of an insert has named: the stripe of its tuple, or all stripes of the class
-abbrev pub HasNamed : Spec → Pairs → List ℕ → ℕ → Which → Type 0
-HasNamed spec t stripes c which.Keyed = In (physical_stripe spec c t) stripes
-HasNamed spec t stripes c which.All = (u : Pairs) → In (physical_stripe spec c u) stripes
-
 named_tuple : (spec : Spec) (t : Pairs) (stripes : List ℕ) (c : ℕ) (choice : Which) → HasNamed spec t stripes c choice → In (physical_stripe spec c t) stripes
 named_tuple spec t stripes c which.Keyed h = h
 named_tuple spec t stripes c which.All h = h t
 
-pub more_named : (spec : Spec) (t : Pairs) (ns ms : List StripeLock) (c : ℕ) (choice : Which) → HasNamed spec t (stripes_of ns) c choice → HasNamed spec t (stripes_of (gather stripe_lock_cmp (ns ++ ms))) c choice
+pub more_named : (spec : Spec) (t : Pairs) (ns ms : List StripeLock) (c : ℕ) (choice : Which) → HasNamed spec t (stripes_of ns) c choice
+    → HasNamed spec t (stripes_of (gather stripe_lock_cmp (ns ++ ms))) c choice
 more_named spec t ns ms c which.Keyed h = named_before (physical_stripe spec c t) ns ms h
 more_named spec t ns ms c which.All h = λ u. named_before (physical_stripe spec c u) ns ms (h u)
 
 -- a Lock by the tuple alone names its stripe
-pub tuple_named : (spec : Spec) → IsPlaced spec → (t : Pairs) (bs : List Pairs) (ns : List StripeLock) (mode : Mode) (c : ℕ) → c < length spec.classes → (choice : Which) → bs ≡ t ∷ []
+pub tuple_named : (spec : Spec) → IsPlaced spec → (t : Pairs) (bs : List Pairs) (ns : List StripeLock) (mode : Mode) (c : ℕ)
+    → c < length spec.classes → (choice : Which) → bs ≡ t ∷ []
     → HasNamed spec t (stripes_of (gather stripe_lock_cmp (ns ++ named_by spec c choice mode bs))) c choice
 tuple_named spec placed t bs ns mode c l which.Keyed e =
     named_now (physical_stripe spec c t) ns mode (map (physical_stripe spec c) bs) (subst (λ z. In (physical_stripe spec c t) (map (physical_stripe spec c) z)) (sym e) (inl refl))
 tuple_named spec placed t bs ns mode c l which.All e = λ u. named_now (physical_stripe spec c u) ns mode (stripes_locked spec c which.All bs) (physical_stripe-in_band spec placed c u l)
 
 -- after a Probe the search is for the tuple's projection, on stripes that were named for the tuple
-pub probe_searching : (spec : Spec) (r : List Pairs) (t : Pairs) → IsRising nat_cmp (cols_of t) → cols_of t ≡ all_columns spec → (p : Progress) (ns : List StripeLock) (xs : List ℕ) → p.phase ≡ Phase.Searching
+pub probe_searching : (spec : Spec) (r : List Pairs) (t : Pairs) → IsRising nat_cmp (cols_of t) → cols_of t ≡ all_columns spec
+    → (p : Progress) (ns : List StripeLock) (xs : List ℕ) → p.phase ≡ Phase.Searching
     → Within xs (all_columns spec) → ((x : ℕ × Which) → In x p.locked → HasNamed spec t (stripes_of ns) x.0 x.1) → IsSearching spec r (project xs t) (after spec p (Probe xs)) (project xs t ∷ []) ns
 probe_searching spec r t rises over p ns xs phase known locks = record {
   phase = phase;
@@ -111,7 +113,8 @@ probe_searching spec r t rises over p ns xs phase known locks = record {
   guards = λ x m cover b u n v g. elim n [ inl e ↦ guard x.0 x.1 (locks x m) cover u v (subst (λ z. Agree z u) e g) | inr z ↦ absurd z ];
 }
   where
-    guard : (c : ℕ) (choice : Which) → HasNamed spec t (stripes_of ns) c choice → Covers spec (after spec p (Probe xs)) c choice → (u : Pairs) → Within (class_at spec c).cols (cols_of u) → Agree (project xs t) u
+    guard : (c : ℕ) (choice : Which) → HasNamed spec t (stripes_of ns) c choice → Covers spec (after spec p (Probe xs)) c choice → (u : Pairs)
+        → Within (class_at spec c).cols (cols_of u) → Agree (project xs t) u
         → In (physical_stripe spec c u) (stripes_of ns)
     guard c which.Keyed n cover u v g =
         let in_t : Within (class_at spec c).cols (cols_of t) = λ d m. subst (In d) (sym over) (known d (cover d m)) in
@@ -135,7 +138,13 @@ pub record IsInserting (spec : Spec) (r : List Pairs) (t : Pairs) (pattern : Lis
   pub checked : (dep : ℕ) → In dep p.checked → IsUnbroken r t (dep_at spec dep)
 
 module _ (spec : Spec) (range : IsInRange spec) (ok : IsAdequate spec) (placed : IsPlaced spec) (r : List Pairs) (i : IsRelation (all_columns spec) r) (h : Satisfies r spec.deps)
-    (t : Pairs) (over : cols_of t ≡ all_columns spec) (name pattern : List ℕ) (some_pattern : pattern ≡ [] → ⊥) (stripes : List ℕ) where
+    (call : Call) (over : cols_of call.args ≡ all_columns spec) (name pattern : List ℕ) (some_pattern : pattern ≡ [] → ⊥) (stripes : List ℕ) where
+  abbrev t : Pairs
+  t = call.args
+
+  abbrev ran : List Statement → RunState → RunState
+  ran = run spec (insert_op name pattern) call
+
   columns_rise : IsRising nat_cmp (all_columns spec)
   columns_rise = rising_range 0 (length spec.columns)
 
@@ -156,7 +165,8 @@ module _ (spec : Spec) (range : IsInRange spec) (ok : IsAdequate spec) (placed :
   agreeing_found xs visited u m e p q x y g =
       one_pair u (subst (IsRising nat_cmp) (sym (i.each u m).over) columns_rise) p q (in_project xs p u (subst (In p) e x)).0 (in_project visited q u y).0 g
 
-  whole_merge : (xs visited : List ℕ) (u : Pairs) → In u r → Within xs visited → project xs t ≡ project xs u → merge (project xs t) (project visited u) ≡ project visited u
+  whole_merge : (xs visited : List ℕ) (u : Pairs) → In u r → Within xs visited → project xs t ≡ project xs u
+      → merge (project xs t) (project visited u) ≡ project visited u
   whole_merge xs visited u m w e =
       same_rising pair_cmp pair_order (merge (project xs t) (project visited u)) (project visited u) (rising_merge (project xs t) (project visited u))
       (rising_filter pair_cmp (λ (p : ℕ × ℕ). has visited p.0) u (rising_of (all_columns spec) r columns_rise i u m))
@@ -166,17 +176,20 @@ module _ (spec : Spec) (range : IsInRange spec) (ok : IsAdequate spec) (placed :
       ])
       (λ p n. merge_right (project xs t) (project visited u) p n)
 
-  found_one : (xs visited : List ℕ) (bs : List Pairs) → IsSeen r (project xs t) visited bs → Within xs visited → (b : Pairs) → In b bs → (u : Pairs) × In u r × (project xs t ≡ project xs u) × (b ≡ project visited u)
+  found_one : (xs visited : List ℕ) (bs : List Pairs) → IsSeen r (project xs t) visited bs → Within xs visited → (b : Pairs) → In b bs
+      → (u : Pairs) × In u r × (project xs t ≡ project xs u) × (b ≡ project visited u)
   found_one xs visited bs seen w b m =
       let q : (u : Pairs) × In u r × Agree (project xs t) (project visited u) × (b ≡ merge (project xs t) (project visited u)) = seen.only b m in
       let e : project xs t ≡ project xs q.0 = found_agrees xs visited q.0 q.1 w q.2 in
       (q.0, q.1, e, q.3 ∙ whole_merge xs visited q.0 q.1 w e)
 
-  one_found : (xs visited : List ℕ) (bs : List Pairs) → IsSeen r (project xs t) visited bs → Within xs visited → (u : Pairs) → In u r → project xs t ≡ project xs u → In (project visited u) bs
+  one_found : (xs visited : List ℕ) (bs : List Pairs) → IsSeen r (project xs t) visited bs → Within xs visited → (u : Pairs) → In u r
+      → project xs t ≡ project xs u → In (project visited u) bs
   one_found xs visited bs seen w u m e = subst (λ z. In z bs) (whole_merge xs visited u m w e) (seen.each u m (agreeing_found xs visited u m e))
 
   -- what a check of a dependency finds
-  differs_so : (xs visited : List ℕ) (bs : List Pairs) (dep : ℕ) → IsSeen r (project xs t) visited bs → Within xs visited → Within (dep_at spec dep).right visited → some_differs spec dep t bs ≡ true
+  differs_so : (xs visited : List ℕ) (bs : List Pairs) (dep : ℕ) → IsSeen r (project xs t) visited bs → Within xs visited
+      → Within (dep_at spec dep).right visited → some_differs spec dep t bs ≡ true
       → (u : Pairs) × In u r × (project xs t ≡ project xs u) × (agree_on (dep_at spec dep).right u t ≡ false)
   differs_so xs visited bs dep seen w v e =
       let ys : List ℕ = (dep_at spec dep).right in
@@ -185,7 +198,8 @@ module _ (spec : Spec) (range : IsInRange spec) (ok : IsAdequate spec) (placed :
       let c : project ys b.0 ≡ project ys u.0 = ap (project ys) u.3 ∙ project-project ys visited u.0 v in
       (u.0, u.1, u.2, ap (λ z. tuple_eq z (project ys t)) (sym c) ∙ not-true (agree_on ys b.0 t) b.2)
 
-  differs_not : (xs visited : List ℕ) (bs : List Pairs) (dep : ℕ) → IsSeen r (project xs t) visited bs → Within xs visited → Within (dep_at spec dep).right visited → some_differs spec dep t bs ≡ false
+  differs_not : (xs visited : List ℕ) (bs : List Pairs) (dep : ℕ) → IsSeen r (project xs t) visited bs → Within xs visited
+      → Within (dep_at spec dep).right visited → some_differs spec dep t bs ≡ false
       → (u : Pairs) → In u r → project xs t ≡ project xs u → project (dep_at spec dep).right t ≡ project (dep_at spec dep).right u
   differs_not xs visited bs dep seen w v e u m f =
       let ys : List ℕ = (dep_at spec dep).right in
@@ -204,11 +218,11 @@ module _ (spec : Spec) (range : IsInRange spec) (ok : IsAdequate spec) (placed :
       → plain_by Insert pattern spec.deps t r ≡ record { reply = reply; relation = new } → rows ≡ rows_on spec new stripes
       → rows_as_taken spec t reply (rows_on spec new stripes) ≡ rows_on spec r stripes
       → ((stripe : ℕ) → (In stripe (stripes_of ns) → ⊥) → fragment_of spec new stripe ≡ fragment_of spec r stripe)
-      → InsertEnds (run spec Insert t plan (record { bindings = bs; named = ns; reply = Some reply; rows = rows })) (run spec Insert t plan (record { bindings = bs; named = ns; reply = Some reply; rows = all }))
+      → InsertEnds (ran plan (record { bindings = bs; named = ns; reply = Some reply; rows = rows })) (ran plan (record { bindings = bs; named = ns; reply = Some reply; rows = all }))
   insert_ends plan bs ns reply new rows all x e f back g =
-      let one = run-replied spec Insert t plan bs ns reply rows in
-      let two = run-replied spec Insert t plan bs ns reply all in
-      subst (λ (o : Outcome). EndsAs spec t (run spec Insert t plan (record { bindings = bs; named = ns; reply = Some reply; rows = rows })) (run spec Insert t plan (record { bindings = bs; named = ns; reply = Some reply; rows = all })) r o stripes) (sym e)
+      let one = run-replied spec (insert_op name pattern) call plan bs ns reply rows in
+      let two = run-replied spec (insert_op name pattern) call plan bs ns reply all in
+      subst (λ (o : Outcome). EndsAs spec t (ran plan (record { bindings = bs; named = ns; reply = Some reply; rows = rows })) (ran plan (record { bindings = bs; named = ns; reply = Some reply; rows = all })) r o stripes) (sym e)
       (record {
         reply = ap (λ (z : RunState). z.reply) one;
         named = ap (λ (z : RunState). z.named) one ∙ sym (ap (λ (z : RunState). z.named) two);
@@ -219,7 +233,8 @@ module _ (spec : Spec) (range : IsInRange spec) (ok : IsAdequate spec) (placed :
 
   -- ---- the steps
 
-  lock_inserting : (p : Progress) (s : Pairs) (bs : List Pairs) (ns : List StripeLock) (c : ℕ) (choice : Which) (mode : Mode) → IsInserting spec r t pattern p s bs ns → IsRising pair_cmp s → c < length spec.classes
+  lock_inserting : (p : Progress) (s : Pairs) (bs : List Pairs) (ns : List StripeLock) (c : ℕ) (choice : Which) (mode : Mode)
+      → IsInserting spec r t pattern p s bs ns → IsRising pair_cmp s → c < length spec.classes
       → KeepsAll spec (insert_op name pattern) p (Lock c choice mode)
       → IsInserting spec r t pattern (after spec p (Lock c choice mode)) s bs (gather stripe_lock_cmp (ns ++ named_by spec c choice mode bs))
   lock_inserting p s bs ns c choice mode f s_up l keeps = record {
@@ -238,7 +253,8 @@ module _ (spec : Spec) (range : IsInRange spec) (ok : IsAdequate spec) (placed :
       now choice (inl e) = tuple_named spec placed t bs ns mode c l choice e.2
       now choice (inr e) = absurd (let g : None ≡ Some e.0 = sym keeps.k1.1 ∙ e.1 in cc)
 
-  probe_inserting : (p : Progress) (s : Pairs) (bs : List Pairs) (ns : List StripeLock) (xs : List ℕ) → IsInserting spec r t pattern p s bs ns → Within xs (all_columns spec)
+  probe_inserting : (p : Progress) (s : Pairs) (bs : List Pairs) (ns : List StripeLock) (xs : List ℕ) → IsInserting spec r t pattern p s bs ns
+      → Within xs (all_columns spec)
       → IsInserting spec r t pattern (after spec p (Probe xs)) (project xs t) (project xs t ∷ []) ns
   probe_inserting p s bs ns xs f known = record {
     search = probe_searching spec r t t_rises over p ns xs f.search.phase known f.locks;
@@ -249,7 +265,8 @@ module _ (spec : Spec) (range : IsInRange spec) (ok : IsAdequate spec) (placed :
     checked = f.checked;
   }
 
-  read_inserting : (p : Progress) (s : Pairs) (bs : List Pairs) (ns : List StripeLock) (e : ℕ) (mode : ReadMode) → IsInserting spec r t pattern p s bs ns → IsRising pair_cmp s → e < length spec.edges
+  read_inserting : (p : Progress) (s : Pairs) (bs : List Pairs) (ns : List StripeLock) (e : ℕ) (mode : ReadMode)
+      → IsInserting spec r t pattern p s bs ns → IsRising pair_cmp s → e < length spec.edges
       → KeepsAll spec (insert_op name pattern) p (Read e mode)
       → IsInserting spec r t pattern (after spec p (Read e mode)) s (join bs (tuples_of_edge e (all_rows spec r))) ns
   read_inserting p s bs ns e mode f s_up l keeps = record {
@@ -270,7 +287,8 @@ module _ (spec : Spec) (range : IsInRange spec) (ok : IsAdequate spec) (placed :
   up_at p s bs (inr e) = subst (IsRising pair_cmp) (sym e.2) (rising_filter pair_cmp (λ (q : ℕ × ℕ). has e.0 q.0) t up)
 
   -- at a check something was read since the Probe
-  seen_at : (p : Progress) (s : Pairs) (bs : List Pairs) (ns : List StripeLock) → IsInserting spec r t pattern p s bs ns → (xs : List ℕ) → p.probe ≡ Some xs → (needs : List ℕ) → (needs ≡ [] → ⊥) → Within needs p.visited
+  seen_at : (p : Progress) (s : Pairs) (bs : List Pairs) (ns : List StripeLock) → IsInserting spec r t pattern p s bs ns → (xs : List ℕ)
+      → p.probe ≡ Some xs → (needs : List ℕ) → (needs ≡ [] → ⊥) → Within needs p.visited
       → IsSeen r (project xs t) p.visited bs
   seen_at p s bs ns f xs y needs n w = go f.probing f.search.reached
     where
@@ -283,7 +301,8 @@ module _ (spec : Spec) (range : IsInRange spec) (ok : IsAdequate spec) (placed :
       go (inr e) (inr q) = subst (λ z. IsSeen r z p.visited bs) (e.2 ∙ ap (λ ys. project ys t) (same_probe e.0 xs (sym e.1 ∙ y))) q
 
   -- all rows of t fall on named stripes
-  insert_is_named : (p : Progress) (s : Pairs) (bs : List Pairs) (ns : List StripeLock) → IsInserting spec r t pattern p s bs ns → ((e : ℕ) → e < length spec.edges → IsLocked p (class_of spec e)) → AllHeld spec (stripes_of ns) t
+  insert_is_named : (p : Progress) (s : Pairs) (bs : List Pairs) (ns : List StripeLock) → IsInserting spec r t pattern p s bs ns
+      → ((e : ℕ) → e < length spec.edges → IsLocked p (class_of spec e)) → AllHeld spec (stripes_of ns) t
   insert_is_named p s bs ns f k4 e l =
       let q : (choice : Which) × In (class_of spec e, choice) p.locked = k4 e l in
       let n : In (physical_stripe spec (class_of spec e) t) (stripes_of ns) = named_tuple spec t (stripes_of ns) (class_of spec e) q.0 (f.locks (class_of spec e, q.0) q.1) in
@@ -299,9 +318,10 @@ module _ (spec : Spec) (range : IsInRange spec) (ok : IsAdequate spec) (placed :
 
   -- ---- whole runs
 
-  pub insert_runs : (plan : List Statement) (p : Progress) (s : Pairs) (bs : List Pairs) (ns : List StripeLock) → IsInserting spec r t pattern p s bs ns → AreKnown spec plan → KeepsFrom spec (insert_op name pattern) p plan
-      → Within (stripes_of (run spec Insert t plan (searching bs ns (rows_on spec r stripes))).named) stripes
-      → InsertEnds (run spec Insert t plan (searching bs ns (rows_on spec r stripes))) (run spec Insert t plan (searching bs ns (all_rows spec r)))
+  pub insert_runs : (plan : List Statement) (p : Progress) (s : Pairs) (bs : List Pairs) (ns : List StripeLock)
+      → IsInserting spec r t pattern p s bs ns → AreKnown spec plan → KeepsFrom spec (insert_op name pattern) p plan
+      → Within (stripes_of (ran plan (searching bs ns (rows_on spec r stripes))).named) stripes
+      → InsertEnds (ran plan (searching bs ns (rows_on spec r stripes))) (ran plan (searching bs ns (all_rows spec r)))
   insert_runs [] p s bs ns f known keeps v = absurd (let e : Phase.Searching ≡ Phase.Committed = sym f.search.phase ∙ keeps.0 in cc)
   insert_runs (Lock c choice mode ∷ plan) p s bs ns f known keeps v =
       insert_runs plan (after spec p (Lock c choice mode)) s bs (gather stripe_lock_cmp (ns ++ named_by spec c choice mode bs))
@@ -313,10 +333,10 @@ module _ (spec : Spec) (range : IsInRange spec) (ok : IsAdequate spec) (placed :
       let all : List Pairs = join bs (tuples_of_edge e (all_rows spec r)) in
       let same : join bs (tuples_of_edge e (rows_on spec r stripes)) ≡ all =
       read_same spec range ok placed r i h s (up_at p s bs f.probing) p bs ns stripes e mode f.search l keeps.0.k3
-      (λ c n. v c (stripes_grow spec Insert t (Read e mode ∷ plan) (searching bs ns (rows_on spec r stripes)) c n)) in
-      subst (λ z. InsertEnds (run spec Insert t plan (searching z ns (rows_on spec r stripes))) (run spec Insert t plan (searching all ns (all_rows spec r)))) (sym same)
+      (λ c n. v c (stripes_grow spec (insert_op name pattern) call (Read e mode ∷ plan) (searching bs ns (rows_on spec r stripes)) c n)) in
+      subst (λ z. InsertEnds (ran plan (searching z ns (rows_on spec r stripes))) (ran plan (searching all ns (all_rows spec r)))) (sym same)
       (insert_runs plan (after spec p (Read e mode)) s all ns (read_inserting p s bs ns e mode f (up_at p s bs f.probing) l keeps.0) (λ x m. known x (inr m)) keeps.1
-      (subst (λ z. Within (stripes_of (run spec Insert t plan (searching z ns (rows_on spec r stripes))).named) stripes) same v))
+      (subst (λ z. Within (stripes_of (ran plan (searching z ns (rows_on spec r stripes))).named) stripes) same v))
   insert_runs (CheckAbsent ∷ plan) p s bs ns f known keeps v =
       go (some_left bs) refl (λ g. insert_runs plan (after spec p CheckAbsent) s bs ns (still g) (λ x m. known x (inr m)) keeps.1) v
     where
@@ -346,11 +366,11 @@ module _ (spec : Spec) (range : IsInRange spec) (ok : IsAdequate spec) (placed :
       }
 
       go : (b : Bool) → some_left bs ≡ b
-          → (some_left bs ≡ false → Within (stripes_of (run spec Insert t plan (searching bs ns (rows_on spec r stripes))).named) stripes
-          → InsertEnds (run spec Insert t plan (searching bs ns (rows_on spec r stripes))) (run spec Insert t plan (searching bs ns (all_rows spec r))))
-          → Within (stripes_of (run spec Insert t plan (cond b (present (rows_on spec r stripes)) (searching bs ns (rows_on spec r stripes)))).named) stripes
-          → InsertEnds (run spec Insert t plan (cond b (present (rows_on spec r stripes)) (searching bs ns (rows_on spec r stripes))))
-          (run spec Insert t plan (cond b (present (all_rows spec r)) (searching bs ns (all_rows spec r))))
+          → (some_left bs ≡ false → Within (stripes_of (ran plan (searching bs ns (rows_on spec r stripes))).named) stripes
+          → InsertEnds (ran plan (searching bs ns (rows_on spec r stripes))) (ran plan (searching bs ns (all_rows spec r))))
+          → Within (stripes_of (ran plan (cond b (present (rows_on spec r stripes)) (searching bs ns (rows_on spec r stripes)))).named) stripes
+          → InsertEnds (ran plan (cond b (present (rows_on spec r stripes)) (searching bs ns (rows_on spec r stripes))))
+          (ran plan (cond b (present (all_rows spec r)) (searching bs ns (all_rows spec r))))
       go true g ih w =
           let b : (b : Pairs) × In b bs = one_left bs g in
           let u : (u : Pairs) × In u r × (project xs t ≡ project xs u) × (b.0 ≡ project p.visited u) = found_one xs p.visited bs seen keeps.0.k6.1 b.0 b.1 in
@@ -397,11 +417,11 @@ module _ (spec : Spec) (range : IsInRange spec) (ok : IsAdequate spec) (placed :
       ]
 
       go : (b : Bool) → some_differs spec dep t bs ≡ b
-          → (some_differs spec dep t bs ≡ false → Within (stripes_of (run spec Insert t plan (searching bs ns (rows_on spec r stripes))).named) stripes
-          → InsertEnds (run spec Insert t plan (searching bs ns (rows_on spec r stripes))) (run spec Insert t plan (searching bs ns (all_rows spec r))))
-          → Within (stripes_of (run spec Insert t plan (cond b (conflict (rows_on spec r stripes)) (searching bs ns (rows_on spec r stripes)))).named) stripes
-          → InsertEnds (run spec Insert t plan (cond b (conflict (rows_on spec r stripes)) (searching bs ns (rows_on spec r stripes))))
-          (run spec Insert t plan (cond b (conflict (all_rows spec r)) (searching bs ns (all_rows spec r))))
+          → (some_differs spec dep t bs ≡ false → Within (stripes_of (ran plan (searching bs ns (rows_on spec r stripes))).named) stripes
+          → InsertEnds (ran plan (searching bs ns (rows_on spec r stripes))) (ran plan (searching bs ns (all_rows spec r))))
+          → Within (stripes_of (ran plan (cond b (conflict (rows_on spec r stripes)) (searching bs ns (rows_on spec r stripes)))).named) stripes
+          → InsertEnds (ran plan (cond b (conflict (rows_on spec r stripes)) (searching bs ns (rows_on spec r stripes))))
+          (ran plan (cond b (conflict (all_rows spec r)) (searching bs ns (all_rows spec r))))
       go true g ih w =
           let u : (u : Pairs) × In u r × (project xs t ≡ project xs u) × (agree_on (dep_at spec dep).right u t ≡ false) = differs_so xs p.visited bs dep seen keeps.0.k6.1 keeps.0.k6.2 g in
           insert_ends plan bs ns (Conflict dep) r (rows_on spec r stripes) (all_rows spec r) f.exclusive
@@ -417,7 +437,7 @@ module _ (spec : Spec) (range : IsInRange spec) (ok : IsAdequate spec) (placed :
       ] in
       let on : AllHeld spec (stripes_of ns) t = insert_is_named p s bs ns f keeps.0.k4 in
       let held : AllHeld spec stripes t = λ e l. v (physical_stripe spec (class_of spec e) (row_in spec t e))
-      (stripes_grow spec Insert t (Apply ∷ plan) (searching bs ns (rows_on spec r stripes)) (physical_stripe spec (class_of spec e) (row_in spec t e)) (on e l)) in
+      (stripes_grow spec (insert_op name pattern) call (Apply ∷ plan) (searching bs ns (rows_on spec r stripes)) (physical_stripe spec (class_of spec e) (row_in spec t e)) (on e l)) in
       insert_ends plan bs ns Inserted (put tuple_cmp t r) (with_rows spec t (rows_on spec r stripes)) (with_rows spec t (all_rows spec r)) f.exclusive
       (insert-absent pattern spec.deps t r None (list_any_none (agree_on pattern t) r (λ x m e. none x m (agree_from_test pattern t x e))) (no_conflict spec r h t unbroken))
       (with_rows-fragments spec r stripes t out held) (without_rows-with spec r stripes t i.rising out held) (fragment_of-insert spec r (stripes_of ns) t out on)

@@ -1,17 +1,16 @@
 -- The law of accepted plans, and the law of their rules, each named by the contract of a function.
-use Rattle.std.specs.Prelude.{◌≡◌, ℕ, ◌<◌, ◌↔◌, List, [], ◌∷◌, Option, Some, take}
-use Rattle.std.specs.List.{slice_get}
+use Rattle.std.specs.Prelude.{◌≡◌, ℕ, ◌<◌, ◌↔◌, List, Some, take}
+use Rattle.std.specs.List.{slice_get, AllByRecursion}
+use Rattle.rc_tuple.specs.Relation.{IsRelation, Satisfies}
 use Rattle.rc_tuple.specs.RisingSet.{In}
 use Rattle.rc_tuple.specs.Tuple.{Pairs}
-use Rattle.rc_tuple.specs.Relation.{IsRelation, Satisfies}
 use Rattle.rc_spec.specs.declared.call.Call.{Call}
-use Rattle.rc_spec.specs.declared.call.Reply.{Reply}
 use Rattle.rc_spec.specs.declared.items.Op.{Op}
 use Rattle.rc_spec.specs.declared.lock.Mode.{Mode}
 use Rattle.rc_spec.specs.declared.lock.Mode.TheVariants.{Exclusive}
 use Rattle.rc_spec.specs.declared.spec.Spec.{Spec}
 use Rattle.rc_spec.specs.Adequacy.{IsAdequate}
-use Rattle.rc_spec.specs.Calls.{all_columns, FitsAt}
+use Rattle.rc_spec.specs.Calls.{all_columns, FitsAt, Fits}
 use Rattle.rc_spec.specs.First.{EachHolds}
 use Rattle.rc_spec.specs.Fragments.{EdgeRow, tuples_of_edge, row_stripe, on_stripes, rows_on, fragment_of}
 use Rattle.rc_spec.specs.InRange.{IsInRange, HasColumnAndNode}
@@ -22,9 +21,12 @@ use Rattle.rc_plan.specs.declared.statement.ReadMode.{ReadMode}
 use Rattle.rc_plan.specs.declared.statement.Statement.{Statement}
 use Rattle.rc_plan.specs.declared.statement.Statement.TheVariants.{Lock, Read}
 use Rattle.rc_plan.specs.declared.statement.Which.{Which}
+use Rattle.rc_plan.specs.Compiled.{SpecWithPlans, IsCompiled, plan_at}
 use Rattle.rc_plan.specs.Evaluation.{stripes_locked, begun, run, eval, touched, rows_as_taken}
+use Rattle.rc_plan.specs.NamedStripes.{IsNamedBy}
 use Rattle.rc_plan.specs.PlanRules.{AreKnown, KeepsPlanRules, IsKeptInPlan, plan_checks, IsFirstBrokenPlanRule}
 use Rattle.rc_plan.specs.StripeLocks.{StripeLock, stripes_of, AreHeld}
+use Rattle.rc_plan.specs.Turns.{AllAreHeld, CallWithPlan, HasAcceptedPlan, eval_replies, plain_replies, relation_after, rows_after, with_plans}
 
 -- ---- one call
 
@@ -47,41 +49,6 @@ AcceptedPlansServe = (spec : Spec) → IsInRange spec → HasColumnAndNode spec 
 
 -- ---- calls one after another
 
--- a call, and the plan of its operation
-pub record CallWithPlan : Type 0 where
-  pub call : Call
-  pub plan : List Statement
-
--- each call is evaluated on the rows that the one before leaves
-abbrev pub eval_replies : Spec → List CallWithPlan → List EdgeRow → List (Option Reply)
-eval_replies spec [] rows = []
-eval_replies spec (x ∷ calls) rows = (eval spec x.plan x.call rows).reply ∷ eval_replies spec calls (eval spec x.plan x.call rows).rows
-
-abbrev pub rows_after : Spec → List CallWithPlan → List EdgeRow → List EdgeRow
-rows_after spec [] rows = rows
-rows_after spec (x ∷ calls) rows = rows_after spec calls (eval spec x.plan x.call rows).rows
-
--- each stripe that an evaluation names is held
-abbrev pub AllAreHeld : Spec → List CallWithPlan → List EdgeRow → List StripeLock → Type 0
-AllAreHeld spec [] rows held = Unit {0}
-AllAreHeld spec (x ∷ calls) rows held = AreHeld (eval spec x.plan x.call rows).named held × AllAreHeld spec calls (eval spec x.plan x.call rows).rows held
-
-abbrev pub plain_replies : Spec → List CallWithPlan → List Pairs → List (Option Reply)
-plain_replies spec [] r = []
-plain_replies spec (x ∷ calls) r = Some (plain spec r x.call).reply ∷ plain_replies spec calls (plain spec r x.call).relation
-
-abbrev pub relation_after : Spec → List CallWithPlan → List Pairs → List Pairs
-relation_after spec [] r = r
-relation_after spec (x ∷ calls) r = relation_after spec calls (plain spec r x.call).relation
-
--- a call that fits an operation, and a plan that keeps the rules for it
-pub record HasAcceptedPlan (spec : Spec) (x : CallWithPlan) : Type 0 where
-  pub op : Op
-  pub fits : FitsAt spec x.call op
-  pub keeps : KeepsO spec op
-  pub known : AreKnown spec x.plan
-  pub rules : KeepsPlanRules spec op x.plan
-
 pub record AllServe (spec : Spec) (calls : List CallWithPlan) (r : List Pairs) (held : List StripeLock) : Type 0 where
   pub replies : eval_replies spec calls (rows_on spec r (stripes_of held)) ≡ plain_replies spec calls r
   pub rows : rows_after spec calls (rows_on spec r (stripes_of held)) ≡ rows_on spec (relation_after spec calls r) (stripes_of held)
@@ -97,24 +64,49 @@ AcceptedPlansServeInTurn = (spec : Spec) → IsInRange spec → HasColumnAndNode
     → (held : List StripeLock) → AllAreHeld spec calls (rows_on spec r (stripes_of held)) held
     → AllServe spec calls r held
 
+-- ---- over a specification with its plans
+
+-- The law of accepted plans, where the specification is accepted and the plan is the operation's own.
+abbrev pub CompiledPlansServe : Type 0
+CompiledPlansServe = (c : SpecWithPlans) → IsCompiled c.spec c.plans → (call : Call) → Fits c.spec call
+    → (r : List Pairs) → IsRelation (all_columns c.spec) r → Satisfies r c.spec.deps
+    → (held : List StripeLock) → AreHeld (eval c.spec (plan_at c.plans call.op) call (rows_on c.spec r (stripes_of held))).named held
+    → Serves c.spec (plan_at c.plans call.op) call r held
+
+-- The same for calls one after another.
+abbrev pub CompiledPlansServeInTurn : Type 0
+CompiledPlansServeInTurn = (c : SpecWithPlans) → IsCompiled c.spec c.plans → (calls : List Call) → AllByRecursion (Fits c.spec) calls
+    → (r : List Pairs) → IsRelation (all_columns c.spec) r → Satisfies r c.spec.deps
+    → (held : List StripeLock) → AllAreHeld c.spec (with_plans c.plans calls) (rows_on c.spec r (stripes_of held)) held
+    → AllServe c.spec (with_plans c.plans calls) r held
+
 -- ---- the order of locks
 
 -- Locks rise: each stripe that a Lock takes is above those named before it.
 abbrev pub LocksRise : Type 0
 LocksRise = (spec : Spec) → IsPlaced spec → (op : Op) (plan : List Statement) → AreKnown spec plan → KeepsPlanRules spec op plan
     → (n c : ℕ) (choice : Which) (mode : Mode) → slice_get plan n ≡ Some (Lock c choice mode)
-    → (args : Pairs) (taken : List EdgeRow) (before stripe : ℕ)
-    → In before (stripes_of (run spec op.kind args (take n plan) (begun args taken)).named)
-    → In stripe (stripes_locked spec c choice (run spec op.kind args (take n plan) (begun args taken)).bindings)
+    → (call : Call) (taken : List EdgeRow) (before stripe : ℕ)
+    → In before (stripes_of (run spec op call (take n plan) (begun call taken)).named)
+    → In stripe (stripes_locked spec c choice (run spec op call (take n plan) (begun call taken)).bindings)
     → before < stripe
 
 -- Reads are early: of rows that all fall on stripes that a run names in the end, those of an edge fall on stripes named before the edge is read.
 abbrev pub ReadsAreEarly : Type 0
 ReadsAreEarly = (spec : Spec) → IsInRange spec → IsPlaced spec → (op : Op) (plan : List Statement) → AreKnown spec plan → KeepsPlanRules spec op plan
     → (n e : ℕ) (mode : ReadMode) → slice_get plan n ≡ Some (Read e mode)
-    → (args : Pairs) (taken rows : List EdgeRow)
-    → ((row : EdgeRow) → In row rows → In (row_stripe spec row) (stripes_of (run spec op.kind args plan (begun args taken)).named))
-    → tuples_of_edge e (on_stripes spec (stripes_of (run spec op.kind args (take n plan) (begun args taken)).named) rows) ≡ tuples_of_edge e rows
+    → (call : Call) (taken rows : List EdgeRow)
+    → ((row : EdgeRow) → In row rows → In (row_stripe spec row) (stripes_of (run spec op call plan (begun call taken)).named))
+    → tuples_of_edge e (on_stripes spec (stripes_of (run spec op call (take n plan) (begun call taken)).named) rows) ≡ tuples_of_edge e rows
+
+-- ---- the stripes that are named
+
+-- Each stripe that evaluation names, on any rows, is of a class that the plan locks, in that Lock's mode. It is the arguments' stripe where the
+-- Lock takes those of the bindings and the arguments have the columns that choose one.
+abbrev pub NamedStripesAreLocked : Type 0
+NamedStripesAreLocked = (spec : Spec) → IsPlaced spec → (call : Call) (op : Op) → FitsAt spec call op
+    → (plan : List Statement) → AreKnown spec plan → KeepsPlanRules spec op plan
+    → (rows : List EdgeRow) (lock : StripeLock) → In lock (eval spec plan call rows).named → IsNamedBy spec call.args plan lock
 
 -- ---- rules
 

@@ -1,4 +1,5 @@
 pub mod Compiled
+pub mod CompiledLaws
 pub mod ConflictLaws
 pub mod Evaluation
 pub mod Example
@@ -6,13 +7,16 @@ pub mod InsertLaws
 pub mod Laws
 pub mod LockOrderLaws
 pub mod MatchLaws
+pub mod NamedStripes
+pub mod NamedStripesLaws
 pub mod PlanRules
 pub mod PlanRulesLaws
 pub mod PlanText
 pub mod QueryLaws
-pub mod ReadLaws
 pub mod RemoveLaws
 pub mod RunLaws
+pub mod Search
 pub mod ServeLaws
 pub mod StripeLocks
 pub mod StripeLocksLaws
+pub mod Turns

@@ -24,11 +24,14 @@ use Rattle.rc_plan.specs.declared.statement.Statement.TheVariants.{Lock, Probe, 
 use Rattle.rc_plan.specs.Evaluation.{RunState, named_by, answer, run, rows_as_taken}
 use Rattle.rc_plan.specs.MatchLaws.{answer-seen}
 use Rattle.rc_plan.specs.PlanRules.{Phase, Progress, after, AreKnown, KeepsFrom}
-use Rattle.rc_plan.specs.RunLaws.{EndsAs, searching, IsSearching, run-replied, stripes_grow, lock_keeps, read_keeps, read_same}
+use Rattle.rc_plan.specs.RunLaws.{EndsAs, run-replied, stripes_grow, lock_keeps, read_keeps, read_same}
 use Rattle.rc_plan.specs.StripeLocks.{StripeLock, stripe_lock_cmp, stripes_of}
+use Rattle.rc_spec.specs.declared.call.Call.{Call}
+use Rattle.rc_plan.specs.Search.{searching, IsSearching}
 
 -- a query takes nothing back
-taken_answer : (spec : Spec) (args : Pairs) (rows : List (List ℕ)) (b : Bool) (before : List EdgeRow) → rows_as_taken spec args (cond b (Rows rows) (Many (length rows))) before ≡ before
+taken_answer : (spec : Spec) (args : Pairs) (rows : List (List ℕ)) (b : Bool) (before : List EdgeRow)
+    → rows_as_taken spec args (cond b (Rows rows) (Many (length rows))) before ≡ before
 taken_answer spec args rows true before = refl
 taken_answer spec args rows false before = refl
 
@@ -40,17 +43,26 @@ abbrev pub query_op : List ℕ → List ℕ → List ℕ → Op
 query_op name pattern outs = record { name = name; pattern = pattern; kind = Query outs }
 
 module _ (spec : Spec) (range : IsInRange spec) (ok : IsAdequate spec) (placed : IsPlaced spec) (r : List Pairs) (i : IsRelation (all_columns spec) r) (h : Satisfies r spec.deps)
-    (s : Pairs) (up : IsRising pair_cmp s) (name pattern outs : List ℕ) (inside : Within (cols_of s) (all_columns spec)) (fits : cols_of s ≡ gather nat_cmp pattern) (some : outs ≡ [] → ⊥) (stripes : List ℕ) where
-  emitted : (xs : List ℕ) (bs : List Pairs) → IsReached r s xs bs → Within (gather nat_cmp pattern) xs → Within outs xs → answer outs bs ≡ answer outs (filter (matches s) r)
+    (call : Call) (up : IsRising pair_cmp call.args) (name pattern outs : List ℕ) (inside : Within (cols_of call.args) (all_columns spec)) (fits : cols_of call.args ≡ gather nat_cmp pattern)
+    (some : outs ≡ [] → ⊥) (stripes : List ℕ) where
+  abbrev s : Pairs
+  s = call.args
+
+  abbrev ran : List Statement → RunState → RunState
+  ran = run spec (query_op name pattern outs) call
+
+  emitted : (xs : List ℕ) (bs : List Pairs) → IsReached r s xs bs → Within (gather nat_cmp pattern) xs → Within outs xs
+      → answer outs bs ≡ answer outs (filter (matches s) r)
   emitted xs bs (inl e) w v = absurd (no_outputs outs some (subst (Within outs) e.0 v))
   emitted xs bs (inr seen) w v = answer-seen (all_columns spec) (rising_range 0 (length spec.columns)) r i s up inside xs outs bs seen (λ c m. w c (subst (In c) fits m)) v
 
   abbrev QueryEnds : RunState → RunState → Type 0
   QueryEnds one two = EndsAs spec s one two r (plain_by (Query outs) pattern spec.deps s r) stripes
 
-  pub query_runs : (plan : List Statement) (p : Progress) (bs : List Pairs) (ns : List StripeLock) → IsSearching spec r s p bs ns → AreKnown spec plan → KeepsFrom spec (query_op name pattern outs) p plan
-      → Within (stripes_of (run spec (Query outs) s plan (searching bs ns (rows_on spec r stripes))).named) stripes
-      → QueryEnds (run spec (Query outs) s plan (searching bs ns (rows_on spec r stripes))) (run spec (Query outs) s plan (searching bs ns (all_rows spec r)))
+  pub query_runs : (plan : List Statement) (p : Progress) (bs : List Pairs) (ns : List StripeLock) → IsSearching spec r s p bs ns
+      → AreKnown spec plan → KeepsFrom spec (query_op name pattern outs) p plan
+      → Within (stripes_of (ran plan (searching bs ns (rows_on spec r stripes))).named) stripes
+      → QueryEnds (ran plan (searching bs ns (rows_on spec r stripes))) (ran plan (searching bs ns (all_rows spec r)))
   query_runs [] p bs ns f known keeps v = let e : Phase.Searching ≡ Phase.Committed = sym f.phase ∙ keeps.0 in cc
   query_runs (Lock c choice mode ∷ plan) p bs ns f known keeps v =
       query_runs plan (after spec p (Lock c choice mode)) bs (gather stripe_lock_cmp (ns ++ named_by spec c choice mode bs))
@@ -60,13 +72,13 @@ module _ (spec : Spec) (range : IsInRange spec) (ok : IsAdequate spec) (placed :
       let all : List Pairs = join bs (tuples_of_edge e (all_rows spec r)) in
       let same : join bs (tuples_of_edge e (rows_on spec r stripes)) ≡ all =
       read_same spec range ok placed r i h s up p bs ns stripes e mode f l keeps.0.k3
-      (λ c n. v c (stripes_grow spec (Query outs) s (Read e mode ∷ plan) (searching bs ns (rows_on spec r stripes)) c n)) in
-      subst (λ z. QueryEnds (run spec (Query outs) s plan (searching z ns (rows_on spec r stripes))) (run spec (Query outs) s plan (searching all ns (all_rows spec r)))) (sym same)
+      (λ c n. v c (stripes_grow spec (query_op name pattern outs) call (Read e mode ∷ plan) (searching bs ns (rows_on spec r stripes)) c n)) in
+      subst (λ z. QueryEnds (ran plan (searching z ns (rows_on spec r stripes))) (ran plan (searching all ns (all_rows spec r)))) (sym same)
       (query_runs plan (after spec p (Read e mode)) all ns (read_keeps spec range ok placed r i h s up p bs ns e mode f l keeps.0.k5) (λ x m. known x (inr m)) keeps.1
-      (subst (λ z. Within (stripes_of (run spec (Query outs) s plan (searching z ns (rows_on spec r stripes))).named) stripes) same v))
+      (subst (λ z. Within (stripes_of (ran plan (searching z ns (rows_on spec r stripes))).named) stripes) same v))
   query_runs (Emit ∷ plan) p bs ns f known keeps v =
-      let one = run-replied spec (Query outs) s plan bs ns (answer outs bs) (rows_on spec r stripes) in
-      let two = run-replied spec (Query outs) s plan bs ns (answer outs bs) (all_rows spec r) in
+      let one = run-replied spec (query_op name pattern outs) call plan bs ns (answer outs bs) (rows_on spec r stripes) in
+      let two = run-replied spec (query_op name pattern outs) call plan bs ns (answer outs bs) (all_rows spec r) in
       record {
         reply = ap (λ (z : RunState). z.reply) one ∙ ap Some (emitted p.visited bs f.reached keeps.0.k6.0 keeps.0.k6.1);
         named = ap (λ (z : RunState). z.named) one ∙ sym (ap (λ (z : RunState). z.named) two);

@@ -1,5 +1,5 @@
 -- Laws of runs: what the bindings are while an accepted plan searches, and that the rows of the named stripes are enough for its reads.
-use Rattle.std.specs.Prelude.{◌≡◌, ℕ, zero, suc, take, drop, ◌<◌, Bool, true, false, List, [], ◌∷◌, ◌++◌, None, Some, map, cond, length, is_some}
+use Rattle.std.specs.Prelude.{◌≡◌, ℕ, zero, suc, take, drop, ◌<◌, Bool, true, false, List, [], ◌∷◌, ◌++◌, Some, map, cond, length, is_some}
 use Rattle.std.proofs.Common.{inl, inr, refl, sym, subst}
 use Rattle.rc_tuple.specs.RisingSet.{In, IsRising, gather}
 use Rattle.rc_tuple.specs.RisingSetLaws.{same_rising, gather_in, append_in_left, in_map, map_in}
@@ -8,6 +8,7 @@ use Rattle.rc_tuple.specs.ColSetLaws.{in_union, union_left, union_right, union_w
 use Rattle.rc_tuple.specs.Tuple.{Pairs, cols_of, project, agrees, pair_cmp, tuple_cmp, merge}
 use Rattle.rc_tuple.specs.TupleLaws.{Agree, agree_from, tuple_order, project_in, merge_left, merge_right}
 use Rattle.rc_tuple.specs.Relation.{IsRelation, Satisfies}
+use Rattle.rc_spec.specs.declared.call.Call.{Call}
 use Rattle.rc_spec.specs.declared.call.Reply.{Reply}
 use Rattle.rc_spec.specs.declared.call.Reply.TheVariants.{Present, Conflict}
 use Rattle.rc_spec.specs.declared.items.Op.{Op}
@@ -23,7 +24,7 @@ use Rattle.rc_spec.specs.ContentsLaws.{target_within, lossless_holds}
 use Rattle.rc_spec.specs.Decomposition.{bound, target_columns}
 use Rattle.rc_spec.specs.Fragments.{EdgeRow, all_rows, tuples_of_edge, row_stripe, rows_on, fragment_of}
 use Rattle.rc_spec.specs.FragmentsLaws.{in_tuples_of_edge, tuples_of_edge_in, AreProjections-rows, in_fragments, fragments_in}
-use Rattle.rc_spec.specs.HeathLaws.{IsJoined, AreProjections, IsReached, in_join, join_in, rising_join, reached_more}
+use Rattle.rc_spec.specs.HeathLaws.{IsJoined, AreProjections, in_join, join_in, rising_join, reached_more}
 use Rattle.rc_spec.specs.InRange.{IsInRange}
 use Rattle.rc_spec.specs.Placement.{class_at, class_of, IsPlaced}
 use Rattle.rc_spec.specs.Plain.{Outcome}
@@ -34,9 +35,10 @@ use Rattle.rc_plan.specs.declared.statement.Statement.TheVariants.{Lock, Probe, 
 use Rattle.rc_plan.specs.declared.statement.Which.{Which}
 use Rattle.rc_plan.specs.declared.statement.Which.TheVariants as which
 use Rattle.rc_plan.specs.Evaluation.{RunState, stripes_locked, named_by, some_left, some_differs, remove_least, apply, emit, run_one, run_next, run, rows_as_taken}
-use Rattle.rc_plan.specs.PlanRules.{Phase, Progress, after, at_start, given_columns, IsKeyBound, Covers, KeepsK3, KeepsK5}
+use Rattle.rc_plan.specs.PlanRules.{Progress, after, at_start, given_columns, IsKeyBound, KeepsK3, KeepsK5}
 use Rattle.rc_plan.specs.StripeLocks.{StripeLock, stripe_lock_cmp, stripes_of}
 use Rattle.rc_plan.specs.StripeLocksLaws.{stripe_lock_order, named_before, named_now, physical_stripe-agreeing, physical_stripe-in_band, striping_in_target}
+use Rattle.rc_plan.specs.Search.{IsSearching}
 
 -- ---- columns of projections and of merges
 
@@ -57,17 +59,20 @@ cols_of-merge_right t u c h =
 
 -- ---- the rows of an edge in fragments
 
-pub AreProjections-all_rows : (spec : Spec) (r : List Pairs) (e : ℕ) → e < length spec.edges → AreProjections r (target_columns spec e) (tuples_of_edge e (all_rows spec r))
+pub AreProjections-all_rows : (spec : Spec) (r : List Pairs) (e : ℕ) → e < length spec.edges
+    → AreProjections r (target_columns spec e) (tuples_of_edge e (all_rows spec r))
 AreProjections-all_rows spec r e l = AreProjections-rows spec r (all_rows spec r) (λ w m. m) (λ w m. m) e l
 
 -- they are among all rows of the edge
-pub edge_of_fragments : (spec : Spec) (r : List Pairs) (stripes : List ℕ) (e : ℕ) (u : Pairs) → In u (tuples_of_edge e (rows_on spec r stripes)) → In u (tuples_of_edge e (all_rows spec r))
+pub edge_of_fragments : (spec : Spec) (r : List Pairs) (stripes : List ℕ) (e : ℕ) (u : Pairs) → In u (tuples_of_edge e (rows_on spec r stripes))
+    → In u (tuples_of_edge e (all_rows spec r))
 edge_of_fragments spec r stripes e u h =
     let q : (w : EdgeRow) × In w (rows_on spec r stripes) × (w.0 ≡ e) × (u ≡ w.1) = in_tuples_of_edge e (rows_on spec r stripes) u h in
     subst (λ z. In z (tuples_of_edge e (all_rows spec r))) (sym q.3) (tuples_of_edge_in e (all_rows spec r) q.0 (in_fragments spec r stripes q.0 q.1).0 q.2)
 
 -- and a row that falls on one of the stripes is among them
-pub fragments_of_edge : (spec : Spec) (r : List Pairs) (stripes : List ℕ) (e : ℕ) (u : Pairs) → In u (tuples_of_edge e (all_rows spec r)) → In (physical_stripe spec (class_of spec e) u) stripes
+pub fragments_of_edge : (spec : Spec) (r : List Pairs) (stripes : List ℕ) (e : ℕ) (u : Pairs) → In u (tuples_of_edge e (all_rows spec r))
+    → In (physical_stripe spec (class_of spec e) u) stripes
     → In u (tuples_of_edge e (rows_on spec r stripes))
 fragments_of_edge spec r stripes e u h k =
     let q : (w : EdgeRow) × In w (all_rows spec r) × (w.0 ≡ e) × (u ≡ w.1) = in_tuples_of_edge e (all_rows spec r) u h in
@@ -76,7 +81,8 @@ fragments_of_edge spec r stripes e u h k =
     (tuples_of_edge_in e (rows_on spec r stripes) q.0 (fragments_in spec r stripes q.0 q.1 p) q.2)
 
 -- a join loses nothing where each row that some binding agrees with is there
-pub join_same : (bs us vs : List Pairs) → ((u : Pairs) → In u us → In u vs) → ((b u : Pairs) → In b bs → In u vs → agrees b u ≡ true → In u us) → join bs us ≡ join bs vs
+pub join_same : (bs us vs : List Pairs) → ((u : Pairs) → In u us → In u vs) → ((b u : Pairs) → In b bs → In u vs → agrees b u ≡ true → In u us)
+    → join bs us ≡ join bs vs
 join_same bs us vs f g =
     same_rising tuple_cmp tuple_order (join bs us) (join bs vs) (rising_join bs us) (rising_join bs vs)
     (λ c h. let j : IsJoined bs us c = in_join bs us c h in
@@ -108,48 +114,52 @@ named-either : (b : Bool) (x y : RunState) → x.named ≡ y.named → (cond b x
 named-either true x y e = e
 named-either false x y e = refl
 
-pub named-check_absent : (spec : Spec) (kind : OpKind) (args : Pairs) (state : RunState) → (run_one spec kind args state CheckAbsent).named ≡ state.named
-named-check_absent spec kind args state = named-either (some_left state.bindings) (record state { reply = Some Present }) state refl
+pub named-check_absent : (spec : Spec) (op : Op) (call : Call) (state : RunState) → (run_one spec op call state CheckAbsent).named ≡ state.named
+named-check_absent spec op call state = named-either (some_left state.bindings) (record state { reply = Some Present }) state refl
 
-pub named-check_dep : (spec : Spec) (kind : OpKind) (args : Pairs) (state : RunState) (dep : ℕ) → (run_one spec kind args state (CheckDep dep)).named ≡ state.named
-named-check_dep spec kind args state dep = named-either (some_differs spec dep args state.bindings) (record state { reply = Some (Conflict dep) }) state refl
+pub named-check_dep : (spec : Spec) (op : Op) (call : Call) (state : RunState) (dep : ℕ) → (run_one spec op call state (CheckDep dep)).named ≡ state.named
+named-check_dep spec op call state dep = named-either (some_differs spec dep call.args state.bindings) (record state { reply = Some (Conflict dep) }) state refl
 
-named-run_one : (spec : Spec) (kind : OpKind) (args : Pairs) (state : RunState) (x : Statement) (lock : StripeLock) → In lock state.named → In lock (run_one spec kind args state x).named
-named-run_one spec kind args state (Lock c choice mode) lock h =
+named-run_one : (spec : Spec) (op : Op) (call : Call) (state : RunState) (x : Statement) (lock : StripeLock) → In lock state.named
+    → In lock (run_one spec op call state x).named
+named-run_one spec op call state (Lock c choice mode) lock h =
     let more : List StripeLock = named_by spec c choice mode state.bindings in
     gather_in stripe_lock_cmp stripe_lock_order lock (state.named ++ more) (append_in_left lock state.named more h)
-named-run_one spec kind args state (Probe cols) lock h = h
-named-run_one spec kind args state (Read e mode) lock h = h
-named-run_one spec kind args state CheckAbsent lock h = in_either lock (some_left state.bindings) (record state { reply = Some Present }) state h h
-named-run_one spec kind args state (CheckDep dep) lock h = in_either lock (some_differs spec dep args state.bindings) (record state { reply = Some (Conflict dep) }) state h h
-named-run_one spec kind args state Apply lock h = subst (In lock) (sym (named-apply spec kind args state)) h
-named-run_one spec kind args state Emit lock h = subst (In lock) (sym (named-emit kind state)) h
-named-run_one spec kind args state Commit lock h = h
-named-run_one spec kind args state (Release c) lock h = h
+named-run_one spec op call state (Probe cols) lock h = h
+named-run_one spec op call state (Read e mode) lock h = h
+named-run_one spec op call state CheckAbsent lock h = in_either lock (some_left state.bindings) (record state { reply = Some Present }) state h h
+named-run_one spec op call state (CheckDep dep) lock h = in_either lock (some_differs spec dep call.args state.bindings) (record state { reply = Some (Conflict dep) }) state h h
+named-run_one spec op call state Apply lock h = subst (In lock) (sym (named-apply spec op.kind call.args state)) h
+named-run_one spec op call state Emit lock h = subst (In lock) (sym (named-emit op.kind state)) h
+named-run_one spec op call state Commit lock h = h
+named-run_one spec op call state (Release c) lock h = h
 
-pub named_grows : (spec : Spec) (kind : OpKind) (args : Pairs) (plan : List Statement) (state : RunState) (lock : StripeLock) → In lock state.named → In lock (run spec kind args plan state).named
-named_grows spec kind args [] state lock h = h
-named_grows spec kind args (x ∷ plan) state lock h =
-    named_grows spec kind args plan (run_next spec kind args state x) lock (in_either lock (is_some state.reply) state (run_one spec kind args state x) h (named-run_one spec kind args state x lock h))
+pub named_grows : (spec : Spec) (op : Op) (call : Call) (plan : List Statement) (state : RunState) (lock : StripeLock) → In lock state.named
+    → In lock (run spec op call plan state).named
+named_grows spec op call [] state lock h = h
+named_grows spec op call (x ∷ plan) state lock h =
+    named_grows spec op call plan (run_next spec op call state x) lock (in_either lock (is_some state.reply) state (run_one spec op call state x) h (named-run_one spec op call state x lock h))
 
 -- the same for the numbers of the stripes
-pub stripes_grow : (spec : Spec) (kind : OpKind) (args : Pairs) (plan : List Statement) (state : RunState) → Within (stripes_of state.named) (stripes_of (run spec kind args plan state).named)
-stripes_grow spec kind args plan state stripe h =
+pub stripes_grow : (spec : Spec) (op : Op) (call : Call) (plan : List Statement) (state : RunState)
+    → Within (stripes_of state.named) (stripes_of (run spec op call plan state).named)
+stripes_grow spec op call plan state stripe h =
     let q : (lock : StripeLock) × In lock state.named × (stripe ≡ lock.0) = in_map (λ (lock : StripeLock). lock.0) stripe state.named h in
-    subst (λ z. In z (stripes_of (run spec kind args plan state).named)) (sym q.2)
-    (map_in (λ (lock : StripeLock). lock.0) q.0 (run spec kind args plan state).named (named_grows spec kind args plan state q.0 q.1))
+    subst (λ z. In z (stripes_of (run spec op call plan state).named)) (sym q.2)
+    (map_in (λ (lock : StripeLock). lock.0) q.0 (run spec op call plan state).named (named_grows spec op call plan state q.0 q.1))
 
 -- a run is that of its first statements, and then of the others
-pub run-split : (spec : Spec) (kind : OpKind) (args : Pairs) (plan : List Statement) (n : ℕ) (state : RunState) → run spec kind args plan state ≡ run spec kind args (drop n plan) (run spec kind args (take n plan) state)
-run-split spec kind args plan zero state = refl
-run-split spec kind args [] (suc n) state = refl
-run-split spec kind args (x ∷ plan) (suc n) state = run-split spec kind args plan n (run_next spec kind args state x)
+pub run-split : (spec : Spec) (op : Op) (call : Call) (plan : List Statement) (n : ℕ) (state : RunState)
+    → run spec op call plan state ≡ run spec op call (drop n plan) (run spec op call (take n plan) state)
+run-split spec op call plan zero state = refl
+run-split spec op call [] (suc n) state = refl
+run-split spec op call (x ∷ plan) (suc n) state = run-split spec op call plan n (run_next spec op call state x)
 
 -- a run with a reply stays as it is
-pub run-replied : (spec : Spec) (kind : OpKind) (args : Pairs) (plan : List Statement) (bs : List Pairs) (ns : List StripeLock) (reply : Reply) (rows : List EdgeRow)
-    → run spec kind args plan (record { bindings = bs; named = ns; reply = Some reply; rows = rows }) ≡ record { bindings = bs; named = ns; reply = Some reply; rows = rows }
-run-replied spec kind args [] bs ns reply rows = refl
-run-replied spec kind args (x ∷ plan) bs ns reply rows = run-replied spec kind args plan bs ns reply rows
+pub run-replied : (spec : Spec) (op : Op) (call : Call) (plan : List Statement) (bs : List Pairs) (ns : List StripeLock) (reply : Reply) (rows : List EdgeRow)
+    → run spec op call plan (record { bindings = bs; named = ns; reply = Some reply; rows = rows }) ≡ record { bindings = bs; named = ns; reply = Some reply; rows = rows }
+run-replied spec op call [] bs ns reply rows = refl
+run-replied spec op call (x ∷ plan) bs ns reply rows = run-replied spec op call plan bs ns reply rows
 
 -- ---- two runs to their ends
 
@@ -163,24 +173,8 @@ pub record EndsAs (spec : Spec) (args : Pairs) (one two : RunState) (r : List Pa
 
 -- ---- the search
 
--- a state with no reply
-abbrev pub searching : List Pairs → List StripeLock → List EdgeRow → RunState
-searching bs ns rows = record { bindings = bs; named = ns; reply = None; rows = rows }
-
--- where a search for the tuples that agree with s stands: its bindings, and the stripes named
-pub record IsSearching (spec : Spec) (r : List Pairs) (s : Pairs) (p : Progress) (bs : List Pairs) (ns : List StripeLock) : Type 0 where
-  pub phase : p.phase ≡ Phase.Searching
-  pub within : Within p.visited (all_columns spec)
-  pub reached : IsReached r s p.visited bs
-  pub rising : IsRising tuple_cmp bs
-  pub columns : (b : Pairs) → In b bs → Within p.columns (cols_of b)
-  -- the bindings have the columns of each node reached
-  pub nodes : (v : ℕ) → In v p.reached → Within (bound spec v) p.columns
-  -- a row with a locked class's columns that agrees with a binding falls on a named stripe
-  pub guards : (x : ℕ × Which) → In x p.locked → Covers spec p x.0 x.1 → (b u : Pairs) → In b bs → Within (class_at spec x.0).cols (cols_of u) → Agree b u
-      → In (physical_stripe spec x.0 u) (stripes_of ns)
-
-pub search_begins : (spec : Spec) (r : List Pairs) (args : Pairs) (op : Op) → cols_of args ≡ given_columns spec op → IsSearching spec r args (at_start spec op) (args ∷ []) []
+pub search_begins : (spec : Spec) (r : List Pairs) (args : Pairs) (op : Op) → cols_of args ≡ given_columns spec op
+    → IsSearching spec r args (at_start spec op) (args ∷ []) []
 search_begins spec r args op fits = record {
   phase = refl;
   within = λ c z. absurd z;
@@ -194,7 +188,8 @@ search_begins spec r args op fits = record {
 module _ (spec : Spec) (range : IsInRange spec) (ok : IsAdequate spec) (placed : IsPlaced spec) (r : List Pairs) (i : IsRelation (all_columns spec) r) (h : Satisfies r spec.deps)
     (s : Pairs) (up : IsRising pair_cmp s) where
   -- what a Lock names
-  lock_names : (c : ℕ) (choice : Which) (mode : Mode) (bs : List Pairs) (ns : List StripeLock) (columns : List ℕ) → c < length spec.classes → IsKeyBound spec c choice columns
+  lock_names : (c : ℕ) (choice : Which) (mode : Mode) (bs : List Pairs) (ns : List StripeLock) (columns : List ℕ) → c < length spec.classes
+      → IsKeyBound spec c choice columns
       → ((b : Pairs) → In b bs → Within columns (cols_of b))
       → (b u : Pairs) → In b bs → Within (class_at spec c).cols (cols_of u) → Agree b u → In (physical_stripe spec c u) (stripes_of (gather stripe_lock_cmp (ns ++ named_by spec c choice mode bs)))
   lock_names c which.Keyed mode bs ns columns l k3 cs b u m v f =
@@ -204,7 +199,8 @@ module _ (spec : Spec) (range : IsInRange spec) (ok : IsAdequate spec) (placed :
       named_now (physical_stripe spec c u) ns mode (stripes_locked spec c which.All bs) (physical_stripe-in_band spec placed c u l)
 
   -- a Lock keeps what is known of the search
-  pub lock_keeps : (p : Progress) (bs : List Pairs) (ns : List StripeLock) (c : ℕ) (choice : Which) (mode : Mode) → IsSearching spec r s p bs ns → c < length spec.classes → KeepsK3 spec p (Lock c choice mode)
+  pub lock_keeps : (p : Progress) (bs : List Pairs) (ns : List StripeLock) (c : ℕ) (choice : Which) (mode : Mode) → IsSearching spec r s p bs ns
+      → c < length spec.classes → KeepsK3 spec p (Lock c choice mode)
       → IsSearching spec r s (after spec p (Lock c choice mode)) bs (gather stripe_lock_cmp (ns ++ named_by spec c choice mode bs))
   lock_keeps p bs ns c choice mode f l k3 = record {
     phase = f.phase;
@@ -227,7 +223,8 @@ module _ (spec : Spec) (range : IsInRange spec) (ok : IsAdequate spec) (placed :
       subst (λ z. In c (cols_of z)) (sym q.2) (cols_of-project (target_columns spec e) q.0 c n (subst (In c) (sym (i.each q.0 q.1).over) (target_within spec range e l c n)))
 
   -- a Read keeps it
-  pub read_keeps : (p : Progress) (bs : List Pairs) (ns : List StripeLock) (e : ℕ) (mode : ReadMode) → IsSearching spec r s p bs ns → e < length spec.edges → KeepsK5 spec p (Read e mode)
+  pub read_keeps : (p : Progress) (bs : List Pairs) (ns : List StripeLock) (e : ℕ) (mode : ReadMode) → IsSearching spec r s p bs ns
+      → e < length spec.edges → KeepsK5 spec p (Read e mode)
       → IsSearching spec r s (after spec p (Read e mode)) (join bs (tuples_of_edge e (all_rows spec r))) ns
   read_keeps p bs ns e mode f l k5 = record {
     phase = f.phase;
@@ -252,7 +249,8 @@ module _ (spec : Spec) (range : IsInRange spec) (ok : IsAdequate spec) (placed :
   }
 
   -- the rows of stripes among which are those named are enough for a Read
-  pub read_same : (p : Progress) (bs : List Pairs) (ns : List StripeLock) (stripes : List ℕ) (e : ℕ) (mode : ReadMode) → IsSearching spec r s p bs ns → e < length spec.edges → KeepsK3 spec p (Read e mode)
+  pub read_same : (p : Progress) (bs : List Pairs) (ns : List StripeLock) (stripes : List ℕ) (e : ℕ) (mode : ReadMode)
+      → IsSearching spec r s p bs ns → e < length spec.edges → KeepsK3 spec p (Read e mode)
       → Within (stripes_of ns) stripes → join bs (tuples_of_edge e (rows_on spec r stripes)) ≡ join bs (tuples_of_edge e (all_rows spec r))
   read_same p bs ns stripes e mode f l k3 v =
       join_same bs (tuples_of_edge e (rows_on spec r stripes)) (tuples_of_edge e (all_rows spec r)) (edge_of_fragments spec r stripes e)

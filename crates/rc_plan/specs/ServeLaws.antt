@@ -18,21 +18,23 @@ use Rattle.rc_spec.specs.declared.spec.Spec.{Spec}
 use Rattle.rc_spec.specs.Adequacy.{IsAdequate}
 use Rattle.rc_spec.specs.Calls.{all_columns}
 use Rattle.rc_spec.specs.CallsLaws.{plain_keeps_relation}
-use Rattle.rc_spec.specs.Fragments.{all_rows, rows_on}
+use Rattle.rc_spec.specs.Fragments.{all_rows, rows_on, EdgeRow}
 use Rattle.rc_spec.specs.InRange.{IsInRange, HasColumnAndNode, IsOpAmong}
 use Rattle.rc_spec.specs.Placement.{no_op, op_at, IsPlaced, KeepsO}
 use Rattle.rc_spec.specs.Plain.{Outcome, plain, plain_by}
 use Rattle.rc_spec.specs.PlainLaws.{plain-known, plain_satisfies}
 use Rattle.rc_plan.specs.declared.statement.Statement.{Statement}
-use Rattle.rc_plan.specs.Evaluation.{begun, run, eval}
+use Rattle.rc_plan.specs.Evaluation.{begun, run, eval, RunState}
 use Rattle.rc_plan.specs.InsertLaws.{insert_op, insert_runs}
-use Rattle.rc_plan.specs.Laws.{Serves, AcceptedPlansServe, HasAcceptedPlan, eval_replies, rows_after, AllAreHeld, plain_replies, AllServe, AcceptedPlansServeInTurn}
+use Rattle.rc_plan.specs.Laws.{Serves, AcceptedPlansServe, AllServe, AcceptedPlansServeInTurn}
 use Rattle.rc_plan.specs.PlanRules.{at_start, AreKnown, given_columns, KeepsPlanRules}
 use Rattle.rc_plan.specs.QueryLaws.{query_op, query_runs}
 use Rattle.rc_plan.specs.RemoveLaws.{remove_op, remove_runs}
 use Rattle.rc_plan.specs.RunLaws.{EndsAs, search_begins}
 use Rattle.rc_plan.specs.StripeLocks.{stripes_of, AreHeld}
 use Rattle.rc_plan.specs.StripeLocksLaws.{held_stripes, held_exclusive}
+use Rattle.rc_spec.specs.declared.call.Call.{Call}
+use Rattle.rc_plan.specs.Turns.{HasAcceptedPlan, eval_replies, rows_after, AllAreHeld, plain_replies}
 
 -- an operation's pattern is among the columns
 pattern_known : (spec : Spec) (op : Op) → IsOpAmong (length spec.columns) op → Within (gather nat_cmp op.pattern) (all_columns spec)
@@ -40,27 +42,28 @@ pattern_known spec op known c m = in_range_below (length spec.columns) c (known.
 
 module _ (spec : Spec) (range : IsInRange spec) (populated : HasColumnAndNode spec) (ok : IsAdequate spec) (placed : IsPlaced spec) (r : List Pairs) (i : IsRelation (all_columns spec) r) (h : Satisfies r spec.deps) (stripes : List ℕ) where
   -- a run on the rows of the stripes, and one on all rows
-  abbrev RunsServe : Op → Pairs → List Statement → Type 0
-  RunsServe op args plan =
-      Within (stripes_of (run spec op.kind args plan (begun args (rows_on spec r stripes))).named) stripes
-      → EndsAs spec args (run spec op.kind args plan (begun args (rows_on spec r stripes))) (run spec op.kind args plan (begun args (all_rows spec r))) r (plain_by op.kind op.pattern spec.deps args r) stripes
+  abbrev RunsServe : Op → Call → List Statement → Type 0
+  RunsServe op call plan =
+      Within (stripes_of (run spec op call plan (begun call (rows_on spec r stripes))).named) stripes
+      → EndsAs spec call.args (run spec op call plan (begun call (rows_on spec r stripes))) (run spec op call plan (begun call (all_rows spec r))) r
+      (plain_by op.kind op.pattern spec.deps call.args r) stripes
 
   pub runs_serve : (name pattern : List ℕ) (kind : OpKind) → (let op : Op = record { name = name; pattern = pattern; kind = kind } in
-      IsOpAmong (length spec.columns) op → KeepsO spec op → (args : Pairs) → cols_of args ≡ given_columns spec op
-      → (plan : List Statement) → AreKnown spec plan → KeepsPlanRules spec op plan → RunsServe op args plan)
-  runs_serve name pattern (Query outs) among o args fits plan known keeps v =
-      query_runs spec range ok placed r i h args (rising_cols args (subst (IsRising nat_cmp) (sym fits) (rising_gather nat_cmp nat_order pattern))) name pattern outs
+      IsOpAmong (length spec.columns) op → KeepsO spec op → (call : Call) → cols_of call.args ≡ given_columns spec op
+      → (plan : List Statement) → AreKnown spec plan → KeepsPlanRules spec op plan → RunsServe op call plan)
+  runs_serve name pattern (Query outs) among o call fits plan known keeps v =
+      query_runs spec range ok placed r i h call (rising_cols call.args (subst (IsRising nat_cmp) (sym fits) (rising_gather nat_cmp nat_order pattern))) name pattern outs
       (λ c m. pattern_known spec (query_op name pattern outs) among c (subst (In c) fits m)) fits ((o.o3 outs refl).some) stripes plan
-      (at_start spec (query_op name pattern outs)) (args ∷ []) [] (search_begins spec r args (query_op name pattern outs) fits) known keeps v
-  runs_serve name pattern Remove among o args fits plan known keeps v =
-      remove_runs spec range populated ok placed r i h args (rising_cols args (subst (IsRising nat_cmp) (sym fits) (rising_gather nat_cmp nat_order pattern))) name pattern
+      (at_start spec (query_op name pattern outs)) (call.args ∷ []) [] (search_begins spec r call.args (query_op name pattern outs) fits) known keeps v
+  runs_serve name pattern Remove among o call fits plan known keeps v =
+      remove_runs spec range populated ok placed r i h call (rising_cols call.args (subst (IsRising nat_cmp) (sym fits) (rising_gather nat_cmp nat_order pattern))) name pattern
       (λ c m. pattern_known spec (remove_op name pattern) among c (subst (In c) fits m)) stripes plan
-      (at_start spec (remove_op name pattern)) (args ∷ []) [] (search_begins spec r args (remove_op name pattern) fits) refl (λ lock z. absurd z) known keeps v
-  runs_serve name pattern Insert among o args fits plan known keeps v =
-      insert_runs spec range ok placed r i h args (fits ∙ gather-rising nat_cmp nat_order (all_columns spec) (rising_range 0 (length spec.columns))) name pattern (o.o1 refl) stripes plan
-      (at_start spec (insert_op name pattern)) args (args ∷ []) []
+      (at_start spec (remove_op name pattern)) (call.args ∷ []) [] (search_begins spec r call.args (remove_op name pattern) fits) refl (λ lock z. absurd z) known keeps v
+  runs_serve name pattern Insert among o call fits plan known keeps v =
+      insert_runs spec range ok placed r i h call (fits ∙ gather-rising nat_cmp nat_order (all_columns spec) (rising_range 0 (length spec.columns))) name pattern (o.o1 refl) stripes plan
+      (at_start spec (insert_op name pattern)) call.args (call.args ∷ []) []
       (record {
-        search = search_begins spec r args (insert_op name pattern) fits;
+        search = search_begins spec r call.args (insert_op name pattern) fits;
         probing = inl (refl, refl, refl);
         locks = λ x z. absurd z;
         exclusive = λ lock z. absurd z;
@@ -74,12 +77,13 @@ plans_law spec range populated ok placed call op fits o plan known keeps r i h h
     let stripes : List ℕ = stripes_of held in
     let is : op_at spec call.op ≡ op = get_or_from_slice_get spec.ops call.op op no_op fits.known in
     let among : IsOpAmong (length spec.columns) op = range.known_ops op (slice_get_in spec.ops call.op op fits.known) in
-    let ends : (op' : Op) → op' ≡ op → AreHeld (run spec op'.kind call.args plan (begun call.args (rows_on spec r stripes))).named held
-    → EndsAs spec call.args (run spec op'.kind call.args plan (begun call.args (rows_on spec r stripes))) (run spec op'.kind call.args plan (begun call.args (all_rows spec r))) r (plain_by op.kind op.pattern spec.deps call.args r) stripes =
-    λ op' e w. subst (λ (x : Op). EndsAs spec call.args (run spec x.kind call.args plan (begun call.args (rows_on spec r stripes))) (run spec x.kind call.args plan (begun call.args (all_rows spec r))) r (plain_by op.kind op.pattern spec.deps call.args r) stripes) (sym e)
-    (runs_serve spec range populated ok placed r i h stripes op.name op.pattern op.kind among o call.args fits.columns plan known keeps
-    (held_stripes (run spec op.kind call.args plan (begun call.args (rows_on spec r stripes))).named held
-    (subst (λ (x : Op). AreHeld (run spec x.kind call.args plan (begun call.args (rows_on spec r stripes))).named held) e w))) in
+    let ran : Op → List EdgeRow → RunState = λ x rows. run spec x call plan (begun call rows) in
+    let ends : (op' : Op) → op' ≡ op → AreHeld (ran op' (rows_on spec r stripes)).named held
+    → EndsAs spec call.args (ran op' (rows_on spec r stripes)) (ran op' (all_rows spec r)) r (plain_by op.kind op.pattern spec.deps call.args r) stripes =
+    λ op' e w. subst (λ (x : Op). EndsAs spec call.args (ran x (rows_on spec r stripes)) (ran x (all_rows spec r)) r (plain_by op.kind op.pattern spec.deps call.args r) stripes) (sym e)
+    (runs_serve spec range populated ok placed r i h stripes op.name op.pattern op.kind among o call fits.columns plan known keeps
+    (held_stripes (ran op (rows_on spec r stripes)).named held
+    (subst (λ (x : Op). AreHeld (ran x (rows_on spec r stripes)).named held) e w))) in
     let d : EndsAs spec call.args (eval spec plan call (rows_on spec r stripes)) (eval spec plan call (all_rows spec r)) r (plain spec r call) stripes =
     subst (λ (x : Outcome). EndsAs spec call.args (eval spec plan call (rows_on spec r stripes)) (eval spec plan call (all_rows spec r)) r x stripes) (sym (plain-known spec r call op fits.known)) (ends (op_at spec call.op) is v) in
     record { reply = d.reply; named = d.named; rows = d.rows; taken = d.taken; others = d.others }

@@ -1,10 +1,27 @@
--- Locks of stripes, each in a mode, and which of them are held. (PLDI 2012, lock striping.)
-use Rattle.std.specs.Prelude.{ℕ, List, map}
-use Rattle.std.specs.declared.cmp.Ordering.{Ordering}
+-- Stripes of classes, locks of stripes, each in a mode, and which of them are held. (PLDI 2012, lock striping.)
+use Rattle.std.specs.Prelude.{ℕ, List, map, ◌≤◌, ◌≡◌, ◌<◌, ◌+◌}
+use Rattle.std.specs.List.{range_with_len}
 use Rattle.std.specs.Ordering.{ordering_then, nat_cmp}
+use Rattle.std.specs.declared.cmp.Ordering.{Ordering}
 use Rattle.rc_tuple.specs.RisingSet.{In}
 use Rattle.rc_spec.specs.declared.lock.Mode.{Mode}
 use Rattle.rc_spec.specs.declared.lock.Mode.TheVariants.{Shared, Exclusive}
+use Rattle.rc_spec.specs.declared.spec.Spec.{Spec}
+use Rattle.rc_spec.specs.Placement.{class_at}
+use Rattle.rc_spec.specs.Stripes.{band_start}
+
+-- ---- the stripes of a class
+
+-- the stripe is one of the class's
+pub record IsOfClass (spec : Spec) (stripe c : ℕ) : Type 0 where
+  pub from : band_start spec c ≤ stripe
+  pub before : stripe < band_start spec c + (class_at spec c).stripes
+
+-- all of them, rising
+abbrev pub band : Spec → ℕ → List ℕ
+band spec c = range_with_len (band_start spec c) (class_at spec c).stripes
+
+-- ---- locks
 
 -- a physical stripe, and the mode in which it is locked
 abbrev pub StripeLock : Type 0
@@ -21,6 +38,12 @@ stripe_lock_cmp a b = ordering_then (nat_cmp a.0 b.0) (nat_cmp (mode_number a.1)
 -- the numbers of the stripes
 abbrev pub stripes_of : List StripeLock → List ℕ
 stripes_of locks = map (λ lock. lock.0) locks
+
+-- each is taken in this mode
+abbrev pub AreIn : Mode → List StripeLock → Type 0
+AreIn mode locks = (lock : StripeLock) → In lock locks → lock.1 ≡ mode
+
+-- ---- locks that are held
 
 -- a stripe held in the first mode may be used in the second
 abbrev pub Suffices : Mode → Mode → Type 0

@@ -1,5 +1,5 @@
 -- Laws of stripes and of their locks.
-use Rattle.std.specs.Prelude.{◌≡◌, ℕ, zero, suc, ◌+◌, ◌<◌, ◌≤◌, List, ◌++◌, map, length}
+use Rattle.std.specs.Prelude.{◌≡◌, ℕ, zero, suc, ◌+◌, ◌<◌, ◌≤◌, List, ◌++◌, map, length, ◌↔◌}
 use Rattle.std.specs.List.{range_with_len}
 use Rattle.std.specs.declared.cmp.Ordering.TheVariants.{Equal}
 use Rattle.std.specs.Ordering.{nat_cmp}
@@ -17,11 +17,10 @@ use Rattle.rc_spec.specs.declared.spec.Spec.{Spec}
 use Rattle.rc_spec.specs.Adequacy.{IsAdequate}
 use Rattle.rc_spec.specs.Placement.{class_at, class_of, IsPlaced}
 use Rattle.rc_spec.specs.Stripes.{band_start, physical_stripe}
-use Rattle.rc_spec.specs.StripesLaws.{agreeing_law, stripe_in_band}
-use Rattle.rc_plan.specs.Evaluation.{band}
-
+use Rattle.rc_spec.specs.StripesLaws.{agreeing_law, stripe_in_band, band_before}
 use Rattle.rc_spec.specs.Decomposition.{target_columns}
-use Rattle.rc_plan.specs.StripeLocks.{StripeLock, mode_number, stripe_lock_cmp, stripes_of, Suffices, AreHeld}
+use Rattle.rc_plan.specs.StripeLocks.{StripeLock, mode_number, stripe_lock_cmp, stripes_of, Suffices, AreHeld, band, AreIn, IsOfClass}
+use Rattle.rc_tuple.specs.ColSetLaws.{in_range_bounds}
 
 -- ---- the order of locks
 
@@ -66,11 +65,8 @@ named_now stripe locks mode stripes h =
     stripes_of_in lock (gather stripe_lock_cmp (locks ++ more))
     (gather_in stripe_lock_cmp stripe_lock_order lock (locks ++ more) (append_in_right lock locks more (map_in (λ s. let l : StripeLock = (s, mode) in l) stripe stripes h)))
 
--- each is taken in this mode
-abbrev pub AreIn : Mode → List StripeLock → Type 0
-AreIn mode locks = (lock : StripeLock) → In lock locks → lock.1 ≡ mode
-
-pub AreIn-more : (mode : Mode) (locks : List StripeLock) (stripes : List ℕ) → AreIn mode locks → AreIn mode (gather stripe_lock_cmp (locks ++ map (λ s. (s, mode)) stripes))
+pub AreIn-more : (mode : Mode) (locks : List StripeLock) (stripes : List ℕ) → AreIn mode locks
+    → AreIn mode (gather stripe_lock_cmp (locks ++ map (λ s. (s, mode)) stripes))
 AreIn-more mode locks stripes f lock m = elim (in_append lock locks (map (λ s. (s, mode)) stripes) (in_gather stripe_lock_cmp stripe_lock_order lock (locks ++ map (λ s. (s, mode)) stripes) m)) [
   | inl n ↦ f lock n
   | inr n ↦ let q : (s : ℕ) × In s stripes × (lock ≡ (s, mode)) = in_map (λ s. (s, mode)) lock stripes n in ap (λ (l : StripeLock). l.1) q.2
@@ -103,10 +99,6 @@ held_exclusive locks held f stripe h =
 
 -- ---- stripes of a class
 
--- tuples that agree and have the class's columns fall on one stripe
-pub physical_stripe-agreeing : (spec : Spec) (c : ℕ) (t u : Pairs) → Within (class_at spec c).cols (cols_of t) → Within (class_at spec c).cols (cols_of u) → Agree t u → physical_stripe spec c t ≡ physical_stripe spec c u
-physical_stripe-agreeing spec c t u a b f = agreeing_law spec c t u a b (agrees_to t u f)
-
 in_range_from : (k n c : ℕ) → k ≤ c → c < k + n → In c (range_with_len k n)
 in_range_from k n c a b = go n k a b
   where
@@ -114,11 +106,32 @@ in_range_from k n c a b = go n k a b
     go zero k a b = absurd (omega arith)
     go (suc n) k a b = elim (cases_eq c k) [ inl e ↦ inl e | inr f ↦ inr (go n (k + 1) (omega (arith, f)) (omega arith)) ]
 
+-- the list has exactly the stripes of the class
+pub band_of_class : (spec : Spec) (stripe c : ℕ) → In stripe (band spec c) ↔ IsOfClass spec stripe c
+band_of_class spec stripe c = (
+  λ m. let b : (band_start spec c ≤ stripe) × (stripe < band_start spec c + (class_at spec c).stripes) = in_range_bounds (band_start spec c) (class_at spec c).stripes stripe m in
+      record { from = b.0; before = b.1 },
+  λ of. in_range_from (band_start spec c) (class_at spec c).stripes stripe of.from of.before,
+)
+
+pub IsOfClass-physical_stripe : (spec : Spec) → IsPlaced spec → (c : ℕ) (t : Pairs) → c < length spec.classes → IsOfClass spec (physical_stripe spec c t) c
+IsOfClass-physical_stripe spec placed c t l = record { from = omega arith; before = stripe_in_band spec c t (placed.p6 c l).some }
+
+-- a stripe of a class is of no later one
+pub of_one_class : (spec : Spec) (c d stripe : ℕ) → c < d → d < length spec.classes → IsOfClass spec stripe c → IsOfClass spec stripe d → ⊥
+of_one_class spec c d stripe l m a b =
+    let k : band_start spec c + (class_at spec c).stripes ≤ band_start spec d = band_before spec c d l m in
+    omega (arith, a.before, b.from, k)
+
+-- tuples that agree and have the class's columns fall on one stripe
+pub physical_stripe-agreeing : (spec : Spec) (c : ℕ) (t u : Pairs) → Within (class_at spec c).cols (cols_of t)
+    → Within (class_at spec c).cols (cols_of u) → Agree t u → physical_stripe spec c t ≡ physical_stripe spec c u
+physical_stripe-agreeing spec c t u a b f = agreeing_law spec c t u a b (agrees_to t u f)
+
 pub physical_stripe-in_band : (spec : Spec) → IsPlaced spec → (c : ℕ) (t : Pairs) → c < length spec.classes → In (physical_stripe spec c t) (band spec c)
-physical_stripe-in_band spec placed c t l =
-    let below : physical_stripe spec c t < band_start spec c + (class_at spec c).stripes = stripe_in_band spec c t (placed.p6 c l).some in
-    in_range_from (band_start spec c) (class_at spec c).stripes (physical_stripe spec c t) (omega arith) below
+physical_stripe-in_band spec placed c t l = (band_of_class spec (physical_stripe spec c t) c).1 (IsOfClass-physical_stripe spec placed c t l)
 
 -- the columns that choose the stripe of an edge's rows are columns of its target
-pub striping_in_target : (spec : Spec) → IsAdequate spec → IsPlaced spec → (e : ℕ) → e < length spec.edges → Within (class_at spec (class_of spec e)).cols (target_columns spec e)
+pub striping_in_target : (spec : Spec) → IsAdequate spec → IsPlaced spec → (e : ℕ) → e < length spec.edges
+    → Within (class_at spec (class_of spec e)).cols (target_columns spec e)
 striping_in_target spec ok placed e l c h = (ok.a3 e l).inside c (placed.p2 e l c h)

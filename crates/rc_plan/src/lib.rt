@@ -2,14 +2,17 @@
 #![tactic(auto)]
 
 mod compiled;
+mod evaluation;
 mod laws;
 mod printing;
 mod refusal;
 mod statement;
 
 pub use compiled::Compiled;
+pub use evaluation::{answer, push_merge, push_merges, some_differs, stripes_locked};
 pub use laws::{
     accepted_plans_lock_in_order, accepted_plans_serve, accepted_plans_serve_in_turn,
+    compiled_plans_serve, compiled_plans_serve_in_turn, named_stripes_are_locked,
     plan_checks_are_rules,
 };
 pub use printing::print_plan;

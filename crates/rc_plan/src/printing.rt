@@ -21,7 +21,7 @@ pub fn print_plan(alloc: Global, spec: &Spec, op: u8, plan: &Plan) -> Result<Vec
     ensures { IfOk result (λ text. text.items ≡ plan_text spec.now op plan.now) }
 {
     let mut text = Vec::from_slice(alloc, b"plan ")?;
-    text.extend_from_slice(spec.ops.list()[op as usize].name())?;
+    text.extend_from_slice(spec.op(op).name())?;
     text.push(b'\n')?;
     push_lines(&mut text, spec, plan.list())?;
     Ok(text)
@@ -68,7 +68,7 @@ fn push_lock(
     ensures { OnOk result (text.new.items ≡ text.old.items ++ statement_text spec.now (Lock class which mode)) }
 {
     push_word(text, b"lock ")?;
-    push_word(text, spec.classes.list()[class as usize].name())?;
+    push_word(text, spec.class(class).name())?;
     push_word(
         text,
         match which {
@@ -110,7 +110,7 @@ fn push_read(text: &mut Vec<u8>, spec: &Spec, edge: u8, mode: ReadMode) -> Resul
     ensures { OnOk result (text.new.items ≡ text.old.items ++ statement_text spec.now (Read edge mode)) }
 {
     push_word(text, b"read ")?;
-    push_word(text, spec.edges.list()[edge as usize].name())?;
+    push_word(text, spec.edge(edge).name())?;
     push_word(
         text,
         match mode {
@@ -132,7 +132,7 @@ fn push_release(text: &mut Vec<u8>, spec: &Spec, class: u8) -> Result<(), Memory
     ensures { OnOk result (text.new.items ≡ text.old.items ++ statement_text spec.now (Release class)) }
 {
     push_word(text, b"release ")?;
-    push_word(text, spec.classes.list()[class as usize].name())
+    push_word(text, spec.class(class).name())
 }
 
 /// Appends bytes.

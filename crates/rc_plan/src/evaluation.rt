@@ -1,0 +1,126 @@
+//! What the statements of a plan find, over any bindings and rows.
+
+ghost use Rattle.std.specs.Prelude.{◌≡◌, ◌<◌, ◌≤◌, ◌++◌, ◌∷◌, [], length, map, not, IfOk, OnOk};
+ghost use Rattle.std.specs.List.{list_any};
+ghost use Rattle.rc_tuple.specs.Tuple.{agree_on, merges_of};
+ghost use Rattle.rc_spec.specs.Placement.{IsPlaced};
+ghost use Rattle.rc_spec.specs.Stripes.{physical_stripe};
+ghost use Rattle.rc_plan.specs.Evaluation.{answer, some_differs, stripes_locked};
+ghost use Rattle.rc_plan.specs.StripeLocks.{band};
+
+use crate::Which;
+use rc_spec::{QueryRows, Reply, Spec, band_start, physical_stripe};
+use rc_tuple::{ColSet, Cols, Memory, Tuple};
+use std::alloc::Global;
+
+/// The reply of a query from its bindings: the distinct rows of the outputs where there are few, and else their number.
+pub fn answer(alloc: Global, outs: &Cols, bindings: &[Tuple]) -> Result<Reply, Memory>
+    ensures { IfOk result (λ reply. reply ≡ answer outs.now bindings.now) }
+{
+    let mut rows = QueryRows::new(alloc);
+    for binding in bindings {
+        rows.add(outs, binding)?;
+    }
+    rows.reply(alloc)
+}
+
+/// Whether a binding differs from the call's tuple on the right side of a dependency, which is numbered from 1.
+pub fn some_differs(spec: &Spec, dep: u32, args: &Tuple, bindings: &[Tuple]) -> Result<bool, Memory>
+    requires some { 0 < dep }
+    requires known { dep ≤ length spec.now.deps }
+    ensures { IfOk result (λ found. found ≡ some_differs spec.now dep args.now bindings.now) }
+{
+    differs_on(spec.deps.list()[dep as usize - 1].right, args, bindings)
+}
+
+/// Whether a binding differs from the call's tuple at the columns.
+fn differs_on(cols: ColSet, args: &Tuple, bindings: &[Tuple]) -> Result<bool, Memory>
+    ensures { IfOk result (λ found. found ≡ list_any (λ b. not (agree_on cols b args.now)) bindings.now) }
+{
+    for binding in bindings {
+        if !is_same_on(cols, binding, args)? {
+            return Ok(true);
+        }
+    }
+    Ok(false)
+}
+
+/// Whether the two have the same projection on the columns.
+fn is_same_on(cols: ColSet, binding: &Tuple, args: &Tuple) -> Result<bool, Memory>
+    ensures { IfOk result (λ same. same ≡ agree_on cols binding.now args.now) }
+{
+    let pairs = binding.project(cols)?;
+    let others = args.project(cols)?;
+    Ok(pairs.order(&others).is_eq())
+}
+
+/// The physical stripes of a class that a Lock takes: those on which the bindings fall, in their order, or all of the
+/// class, rising.
+pub fn stripes_locked(
+    alloc: Global,
+    spec: &Spec,
+    class: u8,
+    which: Which,
+    bindings: &[Tuple],
+) -> Result<Vec<u32>, Memory>
+    requires known { class < length spec.now.classes }
+    requires placed { IsPlaced spec.now }
+    ensures { IfOk result (λ stripes. stripes.items ≡ stripes_locked spec.now class which bindings.now) }
+{
+    match which {
+        Which::Keyed => stripes_of_bindings(alloc, spec, class, bindings),
+        Which::All => band(alloc, spec, class),
+    }
+}
+
+/// The stripes of a class on which the bindings fall.
+fn stripes_of_bindings(
+    alloc: Global,
+    spec: &Spec,
+    class: u8,
+    bindings: &[Tuple],
+) -> Result<Vec<u32>, Memory>
+    requires known { class < length spec.now.classes }
+    requires placed { IsPlaced spec.now }
+    ensures { IfOk result (λ stripes. stripes.items ≡ map (physical_stripe spec.now class) bindings.now) }
+{
+    let mut stripes = Vec::new(alloc);
+    for binding in bindings {
+        stripes.push(physical_stripe(spec, class, binding))?;
+    }
+    Ok(stripes)
+}
+
+/// All stripes of a class.
+fn band(alloc: Global, spec: &Spec, class: u8) -> Result<Vec<u32>, Memory>
+    requires known { class < length spec.now.classes }
+    requires placed { IsPlaced spec.now }
+    ensures { IfOk result (λ stripes. stripes.items ≡ band spec.now class) }
+{
+    let start = band_start(spec, class);
+    let mut stripes = Vec::new(alloc);
+    for place in 0..spec.classes.list()[class as usize].stripes {
+        stripes.push(start + place)?;
+    }
+    Ok(stripes)
+}
+
+/// Appends the merges of a binding with those of the tuples that agree with it, in their order.
+pub fn push_merges(merges: &mut Vec<Tuple>, binding: &Tuple, tuples: &[Tuple]) -> Result<(), Memory>
+    ensures { OnOk result (merges.new.items ≡ merges.old.items ++ merges_of binding.now tuples.now) }
+{
+    for tuple in tuples {
+        push_merge(merges, binding, tuple)?;
+    }
+    Ok(())
+}
+
+/// Appends the merge of a binding with a tuple, if they agree.
+pub fn push_merge(merges: &mut Vec<Tuple>, binding: &Tuple, tuple: &Tuple) -> Result<(), Memory>
+    ensures { OnOk result (merges.new.items ≡ merges.old.items ++ merges_of binding.now (tuple.now ∷ [])) }
+{
+    if let Some(merge) = binding.merge(tuple)? {
+        merges.push(merge)?;
+    }
+    Ok(())
+}
