@@ -12,8 +12,8 @@ use Rattle.rc_edges.specs.EdgeMap.{Counted, Rows, IsRowOf, count_of, lowered}
 use Rattle.rc_spec.specs.CountedRows.{count_at, is_row_at, with_count}
 use Rattle.rc_spec.specs.CountedRowsLaws.{same_counts, AreCountedRows-with_count, count-with_count}
 use Rattle.rc_fragment.specs.Container.{now_in, taken_in}
-use Rattle.rc_fragment.specs.Notes.{PlaceBecomes}
-use Rattle.rc_fragment.specs.Sources.{found_at, IsSetAt, Becomes}
+use Rattle.rc_fragment.specs.Notes.{IsEmptiedAt, PlaceBecomes}
+use Rattle.rc_fragment.specs.Sources.{found_at, IsEmptied, IsSetAt, Becomes}
 use Rattle.rc_fragment.specs.Listing.{listing, shapes, found_of, found_by, IsFiled, IsStored, AreStored}
 use Rattle.rc_fragment.specs.declared.container.Container.{Container}
 use Rattle.rc_fragment.specs.declared.edge_rows.EdgeRows.{EdgeRows}
@@ -95,6 +95,31 @@ module _ (edges new : List EdgeRows) (e : ℕ) (x y : EdgeRows) (number : slice_
       go true h = is s k ∙ ap (cond (tuple_eq s source && tuple_eq k key) w) (sym (ap (λ o. found_of part o s k) (ap (slice_get edges) (eqb-true d e h) ∙ number)))
       go false h = refl
 
+  -- no other source's container is left with no row
+  pub emptied_set : (source : Pairs) → ((s : Pairs) → IsEmptied y.sources.entries s → (s ≡ source) ⊎ IsEmptied x.sources.entries s)
+      → (d : ℕ) (s : Pairs) → IsEmptiedAt new d s → ((d ≡ e) × (s ≡ source)) ⊎ IsEmptiedAt edges d s
+  emptied_set source f d s m = go (d == e) refl (sym (get_new d) ∙ m.1)
+    where
+      go : (b : Bool) → (d == e) ≡ b → cond b (Some y) (slice_get edges d) ≡ Some m.0 → ((d ≡ e) × (s ≡ source)) ⊎ IsEmptiedAt edges d s
+      go true h p =
+          let q : y ≡ m.0 = cc in
+          let r : d ≡ e = eqb-true d e h in
+          elim (f s (subst (λ (z : EdgeRows). IsEmptied z.sources.entries s) (sym q) m.2)) [ inl a ↦ inl (r, a) | inr i ↦ inr (x, ap (slice_get edges) r ∙ number, i) ]
+      go false h p = inr (m.0, p, m.2)
+
+  pub emptied_kept : ((s : Pairs) → IsEmptied y.sources.entries s → IsEmptied x.sources.entries s) → (d : ℕ) (s : Pairs) → IsEmptiedAt new d s → IsEmptiedAt edges d s
+  emptied_kept f d s m = go (d == e) refl (sym (get_new d) ∙ m.1)
+    where
+      go : (b : Bool) → (d == e) ≡ b → cond b (Some y) (slice_get edges d) ≡ Some m.0 → IsEmptiedAt edges d s
+      go true h p = let q : y ≡ m.0 = cc in (x, ap (slice_get edges) (eqb-true d e h) ∙ number, f s (subst (λ (z : EdgeRows). IsEmptied z.sources.entries s) (sym q) m.2))
+      go false h p = (m.0, p, m.2)
+
+  pub freed_set : (source : Pairs) → (IsEmptied y.sources.entries source → ⊥) → IsEmptiedAt new e source → ⊥
+  freed_set source f m =
+      let g : Some y ≡ Some m.0 = sym (ap (λ b. cond b (Some y) (slice_get edges e)) (eq-eqb e e refl)) ∙ sym (get_new e) ∙ m.1 in
+      let q : y ≡ m.0 = cc in
+      f (subst (λ (z : EdgeRows). IsEmptied z.sources.entries source) (sym q) m.2)
+
 -- what is kept at a source and a key, if anything, is a row of them
 pub record IsOfPlace (x : EdgeRows) (source key : Pairs) (w : Option Counted) : Type 0 where
   pub source_of : (c : Counted) → w ≡ Some c → project x.shape.source c.0 ≡ source
@@ -132,6 +157,7 @@ place_becomes edges new e x y number set all source key v w b p q =
     record {
       now = found_set edges new e x y number set now_in source key v b.now;
       taken = found_set edges new e x y number set taken_in source key w b.taken;
+      emptied = emptied_set edges new e x y number set source b.emptied;
       stored = stored_set edges new e x y number set all record {
         now = filed_set now_in x y b.shape s.now source key v p b.now;
         taken = filed_set taken_in x y b.shape s.taken source key w q b.taken;

@@ -14,9 +14,9 @@ use Rattle.rc_maps.specs.HashedLaws.{key_eq, pointwise_same}
 use Rattle.rc_maps.specs.WalkLaws.{apart_by_tuples}
 use Rattle.rc_spec.specs.declared.items.EdgeKind.{EdgeKind}
 use Rattle.rc_fragment.specs.Container.{kind_in, now_in, taken_in}
-use Rattle.rc_fragment.specs.Sources.{AreSame, SeenContainer, HaveKind, Key, Sources, by_source, seen_container, seen_in, seen_of, found_at, found_in}
+use Rattle.rc_fragment.specs.Sources.{AreSame, IsEmptied, SeenContainer, HaveKind, Key, Sources, by_source, seen_container, seen_in, seen_of, found_at, found_in}
 use Rattle.rc_fragment.specs.Listing.{AreStored, IsFiled, IsStored, found_by, shapes}
-use Rattle.rc_fragment.specs.Notes.{AreWithin, IsFragment}
+use Rattle.rc_fragment.specs.Notes.{AreWithin, IsEmptiedAt, IsFragment}
 use Rattle.rc_fragment.specs.declared.container.Container.{Container}
 use Rattle.rc_fragment.specs.declared.edge_rows.EdgeRows.{EdgeRows}
 use Rattle.rc_fragment.specs.declared.note.Note.{Note}
@@ -78,6 +78,15 @@ module _ (old new : Sources) (h : seen_of new ≡ seen_of old) where
           let q : seen_container c ≡ seen_container d = cc in
           ap (λ (z : SeenContainer). z.2) q ∙ all s d f
 
+  pub emptied_seen : (s : Pairs) → IsEmptied new s → IsEmptied old s
+  emptied_seen s e = go (fin.get (by_source old) s) refl (sym (ap (option_map seen_container) e.1) ∙ same_seen s)
+    where
+      go : (o : Option Container) → fin.get (by_source old) s ≡ o → Some (seen_container e.0) ≡ option_map seen_container o → IsEmptied old s
+      go None f p = absurd (cc)
+      go (Some d) f p =
+          let q : seen_container e.0 ≡ seen_container d = cc in
+          (d, f, sym (ap (λ (z : SeenContainer). z.0) q) ∙ e.2, sym (ap (λ (z : SeenContainer). z.1) q) ∙ e.3)
+
 -- ---- copied edges
 
 -- the same edges one by one
@@ -113,6 +122,16 @@ same_found_taken (x ∷ xs) [] h e s k = absurd h
 same_found_taken (x ∷ xs) (y ∷ ys) h zero s k = h.0.taken s k
 same_found_taken (x ∷ xs) (y ∷ ys) h (suc e) s k = same_found_taken xs ys h.1 e s k
 
+pub same_emptied : (xs ys : List EdgeRows) → AreSameEdges xs ys → (e : ℕ) (s : Pairs) → IsEmptiedAt ys e s → IsEmptiedAt xs e s
+same_emptied [] [] h e s m = m
+same_emptied [] (y ∷ ys) h e s m = absurd h
+same_emptied (x ∷ xs) [] h e s m = absurd h
+same_emptied (x ∷ xs) (y ∷ ys) h zero s m =
+    let g : Some y ≡ Some m.0 = m.1 in
+    let p : y ≡ m.0 = cc in
+    (x, refl, h.0.emptied s (subst (λ (z : EdgeRows). IsEmptied z.sources.entries s) (sym p) m.2))
+same_emptied (x ∷ xs) (y ∷ ys) h (suc e) s m = same_emptied xs ys h.1 e s m
+
 filed_same : (part : Container → Rows) (x y : EdgeRows) → ((s k : Pairs) → found_at part y.sources.entries s k ≡ found_at part x.sources.entries s k) → y.shape ≡ x.shape → IsFiled part x → IsFiled part y
 filed_same part x y same shape f = record {
   source = λ s k c h. ap (λ (z : EdgeShape). project z.source c.0) shape ∙ f.source s k c (sym (same s k) ∙ h);
@@ -138,10 +157,11 @@ same_stored (a ∷ xs) (b ∷ ys) h all y (inr m) = same_stored xs ys h.1 (λ x 
 -- a fragment with the same edges and notes is one
 pub same_fragment : (edges new : List EdgeRows) (notes : List Note) (pairs : Pairs) → IsFragment edges notes pairs → shapes new ≡ shapes edges → AreStored new
     → ((e : ℕ) (s k : Pairs) → found_by now_in new e s k ≡ found_by now_in edges e s k) → ((e : ℕ) (s k : Pairs) → found_by taken_in new e s k ≡ found_by taken_in edges e s k)
-    → IsFragment new notes pairs
-same_fragment edges new notes pairs all same stored now taken = record {
+    → ((e : ℕ) (s : Pairs) → IsEmptiedAt new e s → IsEmptiedAt edges e s) → IsFragment new notes pairs
+same_fragment edges new notes pairs all same stored now taken emptied = record {
   stored = stored;
   noted = λ e s k. elim (all.noted e s k) [ inl h ↦ inl (now e s k ∙ h ∙ sym (taken e s k)) | inr m ↦ inr m ];
+  emptied = λ e s m. all.emptied e s (emptied e s m);
   within = subst (λ n. AreWithin n (length pairs) notes) len all.within;
 }
   where

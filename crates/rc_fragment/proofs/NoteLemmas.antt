@@ -60,3 +60,6 @@ room_less a b c d h k =
     let f : min a (b / 64) - 1 ≤ d / 64 = le-div (min a (b / 64) - 1) d 64 (omega arith) (omega arith) in
     let g : min a (b / 64) - 1 ≤ min c (d / 64) = le-min (omega arith) f in
     omega arith
+
+pub zero_least : (n : ℕ) → 0 ≤ n
+zero_least n = omega arith

@@ -10,7 +10,7 @@ use Rattle.rc_tuple.specs.TupleLaws.{same_from_test, test_from_same}
 use Rattle.rc_edges.specs.EdgeMap.{Counted}
 use Rattle.rc_fragment.specs.Container.{now_in, taken_in}
 use Rattle.rc_fragment.specs.Listing.{found_by, shapes, AreStored}
-use Rattle.rc_fragment.specs.Notes.{Place, AreNoted, AreWithin, IsFragment, IsNoteWithin, IsSetPlace, PlaceBecomes, now_at_place, taken_at_place, place_of, places_of}
+use Rattle.rc_fragment.specs.Notes.{Place, AreEmptiedNoted, AreNoted, AreWithin, IsEmptiedAt, IsFragment, IsNoteWithin, IsSetPlace, PlaceBecomes, now_at_place, taken_at_place, place_of, places_of}
 use Rattle.rc_fragment.specs.Sources.{IsSetAt}
 use Rattle.rc_fragment.specs.declared.edge_rows.EdgeRows.{EdgeRows}
 use Rattle.rc_fragment.specs.declared.note.Note.{Note}
@@ -61,6 +61,24 @@ noted_more old new place places v w b h e s k = go (is_place place e s k) refl (
     go false t (inl q) = inl (b.now e s k ∙ ap (λ z. cond z v (found_by now_in old e s k)) t ∙ q ∙ sym (b.taken e s k ∙ ap (λ z. cond z w (found_by taken_in old e s k)) t))
     go false t (inr m) = inr (append_in_left (e, s, k) places (place ∷ []) m)
 
+-- where the source of a place isn't left with no row, it need not be noted
+pub emptied_less : (old new : List EdgeRows) (place : Place) (places : List Place) → ((e : ℕ) (s : Pairs) → IsEmptiedAt new e s → ((e ≡ place.0) × (s ≡ place.1)) ⊎ IsEmptiedAt old e s)
+    → (IsEmptiedAt new place.0 place.1 → ⊥) → AreEmptiedNoted old (place ∷ places) → AreEmptiedNoted new places
+emptied_less old new place places f freed h e s m = elim (f e s m) [
+  | inl q ↦ absurd (here q)
+  | inr i ↦ let n : (k : Pairs) × In {A = Place} (e, s, k) (place ∷ places) = h e s i in elim n.1 [ inl p ↦ absurd (here (ap (λ (z : Place). z.0) p, ap (λ (z : Place). z.1) p)) | inr r ↦ (n.0, r) ]
+]
+  where
+    here : (e ≡ place.0) × (s ≡ place.1) → ⊥
+    here q = freed (subst (λ z. IsEmptiedAt new z place.1) q.0 (subst (IsEmptiedAt new e) q.1 m))
+
+-- a source that is left with no row is noted with the place that changes
+pub emptied_more : (old new : List EdgeRows) (place : Place) (places : List Place) (v w : Option Counted) → PlaceBecomes old new place v w → AreEmptiedNoted old places → AreEmptiedNoted new (places ++ place ∷ [])
+emptied_more old new place places v w b h e s m = elim (b.emptied e s m) [
+  | inl q ↦ (place.2, append_in_right {A = Place} (e, s, place.2) places (place ∷ []) (inl (λ i. (q.0 i, q.1 i, place.2))))
+  | inr i ↦ let n : (k : Pairs) × In {A = Place} (e, s, k) places = h e s i in (n.0, append_in_left {A = Place} (e, s, n.0) places (place ∷ []) n.1)
+]
+
 -- where nothing is noted the rows are as taken
 pub none_noted : (edges : List EdgeRows) → AreNoted edges [] → (e : ℕ) (s k : Pairs) → found_by now_in edges e s k ≡ found_by taken_in edges e s k
 none_noted edges h e s k = elim (h e s k) [ inl q ↦ q | inr m ↦ absurd m ]
@@ -108,6 +126,8 @@ fragment_noted edges new notes pairs more n place v w f b is known within = reco
   stored = b.stored;
   noted = subst (AreNoted new) (sym (map-append (place_of (pairs ++ more)) notes (n ∷ []) ∙ (λ i. places_stay (length edges) pairs more notes f.within i ++ is i ∷ [])))
       (noted_more edges new place (places_of pairs notes) v w b f.noted);
+  emptied = subst (AreEmptiedNoted new) (sym (map-append (place_of (pairs ++ more)) notes (n ∷ []) ∙ (λ i. places_stay (length edges) pairs more notes f.within i ++ is i ∷ [])))
+      (emptied_more edges new place (places_of pairs notes) v w b f.emptied);
   within = λ m h.
       let l : length new ≡ length edges = same_length new edges b.shapes in
       let longer : length (pairs ++ more) ≡ length pairs + length more = length-append pairs more in
@@ -119,13 +139,15 @@ fragment_noted edges new notes pairs more n place v w f b is known within = reco
 }
 
 -- where nothing changes
-pub fragment_same : (edges new : List EdgeRows) (notes : List Note) (pairs : Pairs) (place : Place) → IsFragment edges notes pairs → PlaceBecomes edges new place (now_at_place edges place) (taken_at_place edges place) → IsFragment new notes pairs
-fragment_same edges new notes pairs place f b = record {
+pub fragment_same : (edges new : List EdgeRows) (notes : List Note) (pairs : Pairs) (place : Place) → IsFragment edges notes pairs → PlaceBecomes edges new place (now_at_place edges place) (taken_at_place edges place)
+    → ((e : ℕ) (s : Pairs) → IsEmptiedAt new e s → IsEmptiedAt edges e s) → IsFragment new notes pairs
+fragment_same edges new notes pairs place f b kept = record {
   stored = b.stored;
   noted = noted_same edges new place (places_of pairs notes) b f.noted;
+  emptied = λ e s m. f.emptied e s (kept e s m);
   within = λ m h. let l : length new ≡ length edges = same_length new edges b.shapes in let o : (m.edge < length edges) × IsNoteWithin (length pairs) m = f.within m h in (omega (arith, o.0), o.1);
 }
 
--- where all rows are as taken, nothing need be noted
-pub fragment_clear : (new : List EdgeRows) → AreStored new → ((e : ℕ) (s k : Pairs) → found_by now_in new e s k ≡ found_by taken_in new e s k) → IsFragment new [] []
-fragment_clear new stored same = record { stored = stored; noted = λ e s k. inl (same e s k); within = λ n h. absurd h }
+-- where all rows are as taken and no container is without a row, nothing need be noted
+pub fragment_clear : (new : List EdgeRows) → AreStored new → ((e : ℕ) (s k : Pairs) → found_by now_in new e s k ≡ found_by taken_in new e s k) → AreEmptiedNoted new [] → IsFragment new [] []
+fragment_clear new stored same freed = record { stored = stored; noted = λ e s k. inl (same e s k); emptied = freed; within = λ n h. absurd h }

@@ -158,6 +158,7 @@ empty_fragment edges h = record {
         kinds = λ s v f. let z : None ≡ Some v = sym (ap (λ (m : FinMap tuple_cmp Container). fin.get m s) (h x m) ∙ get-empty tuple_cmp s) ∙ f in absurd (cc);
       };
   noted = λ e s k. inl (none_found now_in edges h e s k ∙ sym (none_found taken_in edges h e s k));
+  emptied = λ e s m. let z : None ≡ Some m.2.0 = sym (ap (λ (n : FinMap tuple_cmp Container). fin.get n s) (h m.0 (slice_get_in edges e m.0 m.1)) ∙ get-empty tuple_cmp s) ∙ m.2.1 in absurd (cc);
   within = λ n m. absurd m;
 }
 

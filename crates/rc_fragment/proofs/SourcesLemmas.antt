@@ -1,23 +1,25 @@
 -- What one change of the map from sources to containers is to the rows that are found in it.
-use Rattle.std.specs.Prelude.{◌≡◌, Bool, true, false, cond, ◌&&◌, Option, None, Some, IsSome}
+use Rattle.std.specs.Prelude.{◌≡◌, Bool, true, false, cond, ◌&&◌, ◌⊎◌, Option, None, Some, IsSome}
 use Rattle.std.specs.Prelude.{Result, Ok, Err, OnOk, OnErr, IfOk}
 use Rattle.std.specs.Map.{lookup, KeepsOthers}
 use Rattle.std.specs.FinMap as fin
 use Rattle.std.specs.FinMap.{FinMap, get-empty}
-use Rattle.std.proofs.Common.{refl, sym, ap, subst, ◌∙◌}
+use Rattle.std.proofs.Common.{refl, sym, ap, subst, ◌∙◌, inl, inr}
 use Rattle.std.proofs.lemmas.Bool.{false≢true}
 use Rattle.rc_tuple.specs.Tuple.{Pairs, tuple_cmp, tuple_eq}
-use Rattle.rc_tuple.specs.TupleLaws.{same_from_test}
+use Rattle.rc_tuple.specs.TupleLaws.{same_from_test, test_from_same}
 use Rattle.rc_edges.specs.EdgeMap.{Counted, Rows, written}
 use Rattle.rc_edges.specs.RowsLaws.{get-written, written_again}
 use Rattle.rc_spec.specs.declared.items.EdgeKind.{EdgeKind}
 use Rattle.rc_spec.specs.declared.items.EdgeKind.TheVariants as kind
-use Rattle.rc_fragment.specs.Container.{kind_in, now_in, takes}
+use Rattle.rc_fragment.specs.Container.{kind_in, now_in, taken_in, takes}
 use Rattle.rc_fragment.specs.declared.container.Container.TheVariants as container
 use Rattle.rc_maps.specs.HashedLaws.{key_eq, pointwise_same, test}
 use Rattle.rc_maps.specs.KeyedLaws.{get-whole, whole-changed}
-use Rattle.rc_fragment.specs.Sources.{Key, Sources, by_source, found_in, found_at, IsSetAt, HaveKind}
+use Rattle.rc_fragment.specs.Sources.{AreOfKind, AreSame, Key, Sources, by_source, found_in, found_at, IsEmptied, IsSetAt, HaveKind}
 use Rattle.rc_fragment.specs.declared.container.Container.{Container}
+use Rattle.rc_fragment.specs.declared.edge_rows.EdgeRows.{EdgeRows}
+use Rattle.rc_fragment.specs.declared.shape.EdgeShape.{EdgeShape}
 
 -- ---- look-ups and changes of the map
 
@@ -81,6 +83,55 @@ module _ (old set new : Sources) (source : Pairs) (w : Container) (e : by_source
       go : (b : Bool) → cond b None (fin.get (by_source set) s) ≡ Some c → kind_in c ≡ kind
       go true p = absurd (cc)
       go false p = all s c p
+
+-- ---- containers that keep no row
+
+-- where one source's container is written, no other is left with no row
+pub emptied_written : (old new : Sources) (source : Pairs) (w : Option Container) → by_source new ≡ written (by_source old) source w → (s : Pairs) → IsEmptied new s → (s ≡ source) ⊎ IsEmptied old s
+emptied_written old new source w e s h = go (tuple_eq s source) refl (sym (get-written (by_source old) source w s) ∙ ap (λ (z : FinMap tuple_cmp Container). fin.get z s) (sym e) ∙ h.1)
+  where
+    go : (b : Bool) → tuple_eq s source ≡ b → cond b w (fin.get (by_source old) s) ≡ Some h.0 → (s ≡ source) ⊎ IsEmptied old s
+    go true t p = inl (same_from_test s source t)
+    go false t p = inr (h.0, p, h.2, h.3)
+
+get_here : (old new : Sources) (source : Pairs) (w : Option Container) → by_source new ≡ written (by_source old) source w → fin.get (by_source new) source ≡ w
+get_here old new source w e =
+    ap (λ (z : FinMap tuple_cmp Container). fin.get z source) e ∙ get-written (by_source old) source w source ∙ ap (λ b. cond b w (fin.get (by_source old) source)) (test_from_same source source refl)
+
+-- where a container that keeps a row is written
+pub not_emptied : (old new : Sources) (source : Pairs) (w : Container) → by_source new ≡ written (by_source old) source (Some w) → ((now_in w ≡ fin.empty) × (taken_in w ≡ fin.empty) → ⊥) → IsEmptied new source → ⊥
+not_emptied old new source w e keeps h =
+    let q : Some w ≡ Some h.0 = sym (get_here old new source (Some w) e) ∙ h.1 in
+    let p : w ≡ h.0 = cc in
+    keeps (ap now_in p ∙ h.2, ap taken_in p ∙ h.3)
+
+-- where there is no container
+pub none_emptied : (es : Sources) (source : Pairs) → fin.get (by_source es) source ≡ None → IsEmptied es source → ⊥
+none_emptied es source n h = let q : None ≡ Some h.0 = sym n ∙ h.1 in absurd (cc)
+
+-- where the source is taken out
+pub out_emptied : (set new : Sources) (source : Pairs) → by_source new ≡ written (by_source set) source None → IsEmptied new source → ⊥
+out_emptied set new source e = none_emptied new source (get_here set new source None e)
+
+-- where the container that is written keeps the rows that the source had
+pub emptied_same : (old new : Sources) (source : Pairs) (v w : Container) → fin.get (by_source old) source ≡ Some v → by_source new ≡ written (by_source old) source (Some w)
+    → now_in w ≡ now_in v → taken_in w ≡ taken_in v → (s : Pairs) → IsEmptied new s → IsEmptied old s
+emptied_same old new source v w f e now taken s h = go (tuple_eq s source) refl (sym (get-written (by_source old) source (Some w) s) ∙ ap (λ (z : FinMap tuple_cmp Container). fin.get z s) (sym e) ∙ h.1)
+  where
+    go : (b : Bool) → tuple_eq s source ≡ b → cond b (Some w) (fin.get (by_source old) s) ≡ Some h.0 → IsEmptied old s
+    go true t p = let q : w ≡ h.0 = cc in (v, ap (fin.get (by_source old)) (same_from_test s source t) ∙ f, sym now ∙ ap now_in q ∙ h.2, sym taken ∙ ap taken_in q ∙ h.3)
+    go false t p = (h.0, p, h.2, h.3)
+
+-- ---- the same containers
+
+pub same_entries : (x y : EdgeRows) → y.sources.entries ≡ x.sources.entries → y.shape ≡ x.shape → AreOfKind x → AreSame x y
+same_entries x y e shape kinds = record {
+  now = λ s k. ap (λ (z : Sources). found_at now_in z s k) e;
+  taken = λ s k. ap (λ (z : Sources). found_at taken_in z s k) e;
+  emptied = λ s h. subst (λ (z : Sources). IsEmptied z s) e h;
+  kinds = subst (λ (z : EdgeKind). HaveKind z y.sources.entries) (sym (ap (λ (z : EdgeShape). z.kind) shape)) (subst (HaveKind x.shape.kind) (sym e) kinds);
+  shape = shape;
+}
 
 -- ---- a source that has no container
 

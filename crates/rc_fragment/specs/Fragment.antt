@@ -1,5 +1,5 @@
 -- What a fragment's calls promise.
-use Rattle.std.specs.Prelude.{◌≡◌, ℕ, ◌<◌, ◌++◌, List, Option, None, Some, length, map}
+use Rattle.std.specs.Prelude.{◌≡◌, ℕ, ◌<◌, ◌≤◌, ◌++◌, List, [], Option, None, Some, length, map}
 use Rattle.std.specs.List.{slice_get}
 use Rattle.rc_tuple.specs.RisingSet.{In, IsRising}
 use Rattle.rc_tuple.specs.Tuple.{Pairs, cols_of, project, tuple_cmp}
@@ -12,14 +12,26 @@ use Rattle.rc_spec.specs.declared.spec.Spec.{Spec}
 use Rattle.rc_fragment.specs.Container.{now_in, taken_in}
 use Rattle.rc_fragment.specs.FragmentRows.{FragmentRows}
 use Rattle.rc_fragment.specs.Listing.{listing}
-use Rattle.rc_fragment.specs.Notes.{room_in}
+use Rattle.rc_fragment.specs.Notes.{IsFragment, room_in}
 use Rattle.rc_fragment.specs.declared.edge_rows.EdgeRows.{EdgeRows}
 use Rattle.rc_fragment.specs.declared.fragment.Fragment.TheInside.{Inside}
 use Rattle.rc_fragment.specs.declared.shape.EdgeShape.{EdgeShape}
 
 -- what is seen of a fragment
 abbrev pub seen : Inside → FragmentRows
-seen a = record { table = map (λ (edge : EdgeRows). edge.shape) a.edges.items; now = listing now_in a.edges.items; taken = listing taken_in a.edges.items; room = room_in a.notes a.pairs }
+seen a = record {
+  table = map (λ (edge : EdgeRows). edge.shape) a.edges.items;
+  now = listing now_in a.edges.items;
+  taken = listing taken_in a.edges.items;
+  room = a.room;
+  changes = length a.notes.items;
+}
+
+-- what a fragment keeps: each row in its own place, every changed place noted, no pair where there is no note, and room for what is promised
+pub record IsWhole (a : Inside) : Type 0 where
+  pub fragment : IsFragment a.edges.items a.notes.items a.pairs.items
+  pub unnoted : a.notes.items ≡ [] → a.pairs.items ≡ []
+  pub room : a.room ≤ room_in a.notes a.pairs
 
 -- the shape of an edge
 abbrev pub shape_of : Spec → Edge → EdgeShape

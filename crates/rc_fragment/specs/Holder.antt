@@ -1,16 +1,20 @@
 -- What a holder lends a plan: the stripes that it holds, with their rows, and what it offers of the others. (PLDI 2012, two-phase plans over striped locks.)
-use Rattle.std.specs.Prelude.{◌≡◌, ℕ, ◌+◌, ◌<◌, ◌^◌, ◌++◌, List, [], ◌∷◌, ◌⊎◌, Option, None, Some, map, length, cond, ◌==◌}
+use Rattle.std.specs.Prelude.{◌≡◌, ℕ, pred, max, ◌+◌, ◌<◌, ◌^◌, ◌++◌, List, [], ◌∷◌, ◌⊎◌, Option, None, Some, IsSome, map, length, get_or, cond, ◌==◌}
 use Rattle.rc_tuple.specs.RisingSet.{In}
 use Rattle.rc_tuple.specs.Tuple.{Pairs, cols_of, project}
 use Rattle.rc_tuple.specs.Relation.{IsRelation, Satisfies}
 use Rattle.rc_spec.specs.Calls.{all_columns}
+use Rattle.rc_spec.specs.CountedRows.{count_at}
 use Rattle.rc_spec.specs.Decomposition.{bound, edge_at}
 use Rattle.rc_spec.specs.Fragments.{EdgeRow, row_stripe, fragment_of}
 use Rattle.rc_spec.specs.declared.items.EdgeKind.TheVariants.{Singleton}
 use Rattle.rc_spec.specs.declared.lock.Mode.{Mode}
 use Rattle.rc_spec.specs.declared.lock.Mode.TheVariants.{Exclusive}
 use Rattle.rc_spec.specs.declared.spec.Spec.{Spec}
+use Rattle.rc_fragment.specs.Fragment.{HasAlone, HasColumns, HasSingle, IsThere}
+use Rattle.rc_fragment.specs.FragmentRows.{FragmentRows}
 use Rattle.rc_fragment.specs.declared.held.Held.{Held}
+use Rattle.rc_fragment.specs.declared.shape.EdgeShape.{EdgeShape}
 
 -- ---- held stripes
 
@@ -49,26 +53,133 @@ reverted h = record { stripe = h.stripe; mode = h.mode; now = h.taken; taken = h
 abbrev pub just_taken : ℕ → Mode → List EdgeRow → HeldStripe
 just_taken stripe mode rows = record { stripe = stripe; mode = mode; now = rows; taken = rows }
 
--- the rows offered, where they are told, are these
-abbrev pub AreOffered : Option (List EdgeRow) → List EdgeRow → Type 0
-AreOffered None rows = Unit {0}
-AreOffered (Some told) rows = rows ≡ told
+-- ---- what a holder tells
 
--- one more stripe is held, with the rows that were offered of it
-abbrev pub HasTaken : List HeldStripe → List HeldStripe → ℕ → Mode → Option (List EdgeRow) → Type 0
-HasTaken old new stripe mode offered = (rows : List EdgeRow) × (new ≡ old ++ just_taken stripe mode rows ∷ []) × AreOffered offered rows
+-- a held stripe, and for how many changes of its rows there is room
+pub record LentStripe : Type 0 where
+  pub held : HeldStripe
+  pub room : ℕ
 
--- ---- refused takes
-
--- the last refused take: what it answered, how it asked, and the stripes held at it, where they are told
+-- a refused take: what it answered, how it asked, and the stripes held at it, where they are told
 pub record RefusedTake : Type 0 where
   pub answer : Held
   pub mode : Mode
   pub held : Option (List HeldStripe)
 
--- a count that stays at its last value rose
+-- What a holder tells: the edge table of all fragments; the stripes that it holds, in the order in which they were taken; of each stripe by its number the rows with which it is or was lent, where they are told; how many takes were refused, by a counter that stays at 2^64 - 1, and the last of them; and the borrowed value through which it works, by name, so that who lent it learns what became of it.
+pub record Holding : Type 0 where
+  pub table : List EdgeShape
+  pub lent : List LentStripe
+  pub offered : List (Option (List EdgeRow))
+  pub refusals : ℕ
+  pub last_refusal : Option RefusedTake
+  pub through : ℕ
+
+-- the stripes held
+abbrev pub held_of : Holding → List HeldStripe
+held_of s = map (λ (l : LentStripe). l.held) s.lent
+
+-- the rows offered of the stripe, where they are told
+abbrev pub offered_at : Holding → ℕ → Option (List EdgeRow)
+offered_at s stripe = get_or s.offered stripe None
+
+-- the stripe is held, and there is room for a change of it
+abbrev pub HasRoom : Holding → ℕ → Type 0
+HasRoom s stripe = (l : LentStripe) → In l s.lent → l.held.stripe ≡ stripe → 0 < l.room
+
+-- ---- changes of held stripes
+
+-- the lent stripe with room for so many changes at least, where it is this one
+abbrev pub with_room : ℕ → ℕ → LentStripe → LentStripe
+with_room stripe changes l = record { held = l.held; room = cond (l.held.stripe == stripe) (max l.room changes) l.room }
+
+-- room for so many changes of the stripe at least
+abbrev pub with_room_at : ℕ → ℕ → Holding → Holding
+with_room_at stripe changes s = record s { lent = map (with_room stripe changes) s.lent }
+
+-- the lent stripe with its rows now changed and room for one change less, where it is this one
+abbrev pub with_change : ℕ → (List EdgeRow → List EdgeRow) → LentStripe → LentStripe
+with_change stripe change l = record { held = with_now stripe change l.held; room = cond (l.held.stripe == stripe) (pred l.room) l.room }
+
+-- a change of the rows of the stripe
+abbrev pub with_change_at : ℕ → (List EdgeRow → List EdgeRow) → Holding → Holding
+with_change_at stripe change s = record s { lent = map (with_change stripe change) s.lent }
+
+abbrev pub lent_reverted : LentStripe → LentStripe
+lent_reverted l = record { held = reverted l.held; room = l.room }
+
+-- the rows of all held stripes are what they were as taken
+abbrev pub all_reverted : Holding → Holding
+all_reverted s = record s { lent = map lent_reverted s.lent }
+
+-- The row can be added to the edge on the stripe, or its count raised: its count is small, it has the columns of the edge's target, no other row has its source and key, and in a singleton none with its source has another key.
+pub record CanRaise (s : Holding) (stripe e : ℕ) (row : Pairs) : Type 0 where
+  pub known : e < length s.table
+  pub columns : HasColumns s.table e row
+  pub small : (h : HeldStripe) → In h (held_of s) → h.stripe ≡ stripe → count_at e row h.now < 2 ^ 63
+  pub alone : (h : HeldStripe) → In h (held_of s) → h.stripe ≡ stripe → HasAlone s.table h.now e row
+  pub single : (h : HeldStripe) → In h (held_of s) → h.stripe ≡ stripe → HasSingle s.table h.now e row
+
+-- the edge has the row on the stripe
+pub record CanLower (s : Holding) (stripe e : ℕ) (row : Pairs) : Type 0 where
+  pub known : e < length s.table
+  pub there : (h : HeldStripe) → In h (held_of s) → h.stripe ≡ stripe → IsThere h.now e row
+
+-- the fragment has the rows of the held stripe, now and as taken, and the edge table
+pub record IsLent (s : Holding) (stripe : ℕ) (fragment : FragmentRows) : Type 0 where
+  pub table : fragment.table ≡ s.table
+  pub now : (h : HeldStripe) → In h (held_of s) → h.stripe ≡ stripe → fragment.now ≡ h.now
+  pub taken : (h : HeldStripe) → In h (held_of s) → h.stripe ≡ stripe → fragment.taken ≡ h.taken
+
+-- ---- takes
+
+-- a counter that stays at its last value rose
 abbrev pub HasRisen : ℕ → ℕ → Type 0
-HasRisen old new = (old < new) ⊎ (new + 1 ≡ 2 ^ 64)
+HasRisen old new = (old < new) ⊎ ((new ≡ old) × (new + 1 ≡ 2 ^ 64))
+
+-- no take was refused, or the count of those that were rose, and there is a last one
+abbrev pub AreRefusedAfter : Holding → Holding → Type 0
+AreRefusedAfter old new = ((new.refusals ≡ old.refusals) × (new.last_refusal ≡ old.last_refusal)) ⊎ (HasRisen old.refusals new.refusals × IsSome new.last_refusal)
+
+-- What no call changes is the same, and refused takes are those of before, or their count rose.
+pub record GoesOn (old new : Holding) : Type 0 where
+  pub table : new.table ≡ old.table
+  pub offered : new.offered ≡ old.offered
+  pub through : new.through ≡ old.through
+  pub refused : AreRefusedAfter old new
+
+-- the rows offered, where they are told, are these
+abbrev pub AreOffered : Option (List EdgeRow) → List EdgeRow → Type 0
+AreOffered None rows = Unit {0}
+AreOffered (Some told) rows = rows ≡ told
+
+-- one more stripe is held, with the rows that were offered of it, where they are told, and some room
+pub record HasTaken (old new : Holding) (stripe : ℕ) (mode : Mode) : Type 0 where
+  pub goes_on : GoesOn old new
+  pub rows : List EdgeRow
+  pub room : ℕ
+  pub lent : new.lent ≡ old.lent ++ record { held = just_taken stripe mode rows; room = room } ∷ []
+  pub told : AreOffered (offered_at old stripe) rows
+
+-- nothing was taken
+pub record HasTakenNothing (old new : Holding) : Type 0 where
+  pub goes_on : GoesOn old new
+  pub lent : new.lent ≡ old.lent
+
+-- the stripes told of a refused take, where they are told, are these
+abbrev pub AreToldAs : Option (List HeldStripe) → List HeldStripe → Type 0
+AreToldAs None held = Unit {0}
+AreToldAs (Some told) held = told ≡ held
+
+-- the refused take was of this stripe, asked so, answered this, and found these stripes held
+abbrev pub IsRefusal : Option RefusedTake → Held → ℕ → Mode → List HeldStripe → Type 0
+IsRefusal None answer stripe mode held = ⊥
+IsRefusal (Some last) answer stripe mode held = (last.answer ≡ answer) × (answer.stripe ≡ stripe) × (last.mode ≡ mode) × AreToldAs last.held held
+
+-- the count of refused takes rose, and the last is the one that gave this answer
+pub record HasRefused (old new : Holding) (stripe : ℕ) (mode : Mode) (answer : Held) : Type 0 where
+  pub risen : HasRisen old.refusals new.refusals
+  pub last : IsRefusal new.last_refusal answer stripe mode (held_of old)
 
 -- ---- soundness
 
@@ -99,13 +210,3 @@ pub record AreKeyed (spec : Spec) (v w : EdgeRow) : Type 0 where
 pub record AreReadable (spec : Spec) (held : List HeldStripe) : Type 0 where
   pub good : (h : HeldStripe) → In h held → AreGoodRows spec h.stripe h.taken
   pub keyed : (g h : HeldStripe) → In g held → In h held → (v w : EdgeRow) → In v g.taken → In w h.taken → AreKeyed spec v w
-
--- the stripes told of a refused take, where they are told, are these
-abbrev pub AreToldAs : Option (List HeldStripe) → List HeldStripe → Type 0
-AreToldAs None held = Unit {0}
-AreToldAs (Some told) held = told ≡ held
-
--- the last refused take was of this stripe, asked so, answered this, and found these stripes held
-abbrev pub IsRefusal : Option RefusedTake → Held → ℕ → Mode → List HeldStripe → Type 0
-IsRefusal None answer stripe mode held = ⊥
-IsRefusal (Some last) answer stripe mode held = (last.answer ≡ answer) × (answer.stripe ≡ stripe) × (last.mode ≡ mode) × AreToldAs last.held held

@@ -3,6 +3,8 @@ pub mod Fragment
 pub mod FragmentRows
 pub mod Holder
 pub mod HolderLaws
+pub mod HoldingLaws
+pub mod Keep
 pub mod Listing
 pub mod Notes
 pub mod Sources

@@ -1,5 +1,5 @@
 -- The rows of one edge, kept by their source and then by their key.
-use Rattle.std.specs.Prelude.{◌≡◌, ℕ, cond, ◌&&◌, List, [], Option, None, Some, IsSome, map}
+use Rattle.std.specs.Prelude.{◌≡◌, ℕ, cond, ◌&&◌, ◌⊎◌, List, [], Option, None, Some, IsSome, map}
 use Rattle.std.specs.FinMap as fin
 use Rattle.std.specs.FinMap.{FinMap}
 use Rattle.std.proofs.Common.{Vec, Global}
@@ -45,16 +45,29 @@ HaveKind kind es = (source : Pairs) (c : Container) → fin.get (by_source es) s
 abbrev pub AreOfKind : EdgeRows → Type 0
 AreOfKind rows = HaveKind rows.shape.kind rows.sources.entries
 
+-- the source has a container that keeps no row, neither now nor as taken
+abbrev pub IsEmptied : Sources → Pairs → Type 0
+IsEmptied es source = (c : Container) × (fin.get (by_source es) source ≡ Some c) × (now_in c ≡ fin.empty) × (taken_in c ≡ fin.empty)
+
 -- what is found at each source and key is what was, except at this one
 abbrev pub IsSetAt : (Pairs → Pairs → Option Counted) → (Pairs → Pairs → Option Counted) → Pairs → Pairs → Option Counted → Type 0
 IsSetAt old new source key w = (s k : Pairs) → new s k ≡ cond (tuple_eq s source && tuple_eq k key) w (old s k)
 
--- the edge's rows with this at the source and the key, now and as taken
+-- the edge's rows with this at the source and the key, now and as taken, where no other source's container is left with no row
 pub record Becomes (old new : EdgeRows) (source key : Pairs) (v w : Option Counted) : Type 0 where
   pub now : IsSetAt (now_at old) (now_at new) source key v
   pub taken : IsSetAt (taken_at old) (taken_at new) source key w
+  pub emptied : (s : Pairs) → IsEmptied new.sources.entries s → (s ≡ source) ⊎ IsEmptied old.sources.entries s
   pub kinds : AreOfKind new
   pub shape : new.shape ≡ old.shape
+
+-- what is at the source and the key is, now and as taken, what it was as taken
+abbrev pub Reverts : EdgeRows → EdgeRows → Pairs → Pairs → Type 0
+Reverts old new source key = Becomes old new source key (taken_at old source key) (taken_at old source key)
+
+-- and what it was now
+abbrev pub Settles : EdgeRows → EdgeRows → Pairs → Pairs → Type 0
+Settles old new source key = Becomes old new source key (now_at old source key) (now_at old source key)
 
 -- in a singleton no other key of the source has a row
 abbrev pub IsSingle : EdgeRows → Pairs → Pairs → Type 0
@@ -69,10 +82,11 @@ listed_in (Some c) = listed (now_in c)
 abbrev pub IsStoredRow : EdgeRows → Pairs → Type 0
 IsStoredRow rows t = (source : Pairs) × (key : Pairs) × (n : ℕ) × (now_at rows source key ≡ Some (t, n))
 
--- two edges' rows that are the same
+-- two edges' rows that are the same, where no more containers keep no row
 pub record AreSame (old new : EdgeRows) : Type 0 where
   pub now : (s k : Pairs) → now_at new s k ≡ now_at old s k
   pub taken : (s k : Pairs) → taken_at new s k ≡ taken_at old s k
+  pub emptied : (s : Pairs) → IsEmptied new.sources.entries s → IsEmptied old.sources.entries s
   pub kinds : AreOfKind new
   pub shape : new.shape ≡ old.shape
 

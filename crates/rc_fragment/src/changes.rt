@@ -1,6 +1,6 @@
 //! Changes of a fragment's parts, each noted.
 
-ghost use Rattle.std.specs.Prelude.{◌≡◌, ◌+◌, ◌<◌, ◌≤◌, ◌^◌, length, OnOk, OnErr};
+ghost use Rattle.std.specs.Prelude.{◌≡◌, ◌+◌, ◌<◌, ◌≤◌, ◌^◌, [], length, OnOk, OnErr};
 ghost use Rattle.rc_fragment.specs.Container.{now_in, taken_in};
 ghost use Rattle.rc_spec.specs.CountedRows.{count_at, lowered, raised};
 ghost use Rattle.rc_fragment.specs.Fragment.{HasAlone, HasColumns, HasSingle, IsThere};
@@ -34,6 +34,8 @@ pub fn add_noted(
     ensures taken { listing taken_in edges.new.items ≡ listing taken_in edges.old.items }
     ensures shapes { shapes edges.new.items ≡ shapes edges.old.items }
     ensures left { room_in notes.old pairs.old ≤ room_in notes.new pairs.new + 1 }
+    ensures noted { OnOk result (length notes.new.items ≡ length notes.old.items + 1) }
+    ensures same { OnErr result ((notes.new.items ≡ notes.old.items) × (pairs.new.items ≡ pairs.old.items)) }
 {
     let shape = edges[edge as usize].shape;
     let source = row.project(shape.source)?;
@@ -60,13 +62,14 @@ pub fn sub_noted(
     ensures taken { listing taken_in edges.new.items ≡ listing taken_in edges.old.items }
     ensures shapes { shapes edges.new.items ≡ shapes edges.old.items }
     ensures left { room_in notes.old pairs.old ≤ room_in notes.new pairs.new + 1 }
+    ensures noted { length notes.new.items ≡ length notes.old.items + 1 }
 {
     let shape = edges[edge as usize].shape;
     let note = note_row(notes, pairs, edge, row, shape);
     sub_place(edges, &note, pairs);
 }
 
-/// Makes the rows what they were as taken.
+/// Makes the rows what they were as taken, and forgets the notes.
 pub fn revert_noted(edges: &mut Vec<EdgeRows>, notes: &mut Vec<Note>, pairs: &mut Vec<(u8, u64)>)
     requires { IsFragment edges.old.items notes.old.items pairs.old.items }
     ensures fragment { IsFragment edges.new.items notes.new.items pairs.new.items }
@@ -74,13 +77,13 @@ pub fn revert_noted(edges: &mut Vec<EdgeRows>, notes: &mut Vec<Note>, pairs: &mu
     ensures taken { listing taken_in edges.new.items ≡ listing taken_in edges.old.items }
     ensures shapes { shapes edges.new.items ≡ shapes edges.old.items }
     ensures left { room_in notes.old pairs.old ≤ room_in notes.new pairs.new }
+    ensures forgotten { (notes.new.items ≡ []) × (pairs.new.items ≡ []) }
 {
     revert_places(edges, notes, pairs);
-    notes.clear();
-    pairs.clear();
+    forget(notes, pairs);
 }
 
-/// Makes the rows count as taken.
+/// Makes the rows count as taken, and forgets the notes.
 pub fn settle_noted(edges: &mut Vec<EdgeRows>, notes: &mut Vec<Note>, pairs: &mut Vec<(u8, u64)>)
     requires { IsFragment edges.old.items notes.old.items pairs.old.items }
     ensures fragment { IsFragment edges.new.items notes.new.items pairs.new.items }
@@ -88,8 +91,18 @@ pub fn settle_noted(edges: &mut Vec<EdgeRows>, notes: &mut Vec<Note>, pairs: &mu
     ensures taken { listing taken_in edges.new.items ≡ listing now_in edges.old.items }
     ensures shapes { shapes edges.new.items ≡ shapes edges.old.items }
     ensures left { room_in notes.old pairs.old ≤ room_in notes.new pairs.new }
+    ensures forgotten { (notes.new.items ≡ []) × (pairs.new.items ≡ []) }
 {
     settle_places(edges, notes, pairs);
+    forget(notes, pairs);
+}
+
+/// Forgets the notes, and keeps the space that they took.
+fn forget(notes: &mut Vec<Note>, pairs: &mut Vec<(u8, u64)>)
+    ensures notes { notes.new.items ≡ [] }
+    ensures pairs { pairs.new.items ≡ [] }
+    ensures kept { room_in notes.old pairs.old ≤ room_in notes.new pairs.new }
+{
     notes.clear();
     pairs.clear();
 }

@@ -5,7 +5,7 @@ ghost use Rattle.std.specs.FinMap as fin;
 ghost use Rattle.rc_tuple.specs.RisingSet.{In};
 ghost use Rattle.rc_tuple.specs.Tuple.{Pairs};
 ghost use Rattle.rc_edges.specs.EdgeMap.{IsRowOf, count_of, lowered, row_of, written};
-ghost use Rattle.rc_fragment.specs.Sources.{AreOfKind, AreSame, Becomes, IsStoredRow, IsSingle, by_source, seen_of, listed_in, now_at, taken_at};
+ghost use Rattle.rc_fragment.specs.Sources.{AreOfKind, AreSame, Becomes, IsEmptied, IsStoredRow, IsSingle, Reverts, Settles, by_source, seen_of, listed_in, now_at, taken_at};
 
 use crate::EdgeShape;
 use crate::container::Container;
@@ -65,10 +65,12 @@ impl EdgeRows {
         container.sub(key);
     }
 
-    /// Makes what is at the source and the key what it was as taken.
+    /// Makes what is at the source and the key what it was as taken. A container that keeps no row then
+    /// is freed.
     pub fn revert(&mut self, source: &[(u8, u64)], key: &[(u8, u64)])
         requires kinds { AreOfKind self.old }
-        ensures { Becomes self.old self.new source.now key.now (taken_at self.old source.now key.now) (taken_at self.old source.now key.now) }
+        ensures becomes { Reverts self.old self.new source.now key.now }
+        ensures freed { IsEmptied self.new.sources.entries source.now → ⊥ }
     {
         let Some(container) = self.sources.get_mut(source) else {
             return;
@@ -79,10 +81,12 @@ impl EdgeRows {
         }
     }
 
-    /// Makes what is at the source and the key count as taken.
+    /// Makes what is at the source and the key count as taken. A container that keeps no row then is
+    /// freed.
     pub fn settle(&mut self, source: &[(u8, u64)], key: &[(u8, u64)])
         requires kinds { AreOfKind self.old }
-        ensures { Becomes self.old self.new source.now key.now (now_at self.old source.now key.now) (now_at self.old source.now key.now) }
+        ensures becomes { Settles self.old self.new source.now key.now }
+        ensures freed { IsEmptied self.new.sources.entries source.now → ⊥ }
     {
         let Some(container) = self.sources.get_mut(source) else {
             return;

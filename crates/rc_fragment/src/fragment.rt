@@ -1,10 +1,12 @@
 //! The fragment of a stripe.
 
-ghost use Rattle.std.specs.Prelude.{◌≡◌, ◌<◌, ◌≤◌, ◌+◌, ◌^◌, [], length, OnOk, OnErr, IfOk, option_copied};
+ghost use Rattle.std.specs.Prelude.{◌≡◌, ◌<◌, ◌^◌, length, OnOk, OnErr, IfOk, option_copied};
 ghost use Rattle.rc_spec.specs.CountedRows.{count_at, lowered, raised};
 ghost use Rattle.rc_fragment.specs.Fragment.{AreAllRows, AreRowsOf, HasAlone, HasColumns, HasScanned, HasShape, HasSingle, IsLookedUp, IsThere, edge_table, shape_of};
+ghost use Rattle.rc_fragment.specs.FragmentRows.{changed, no_rows, rolled_back, settled, with_promise, without_promise};
 ghost use Rattle.rc_fragment.specs.Listing.{AreEmpty, AreStored, found_by, shapes};
 ghost use Rattle.rc_fragment.specs.Container.{now_in, taken_in};
+ghost use Rattle.rc_fragment.specs.Notes.{IsEmptiedAt};
 ghost use Rattle.rc_fragment.specs.declared.shape.EdgeShape.{EdgeShape};
 
 use crate::EdgeShape;
@@ -19,14 +21,15 @@ use std::marker::Model;
 /// The rows of all edges that fall on one lock stripe (PLDI 2012, lock striping): each edge and source
 /// has its rows in a container of the edge's kind.
 ///
-/// A fragment also keeps its rows as they were taken. Changes are made in place and noted; `revert`
-/// takes them back and `settle` makes them count as taken. Both cost the rows that changed, whatever
-/// the fragment's size, and take no memory.
+/// A fragment also keeps its rows as they were taken. Changes are made in place, where `own` promised
+/// room for them, and noted; `revert` takes them back and `settle` makes them count as taken. Both cost
+/// the changes, whatever the fragment's size, take no memory and leave no note.
 #[derive(Drop, Debug)]
 pub struct Fragment {
     edges: Vec<EdgeRows>,
     notes: Vec<Note>,
     pairs: Vec<(u8, u64)>,
+    room: usize,
 }
 
 impl Model for Fragment {
@@ -34,46 +37,51 @@ impl Model for Fragment {
 
     ghost Value = { FragmentRows };
 
-    ghost use Rattle.rc_fragment.specs.Fragment.{seen};
-    ghost use Rattle.rc_fragment.specs.Notes.{IsFragment};
+    ghost use Rattle.rc_fragment.specs.Fragment.{IsWhole, seen};
 
     ghost view = { seen };
 
-    ghost invariant = { λ a. IsFragment a.edges.items a.notes.items a.pairs.items };
+    ghost invariant = { IsWhole };
 }
 
 impl Fragment {
     /// The fragment of an accepted specification's stripe with no row. It has the edge table of the
     /// specification; no call changes the table.
     pub fn empty(alloc: Global, accepted: &Accepted) -> Result<Fragment, Memory>
-        ensures table { IfOk result (λ fragment. fragment.table ≡ edge_table accepted.now) }
-        ensures now { IfOk result (λ fragment. fragment.now ≡ []) }
-        ensures taken { IfOk result (λ fragment. fragment.taken ≡ []) }
+        ensures { IfOk result (λ fragment. fragment ≡ no_rows (edge_table accepted.now)) }
     {
         Ok(Fragment {
             edges: empty_edges(alloc, accepted)?,
             notes: Vec::new(alloc),
             pairs: Vec::new(alloc),
+            room: 0,
         })
     }
 
-    /// Makes room for so many changes; it may be called again. Where memory is wanted the rows stay.
+    /// Makes room for at least so many further changes in all. It may be called again. Where memory is
+    /// wanted nothing changes.
     pub fn own(&mut self, changes: u16) -> Result<(), Memory>
-        ensures table { self.new.table ≡ self.old.table }
-        ensures now { self.new.now ≡ self.old.now }
-        ensures taken { self.new.taken ≡ self.old.taken }
-        ensures room { OnOk result (changes ≤ self.new.room) }
-        ensures kept { self.old.room ≤ self.new.room }
+        ensures ok { OnOk result (self.new ≡ with_promise changes self.old) }
+        ensures err { OnErr result (self.new ≡ self.old) }
     {
-        self.notes.reserve(changes as usize)?;
-        self.pairs.reserve(changes as usize * PAIRS_OF_NOTE)?;
+        let promised = changes as usize;
+        self.notes.reserve(promised)?;
+        self.pairs.reserve(promised * PAIRS_OF_NOTE)?;
+        self.room = self.room.max(promised);
         Ok(())
+    }
+
+    /// Takes back what `own` promised and no change has used. The memory stays.
+    pub(crate) fn disown(&mut self)
+        ensures { self.new ≡ without_promise self.old }
+    {
+        self.room = 0;
     }
 
     /// Adds the row to the edge with the count 1, or raises its count by 1, where there is room for a
     /// change. The row has the columns of the edge's target, no other row of the edge has its source
-    /// and key, and in a singleton none with its source has another key. Where memory is wanted the
-    /// rows stay. Costs a look-up of the source and one of the key.
+    /// and key, and in a singleton none with its source has another key. Where memory is wanted nothing
+    /// changes. Costs a look-up of the source and one of the key.
     pub fn add_row(&mut self, edge: u8, row: &Tuple) -> Result<(), Memory>
         requires known { edge < length self.old.table }
         requires owned { 0 < self.old.room }
@@ -81,14 +89,12 @@ impl Fragment {
         requires columns { HasColumns self.old.table edge row.now }
         requires alone { HasAlone self.old.table self.old.now edge row.now }
         requires single { HasSingle self.old.table self.old.now edge row.now }
-        ensures table { self.new.table ≡ self.old.table }
-        ensures ok { OnOk result (self.new.now ≡ raised edge row.now self.old.now) }
-        ensures err { OnErr result (self.new.now ≡ self.old.now) }
-        ensures kept { OnErr result (self.old.room ≤ self.new.room) }
-        ensures taken { self.new.taken ≡ self.old.taken }
-        ensures left { self.old.room ≤ self.new.room + 1 }
+        ensures ok { OnOk result (self.new ≡ changed (raised edge row.now) self.old) }
+        ensures err { OnErr result (self.new ≡ self.old) }
     {
-        add_noted(&mut self.edges, &mut self.notes, &mut self.pairs, edge, row)
+        add_noted(&mut self.edges, &mut self.notes, &mut self.pairs, edge, row)?;
+        self.room -= 1;
+        Ok(())
     }
 
     /// Lowers the count of a row that is in the edge by 1, and takes it out at 0, where there is room
@@ -97,30 +103,24 @@ impl Fragment {
         requires known { edge < length self.old.table }
         requires owned { 0 < self.old.room }
         requires there { IsThere self.old.now edge row.now }
-        ensures table { self.new.table ≡ self.old.table }
-        ensures now { self.new.now ≡ lowered edge row.now self.old.now }
-        ensures taken { self.new.taken ≡ self.old.taken }
-        ensures left { self.old.room ≤ self.new.room + 1 }
+        ensures { self.new ≡ changed (lowered edge row.now) self.old }
     {
         sub_noted(&mut self.edges, &mut self.notes, &mut self.pairs, edge, row);
+        self.room -= 1;
     }
 
-    /// Makes the rows what they were as taken. Takes no memory. Costs the changes since then.
+    /// Makes the rows what they were as taken (a rollback). Takes no memory. Costs the changes since
+    /// then.
     pub fn revert(&mut self)
-        ensures table { self.new.table ≡ self.old.table }
-        ensures now { self.new.now ≡ self.old.taken }
-        ensures taken { self.new.taken ≡ self.old.taken }
-        ensures kept { self.old.room ≤ self.new.room }
+        ensures { self.new ≡ rolled_back self.old }
     {
         revert_noted(&mut self.edges, &mut self.notes, &mut self.pairs);
     }
 
-    /// Makes the rows now count as taken. Takes no memory. Costs the changes since they were taken.
+    /// Makes the rows now count as taken (a commit). Takes no memory. Costs the changes since they were
+    /// taken.
     pub fn settle(&mut self)
-        ensures table { self.new.table ≡ self.old.table }
-        ensures now { self.new.now ≡ self.old.now }
-        ensures taken { self.new.taken ≡ self.old.now }
-        ensures kept { self.old.room ≤ self.new.room }
+        ensures { self.new ≡ settled self.old }
     {
         settle_noted(&mut self.edges, &mut self.notes, &mut self.pairs);
     }
@@ -166,16 +166,16 @@ impl Fragment {
         rows.all()
     }
 
-    /// Another fragment with the same rows, now and as taken. Costs all rows.
+    /// Another fragment with the same rows, now and as taken, and the same changes to take back, for
+    /// which no room is promised yet. Costs all rows.
     pub fn copy(&self, alloc: Global) -> Result<Fragment, Memory>
-        ensures table { IfOk result (λ copy. copy.table ≡ self.now.table) }
-        ensures now { IfOk result (λ copy. copy.now ≡ self.now.now) }
-        ensures taken { IfOk result (λ copy. copy.taken ≡ self.now.taken) }
+        ensures { IfOk result (λ copy. copy ≡ without_promise self.now) }
     {
         Ok(Fragment {
             edges: copy_edges(alloc, &self.edges)?,
             notes: Vec::from_slice(alloc, self.notes.as_slice())?,
             pairs: Vec::from_slice(alloc, self.pairs.as_slice())?,
+            room: 0,
         })
     }
 }
@@ -187,6 +187,7 @@ fn copy_edges(alloc: Global, edges: &Vec<EdgeRows>) -> Result<Vec<EdgeRows>, Mem
     ensures stored { IfOk result (λ copy. AreStored copy.items) }
     ensures now { IfOk result (λ copy. (e : _) (s k : _) → found_by now_in copy.items e s k ≡ found_by now_in edges.now.items e s k) }
     ensures taken { IfOk result (λ copy. (e : _) (s k : _) → found_by taken_in copy.items e s k ≡ found_by taken_in edges.now.items e s k) }
+    ensures emptied { IfOk result (λ copy. (e : _) (s : _) → IsEmptiedAt copy.items e s → IsEmptiedAt edges.now.items e s) }
 {
     let mut copy = Vec::new(alloc);
     for edge in edges {

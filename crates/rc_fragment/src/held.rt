@@ -14,6 +14,6 @@ pub struct Held {
 pub enum TakeStop {
     /// Memory was wanted.
     Memory,
-    /// The stripe is held by another.
+    /// Something stood in the way.
     Held(Held),
 }

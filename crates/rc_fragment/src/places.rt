@@ -1,13 +1,13 @@
 //! Changes of the rows of all edges at one place, and at all noted places.
 
-ghost use Rattle.std.specs.Prelude.{◌≡◌, ◌+◌, ◌<◌, ◌^◌, Some, IsSome, length, OnOk, OnErr};
+ghost use Rattle.std.specs.Prelude.{◌≡◌, ◌+◌, ◌<◌, ◌^◌, [], Some, IsSome, length, OnOk, OnErr};
 ghost use Rattle.std.specs.List.{slice_get};
 ghost use Rattle.rc_edges.specs.EdgeMap.{count_of, lowered};
 ghost use Rattle.rc_fragment.specs.Container.{now_in, taken_in};
 ghost use Rattle.rc_fragment.specs.Listing.{AreStored, found_by, shapes};
 ghost use Rattle.rc_fragment.specs.Sources.{IsSingle};
 ghost use Rattle.rc_fragment.specs.declared.edge_rows.EdgeRows.{EdgeRows};
-ghost use Rattle.rc_fragment.specs.Notes.{AreNoted, AreWithin, IsNoteWithin, IsRowAt, PlaceBecomes, now_at_place, place_of, places_of, taken_at_place};
+ghost use Rattle.rc_fragment.specs.Notes.{AreEmptiedNoted, AreNoted, AreWithin, IsEmptiedAt, IsNoteWithin, IsRowAt, PlaceBecomes, RevertsPlace, SettlesPlace, now_at_place, place_of, places_of, source_of, taken_at_place};
 
 use crate::edge_rows::EdgeRows;
 use crate::note::Note;
@@ -28,6 +28,7 @@ pub fn add_place(
     requires single { (x : EdgeRows) → slice_get edges.old.items edge ≡ Some x → IsSingle x source.now key.now }
     ensures ok { OnOk result (PlaceBecomes edges.old.items edges.new.items (edge, source.now, key.now) (Some (row.now, count_of (now_at_place edges.old.items (edge, source.now, key.now)) + 1)) (taken_at_place edges.old.items (edge, source.now, key.now))) }
     ensures err { OnErr result (PlaceBecomes edges.old.items edges.new.items (edge, source.now, key.now) (now_at_place edges.old.items (edge, source.now, key.now)) (taken_at_place edges.old.items (edge, source.now, key.now))) }
+    ensures kept { OnErr result ((e : _) (s : _) → IsEmptiedAt edges.new.items e s → IsEmptiedAt edges.old.items e s) }
 {
     let edge = &mut edges[edge as usize];
     edge.add(source, key, row)
@@ -45,23 +46,25 @@ pub fn sub_place(edges: &mut Vec<EdgeRows>, note: &Note, pairs: &[(u8, u64)])
     edge.sub(note.source(pairs), note.key(pairs));
 }
 
-/// Makes the row at the noted place what it was as taken.
+/// Makes the row at the noted place what it was as taken. A container that keeps no row then is freed.
 pub fn revert_place(edges: &mut Vec<EdgeRows>, note: &Note, pairs: &[(u8, u64)])
     requires stored { AreStored edges.old.items }
     requires edge { note.now.edge < length edges.old.items }
     requires within { IsNoteWithin (length pairs.now) note.now }
-    ensures { PlaceBecomes edges.old.items edges.new.items (place_of pairs.now note.now) (taken_at_place edges.old.items (place_of pairs.now note.now)) (taken_at_place edges.old.items (place_of pairs.now note.now)) }
+    ensures becomes { RevertsPlace edges.old.items edges.new.items (place_of pairs.now note.now) }
+    ensures freed { IsEmptiedAt edges.new.items note.now.edge (source_of pairs.now note.now) → ⊥ }
 {
     let edge = &mut edges[note.edge as usize];
     edge.revert(note.source(pairs), note.key(pairs));
 }
 
-/// Makes the row at the noted place count as taken.
+/// Makes the row at the noted place count as taken. A container that keeps no row then is freed.
 pub fn settle_place(edges: &mut Vec<EdgeRows>, note: &Note, pairs: &[(u8, u64)])
     requires stored { AreStored edges.old.items }
     requires edge { note.now.edge < length edges.old.items }
     requires within { IsNoteWithin (length pairs.now) note.now }
-    ensures { PlaceBecomes edges.old.items edges.new.items (place_of pairs.now note.now) (now_at_place edges.old.items (place_of pairs.now note.now)) (now_at_place edges.old.items (place_of pairs.now note.now)) }
+    ensures becomes { SettlesPlace edges.old.items edges.new.items (place_of pairs.now note.now) }
+    ensures freed { IsEmptiedAt edges.new.items note.now.edge (source_of pairs.now note.now) → ⊥ }
 {
     let edge = &mut edges[note.edge as usize];
     edge.settle(note.source(pairs), note.key(pairs));
@@ -71,11 +74,13 @@ pub fn settle_place(edges: &mut Vec<EdgeRows>, note: &Note, pairs: &[(u8, u64)])
 pub fn revert_places(edges: &mut Vec<EdgeRows>, notes: &[Note], pairs: &[(u8, u64)])
     requires stored { AreStored edges.old.items }
     requires noted { AreNoted edges.old.items (places_of pairs.now notes.now) }
+    requires emptied { AreEmptiedNoted edges.old.items (places_of pairs.now notes.now) }
     requires within { AreWithin (length edges.old.items) (length pairs.now) notes.now }
     ensures stored { AreStored edges.new.items }
     ensures shapes { shapes edges.new.items ≡ shapes edges.old.items }
     ensures now { (e : _) (s k : _) → found_by now_in edges.new.items e s k ≡ found_by taken_in edges.old.items e s k }
     ensures taken { (e : _) (s k : _) → found_by taken_in edges.new.items e s k ≡ found_by taken_in edges.old.items e s k }
+    ensures freed { AreEmptiedNoted edges.new.items [] }
 {
     for note in notes {
         revert_place(edges, note, pairs);
@@ -86,11 +91,13 @@ pub fn revert_places(edges: &mut Vec<EdgeRows>, notes: &[Note], pairs: &[(u8, u6
 pub fn settle_places(edges: &mut Vec<EdgeRows>, notes: &[Note], pairs: &[(u8, u64)])
     requires stored { AreStored edges.old.items }
     requires noted { AreNoted edges.old.items (places_of pairs.now notes.now) }
+    requires emptied { AreEmptiedNoted edges.old.items (places_of pairs.now notes.now) }
     requires within { AreWithin (length edges.old.items) (length pairs.now) notes.now }
     ensures stored { AreStored edges.new.items }
     ensures shapes { shapes edges.new.items ≡ shapes edges.old.items }
     ensures now { (e : _) (s k : _) → found_by now_in edges.new.items e s k ≡ found_by now_in edges.old.items e s k }
     ensures taken { (e : _) (s k : _) → found_by taken_in edges.new.items e s k ≡ found_by now_in edges.old.items e s k }
+    ensures freed { AreEmptiedNoted edges.new.items [] }
 {
     for note in notes {
         settle_place(edges, note, pairs);

@@ -1,21 +1,55 @@
 -- A change of one stripe, as a holder's calls promise it.
-use Rattle.std.specs.Prelude.{◌≡◌, ℕ, ◌+◌, ◌<◌, ◌≤◌, List, [], ◌∷◌, ◌++◌, Option, Some, length}
+use Rattle.std.specs.Prelude.{◌≡◌, ℕ, zero, suc, pred, max, ◌+◌, ◌<◌, ◌≤◌, cond, List, [], ◌∷◌, ◌++◌, Option, None, Some, length, map}
 use Rattle.std.specs.List.{slice_get}
-use Rattle.std.proofs.Common.{refl, sym, ap, subst, ◌∙◌, arith, get_or}
+use Rattle.std.proofs.Common.{inl, refl, sym, ap, subst, ◌∙◌, arith, get_or}
 use Rattle.std.proofs.Math.ListN.{set}
-use Rattle.std.proofs.lemmas.List.{length-set}
-use Rattle.std.proofs.lemmas.Option.{slice_get_read}
+use Rattle.std.proofs.lemmas.Bool.{eq-eqb}
+use Rattle.std.proofs.lemmas.List.{length-append, length-set, map-append}
+use Rattle.std.proofs.lemmas.Option.{same_Some, slice_get_read}
 use Rattle.rc_tuple.specs.RisingSet.{In}
 use Rattle.rc_tuple.specs.RisingSetLaws.{slice_get_in}
 use Rattle.rc_spec.specs.Fragments.{EdgeRow}
 use Rattle.rc_spec.specs.declared.lock.Mode.{Mode}
 use Rattle.rc_spec.specs.declared.spec.Spec.{Spec}
-use Rattle.rc_fragment.specs.FragmentRows.{FragmentRows}
-use Rattle.rc_fragment.specs.Holder.{HeldStripe, AreOffered, HasTaken, IsAbove, IsHeld, changed_at, just_taken}
-use Rattle.rc_instance.specs.Instance.{held_from, offered_at, room_at, stripes_of, table_of, taken_in, IsOfOneRelation, IsInstance, Stripe}
-use Rattle.rc_instance.specs.InstanceLaws.{as_held, place_in}
-use Rattle.rc_instance.proofs.StripeLemmas.{IsHeldAs, above_is_free, held_as, held_below, held_from-taken, held_from-changed, held_from-same, held_not_free, instance-set, offered_at-set, room_at-kept, room_at-less, room_at-other, room_at-same, room_at-there, sound-set, table_of-set}
+use Rattle.rc_fragment.specs.FragmentRows.{FragmentRows, changed, with_promise}
+use Rattle.rc_fragment.specs.Keep.{IsAtRest}
+use Rattle.rc_fragment.specs.Holder.{HeldStripe, LentStripe, AreOffered, HasRoom, HasTaken, IsAbove, IsHeld, IsLent, held_of, just_taken, with_change, with_change_at, with_room, with_room_at}
+use Rattle.rc_instance.specs.Instance.{held_from, held_numbers, holding, lent_from, stripes_of, table_of, IsOfOneRelation, IsInstance, IsWholeInstance, Stripe}
+use Rattle.rc_instance.specs.InstanceLaws.{as_held, held_of-holding, lent_as, place_in}
+use Rattle.rc_instance.proofs.StripeLemmas.{IsHeldAs, above_is_free, held_as, held_below, held_not_free, instance-set, lent_from-set, lent_from-taken, lent_from_in, not_equal, sound-set, table_of-set, with_now-here, with_now-other}
+use Rattle.rc_instance.proofs.NumberLemmas.{numbers-lent, numbers-set, numbers_few}
 use Rattle.rc_instance.proofs.StripesOfLemmas.{mode_at, stripes_of-held, stripes_of-length, stripes_of-set, stripes_of-there}
+
+-- ---- what is done to a lent stripe
+
+room-other : (k n : ℕ) (l : LentStripe) → (l.held.stripe ≡ k → ⊥) → with_room k n l ≡ l
+room-other k n l d = ap (λ b. (let z : LentStripe = record { held = l.held; room = cond b (max l.room n) l.room } in z)) (not_equal l.held.stripe k d)
+
+room-here : (k n : ℕ) (f : FragmentRows) (mode : Mode) → with_room k n (lent_as k mode f) ≡ lent_as k mode (with_promise n f)
+room-here k n f mode = ap (λ b. (let z : LentStripe = record { held = as_held k mode f; room = cond b (max f.room n) f.room } in z)) (eq-eqb k k refl)
+
+change-other : (k : ℕ) (change : List EdgeRow → List EdgeRow) (l : LentStripe) → (l.held.stripe ≡ k → ⊥) → with_change k change l ≡ l
+change-other k change l d = λ i. record { held = with_now-other k change l.held d i; room = cond (not_equal l.held.stripe k d i) (pred l.room) l.room }
+
+change-here : (k : ℕ) (change : List EdgeRow → List EdgeRow) (f : FragmentRows) (mode : Mode) → with_change k change (lent_as k mode f) ≡ lent_as k mode (changed change f)
+change-here k change f mode = λ i. record { held = with_now-here k change (as_held k mode f) refl i; room = cond (eq-eqb k k refl i) (pred f.room) f.room }
+
+-- ---- lists of which one element is set
+
+map-set : {A B : Type 0} (h : A → B) (xs : List A) (k : ℕ) (x y : A) → slice_get xs k ≡ Some x → h y ≡ h x → map h (set xs k y) ≡ map h xs
+map-set h [] k x y e p = refl
+map-set h (z ∷ xs) zero x y e p = ap (λ w. w ∷ map h xs) (p ∙ ap h (sym (same_Some _ _ e)))
+map-set h (z ∷ xs) (suc k) x y e p = ap (λ w. h z ∷ w) (map-set h xs k x y e p)
+
+set-same : {A : Type 0} (xs : List A) (k : ℕ) (x : A) → slice_get xs k ≡ Some x → set xs k x ≡ xs
+set-same [] k x e = refl
+set-same (z ∷ xs) zero x e = ap (λ w. w ∷ xs) (sym (same_Some _ _ e))
+set-same (z ∷ xs) (suc k) x e = ap (λ w. z ∷ w) (set-same xs k x e)
+
+get_or-there : {A B : Type 0} (h : A → Option B) (xs : List A) (k : ℕ) (x : A) → slice_get xs k ≡ Some x → get_or (map h xs) k None ≡ h x
+get_or-there h [] k x e = cc
+get_or-there h (z ∷ xs) zero x e = ap h (same_Some _ _ e)
+get_or-there h (z ∷ xs) (suc k) x e = get_or-there h xs k x e
 
 -- a stripe of an instance has a fragment
 pub fragment_below : (fs : List FragmentRows) (ms : List (Option Mode)) (v : List Stripe) → stripes_of fs ms ≡ v → (k : ℕ) → k < length v → k < length fs
@@ -23,13 +57,20 @@ fragment_below fs ms v view k l =
     let a : length v ≡ length fs = ap length (sym view) ∙ stripes_of-length fs ms in
     omega (arith, l, a)
 
+-- and so has one that is held
+pub fragment_held : (fs : List FragmentRows) (ms : List (Option Mode)) (v : List Stripe) → stripes_of fs ms ≡ v → (k : ℕ) → IsHeld (held_of (holding v)) k → k < length fs
+fragment_held fs ms v view k q = fragment_below fs ms v view k (held_below v k (subst (λ z. IsHeld z k) (held_of-holding v) q))
+
 -- v are the stripes of the fragments fs that are held as ms says, k is the number of a held one, and f is its fragment
-module _ (fs : List FragmentRows) (ms : List (Option Mode)) (v : List Stripe) (view : stripes_of fs ms ≡ v) (k : ℕ) (f : FragmentRows) (q : IsHeld (held_from 0 v) k) (got : f ≡ get_or fs k f) where
+module _ (fs : List FragmentRows) (ms : List (Option Mode)) (v : List Stripe) (view : stripes_of fs ms ≡ v) (k : ℕ) (f : FragmentRows) (q : IsHeld (held_of (holding v)) k) (got : f ≡ get_or fs k f) where
   abbrev pub stripe : Stripe
   stripe = record { fragment = f; held = mode_at ms k }
 
+  held_here : IsHeld (held_from 0 v) k
+  held_here = subst (λ z. IsHeld z k) (held_of-holding v) q
+
   at : slice_get fs k ≡ Some f
-  at = slice_get_read fs (length fs) k f refl (fragment_below fs ms v view k (held_below v k q)) got
+  at = slice_get_read fs (length fs) k f refl (fragment_held fs ms v view k q) got
 
   there : slice_get v k ≡ Some stripe
   there = subst (λ z. slice_get z k ≡ Some stripe) view (stripes_of-there fs ms k f at)
@@ -37,60 +78,63 @@ module _ (fs : List FragmentRows) (ms : List (Option Mode)) (v : List Stripe) (v
   pub table_is : IsInstance (stripes_of fs ms) → f.table ≡ table_of v
   table_is i = (subst IsInstance view i).table stripe (slice_get_in v k stripe there)
 
-  pub room_is : room_at v k ≡ f.room
-  room_is = room_at-there v k stripe there
+  pub as_it_is : (h : HeldStripe) → In h (held_of (holding v)) → h.stripe ≡ k → IsHeldAs stripe h
+  as_it_is h m = held_as v k stripe there h (subst (In h) (held_of-holding v) m)
 
-  pub as_it_is : (h : HeldStripe) → In h (held_from 0 v) → h.stripe ≡ k → IsHeldAs stripe h
-  as_it_is = held_as v k stripe there
+  pub has_room : HasRoom (holding v) k → 0 < f.room
+  has_room room = room (lent_as k q.0.mode f) (lent_from_in 0 v k k stripe q.0.mode there (omega arith) (as_it_is q.0 q.1 q.2).held) refl
+
+  pub is_lent : IsInstance (stripes_of fs ms) → IsLent (holding v) k f
+  is_lent i = record { table = table_is i; now = λ h m p. (as_it_is h m p).now; taken = λ h m p. (as_it_is h m p).taken }
+
+  -- the fragment stays
+  pub stays : (g : FragmentRows) → g ≡ f → stripes_of (set fs k g) ms ≡ v
+  stays g e = ap (λ z. stripes_of (set fs k z) ms) e ∙ ap (λ z. stripes_of z ms) (set-same fs k f at) ∙ view
 
   -- the fragment becomes g, with its table and its rows as taken
   module _ (g : FragmentRows) (table : g.table ≡ f.table) (taken : g.taken ≡ f.taken) where
-    abbrev pub changed_stripe : Stripe
+    abbrev changed_stripe : Stripe
     changed_stripe = record { fragment = g; held = mode_at ms k }
 
-    abbrev pub changed : List Stripe
-    changed = stripes_of (set fs k g) ms
+    abbrev new_stripes : List Stripe
+    new_stripes = stripes_of (set fs k g) ms
 
-    is_set : changed ≡ set v k changed_stripe
+    is_set : new_stripes ≡ set v k changed_stripe
     is_set = stripes_of-set fs ms k g ∙ ap (λ z. set z k changed_stripe) view
 
-    pub invariant : IsInstance (stripes_of fs ms) × (length fs ≤ 256) → IsInstance changed × (length (set fs k g) ≤ 256)
-    invariant i = (
-      subst IsInstance (sym is_set) (instance-set v k stripe changed_stripe (subst IsInstance view i.0) there table (λ n. absurd (held_not_free v k stripe there q n))),
-      subst (λ z. z ≤ 256) (sym (length-set fs k g)) i.1,
-    )
+    pub whole : (ns : List ℕ) → IsWholeInstance fs ms ns → IsWholeInstance (set fs k g) ms ns
+    whole ns i = record {
+      stripes = subst IsInstance (sym is_set) (instance-set v k stripe changed_stripe (subst IsInstance view i.stripes) there table (λ n. absurd (held_not_free v k stripe there held_here n)));
+      few = subst (λ z. z ≤ 256) (sym (length-set fs k g)) i.few;
+      numbers_held = i.numbers_held ∙ ap (held_numbers 0) view ∙ sym (ap (held_numbers 0) is_set ∙ numbers-set 0 v k stripe changed_stripe there refl);
+    }
 
-    pub stripes_kept : length changed ≡ length v
-    stripes_kept = ap length is_set ∙ length-set v k changed_stripe
-
-    pub offers : (p : ℕ) → offered_at changed p ≡ offered_at v p
-    offers p = ap (λ z. offered_at z p) is_set ∙ offered_at-set v k stripe changed_stripe there taken p
-
-    pub sound : (spec : Spec) → IsOfOneRelation v spec → IsOfOneRelation changed spec
+    pub sound : (spec : Spec) → IsOfOneRelation v spec → IsOfOneRelation new_stripes spec
     sound spec o = subst (λ z. IsOfOneRelation z spec) (sym is_set) (sound-set v k stripe changed_stripe there table taken spec o)
 
-    pub room_here : room_at changed k ≡ g.room
-    room_here = ap (λ z. room_at z k) is_set ∙ room_at-same v k changed_stripe (held_below v k q)
+    -- what a holder tells of it, where so much is done to the lent stripe
+    tells : (each : LentStripe → LentStripe) → ((l : LentStripe) → (l.held.stripe ≡ k → ⊥) → each l ≡ l) → ((mode : Mode) → each (lent_as k mode f) ≡ lent_as k mode g)
+        → holding new_stripes ≡ record (holding v) { lent = map each (lent_from 0 v) }
+    tells each other here = ap holding is_set ∙ (λ i. record {
+      table = table_of-set v k stripe changed_stripe there table i;
+      lent = lent_from-set each 0 v k k stripe changed_stripe there (omega arith) refl other here i;
+      offered = map-set (λ (s : Stripe). Some s.fragment.taken) v k stripe changed_stripe there (ap Some taken) i;
+      refusals = 0;
+      last_refusal = None;
+      through = 0;
+    })
 
-    pub room_kept : f.room ≤ g.room → (p : ℕ) → room_at v p ≤ room_at changed p
-    room_kept r p = subst (λ z. room_at v p ≤ room_at z p) (sym is_set) (room_at-kept v k stripe changed_stripe there r p)
+  pub tells_room : (n : ℕ) (g : FragmentRows) → g ≡ with_promise n f → holding (stripes_of (set fs k g) ms) ≡ with_room_at k n (holding v)
+  tells_room n g e = ap (λ z. holding (stripes_of (set fs k z) ms)) e ∙ tells (with_promise n f) refl refl (with_room k n) (room-other k n) (room-here k n f)
 
-    pub room_less : f.room ≤ g.room + 1 → (p : ℕ) → room_at v p ≤ room_at changed p + 1
-    room_less r p = subst (λ z. room_at v p ≤ room_at z p + 1) (sym is_set) (room_at-less v k stripe changed_stripe 1 there r p)
-
-    pub room_other : (p : ℕ) → (p ≡ k → ⊥) → room_at v p ≤ room_at changed p
-    room_other p d =
-        let e : room_at changed p ≡ room_at v p = ap (λ z. room_at z p) is_set ∙ room_at-other v k changed_stripe p d in
-        omega (arith, e)
-
-    pub held_same : g.now ≡ f.now → held_from 0 changed ≡ held_from 0 v
-    held_same n = ap (held_from 0) is_set ∙ held_from-same 0 v k stripe changed_stripe there refl n taken
-
-    pub held_changed : (change : List EdgeRow → List EdgeRow) → g.now ≡ change f.now → held_from 0 changed ≡ changed_at k change (held_from 0 v)
-    held_changed change n = ap (held_from 0) is_set ∙ held_from-changed 0 v k k stripe changed_stripe change there (omega arith) refl n taken
+  pub tells_change : (change : List EdgeRow → List EdgeRow) (g : FragmentRows) → g ≡ changed change f → holding (stripes_of (set fs k g) ms) ≡ with_change_at k change (holding v)
+  tells_change change g e = ap (λ z. holding (stripes_of (set fs k z) ms)) e ∙ tells (changed change f) refl refl (with_change k change) (change-other k change) (change-here k change f)
 
 -- v are the stripes of the fragments fs that are held as ms says, and k is the number of one above all that are held
-module _ (fs : List FragmentRows) (ms : List (Option Mode)) (v : List Stripe) (view : stripes_of fs ms ≡ v) (k : ℕ) (l : k < length v) (above : IsAbove (held_from 0 v) k) (i : IsInstance (stripes_of fs ms)) (place : k < length ms) (mode : Mode) where
+module _ (fs : List FragmentRows) (ms : List (Option Mode)) (v : List Stripe) (view : stripes_of fs ms ≡ v) (k : ℕ) (l : k < length v) (over : IsAbove (held_of (holding v)) k) (i : IsInstance (stripes_of fs ms)) (place : k < length ms) (mode : Mode) where
+  above : IsAbove (held_from 0 v) k
+  above = subst (λ z. IsAbove z k) (held_of-holding v) over
+
   found : (f : FragmentRows) × (slice_get fs k ≡ Some f)
   found = place_in fs k (fragment_below fs ms v view k l)
 
@@ -109,33 +153,50 @@ module _ (fs : List FragmentRows) (ms : List (Option Mode)) (v : List Stripe) (v
   is_taken_set : taken_stripes ≡ set v k taken_stripe
   is_taken_set = stripes_of-held fs ms k found.0 (Some mode) found.1 place ∙ ap (λ z. set z k taken_stripe) view
 
-  as_taken : found.0.now ≡ found.0.taken
-  as_taken = (subst IsInstance view i).free free_stripe (slice_get_in v k free_stripe is_there) (above_is_free v k free_stripe is_there above)
+  at_rest : IsAtRest found.0
+  at_rest = (subst IsInstance view i).free free_stripe (slice_get_in v k free_stripe is_there) (above_is_free v k free_stripe is_there above)
 
-  pub taken_invariant : IsInstance taken_stripes
-  taken_invariant = subst IsInstance (sym is_taken_set) (instance-set v k free_stripe taken_stripe (subst IsInstance view i) is_there refl (λ n. cc))
+  taken_lent : lent_from 0 taken_stripes ≡ lent_from 0 v ++ lent_as k mode found.0 ∷ []
+  taken_lent = ap (lent_from 0) is_taken_set ∙ lent_from-taken 0 v k k free_stripe taken_stripe mode is_there (omega arith) above refl
 
-  pub taken_length : length taken_stripes ≡ length v
-  taken_length = ap length is_taken_set ∙ length-set v k taken_stripe
+  taken_numbers : held_numbers 0 taken_stripes ≡ held_numbers 0 (stripes_of fs ms) ++ k ∷ []
+  taken_numbers =
+      let number : LentStripe → ℕ = λ l. l.held.stripe in
+      numbers-lent 0 taken_stripes ∙ ap (map number) taken_lent ∙ map-append number (lent_from 0 v) (lent_as k mode found.0 ∷ [])
+      ∙ ap (λ z. z ++ k ∷ []) (sym (numbers-lent 0 v) ∙ ap (held_numbers 0) (sym view))
 
-  pub taken_table : table_of taken_stripes ≡ table_of v
-  taken_table = ap table_of is_taken_set ∙ table_of-set v k free_stripe taken_stripe is_there refl
+  pub taken_few : (ns : List ℕ) → IsWholeInstance fs ms ns → length ns < 256
+  taken_few ns w =
+      let a : length (held_numbers 0 taken_stripes) ≤ length taken_stripes = numbers_few 0 taken_stripes in
+      let b : length taken_stripes ≡ length fs = stripes_of-length fs (set ms k (Some mode)) in
+      let e : length (held_numbers 0 taken_stripes) ≡ length (ns ++ k ∷ []) = ap length (taken_numbers ∙ ap (λ z. z ++ k ∷ []) (sym w.numbers_held)) in
+      let d : length (ns ++ k ∷ []) ≡ length ns + 1 = length-append ns (k ∷ []) in
+      omega (arith, a, b, e, d, w.few)
 
-  pub taken_offers : (p : ℕ) → offered_at taken_stripes p ≡ offered_at v p
-  taken_offers p = ap (λ z. offered_at z p) is_taken_set ∙ offered_at-set v k free_stripe taken_stripe is_there refl p
+  pub taken_whole : (ns : List ℕ) → IsWholeInstance fs ms ns → IsWholeInstance fs (set ms k (Some mode)) (ns ++ k ∷ [])
+  taken_whole ns w = record {
+    stripes = subst IsInstance (sym is_taken_set) (instance-set v k free_stripe taken_stripe (subst IsInstance view i) is_there refl (λ n. cc));
+    few = w.few;
+    numbers_held = ap (λ z. z ++ k ∷ []) w.numbers_held ∙ sym taken_numbers;
+  }
 
   pub taken_sound : (spec : Spec) → IsOfOneRelation v spec → IsOfOneRelation taken_stripes spec
   taken_sound spec o = subst (λ z. IsOfOneRelation z spec) (sym is_taken_set) (sound-set v k free_stripe taken_stripe is_there refl refl spec o)
 
-  pub taken_room : (p : ℕ) → room_at v p ≤ room_at taken_stripes p
-  taken_room p = subst (λ z. room_at v p ≤ room_at z p) (sym is_taken_set) (room_at-kept v k free_stripe taken_stripe is_there (omega arith) p)
-
-  pub is_taken : HasTaken (held_from 0 v) (held_from 0 taken_stripes) k mode (offered_at v k)
+  pub is_taken : HasTaken (holding v) (holding taken_stripes) k mode
   is_taken =
       let now : List EdgeRow = found.0.now in
-      let same : as_held k mode found.0 ≡ just_taken k mode now = ap (λ z. record { stripe = k; mode = mode; now = now; taken = z }) (sym as_taken) in
-      let told : offered_at v k ≡ Some found.0.taken = ap taken_in is_there in (
-        now,
-        ap (held_from 0) is_taken_set ∙ held_from-taken 0 v k k free_stripe taken_stripe mode is_there (omega arith) above refl ∙ ap (λ z. held_from 0 v ++ z ∷ []) same,
-        subst (λ z. AreOffered z now) (sym told) as_taken,
-      )
+      let same : lent_as k mode found.0 ≡ record { held = just_taken k mode now; room = found.0.room } = ap (λ z. (let r : LentStripe = record { held = record { stripe = k; mode = mode; now = now; taken = z }; room = found.0.room } in r)) at_rest.taken in
+      let told : get_or (holding v).offered k None ≡ Some found.0.taken = get_or-there (λ (s : Stripe). Some s.fragment.taken) v k free_stripe is_there in
+      record {
+        goes_on = record {
+          table = ap table_of is_taken_set ∙ table_of-set v k free_stripe taken_stripe is_there refl;
+          offered = ap (map (λ (s : Stripe). Some s.fragment.taken)) is_taken_set ∙ map-set (λ (s : Stripe). Some s.fragment.taken) v k free_stripe taken_stripe is_there refl;
+          through = refl;
+          refused = inl (refl, refl);
+        };
+        rows = now;
+        room = found.0.room;
+        lent = taken_lent ∙ ap (λ z. lent_from 0 v ++ z ∷ []) same;
+        told = subst (λ z. AreOffered z now) (sym told) (sym at_rest.taken);
+      }

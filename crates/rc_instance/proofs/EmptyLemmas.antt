@@ -1,11 +1,10 @@
 -- What stripes are that are free and whose fragments have no row.
 use Rattle.std.specs.Prelude.{◌≡◌, ℕ, zero, suc, ◌<◌, List, [], ◌∷◌, ◌++◌, Option, None, Some, length, map}
 use Rattle.std.specs.List.{slice_get}
-use Rattle.std.proofs.Common.{inl, inr, refl, sym, ap, ◌∙◌, arith, replicate}
+use Rattle.std.proofs.Common.{inl, inr, refl, sym, ap, subst, ◌∙◌, arith, replicate}
 use Rattle.rc_tuple.specs.RisingSet.{In}
 use Rattle.rc_tuple.specs.RelationLaws.{satisfies_none}
 use Rattle.rc_spec.specs.Acceptance.{IsSealed}
-use Rattle.rc_spec.specs.Fragments.{EdgeRow, fragment_of}
 use Rattle.rc_spec.specs.FragmentsLaws.{empty_law}
 use Rattle.rc_spec.specs.Placement.{class_of}
 use Rattle.rc_spec.specs.PlacementLaws.{class_of_known, physical_stripe_below}
@@ -15,6 +14,7 @@ use Rattle.rc_spec.specs.declared.lock.Mode.{Mode}
 use Rattle.rc_spec.specs.declared.spec.Spec.{Spec}
 use Rattle.rc_fragment.specs.Fragment.{edge_table, shape_of}
 use Rattle.rc_fragment.specs.FragmentRows.{FragmentRows}
+use Rattle.rc_fragment.specs.Keep.{IsAtRest}
 use Rattle.rc_fragment.specs.declared.shape.EdgeShape.{EdgeShape}
 use Rattle.rc_instance.specs.Fragments.{IsEmptyFragment}
 use Rattle.rc_instance.specs.Instance.{offered_at, rows_of_fragments, stripes_of, table_of_fragments, IsEmpty, IsInstance, IsOfRelation}
@@ -39,18 +39,18 @@ no_table spec sealed none = ap (map (shape_of spec)) (no_edges spec.edges (go (l
 
 pub empty_table : (spec : Spec) (fs : List FragmentRows) → IsSealed spec → length fs ≡ stripe_total spec → ((f : FragmentRows) → In f fs → IsEmptyFragment (edge_table spec) f) → table_of_fragments fs ≡ edge_table spec
 empty_table spec [] sealed l each = sym (no_table spec sealed (sym l))
-empty_table spec (f ∷ fs) sealed l each = (each f (inl refl)).table
+empty_table spec (f ∷ fs) sealed l each = ap (λ (z : FragmentRows). z.table) (each f (inl refl))
 
 -- ---- nothing is held, and there is no row
 
 module _ (shapes : List EdgeShape) where
-  no_rows : (fs : List FragmentRows) → ((f : FragmentRows) → In f fs → IsEmptyFragment shapes f) → rows_of_fragments fs ≡ []
-  no_rows [] each = refl
-  no_rows (f ∷ fs) each = ap (λ z. z ++ rows_of_fragments fs) (each f (inl refl)).now ∙ no_rows fs (λ g m. each g (inr m))
+  none_rows : (fs : List FragmentRows) → ((f : FragmentRows) → In f fs → IsEmptyFragment shapes f) → rows_of_fragments fs ≡ []
+  none_rows [] each = refl
+  none_rows (f ∷ fs) each = ap (λ (z : FragmentRows). z.now ++ rows_of_fragments fs) (each f (inl refl)) ∙ none_rows fs (λ g m. each g (inr m))
 
   none_taken : (fs : List FragmentRows) → ((f : FragmentRows) → In f fs → IsEmptyFragment shapes f) → (n : ℕ) → n < length fs → taken_of (slice_get fs n) ≡ Some []
   none_taken [] each n l = absurd (let f : n < 0 = l in omega (arith, f))
-  none_taken (f ∷ fs) each zero l = ap Some (each f (inl refl)).taken
+  none_taken (f ∷ fs) each zero l = ap (λ (z : FragmentRows). Some z.taken) (each f (inl refl))
   none_taken (f ∷ fs) each (suc n) l = none_taken fs (λ g m. each g (inr m)) n (let f : suc n < suc (length fs) = l in omega (arith, f))
 
   module _ (fs : List FragmentRows) (each : (f : FragmentRows) → In f fs → IsEmptyFragment shapes f) where
@@ -62,12 +62,12 @@ module _ (shapes : List EdgeShape) where
         let ms : List (Option Mode) = replicate n None in
         record {
           held = none_held 0 n fs;
-          rows = stripes_of-rows fs ms ∙ no_rows fs each;
+          rows = stripes_of-rows fs ms ∙ none_rows fs each;
           offered = λ p l. none_offered ms p (let e : length (stripes_of fs ms) ≡ length fs = stripes_of-length fs ms in omega (arith, l, e));
         }
 
     pub empty_instance : (ms : List (Option Mode)) → table_of_fragments fs ≡ shapes → IsInstance (stripes_of fs ms)
-    empty_instance ms t = instance_of fs ms (λ f m. (each f m).table ∙ sym t) (λ f m. (each f m).now ∙ sym (each f m).taken)
+    empty_instance ms t = instance_of fs ms (λ f m. ap (λ (z : FragmentRows). z.table) (each f m) ∙ sym t) (λ f m. subst IsAtRest (sym (each f m)) record { taken = refl; changes = refl })
 
 -- ---- the empty relation
 

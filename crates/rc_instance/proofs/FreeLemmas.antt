@@ -1,5 +1,5 @@
 -- What stripes are once all are free and have their rows now as taken.
-use Rattle.std.specs.Prelude.{◌≡◌, ℕ, ◌≤◌, List, [], ◌∷◌, ◌++◌, Option, None, Some}
+use Rattle.std.specs.Prelude.{◌≡◌, ℕ, List, [], ◌∷◌, ◌++◌, Option, None, Some}
 use Rattle.std.specs.List.{AllZip, slice_get}
 use Rattle.std.proofs.Common.{refl, sym, ap, ◌∙◌, arith, replicate}
 use Rattle.std.proofs.lemmas.Slice.Zip.{AllZip-long}
@@ -7,27 +7,31 @@ use Rattle.rc_tuple.specs.RisingSetLaws.{slice_get_in}
 use Rattle.rc_spec.specs.declared.lock.Mode.{Mode}
 use Rattle.rc_fragment.specs.FragmentRows.{FragmentRows}
 use Rattle.rc_fragment.specs.Holder.{IsHeld}
+use Rattle.rc_fragment.specs.Keep.{IsAtRest}
 use Rattle.rc_instance.specs.Fragments.{IsSettled}
-use Rattle.rc_instance.specs.Instance.{held_from, now_in, offered_at, room_at, rows_of_fragments, stripes_of, taken_in, AreReleased, HaveOneTable, IsInstance, IsMadeOf, Stripe}
+use Rattle.rc_instance.specs.Instance.{held_from, now_in, offered_at, rows_of_fragments, stripes_of, taken_in, AreReleased, HaveOneTable, IsInstance, IsMadeOf, Stripe}
 use Rattle.rc_instance.specs.InstanceLaws.{IsHeldFrom, in_held_from, as_held, held_from_in}
 use Rattle.rc_instance.proofs.AlikeLemmas.{alike_at, alike_in, alike_one_table, alike_table}
 use Rattle.rc_instance.proofs.StripesOfLemmas.{fragments_have_one_table, instance_of, none_held, now_of, room_of, stripes_of-length, stripes_of-now, stripes_of-offered, stripes_of-room, stripes_of-rows, stripes_of-table, taken_of}
 
 -- ---- settled fragments
 
+settled_rests : (f g : FragmentRows) → IsSettled f g → IsAtRest g
+settled_rests f g e = record { taken = ap (λ (z : FragmentRows). z.taken) e ∙ sym (ap (λ (z : FragmentRows). z.now) e); changes = ap (λ (z : FragmentRows). z.changes) e }
+
 settled_rows : (old new : List FragmentRows) → AllZip IsSettled old new → rows_of_fragments new ≡ rows_of_fragments old
 settled_rows [] [] a = refl
 settled_rows [] (g ∷ gs) a = absurd a
 settled_rows (f ∷ fs) [] a = absurd a
-settled_rows (f ∷ fs) (g ∷ gs) a = λ i. a.0.now i ++ settled_rows fs gs a.1 i
+settled_rows (f ∷ fs) (g ∷ gs) a = λ i. (a.0 i).now ++ settled_rows fs gs a.1 i
 
 module _ (old new : List FragmentRows) (a : AllZip IsSettled old new) where
   settled_offered : (ms : List (Option Mode)) (n : ℕ) → offered_at (stripes_of new ms) n ≡ now_in (slice_get old n)
-  settled_offered ms n = stripes_of-offered new ms n ∙ alike_at IsSettled (λ f g. taken_of g ≡ now_in f) refl (λ f g r. ap Some r.taken) old new a n
+  settled_offered ms n = stripes_of-offered new ms n ∙ alike_at IsSettled (λ f g. taken_of g ≡ now_in f) refl (λ f g r. ap (λ (z : FragmentRows). Some z.taken) r) old new a n
 
   settled_instance : (ms : List (Option Mode)) → HaveOneTable old → IsInstance (stripes_of new ms)
   settled_instance ms one =
-      instance_of new ms (alike_one_table IsSettled (λ f g r. r.table) old new a one) (λ g m. let w = alike_in IsSettled old new a g m in w.2.now ∙ sym w.2.taken)
+      instance_of new ms (alike_one_table IsSettled (λ f g r. ap (λ (z : FragmentRows). z.table) r) old new a one) (λ g m. let w = alike_in IsSettled old new a g m in settled_rests w.0 g w.2)
 
   -- ---- made of fragments
 
@@ -42,7 +46,7 @@ module _ (old new : List FragmentRows) (a : AllZip IsSettled old new) where
         rows = stripes_of-rows new ms ∙ settled_rows old new a;
         offered = settled_offered ms;
         stripes = stripes_of-length new ms ∙ AllZip-long IsSettled old new a;
-        table = stripes_of-table new ms ∙ alike_table IsSettled (λ f g r. r.table) old new a;
+        table = stripes_of-table new ms ∙ alike_table IsSettled (λ f g r. ap (λ (z : FragmentRows). z.table) r) old new a;
       }
 
 -- ---- released
@@ -57,7 +61,7 @@ free_offers ss i n d = go (slice_get ss n) refl
 
     go : (o : Option Stripe) → slice_get ss n ≡ o → now_of o ≡ offered_at ss n
     go None e = ap taken_in (sym e)
-    go (Some s) e = ap Some (i.free s (slice_get_in ss n s e) (free s e s.held refl)) ∙ ap taken_in (sym e)
+    go (Some s) e = ap Some (sym (i.free s (slice_get_in ss n s e) (free s e s.held refl)).taken) ∙ ap taken_in (sym e)
 
 -- the fragments were held so
 module _ (old new : List FragmentRows) (a : AllZip IsSettled old new) (ms : List (Option Mode)) (i : IsInstance (stripes_of old ms)) where
@@ -77,10 +81,7 @@ module _ (old new : List FragmentRows) (a : AllZip IsSettled old new) (ms : List
             settled_offered old new a _ h.stripe ∙ sym (stripes_of-now old ms h.stripe) ∙ ap (λ z. now_of (slice_get ss z)) p ∙ ap now_of w.there ∙ ap Some (sym w.now);
         others = λ p d. settled_offered old new a _ p ∙ sym (stripes_of-now old ms p) ∙ free_offers ss i p d;
         room = λ p.
-            let r : room_of (slice_get old p) ≤ room_of (slice_get new p) = alike_at IsSettled (λ f g. room_of f ≤ room_of g) (omega arith) (λ f g r. r.room) old new a p in
-            let x : room_at ss p ≡ room_of (slice_get old p) = stripes_of-room old ms p in
-            let y : room_at ts p ≡ room_of (slice_get new p) = stripes_of-room new (replicate n None) p in
-            omega (arith, r, x, y);
+            stripes_of-room new (replicate n None) p ∙ alike_at IsSettled (λ f g. room_of g ≡ room_of f) refl (λ f g r. ap (λ (z : FragmentRows). z.room) r) old new a p ∙ sym (stripes_of-room old ms p);
         stripes = stripes_of-length new _ ∙ AllZip-long IsSettled old new a ∙ sym (stripes_of-length old ms);
-        table = stripes_of-table new _ ∙ alike_table IsSettled (λ f g r. r.table) old new a ∙ sym (stripes_of-table old ms);
+        table = stripes_of-table new _ ∙ alike_table IsSettled (λ f g r. ap (λ (z : FragmentRows). z.table) r) old new a ∙ sym (stripes_of-table old ms);
       }

@@ -6,3 +6,4 @@ mod RepresentLemmas
 mod RevertLemmas
 mod StripeLemmas
 mod StripesOfLemmas
+mod NumberLemmas

@@ -1,51 +1,56 @@
 -- What all stripes are once each has its rows as they were taken.
-use Rattle.std.specs.Prelude.{◌≡◌, ℕ, suc, ◌≤◌, List, [], ◌∷◌, ◌++◌, Option, None, Some, length, map}
-use Rattle.std.specs.List.{AllZip, slice_get}
-use Rattle.std.proofs.Common.{refl, sym, ap, ◌∙◌, arith}
-use Rattle.std.proofs.lemmas.List.{map-append}
-use Rattle.std.proofs.lemmas.Slice.Zip.{AllZip-long}
+use Rattle.std.specs.Prelude.{◌≡◌, ℕ, zero, suc, List, [], ◌∷◌, ◌++◌, Option, None, Some, map}
+use Rattle.std.proofs.Common.{refl, sym, ap, ◌∙◌}
+use Rattle.std.proofs.lemmas.List.{map-append, length-map}
+use Rattle.rc_tuple.specs.RisingSet.{In}
+use Rattle.rc_tuple.specs.RisingSetLaws.{in_map}
 use Rattle.rc_spec.specs.declared.lock.Mode.{Mode}
 use Rattle.rc_spec.specs.declared.spec.Spec.{Spec}
-use Rattle.rc_fragment.specs.FragmentRows.{FragmentRows}
-use Rattle.rc_fragment.specs.Holder.{reverted}
-use Rattle.rc_instance.specs.Fragments.{IsReverted}
-use Rattle.rc_instance.specs.Instance.{held_part, held_from, IsOfOneRelation, offered_at, room_at, stripes_of, table_of, IsInstance}
-use Rattle.rc_instance.proofs.AlikeLemmas.{alike_at, alike_in, alike_one_table, alike_table}
+use Rattle.rc_fragment.specs.FragmentRows.{FragmentRows, rolled_back}
+use Rattle.rc_fragment.specs.Holder.{all_reverted, lent_reverted}
+use Rattle.rc_instance.specs.Instance.{holding, lent_part, lent_from, offered_at, stripes_of, table_of, IsInstance, IsOfOneRelation, Stripe}
 use Rattle.rc_instance.proofs.StripeLemmas.{same_sound}
-use Rattle.rc_instance.proofs.StripesOfLemmas.{fragments_have_one_table, instance_of, room_of, stripes_of-length, stripes_of-offered, stripes_of-room, stripes_of-table, taken_of}
 
-part_reverted : (n : ℕ) (f g : FragmentRows) → IsReverted f g → (m : Option Mode) → held_part n g m ≡ map reverted (held_part n f m)
-part_reverted n f g r None = refl
-part_reverted n f g r (Some mode) = λ i. record { stripe = n; mode = mode; now = r.now i; taken = r.taken i } ∷ []
+-- the stripe with its rows as they were taken
+abbrev pub reverted_stripe : Stripe → Stripe
+reverted_stripe s = record { fragment = rolled_back s.fragment; held = s.held }
 
-pub held_reverted : (n : ℕ) (old new : List FragmentRows) (ms : List (Option Mode)) → AllZip IsReverted old new → held_from n (stripes_of new ms) ≡ map reverted (held_from n (stripes_of old ms))
-held_reverted n [] [] ms a = refl
-held_reverted n [] (g ∷ gs) ms a = absurd a
-held_reverted n (f ∷ fs) [] ms a = absurd a
-held_reverted n (f ∷ fs) (g ∷ gs) [] a = held_reverted (suc n) fs gs [] a.1
-held_reverted n (f ∷ fs) (g ∷ gs) (m ∷ ms) a =
-    (λ i. part_reverted n f g a.0 m i ++ held_reverted (suc n) fs gs ms a.1 i) ∙ sym (map-append reverted (held_part n f m) (held_from (suc n) (stripes_of fs ms)))
+pub stripes_of-reverted : (fs : List FragmentRows) (ms : List (Option Mode)) → stripes_of (map rolled_back fs) ms ≡ map reverted_stripe (stripes_of fs ms)
+stripes_of-reverted [] ms = refl
+stripes_of-reverted (f ∷ fs) [] = ap (λ z. (let s : Stripe = record { fragment = rolled_back f; held = None } in s) ∷ z) (stripes_of-reverted fs [])
+stripes_of-reverted (f ∷ fs) (m ∷ ms) = ap (λ z. (let s : Stripe = record { fragment = rolled_back f; held = m } in s) ∷ z) (stripes_of-reverted fs ms)
 
-module _ (old new : List FragmentRows) (ms : List (Option Mode)) (a : AllZip IsReverted old new) where
-  pub reverted_room : (p : ℕ) → room_at (stripes_of old ms) p ≤ room_at (stripes_of new ms) p
-  reverted_room p =
-      let r : room_of (slice_get old p) ≤ room_of (slice_get new p) = alike_at IsReverted (λ f g. room_of f ≤ room_of g) (omega arith) (λ f g r. r.room) old new a p in
-      let x : room_at (stripes_of old ms) p ≡ room_of (slice_get old p) = stripes_of-room old ms p in
-      let y : room_at (stripes_of new ms) p ≡ room_of (slice_get new p) = stripes_of-room new ms p in
-      omega (arith, r, x, y)
+table-reverted : (v : List Stripe) → table_of (map reverted_stripe v) ≡ table_of v
+table-reverted [] = refl
+table-reverted (s ∷ ss) = refl
 
-  pub reverted_offers : (p : ℕ) → offered_at (stripes_of new ms) p ≡ offered_at (stripes_of old ms) p
-  reverted_offers p = stripes_of-offered new ms p ∙ alike_at IsReverted (λ f g. taken_of g ≡ taken_of f) refl (λ f g r. ap Some r.taken) old new a p ∙ sym (stripes_of-offered old ms p)
+part-reverted : (n : ℕ) (f : FragmentRows) (m : Option Mode) → lent_part n (rolled_back f) m ≡ map lent_reverted (lent_part n f m)
+part-reverted n f None = refl
+part-reverted n f (Some mode) = refl
 
-  pub reverted_instance : IsInstance (stripes_of old ms) → IsInstance (stripes_of new ms)
-  reverted_instance i =
-      instance_of new ms (alike_one_table IsReverted (λ f g r. r.table) old new a (fragments_have_one_table old ms i)) (λ g m. let w = alike_in IsReverted old new a g m in w.2.now ∙ sym w.2.taken)
+lent-reverted : (n : ℕ) (v : List Stripe) → lent_from n (map reverted_stripe v) ≡ map lent_reverted (lent_from n v)
+lent-reverted n [] = refl
+lent-reverted n (s ∷ ss) = (λ i. part-reverted n s.fragment s.held i ++ lent-reverted (suc n) ss i) ∙ sym (map-append lent_reverted (lent_part n s.fragment s.held) (lent_from (suc n) ss))
 
-  pub reverted_table : table_of (stripes_of new ms) ≡ table_of (stripes_of old ms)
-  reverted_table = stripes_of-table new ms ∙ alike_table IsReverted (λ f g r. r.table) old new a ∙ sym (stripes_of-table old ms)
+offered-reverted : (v : List Stripe) → map (λ (s : Stripe). Some s.fragment.taken) (map reverted_stripe v) ≡ map (λ (s : Stripe). Some s.fragment.taken) v
+offered-reverted [] = refl
+offered-reverted (s ∷ ss) = ap (λ z. Some s.fragment.taken ∷ z) (offered-reverted ss)
 
-  pub reverted_length : length (stripes_of new ms) ≡ length (stripes_of old ms)
-  reverted_length = stripes_of-length new ms ∙ AllZip-long IsReverted old new a ∙ sym (stripes_of-length old ms)
+pub holding-reverted : (v : List Stripe) → holding (map reverted_stripe v) ≡ all_reverted (holding v)
+holding-reverted v = λ i. record { table = table-reverted v i; lent = lent-reverted 0 v i; offered = offered-reverted v i; refusals = 0; last_refusal = None; through = 0 }
 
-  pub reverted_sound : (spec : Spec) → IsOfOneRelation (stripes_of old ms) spec → IsOfOneRelation (stripes_of new ms) spec
-  reverted_sound = same_sound (stripes_of old ms) (stripes_of new ms) reverted_table reverted_length reverted_offers
+pub instance-reverted : (v : List Stripe) → IsInstance v → IsInstance (map reverted_stripe v)
+instance-reverted v i = record {
+  table = λ s m. let w : (x : Stripe) × In x v × (s ≡ reverted_stripe x) = in_map reverted_stripe s v m in ap (λ (z : Stripe). z.fragment.table) w.2 ∙ i.table w.0 w.1 ∙ sym (table-reverted v);
+  free = λ s m _.
+      let w : (x : Stripe) × In x v × (s ≡ reverted_stripe x) = in_map reverted_stripe s v m in
+      record { taken = ap (λ (z : Stripe). z.fragment.taken) w.2 ∙ sym (ap (λ (z : Stripe). z.fragment.now) w.2); changes = ap (λ (z : Stripe). z.fragment.changes) w.2 };
+}
+
+offers-reverted : (v : List Stripe) (p : ℕ) → offered_at (map reverted_stripe v) p ≡ offered_at v p
+offers-reverted [] p = refl
+offers-reverted (s ∷ ss) zero = refl
+offers-reverted (s ∷ ss) (suc p) = offers-reverted ss p
+
+pub sound-reverted : (v : List Stripe) (spec : Spec) → IsOfOneRelation v spec → IsOfOneRelation (map reverted_stripe v) spec
+sound-reverted v = same_sound v (map reverted_stripe v) (table-reverted v) (length-map v reverted_stripe) (offers-reverted v)

@@ -1,5 +1,5 @@
 -- What a change of one stripe leaves of an instance.
-use Rattle.std.specs.Prelude.{◌≡◌, ℕ, zero, suc, ◌+◌, ◌<◌, ◌≤◌, Bool, true, false, cond, ◌==◌, List, [], ◌∷◌, ◌++◌, ◌⊎◌, Option, None, Some, Result, Ok, Err, IfOk, OnOk, OnErr, length}
+use Rattle.std.specs.Prelude.{◌≡◌, ℕ, zero, suc, ◌+◌, ◌<◌, Bool, true, false, cond, ◌==◌, List, [], ◌∷◌, ◌++◌, ◌⊎◌, Option, None, Some, Result, Ok, Err, IfOk, OnOk, OnErr, length, map}
 use Rattle.std.specs.List.{slice_get}
 use Rattle.std.proofs.Common.{inl, inr, refl, sym, ap, subst, ◌∙◌, arith}
 use Rattle.std.proofs.Math.ListN.{set}
@@ -7,14 +7,15 @@ use Rattle.std.proofs.lemmas.Bool.{eqb-true, eq-eqb}
 use Rattle.std.proofs.lemmas.List.{append_assoc, length-set, map-append}
 use Rattle.std.proofs.lemmas.Option.{none-some, same_Some, slice_get_within}
 use Rattle.rc_tuple.specs.RisingSet.{In}
-use Rattle.rc_tuple.specs.RisingSetLaws.{slice_get_in, append_in_left, append_in_right}
+use Rattle.rc_tuple.specs.RisingSetLaws.{slice_get_in, append_in_left, append_in_right, map_in}
 use Rattle.rc_spec.specs.Fragments.{EdgeRow}
 use Rattle.rc_spec.specs.declared.lock.Mode.{Mode}
 use Rattle.rc_spec.specs.declared.spec.Spec.{Spec}
 use Rattle.rc_fragment.specs.FragmentRows.{FragmentRows}
-use Rattle.rc_fragment.specs.Holder.{HeldStripe, IsHeld, IsHeldExclusive, IsAbove, changed_at, with_now}
-use Rattle.rc_instance.specs.Instance.{held_part, held_from, offered_at, room_at, table_of, IsOfOneRelation, IsInstance, Stripe}
-use Rattle.rc_instance.specs.InstanceLaws.{IsHeldFrom, in_held_from, as_held, held_from_in}
+use Rattle.rc_fragment.specs.Holder.{HeldStripe, LentStripe, IsHeld, IsHeldExclusive, IsAbove, with_now}
+use Rattle.rc_fragment.specs.Keep.{IsAtRest}
+use Rattle.rc_instance.specs.Instance.{held_part, held_from, lent_part, lent_from, offered_at, table_of, IsOfOneRelation, IsInstance, Stripe}
+use Rattle.rc_instance.specs.InstanceLaws.{IsHeldFrom, in_held_from, as_held, held_from_in, held-lent, lent_as}
 
 -- ---- held stripes by their numbers
 
@@ -59,6 +60,10 @@ pub on_err_from : {X E : Type 0} (P Q : Type 0) (r : Result X E) → OnErr r P �
 on_err_from P Q (Ok x) p f = tt
 on_err_from P Q (Err e) p f = f p
 
+pub either_way : {X E : Type 0} (P Q R : Type 0) (r : Result X E) → OnOk r P → OnErr r Q → (P → R) → (Q → R) → R
+either_way P Q R (Ok x) p q f g = f p
+either_way P Q R (Err e) p q f g = g q
+
 pub if_ok_from : {X E : Type 0} {P Q : X → Type 0} (r : Result X E) → IfOk r P → ((x : X) → P x → Q x) → IfOk r Q
 if_ok_from (Ok x) p f = f x p
 if_ok_from (Err e) p f = tt
@@ -77,7 +82,7 @@ table_of-set [] k s t e p = refl
 table_of-set (x ∷ ss) zero s t e p = p ∙ ap (λ (z : Stripe). z.fragment.table) (sym (same_Some _ _ e))
 table_of-set (x ∷ ss) (suc k) s t e p = refl
 
-pub instance-set : (ss : List Stripe) (k : ℕ) (s t : Stripe) → IsInstance ss → slice_get ss k ≡ Some s → t.fragment.table ≡ s.fragment.table → (t.held ≡ None → t.fragment.now ≡ t.fragment.taken)
+pub instance-set : (ss : List Stripe) (k : ℕ) (s t : Stripe) → IsInstance ss → slice_get ss k ≡ Some s → t.fragment.table ≡ s.fragment.table → (t.held ≡ None → IsAtRest t.fragment)
     → IsInstance (set ss k t)
 instance-set ss k s t i e p f =
     let same : table_of (set ss k t) ≡ table_of ss = table_of-set ss k s t e p in
@@ -87,7 +92,7 @@ instance-set ss k s t i e p f =
         | inr b ↦ i.table x b ∙ sym same
       ];
       free = λ x m n. elim (in_set ss k t x m) [
-        | inl a ↦ subst (λ (z : Stripe). z.fragment.now ≡ z.fragment.taken) (sym a) (f (ap (λ (z : Stripe). z.held) (sym a) ∙ n))
+        | inl a ↦ subst (λ (z : Stripe). IsAtRest z.fragment) (sym a) (f (ap (λ (z : Stripe). z.held) (sym a) ∙ n))
         | inr b ↦ i.free x b n
       ];
     }
@@ -98,36 +103,6 @@ offered_at-set (x ∷ ss) zero s t e q zero = ap Some (q ∙ ap (λ (z : Stripe)
 offered_at-set (x ∷ ss) zero s t e q (suc p) = refl
 offered_at-set (x ∷ ss) (suc k) s t e q zero = refl
 offered_at-set (x ∷ ss) (suc k) s t e q (suc p) = offered_at-set ss k s t e q p
-
-pub room_at-same : (ss : List Stripe) (k : ℕ) (t : Stripe) → k < length ss → room_at (set ss k t) k ≡ t.fragment.room
-room_at-same [] k t l = absurd (let f : k < 0 = l in omega (arith, f))
-room_at-same (x ∷ ss) zero t l = refl
-room_at-same (x ∷ ss) (suc k) t l = room_at-same ss k t (let f : suc k < suc (length ss) = l in omega (arith, f))
-
-pub room_at-there : (ss : List Stripe) (k : ℕ) (s : Stripe) → slice_get ss k ≡ Some s → room_at ss k ≡ s.fragment.room
-room_at-there [] k s e = cc
-room_at-there (x ∷ ss) zero s e = ap (λ (z : Stripe). z.fragment.room) (same_Some _ _ e)
-room_at-there (x ∷ ss) (suc k) s e = room_at-there ss k s e
-
-pub room_at-other : (ss : List Stripe) (k : ℕ) (t : Stripe) (p : ℕ) → (p ≡ k → ⊥) → room_at (set ss k t) p ≡ room_at ss p
-room_at-other [] k t p d = refl
-room_at-other (x ∷ ss) zero t zero d = absurd (d refl)
-room_at-other (x ∷ ss) zero t (suc p) d = refl
-room_at-other (x ∷ ss) (suc k) t zero d = refl
-room_at-other (x ∷ ss) (suc k) t (suc p) d = room_at-other ss k t p (λ e. d (ap suc e))
-
--- room that falls by at most d at one stripe
-pub room_at-less : (ss : List Stripe) (k : ℕ) (s t : Stripe) (d : ℕ) → slice_get ss k ≡ Some s → s.fragment.room ≤ t.fragment.room + d → (p : ℕ) → room_at ss p ≤ room_at (set ss k t) p + d
-room_at-less [] k s t d e q p = omega arith
-room_at-less (x ∷ ss) zero s t d e q zero = subst (λ (z : Stripe). z.fragment.room ≤ t.fragment.room + d) (sym (same_Some _ _ e)) q
-room_at-less (x ∷ ss) zero s t d e q (suc p) = omega arith
-room_at-less (x ∷ ss) (suc k) s t d e q zero = omega arith
-room_at-less (x ∷ ss) (suc k) s t d e q (suc p) = room_at-less ss k s t d e q p
-
-pub room_at-kept : (ss : List Stripe) (k : ℕ) (s t : Stripe) → slice_get ss k ≡ Some s → s.fragment.room ≤ t.fragment.room → (p : ℕ) → room_at ss p ≤ room_at (set ss k t) p
-room_at-kept ss k s t e q p =
-    let h : room_at ss p ≤ room_at (set ss k t) p + 0 = room_at-less ss k s t 0 e (omega (arith, q)) p in
-    omega (arith, h)
 
 -- ---- what soundness rests on
 
@@ -151,102 +126,108 @@ sound-set ss k s t e p q = same_sound ss (set ss k t) (table_of-set ss k s t e p
 
 -- ---- what is held
 
--- the same is held where the stripe stands as it did
-pub held_from-same : (n : ℕ) (ss : List Stripe) (k : ℕ) (s t : Stripe) → slice_get ss k ≡ Some s → t.held ≡ s.held → t.fragment.now ≡ s.fragment.now → t.fragment.taken ≡ s.fragment.taken
-    → held_from n (set ss k t) ≡ held_from n ss
-held_from-same n [] k s t e h p q = refl
-held_from-same n (x ∷ ss) zero s t e h p q = ap (λ z. z ++ held_from (suc n) ss) (part t.held s.held h ∙ ap (λ (z : Stripe). held_part n z.fragment z.held) (sym (same_Some _ _ e)))
-  where
-    part : (a b : Option Mode) → a ≡ b → held_part n t.fragment a ≡ held_part n s.fragment b
-    part a b e = ap (held_part n t.fragment) e ∙ part' b
-      where
-        part' : (b : Option Mode) → held_part n t.fragment b ≡ held_part n s.fragment b
-        part' None = refl
-        part' (Some mode) = λ i. record { stripe = n; mode = mode; now = p i; taken = q i } ∷ []
-held_from-same n (x ∷ ss) (suc k) s t e h p q = ap (λ z. held_part n x.fragment x.held ++ z) (held_from-same (suc n) ss k s t e h p q)
-
-with_now-here : (k : ℕ) (change : List EdgeRow → List EdgeRow) (h : HeldStripe) → h.stripe ≡ k → with_now k change h ≡ record { stripe = h.stripe; mode = h.mode; now = change h.now; taken = h.taken }
+pub with_now-here : (k : ℕ) (change : List EdgeRow → List EdgeRow) (h : HeldStripe) → h.stripe ≡ k → with_now k change h ≡ record { stripe = h.stripe; mode = h.mode; now = change h.now; taken = h.taken }
 with_now-here k change h e = ap (λ b. cond b (let z : HeldStripe = record { stripe = h.stripe; mode = h.mode; now = change h.now; taken = h.taken } in z) h) (eq-eqb h.stripe k e)
 
-not_equal : (a b : ℕ) → (a ≡ b → ⊥) → (a == b) ≡ false
+pub not_equal : (a b : ℕ) → (a ≡ b → ⊥) → (a == b) ≡ false
 not_equal a b d = go (a == b) refl
   where
     go : (c : Bool) → (a == b) ≡ c → (a == b) ≡ false
     go true e = absurd (d (eqb-true a b e))
     go false e = e
 
-with_now-other : (k : ℕ) (change : List EdgeRow → List EdgeRow) (h : HeldStripe) → (h.stripe ≡ k → ⊥) → with_now k change h ≡ h
+pub with_now-other : (k : ℕ) (change : List EdgeRow → List EdgeRow) (h : HeldStripe) → (h.stripe ≡ k → ⊥) → with_now k change h ≡ h
 with_now-other k change h d = ap (λ b. cond b (let z : HeldStripe = record { stripe = h.stripe; mode = h.mode; now = change h.now; taken = h.taken } in z) h) (not_equal h.stripe k d)
-
--- stripes other than the changed one stay
-changed-none : (k : ℕ) (change : List EdgeRow → List EdgeRow) (held : List HeldStripe) → ((h : HeldStripe) → In h held → h.stripe ≡ k → ⊥) → changed_at k change held ≡ held
-changed-none k change [] d = refl
-changed-none k change (h ∷ held) d = λ i. with_now-other k change h (d h (inl refl)) i ∷ changed-none k change held (λ g m. d g (inr m)) i
 
 part_numbered : (n : ℕ) (f : FragmentRows) (m : Option Mode) (h : HeldStripe) → In h (held_part n f m) → h.stripe ≡ n
 part_numbered n f None h i = absurd i
 part_numbered n f (Some mode) h (inl p) = ap (λ (z : HeldStripe). z.stripe) p
 part_numbered n f (Some mode) h (inr i) = absurd i
 
--- the rows of a stripe change as its rows now do
-pub held_from-changed : (n : ℕ) (ss : List Stripe) (k m : ℕ) (s t : Stripe) (change : List EdgeRow → List EdgeRow) → slice_get ss k ≡ Some s → m ≡ n + k
-    → t.held ≡ s.held → t.fragment.now ≡ change s.fragment.now → t.fragment.taken ≡ s.fragment.taken
-    → held_from n (set ss k t) ≡ changed_at m change (held_from n ss)
-held_from-changed n [] k m s t change e l h p q = cc
-held_from-changed n (x ∷ ss) zero m s t change e l h p q =
-    let rest : changed_at m change (held_from (suc n) ss) ≡ held_from (suc n) ss =
-    changed-none m change (held_from (suc n) ss) (λ g i d. let w : IsHeldFrom (suc n) ss g = in_held_from (suc n) ss g i in let f : g.stripe ≡ suc n + w.place = w.numbered in omega (arith, f, l, d)) in
-    let here : x ≡ s = same_Some _ _ e in
+-- a lent stripe is held
+pub lent_held : (n : ℕ) (ss : List Stripe) (l : LentStripe) → In l (lent_from n ss) → In l.held (held_from n ss)
+lent_held n ss l m = subst (In l.held) (held-lent n ss) (map_in (λ (z : LentStripe). z.held) l (lent_from n ss) m)
+
+each_stays : (g : LentStripe → LentStripe) (ls : List LentStripe) → ((l : LentStripe) → In l ls → g l ≡ l) → map g ls ≡ ls
+each_stays g [] d = refl
+each_stays g (l ∷ ls) d = λ i. d l (inl refl) i ∷ each_stays g ls (λ z m. d z (inr m)) i
+
+lent_numbered : (n : ℕ) (f : FragmentRows) (m : Option Mode) (l : LentStripe) → In l (lent_part n f m) → l.held.stripe ≡ n
+lent_numbered n f None l i = absurd i
+lent_numbered n f (Some mode) l (inl p) = ap (λ (z : LentStripe). z.held.stripe) p
+lent_numbered n f (Some mode) l (inr i) = absurd i
+
+-- what is done to a stripe is done to it as lent, and to no other
+pub lent_from-set : (g : LentStripe → LentStripe) (n : ℕ) (ss : List Stripe) (k m : ℕ) (s t : Stripe) → slice_get ss k ≡ Some s → m ≡ n + k → t.held ≡ s.held
+    → ((l : LentStripe) → (l.held.stripe ≡ m → ⊥) → g l ≡ l) → ((mode : Mode) → g (lent_as m mode s.fragment) ≡ lent_as m mode t.fragment)
+    → lent_from n (set ss k t) ≡ map g (lent_from n ss)
+lent_from-set g n [] k m s t e l h other here = cc
+lent_from-set g n (x ∷ ss) zero m s t e l h other here =
+    let rest : map g (lent_from (suc n) ss) ≡ lent_from (suc n) ss =
+    each_stays g (lent_from (suc n) ss) (λ z i. other z (λ d.
+    let w : IsHeldFrom (suc n) ss z.held = in_held_from (suc n) ss z.held (lent_held (suc n) ss z i) in let f : z.held.stripe ≡ suc n + w.place = w.numbered in omega (arith, f, l, d))) in
+    let same : x ≡ s = same_Some _ _ e in
     let at : m ≡ n = omega (arith, l) in
-    ap (λ z. held_part n t.fragment z ++ held_from (suc n) ss) h
-    ∙ ap (λ z. z ++ held_from (suc n) ss) (part s.held at)
-    ∙ ap (λ z. changed_at m change (held_part n s.fragment s.held) ++ z) (sym rest)
-    ∙ ap (λ (z : Stripe). changed_at m change (held_part n z.fragment z.held) ++ changed_at m change (held_from (suc n) ss)) (sym here)
-    ∙ sym (map-append (with_now m change) (held_part n x.fragment x.held) (held_from (suc n) ss))
+    ap (λ z. lent_part n t.fragment z ++ lent_from (suc n) ss) h
+    ∙ ap (λ z. z ++ lent_from (suc n) ss) (part at s.held)
+    ∙ ap (λ z. map g (lent_part n s.fragment s.held) ++ z) (sym rest)
+    ∙ ap (λ (z : Stripe). map g (lent_part n z.fragment z.held) ++ map g (lent_from (suc n) ss)) (sym same)
+    ∙ sym (map-append g (lent_part n x.fragment x.held) (lent_from (suc n) ss))
   where
-    part : (b : Option Mode) → m ≡ n → held_part n t.fragment b ≡ changed_at m change (held_part n s.fragment b)
-    part None a = refl
-    part (Some mode) a =
-        let old : HeldStripe = record { stripe = n; mode = mode; now = s.fragment.now; taken = s.fragment.taken } in
-        let new : HeldStripe = record { stripe = n; mode = mode; now = t.fragment.now; taken = t.fragment.taken } in
-        let f : new ≡ record { stripe = n; mode = mode; now = change s.fragment.now; taken = s.fragment.taken } = λ i. record { stripe = n; mode = mode; now = p i; taken = q i } in
-        ap (λ (z : HeldStripe). z ∷ []) (f ∙ sym (with_now-here m change old (sym a)))
-held_from-changed n (x ∷ ss) (suc k) m s t change e l h p q =
-    let first : changed_at m change (held_part n x.fragment x.held) ≡ held_part n x.fragment x.held =
-    changed-none m change (held_part n x.fragment x.held) (λ g i d. let f : g.stripe ≡ n = part_numbered n x.fragment x.held g i in omega (arith, f, l, d)) in
-    let rest : held_from (suc n) (set ss k t) ≡ changed_at m change (held_from (suc n) ss) = held_from-changed (suc n) ss k m s t change e (omega (arith, l)) h p q in
-    (λ i. sym first i ++ rest i) ∙ sym (map-append (with_now m change) (held_part n x.fragment x.held) (held_from (suc n) ss))
+    part : m ≡ n → (b : Option Mode) → lent_part n t.fragment b ≡ map g (lent_part n s.fragment b)
+    part at None = refl
+    part at (Some mode) = ap (λ (z : LentStripe). z ∷ []) (sym (subst (λ z. g (lent_as z mode s.fragment) ≡ lent_as z mode t.fragment) at (here mode)))
+lent_from-set g n (x ∷ ss) (suc k) m s t e l h other here =
+    let first : map g (lent_part n x.fragment x.held) ≡ lent_part n x.fragment x.held =
+    each_stays g (lent_part n x.fragment x.held) (λ z i. other z (λ d. let f : z.held.stripe ≡ n = lent_numbered n x.fragment x.held z i in omega (arith, f, l, d))) in
+    let rest : lent_from (suc n) (set ss k t) ≡ map g (lent_from (suc n) ss) = lent_from-set g (suc n) ss k m s t e (omega (arith, l)) h other here in
+    (λ i. sym first i ++ rest i) ∙ sym (map-append g (lent_part n x.fragment x.held) (lent_from (suc n) ss))
+
+-- each stripe that is held is lent
+pub lent_from_in : (n : ℕ) (ss : List Stripe) (k m : ℕ) (s : Stripe) (mode : Mode) → slice_get ss k ≡ Some s → m ≡ n + k → s.held ≡ Some mode → In (lent_as m mode s.fragment) (lent_from n ss)
+lent_from_in n [] k m s mode e l h = cc
+lent_from_in n (x ∷ ss) zero m s mode e l h =
+    let w : LentStripe = lent_as m mode s.fragment in
+    let same : s ≡ x = sym (same_Some _ _ e) in
+    let at : m ≡ n = omega (arith, l) in
+    let own : In w (lent_part m s.fragment (Some mode)) = inl refl in
+    let part : In w (lent_part m s.fragment s.held) = subst (λ z. In w (lent_part m s.fragment z)) (sym h) own in
+    let moved : In w (lent_part n s.fragment s.held) = subst (λ z. In w (lent_part z s.fragment s.held)) at part in
+    append_in_left w (lent_part n x.fragment x.held) (lent_from (suc n) ss) (subst (λ (z : Stripe). In w (lent_part n z.fragment z.held)) same moved)
+lent_from_in n (x ∷ ss) (suc k) m s mode e l h =
+    append_in_right (lent_as m mode s.fragment) (lent_part n x.fragment x.held) (lent_from (suc n) ss) (lent_from_in (suc n) ss k m s mode e (omega (arith, l)) h)
 
 -- a stripe above all that are held is free, and none above it is held
-nothing_held : (held : List HeldStripe) → ((h : HeldStripe) → In h held → ⊥) → held ≡ []
-nothing_held [] f = refl
-nothing_held (h ∷ held) f = absurd (f h (inl refl))
+nothing_lent : (lent : List LentStripe) → ((l : LentStripe) → In l lent → ⊥) → lent ≡ []
+nothing_lent [] f = refl
+nothing_lent (l ∷ lent) f = absurd (f l (inl refl))
 
 part_free : (n : ℕ) (f : FragmentRows) (m : Option Mode) → ((h : HeldStripe) → In h (held_part n f m) → ⊥) → m ≡ None
 part_free n f None d = refl
 part_free n f (Some mode) d = absurd (d _ (inl refl))
 
--- the stripe is held as it stood, at the end
-pub held_from-taken : (n : ℕ) (ss : List Stripe) (k m : ℕ) (s t : Stripe) (mode : Mode) → slice_get ss k ≡ Some s → m ≡ n + k → IsAbove (held_from n ss) m → t.held ≡ Some mode
-    → held_from n (set ss k t) ≡ held_from n ss ++ as_held m mode t.fragment ∷ []
-held_from-taken n [] k m s t mode e l a h = cc
-held_from-taken n (x ∷ ss) zero m s t mode e l a h =
+-- the stripe is lent as it stood, at the end
+pub lent_from-taken : (n : ℕ) (ss : List Stripe) (k m : ℕ) (s t : Stripe) (mode : Mode) → slice_get ss k ≡ Some s → m ≡ n + k → IsAbove (held_from n ss) m → t.held ≡ Some mode
+    → lent_from n (set ss k t) ≡ lent_from n ss ++ lent_as m mode t.fragment ∷ []
+lent_from-taken n [] k m s t mode e l a h = cc
+lent_from-taken n (x ∷ ss) zero m s t mode e l a h =
     let at : n ≡ m = omega (arith, l) in
     let free : x.held ≡ None = part_free n x.fragment x.held (λ g i. let u : g.stripe < m = a g (append_in_left g _ _ i) in let f : g.stripe ≡ n = part_numbered n x.fragment x.held g i in omega (arith, u, f, at)) in
-    let rest : held_from (suc n) ss ≡ [] =
-    nothing_held (held_from (suc n) ss) (λ g i.
-    let w : IsHeldFrom (suc n) ss g = in_held_from (suc n) ss g i in
-    let f : g.stripe ≡ suc n + w.place = w.numbered in
-    let u : g.stripe < m = a g (append_in_right g (held_part n x.fragment x.held) (held_from (suc n) ss) i) in omega (arith, f, u, at)) in
-    let one : List HeldStripe = record { stripe = m; mode = mode; now = t.fragment.now; taken = t.fragment.taken } ∷ [] in
-    ap (λ z. held_part n t.fragment z ++ held_from (suc n) ss) h
-    ∙ ap (λ z. held_part n t.fragment (Some mode) ++ z) rest
-    ∙ ap (λ z. held_part z t.fragment (Some mode)) at
-    ∙ ap (λ z. (held_part n x.fragment z ++ []) ++ one) (sym free)
-    ∙ ap (λ z. (held_part n x.fragment x.held ++ z) ++ one) (sym rest)
-held_from-taken n (x ∷ ss) (suc k) m s t mode e l a h =
-    let rest = held_from-taken (suc n) ss k m s t mode e (omega (arith, l)) (λ g i. a g (append_in_right g (held_part n x.fragment x.held) (held_from (suc n) ss) i)) h in
-    ap (λ z. held_part n x.fragment x.held ++ z) rest ∙ sym (append_assoc (held_part n x.fragment x.held) (held_from (suc n) ss) _)
+    let rest : lent_from (suc n) ss ≡ [] =
+    nothing_lent (lent_from (suc n) ss) (λ z i.
+    let j : In z.held (held_from (suc n) ss) = lent_held (suc n) ss z i in
+    let w : IsHeldFrom (suc n) ss z.held = in_held_from (suc n) ss z.held j in
+    let f : z.held.stripe ≡ suc n + w.place = w.numbered in
+    let u : z.held.stripe < m = a z.held (append_in_right z.held (held_part n x.fragment x.held) (held_from (suc n) ss) j) in omega (arith, f, u, at)) in
+    let one : List LentStripe = lent_as m mode t.fragment ∷ [] in
+    ap (λ z. lent_part n t.fragment z ++ lent_from (suc n) ss) h
+    ∙ ap (λ z. lent_part n t.fragment (Some mode) ++ z) rest
+    ∙ ap (λ z. lent_part z t.fragment (Some mode)) at
+    ∙ ap (λ z. (lent_part n x.fragment z ++ []) ++ one) (sym free)
+    ∙ ap (λ z. (lent_part n x.fragment x.held ++ z) ++ one) (sym rest)
+lent_from-taken n (x ∷ ss) (suc k) m s t mode e l a h =
+    let rest = lent_from-taken (suc n) ss k m s t mode e (omega (arith, l)) (λ g i. a g (append_in_right g (held_part n x.fragment x.held) (held_from (suc n) ss) i)) h in
+    ap (λ z. lent_part n x.fragment x.held ++ z) rest ∙ sym (append_assoc (lent_part n x.fragment x.held) (lent_from (suc n) ss) _)
 
 -- a stripe above all that are held is free
 pub above_is_free : (ss : List Stripe) (k : ℕ) (s : Stripe) → slice_get ss k ≡ Some s → IsAbove (held_from 0 ss) k → s.held ≡ None

@@ -8,6 +8,7 @@ use Rattle.rc_tuple.specs.RisingSet.{In}
 use Rattle.rc_spec.specs.Fragments.{EdgeRow}
 use Rattle.rc_spec.specs.declared.lock.Mode.{Mode}
 use Rattle.rc_fragment.specs.FragmentRows.{FragmentRows}
+use Rattle.rc_fragment.specs.Keep.{IsAtRest}
 use Rattle.rc_instance.specs.Instance.{held_from, now_in, offered_at, room_at, room_in, rows_of, rows_of_fragments, stripes_of, table_of, table_of_fragments, taken_in, HaveOneTable, IsInstance, Stripe}
 
 -- ---- what is seen of them
@@ -79,8 +80,8 @@ fragments_have_one_table fs ms i f m =
     let w : (s : Stripe) × In s (stripes_of fs ms) × (s.fragment ≡ f) = stripe_of fs ms f m in
     ap (λ (z : FragmentRows). z.table) (sym w.2) ∙ i.table w.0 w.1 ∙ stripes_of-table fs ms
 
--- fragments with one table and the rows as taken may be held anyhow
-pub instance_of : (fs : List FragmentRows) (ms : List (Option Mode)) → HaveOneTable fs → ((f : FragmentRows) → In f fs → f.now ≡ f.taken) → IsInstance (stripes_of fs ms)
+-- fragments with one table and no change pending may be held anyhow
+pub instance_of : (fs : List FragmentRows) (ms : List (Option Mode)) → HaveOneTable fs → ((f : FragmentRows) → In f fs → IsAtRest f) → IsInstance (stripes_of fs ms)
 instance_of fs ms one same = record {
   table = λ s i. one s.fragment (fragment_in fs ms s i) ∙ sym (stripes_of-table fs ms);
   free = λ s i none. same s.fragment (fragment_in fs ms s i);

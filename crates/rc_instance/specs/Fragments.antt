@@ -1,24 +1,23 @@
--- What becomes of each fragment of an instance where all change at once.
-use Rattle.std.specs.Prelude.{◌≡◌, ◌≤◌, List, []}
-use Rattle.rc_fragment.specs.FragmentRows.{FragmentRows}
+-- What becomes of the fragments of an instance where several change at once.
+use Rattle.std.specs.Prelude.{◌≡◌, ℕ, zero, suc, List, [], ◌∷◌}
+use Rattle.rc_fragment.specs.FragmentRows.{FragmentRows, no_rows, settled}
 use Rattle.rc_fragment.specs.declared.shape.EdgeShape.{EdgeShape}
 
 -- a fragment with no row
-pub record IsEmptyFragment (shapes : List EdgeShape) (f : FragmentRows) : Type 0 where
-  pub table : f.table ≡ shapes
-  pub now : f.now ≡ []
-  pub taken : f.taken ≡ []
+abbrev pub IsEmptyFragment : List EdgeShape → FragmentRows → Type 0
+IsEmptyFragment shapes f = f ≡ no_rows shapes
 
 -- the same fragment, whose rows now count as taken
-pub record IsSettled (old new : FragmentRows) : Type 0 where
-  pub table : new.table ≡ old.table
-  pub now : new.now ≡ old.now
-  pub taken : new.taken ≡ old.now
-  pub room : old.room ≤ new.room
+abbrev pub IsSettled : FragmentRows → FragmentRows → Type 0
+IsSettled old new = new ≡ settled old
 
--- the same fragment with its rows as they were taken
-pub record IsReverted (old new : FragmentRows) : Type 0 where
-  pub table : new.table ≡ old.table
-  pub now : new.now ≡ old.taken
-  pub taken : new.taken ≡ old.taken
-  pub room : old.room ≤ new.room
+-- the list with the element at a number changed, if there is one
+abbrev pub with_at : {A : Type 0} → (A → A) → ℕ → List A → List A
+with_at f n [] = []
+with_at f zero (x ∷ xs) = f x ∷ xs
+with_at f (suc n) (x ∷ xs) = x ∷ with_at f n xs
+
+-- the list with the element at each of these numbers changed, one after the other
+abbrev pub each_at : {A : Type 0} → (A → A) → List ℕ → List A → List A
+each_at f [] xs = xs
+each_at f (n ∷ ns) xs = each_at f ns (with_at f n xs)

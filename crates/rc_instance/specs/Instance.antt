@@ -1,5 +1,5 @@
 -- What an instance keeps: one fragment for each physical stripe, and which stripes are held.
-use Rattle.std.specs.Prelude.{◌≡◌, ℕ, suc, ◌<◌, ◌≤◌, ◌^◌, List, [], ◌∷◌, ◌++◌, Option, None, Some, length}
+use Rattle.std.specs.Prelude.{◌≡◌, ℕ, suc, ◌<◌, ◌≤◌, ◌^◌, List, [], ◌∷◌, ◌++◌, Option, None, Some, length, map}
 use Rattle.std.specs.List.{flat_map, slice_get}
 use Rattle.rc_tuple.specs.RisingSet.{In}
 use Rattle.rc_tuple.specs.Tuple.{Pairs}
@@ -11,7 +11,8 @@ use Rattle.rc_spec.specs.declared.lock.Mode.{Mode}
 use Rattle.rc_spec.specs.declared.spec.Spec.{Spec}
 use Rattle.rc_fragment.specs.Fragment.{edge_table}
 use Rattle.rc_fragment.specs.FragmentRows.{FragmentRows}
-use Rattle.rc_fragment.specs.Holder.{HeldStripe, IsHeld}
+use Rattle.rc_fragment.specs.Holder.{HeldStripe, Holding, IsHeld, LentStripe}
+use Rattle.rc_fragment.specs.Keep.{IsAtRest}
 use Rattle.rc_fragment.specs.declared.shape.EdgeShape.{EdgeShape}
 
 -- ---- what is seen of the stripes
@@ -42,6 +43,37 @@ abbrev pub held_from : ℕ → List Stripe → List HeldStripe
 held_from n [] = []
 held_from n (s ∷ ss) = held_part n s.fragment s.held ++ held_from (suc n) ss
 
+-- a stripe as a holder lends it, if it is held
+abbrev pub lent_part : ℕ → FragmentRows → Option Mode → List LentStripe
+lent_part n f None = []
+lent_part n f (Some mode) = record { held = record { stripe = n; mode = mode; now = f.now; taken = f.taken }; room = f.room } ∷ []
+
+-- the held ones of several stripes, the first of which has this number, as a holder lends them
+abbrev pub lent_from : ℕ → List Stripe → List LentStripe
+lent_from n [] = []
+lent_from n (s ∷ ss) = lent_part n s.fragment s.held ++ lent_from (suc n) ss
+
+-- what an instance tells as a holder: each stripe offers its rows as taken, and no take is refused
+abbrev pub holding : List Stripe → Holding
+holding ss = record { table = table_of ss; lent = lent_from 0 ss; offered = map (λ s. Some s.fragment.taken) ss; refusals = 0; last_refusal = None; through = 0 }
+
+-- the numbers of the held ones of several stripes, the first of which has this number
+abbrev pub number_part : ℕ → Option Mode → List ℕ
+number_part n None = []
+number_part n (Some mode) = n ∷ []
+
+abbrev pub held_numbers : ℕ → List Stripe → List ℕ
+held_numbers n [] = []
+held_numbers n (s ∷ ss) = number_part n s.held ++ held_numbers (suc n) ss
+
+-- how the stripe of a number is held, if there is one and it is held
+abbrev pub mode_in : Option Stripe → Option Mode
+mode_in None = None
+mode_in (Some s) = s.held
+
+abbrev pub held_mode : List Stripe → ℕ → Option Mode
+held_mode ss n = mode_in (slice_get ss n)
+
 -- the rows as taken, which are offered where the stripe is free
 abbrev pub taken_in : Option Stripe → Option (List EdgeRow)
 taken_in None = None
@@ -61,10 +93,16 @@ room_at ss n = room_in (slice_get ss n)
 abbrev pub rows_of : List Stripe → List EdgeRow
 rows_of ss = flat_map (λ s. s.fragment.now) ss
 
--- all fragments have one edge table, and the rows of a free stripe are as taken
+-- all fragments have one edge table, and no change of a free stripe is pending
 pub record IsInstance (ss : List Stripe) : Type 0 where
   pub table : (s : Stripe) → In s ss → s.fragment.table ≡ table_of ss
-  pub free : (s : Stripe) → In s ss → s.held ≡ None → s.fragment.now ≡ s.fragment.taken
+  pub free : (s : Stripe) → In s ss → s.held ≡ None → IsAtRest s.fragment
+
+-- what an instance keeps: its stripes' fragments, at most as many as there are places for how each is held, and the numbers of those that are held
+pub record IsWholeInstance (fs : List FragmentRows) (ms : List (Option Mode)) (numbers : List ℕ) : Type 0 where
+  pub stripes : IsInstance (stripes_of fs ms)
+  pub few : length fs ≤ 256
+  pub numbers_held : numbers ≡ held_numbers 0 (stripes_of fs ms)
 
 -- ---- instances that are made
 
@@ -105,7 +143,7 @@ pub record AreReleased (old new : List Stripe) : Type 0 where
   pub rows : rows_of new ≡ rows_of old
   pub settled : (h : HeldStripe) → In h (held_from 0 old) → offered_at new h.stripe ≡ Some h.now
   pub others : (n : ℕ) → (IsHeld (held_from 0 old) n → ⊥) → offered_at new n ≡ offered_at old n
-  pub room : (n : ℕ) → room_at old n ≤ room_at new n
+  pub room : (n : ℕ) → room_at new n ≡ room_at old n
   pub stripes : length new ≡ length old
   pub table : table_of new ≡ table_of old
 

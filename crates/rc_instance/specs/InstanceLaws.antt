@@ -1,8 +1,9 @@
 -- Laws of instances: what they hold and offer, and what they represent.
-use Rattle.std.specs.Prelude.{◌≡◌, ℕ, zero, suc, ◌+◌, ◌<◌, ◌^◌, ◌⊎◌, ◌==◌, Bool, true, false, List, [], ◌∷◌, Option, None, Some, length}
+use Rattle.std.specs.Prelude.{◌≡◌, ℕ, zero, suc, ◌+◌, ◌<◌, ◌^◌, ◌⊎◌, ◌==◌, Bool, true, false, List, [], ◌∷◌, Option, None, Some, length, map, ◌++◌}
 use Rattle.std.specs.List.{slice_get}
 use Rattle.std.proofs.Common.{inl, inr, refl, sym, ap, subst, ◌∙◌, arith}
 use Rattle.std.proofs.lemmas.Bool.{eqb-true, eq-eqb, false≢true}
+use Rattle.std.proofs.lemmas.List.{length-map}
 use Rattle.std.proofs.lemmas.Option.{same_Some, slice_get_within}
 use Rattle.rc_tuple.specs.RisingSet.{In}
 use Rattle.rc_tuple.specs.RisingSetLaws.{in_append, append_in_left, append_in_right}
@@ -15,8 +16,8 @@ use Rattle.rc_spec.specs.declared.lock.Mode.{Mode}
 use Rattle.rc_spec.specs.declared.spec.Spec.{Spec}
 use Rattle.rc_fragment.specs.Fragment.{edge_table}
 use Rattle.rc_fragment.specs.FragmentRows.{FragmentRows}
-use Rattle.rc_fragment.specs.Holder.{HeldStripe, AreOfOneRelation, IsHeld}
-use Rattle.rc_instance.specs.Instance.{held_part, held_from, IsOfOneRelation, now_in, offered_at, table_of, table_of_fragments, taken_in, AreReleased, IsMadeOf, IsOfRelation, Stripe}
+use Rattle.rc_fragment.specs.Holder.{HeldStripe, LentStripe, AreOfRelation, AreOfOneRelation, IsHeld, held_of}
+use Rattle.rc_instance.specs.Instance.{held_part, held_from, holding, lent_part, lent_from, IsOfOneRelation, now_in, offered_at, table_of, table_of_fragments, taken_in, AreReleased, IsMadeOf, IsOfRelation, Stripe}
 
 -- ---- held stripes
 
@@ -43,6 +44,14 @@ in_held_part n s rest (Some mode) e h (inl p) = record {
 }
 in_held_part n s rest (Some mode) e h (inr i) = absurd i
 
+-- a stripe that is held, as a plan has it
+abbrev pub as_held : ℕ → Mode → FragmentRows → HeldStripe
+as_held n mode f = record { stripe = n; mode = mode; now = f.now; taken = f.taken }
+
+-- and as a holder lends it
+abbrev pub lent_as : ℕ → Mode → FragmentRows → LentStripe
+lent_as n mode f = record { held = as_held n mode f; room = f.room }
+
 pub in_held_from : (n : ℕ) (ss : List Stripe) (h : HeldStripe) → In h (held_from n ss) → IsHeldFrom n ss h
 in_held_from n [] h i = absurd i
 in_held_from n (s ∷ ss) h i = elim (in_append h (held_part n s.fragment s.held) (held_from (suc n) ss) i) [
@@ -60,9 +69,18 @@ in_held_from n (s ∷ ss) h i = elim (in_append h (held_part n s.fragment s.held
       }
 ]
 
--- a stripe that is held, as a plan has it
-abbrev pub as_held : ℕ → Mode → FragmentRows → HeldStripe
-as_held n mode f = record { stripe = n; mode = mode; now = f.now; taken = f.taken }
+-- the stripes held are those lent
+pub held-lent : (n : ℕ) (ss : List Stripe) → map (λ (l : LentStripe). l.held) (lent_from n ss) ≡ held_from n ss
+held-lent n [] = refl
+held-lent n (s ∷ ss) = go s.held (held-lent (suc n) ss)
+  where
+    go : (m : Option Mode) → map (λ (l : LentStripe). l.held) (lent_from (suc n) ss) ≡ held_from (suc n) ss
+        → map (λ (l : LentStripe). l.held) (lent_part n s.fragment m ++ lent_from (suc n) ss) ≡ held_part n s.fragment m ++ held_from (suc n) ss
+    go None rest = rest
+    go (Some mode) rest = ap (λ (z : List HeldStripe). as_held n mode s.fragment ∷ z) rest
+
+pub held_of-holding : (ss : List Stripe) → held_of (holding ss) ≡ held_from 0 ss
+held_of-holding ss = held-lent 0 ss
 
 -- and each stripe that is held stands among them
 pub held_from_in : (n : ℕ) (ss : List Stripe) (k m : ℕ) (s : Stripe) (mode : Mode) → slice_get ss k ≡ Some s → m ≡ n + k → s.held ≡ Some mode
@@ -81,13 +99,16 @@ held_from_in n (x ∷ ss) (suc k) m s mode e l h =
 
 -- ---- soundness
 
-pub sound_table : (ss : List Stripe) (spec : Spec) → IsOfOneRelation ss spec → (table_of ss ≡ edge_table spec) × (length ss ≡ stripe_total spec)
-sound_table ss spec o = (o.1.table, o.1.stripes)
+pub offered-length : (ss : List Stripe) → length (holding ss).offered ≡ length ss
+offered-length ss = length-map ss (λ (s : Stripe). Some s.fragment.taken)
 
-pub sound_rows : (ss : List Stripe) (spec : Spec) → IsOfOneRelation ss spec → AreOfOneRelation spec (held_from 0 ss)
+pub sound_table : (ss : List Stripe) (spec : Spec) → IsOfOneRelation ss spec → ((holding ss).table ≡ edge_table spec) × (length (holding ss).offered ≡ stripe_total spec)
+sound_table ss spec o = (o.1.table, offered-length ss ∙ o.1.stripes)
+
+pub sound_rows : (ss : List Stripe) (spec : Spec) → IsOfOneRelation ss spec → AreOfOneRelation spec (held_of (holding ss))
 sound_rows ss spec o = (
   o.0,
-  record {
+  subst (λ z. AreOfRelation spec z o.0) (sym (held_of-holding ss)) record {
     relation = o.1.relation;
     satisfies = o.1.satisfies;
     few = o.1.few;

@@ -43,7 +43,7 @@ free_law spec sealed ss i r none o =
     instance_law spec sealed ss r o.relation o.satisfies o.stripes (λ n s e.
     let l : n < length ss = slice_get_within ss n s e in
     let told : Some s.fragment.taken ≡ Some (fragment_of spec r n) = ap taken_in (sym e) ∙ o.rows n (omega (arith, l, o.stripes)) in
-    i.free s (slice_get_in ss n s e) (free n s e s.held refl) ∙ same_Some _ _ told)
+    sym (i.free s (slice_get_in ss n s e) (free n s e s.held refl)).taken ∙ same_Some _ _ told)
   where
     free : (n : ℕ) (s : Stripe) → slice_get ss n ≡ Some s → (m : Option Mode) → s.held ≡ m → s.held ≡ None
     free n s e None h = h

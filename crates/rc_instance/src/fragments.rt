@@ -1,16 +1,17 @@
 //! All fragments of an instance at once.
 
-ghost use Rattle.std.specs.Prelude.{◌≡◌, ◌≤◌, IfOk, length};
+ghost use Rattle.std.specs.Prelude.{◌≡◌, ◌≤◌, None, IfOk, length};
 ghost use Rattle.std.specs.List.{AllZip};
 ghost use Rattle.rc_tuple.specs.RisingSet.{In};
+ghost use Rattle.rc_spec.specs.InRange.{AreBelow};
 ghost use Rattle.rc_spec.specs.Stripes.{stripe_total};
 ghost use Rattle.rc_fragment.specs.Fragment.{edge_table};
-ghost use Rattle.rc_fragment.specs.FragmentRows.{FragmentRows};
-ghost use Rattle.rc_instance.specs.Fragments.{IsEmptyFragment, IsReverted, IsSettled};
+ghost use Rattle.rc_fragment.specs.FragmentRows.{FragmentRows, rolled_back, settled};
+ghost use Rattle.rc_instance.specs.Fragments.{IsEmptyFragment, IsSettled, each_at};
 ghost use Rattle.rc_instance.specs.Instance.{table_of_fragments};
 
 use rc_fragment::Fragment;
-use rc_spec::{Accepted, stripe_total};
+use rc_spec::{Accepted, Mode, stripe_total};
 use rc_tuple::Memory;
 use std::alloc::Global;
 
@@ -44,18 +45,34 @@ pub(crate) fn settle_all(fragments: &mut [Fragment])
     }
 }
 
-/// Makes the rows of a fragment what they were as taken.
-fn revert(fragment: &mut Fragment)
-    ensures { IsReverted fragment.old fragment.new }
+/// Makes the rows of these stripes' fragments count as taken. Costs their changes.
+pub(crate) fn settle_held(fragments: &mut [Fragment], stripes: &[u32])
+    requires { AreBelow (length fragments.old) stripes.now }
+    ensures { fragments.new ≡ each_at settled stripes.now fragments.old }
 {
-    fragment.revert();
+    for stripe in stripes {
+        let held = &mut fragments[*stripe as usize];
+        held.settle();
+    }
 }
 
-/// Makes the rows of all fragments what they were as taken.
-pub(crate) fn revert_all(fragments: &mut [Fragment])
-    ensures { AllZip IsReverted fragments.old fragments.new }
+/// Makes the rows of these stripes' fragments what they were as taken. Costs their changes.
+pub(crate) fn revert_held(fragments: &mut [Fragment], stripes: &[u32])
+    requires { AreBelow (length fragments.old) stripes.now }
+    ensures { fragments.new ≡ each_at rolled_back stripes.now fragments.old }
 {
-    for fragment in fragments.iter_mut() {
-        revert(fragment);
+    for stripe in stripes {
+        let fragment = &mut fragments[*stripe as usize];
+        fragment.revert();
+    }
+}
+
+/// Notes of these stripes that they are held no more.
+pub(crate) fn free_held(held: &mut [Option<Mode>], stripes: &[u32])
+    requires { AreBelow (length held.old) stripes.now }
+    ensures { held.new ≡ each_at (λ _. None) stripes.now held.old }
+{
+    for stripe in stripes {
+        held[*stripe as usize] = None;
     }
 }

@@ -1,42 +1,41 @@
 //! An instance: one fragment for each physical stripe.
 
-ghost use Rattle.std.specs.Prelude.{◌≡◌, ℕ, ◌<◌, ◌≤◌, List, [], None, IfOk, IsOk, OnOk, length};
+ghost use Rattle.std.specs.Prelude.{◌≡◌, ◌<◌, ◌≤◌, List, [], IfOk, IsOk, OnOk, length};
 ghost use Rattle.rc_tuple.specs.Tuple.{Pairs};
 ghost use Rattle.rc_spec.specs.Fragments.{represented_by};
 ghost use Rattle.rc_spec.specs.Stripes.{stripe_total};
 ghost use Rattle.rc_spec.specs.declared.spec.Spec.{Spec};
 ghost use Rattle.rc_fragment.specs.Fragment.{edge_table};
-ghost use Rattle.rc_fragment.specs.Holder.{HasTaken, IsAbove, IsHeld};
-ghost use Rattle.rc_instance.specs.Instance.{AreReleased, HaveOneTable, IsEmpty, IsMadeOf, IsOfOneRelation, IsOfRelation, held_from, offered_at, room_at, rows_of, table_of};
+ghost use Rattle.rc_fragment.specs.Holder.{HasTaken, IsAbove, held_of};
+ghost use Rattle.rc_instance.specs.Instance.{AreReleased, HaveOneTable, IsEmpty, IsMadeOf, IsOfOneRelation, IsOfRelation, held_from, held_mode, holding, rows_of, table_of};
 
-use crate::fragments::{empty_fragments, revert_all, settle_all};
+use crate::fragments::{empty_fragments, free_held, revert_held, settle_all, settle_held};
+use crate::held_numbers::HeldNumbers;
 use crate::represent::joined_rows;
 use rc_fragment::{Fragment, Holder, TakeStop};
-use rc_spec::{Accepted, Mode};
+use rc_spec::{Accepted, MAX_STRIPES, Mode};
 use rc_tuple::{Memory, Tuple, Tuples};
 use std::alloc::Global;
 use std::marker::Model;
-
-/// An accepted specification has at most so many physical stripes.
-const MOST_STRIPES: usize = 256;
 
 /// The fragments of all physical stripes, for one plan at a time: every take succeeds. (The instance
 /// of a decomposition, PLDI 2011.)
 #[derive(Drop, Debug)]
 pub struct Instance {
     fragments: Vec<Fragment>,
-    held: [Option<Mode>; MOST_STRIPES],
+    held: [Option<Mode>; MAX_STRIPES],
+    numbers: HeldNumbers,
 }
 
 impl Model for Instance {
-    ghost use Rattle.std.specs.Prelude.{◌≤◌, List, length};
-    ghost use Rattle.rc_instance.specs.Instance.{IsInstance, Stripe, stripes_of};
+    ghost use Rattle.std.specs.Prelude.{List};
+    ghost use Rattle.rc_instance.specs.Instance.{IsWholeInstance, Stripe, stripes_of};
 
     ghost Value = { List Stripe };
 
     ghost view = { λ a. stripes_of a.fragments.items a.held };
 
-    ghost invariant = { λ a. IsInstance (stripes_of a.fragments.items a.held) × (length a.fragments.items ≤ 256) };
+    ghost invariant = { λ a. IsWholeInstance a.fragments.items a.held a.numbers };
 }
 
 impl Instance {
@@ -50,7 +49,8 @@ impl Instance {
     {
         Ok(Instance {
             fragments: empty_fragments(alloc, accepted)?,
-            held: [None; MOST_STRIPES],
+            held: [None; MAX_STRIPES],
+            numbers: HeldNumbers::none(),
         })
     }
 
@@ -66,17 +66,27 @@ impl Instance {
         settle_all(&mut fragments);
         Instance {
             fragments,
-            held: [None; MOST_STRIPES],
+            held: [None; MAX_STRIPES],
+            numbers: HeldNumbers::none(),
         }
     }
 
-    /// Frees all stripes and makes their rows now count as taken. Takes no memory. Costs the changes of
-    /// the held stripes and the number of stripes.
+    /// Frees all stripes and makes their rows now count as taken. Takes no memory. Costs the held
+    /// stripes and their changes.
     pub fn release_all(&mut self)
         ensures { AreReleased self.old self.new }
     {
-        settle_all(&mut self.fragments);
-        self.held = [None; MOST_STRIPES];
+        settle_held(&mut self.fragments, self.numbers.list());
+        free_held(&mut self.held, self.numbers.list());
+        self.numbers.clear();
+    }
+
+    /// In which mode the stripe is held, if it is held.
+    pub fn held_mode(&self, stripe: u32) -> Option<Mode>
+        requires { stripe < length self.now }
+        ensures { result ≡ held_mode self.now stripe }
+    {
+        self.held[stripe as usize]
     }
 
     /// The tuples that the instance represents, rising: the join of the rows now of all edges. Where no
@@ -93,19 +103,9 @@ impl Instance {
 }
 
 impl Holder for Instance {
-    ghost stripes = { λ i. length i };
+    ghost use Rattle.rc_instance.specs.Instance.{holding};
 
-    ghost table = { table_of };
-
-    ghost held = { held_from 0 };
-
-    ghost room = { room_at };
-
-    ghost offered = { offered_at };
-
-    ghost refusals = { λ _. 0 };
-
-    ghost last_refusal = { λ _. None };
+    ghost seen = { holding };
 
     ghost is_sound = { IsOfOneRelation };
 
@@ -117,17 +117,14 @@ impl Holder for Instance {
 
     /// Takes the stripe. It always succeeds.
     fn take(&mut self, stripe: u32, mode: Mode) -> Result<(), TakeStop>
-        requires known { stripe < length self.old }
-        requires above { IsAbove (held_from 0 self.old) stripe }
+        requires known { stripe < length (holding self.old).offered }
+        requires above { IsAbove (held_of (holding self.old)) stripe }
         ensures always { IsOk result }
-        ensures ok { OnOk result (HasTaken (held_from 0 self.old) (held_from 0 self.new) stripe mode (offered_at self.old stripe)) }
-        ensures kept { (p : ℕ) → IsHeld (held_from 0 self.old) p → room_at self.old p ≤ room_at self.new p }
-        ensures offers { (p : ℕ) → (IsHeld (held_from 0 self.new) p → ⊥) → offered_at self.new p ≡ offered_at self.old p }
-        ensures stripes { length self.new ≡ length self.old }
-        ensures table { table_of self.new ≡ table_of self.old }
+        ensures ok { OnOk result (HasTaken (holding self.old) (holding self.new) stripe mode) }
         ensures sound { (spec : Spec) → IsOfOneRelation self.old spec → IsOfOneRelation self.new spec }
     {
         self.held[stripe as usize] = Some(mode);
+        self.numbers.push(stripe);
         Ok(())
     }
 
@@ -151,6 +148,6 @@ impl Holder for Instance {
     }
 
     fn revert(&mut self) {
-        revert_all(&mut self.fragments);
+        revert_held(&mut self.fragments, self.numbers.list());
     }
 }

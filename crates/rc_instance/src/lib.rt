@@ -2,6 +2,7 @@
 #![tactic(auto)]
 
 mod fragments;
+mod held_numbers;
 mod instance;
 mod laws;
 mod represent;

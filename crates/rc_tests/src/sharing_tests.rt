@@ -1,9 +1,9 @@
 //! Types of which threads may share values.
 
-use rc_graph::NodeOrder;
+use rc_fragment::{Fragment, Keep};
 use rc_plan::{Compiled, Plan, Statement};
 use rc_rel::{Entry, PlainRel};
-use rc_spec::{Accepted, Call, Reply, Spec};
+use rc_spec::{Accepted, Call, NodeOrder, Reply, Spec};
 use rc_tuple::{ColSet, Cols, Dep, Tuple, Tuples};
 use std::test::Fail;
 
@@ -58,4 +58,12 @@ fn shares_relations(rt: HostRuntime) {
 fn shares_orders() {
     let order: Option<NodeOrder> = None;
     is_shared(&order);
+}
+
+#[test]
+fn shares_fragments() {
+    let fragment: Option<Fragment> = None;
+    is_shared(&fragment);
+    let kept: Option<Keep> = None;
+    is_shared(&kept);
 }

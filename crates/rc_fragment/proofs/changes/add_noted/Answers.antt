@@ -67,7 +67,7 @@ returns-in_err-add_place-clause-fragment c =
     let new : List EdgeRows = c.add_place.new.edges.items in
     let place : Place = (c.args.edge, c.in_ok-source.source, c.in_ok-key.key) in
     let b : PlaceBecomes edges new place (now_at_place edges place) (taken_at_place edges place) = c.in_err-add_place.ensures.err in
-    fragment_same edges new c.args.notes.now.items c.args.pairs.now.items place c.requires.fragment b
+    fragment_same edges new c.args.notes.now.items c.args.pairs.now.items place c.requires.fragment b c.in_err-add_place.ensures.kept
 
 pub returns-in_err-add_place-clause-err : goal.returns-in_err-add_place-clause-err
 returns-in_err-add_place-clause-err c =

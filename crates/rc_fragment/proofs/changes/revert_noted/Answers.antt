@@ -2,7 +2,7 @@ use Rattle.std.proofs.Common.{◌<◌, [], length, sym, subst, ◌∙◌}
 use Rattle.std.specs.Prelude.{List}
 use Rattle.rc_tuple.specs.RisingSet.{In}
 use Rattle.rc_fragment.specs.Container.{now_in, taken_in}
-use Rattle.rc_fragment.specs.Notes.{IsFragment, IsNoteWithin}
+use Rattle.rc_fragment.specs.Notes.{AreEmptiedNoted, IsFragment, IsNoteWithin, places_of}
 use Rattle.rc_fragment.specs.declared.edge_rows.EdgeRows.{EdgeRows}
 use Rattle.rc_fragment.proofs.ChangeLemmas.{same_listing}
 use Rattle.rc_fragment.proofs.PlaceLemmas.{fragment_clear}
@@ -15,11 +15,17 @@ revert_places-requires-clause-within c = λ m h.
     let w : (m.edge < length c.args.edges.now.items) × IsNoteWithin (length c.args.pairs.now.items) m = c.requires.within m a in
     (w.0, subst (λ z. IsNoteWithin (length z) m) (sym c.deref-2.ensures.value) w.1)
 
+pub revert_places-requires-clause-emptied : goal.revert_places-requires-clause-emptied
+revert_places-requires-clause-emptied c =
+    let edges : List EdgeRows = c.args.edges.now.items in
+    subst (λ z. AreEmptiedNoted edges (places_of z c.deref.result.now)) (sym c.deref-2.ensures.value)
+    (subst (λ z. AreEmptiedNoted edges (places_of c.args.pairs.now.items z)) (sym c.deref.ensures.value) c.requires.emptied)
+
 pub returns-clause-fragment : goal.returns-clause-fragment
 returns-clause-fragment c =
     let new : List EdgeRows = c.revert_places.new.edges.items in
-    subst (λ z. IsFragment new z c.clear-2.new.self.items) (sym c.clear.ensures.items) (subst (IsFragment new []) (sym c.clear-2.ensures.items)
-    (fragment_clear new c.revert_places.ensures.stored (λ e s k. c.revert_places.ensures.now e s k ∙ sym (c.revert_places.ensures.taken e s k))))
+    subst (λ z. IsFragment new z c.forget.new.pairs.items) (sym c.forget.ensures.notes) (subst (IsFragment new []) (sym c.forget.ensures.pairs)
+    (fragment_clear new c.revert_places.ensures.stored (λ e s k. c.revert_places.ensures.now e s k ∙ sym (c.revert_places.ensures.taken e s k)) c.revert_places.ensures.freed))
 
 pub returns-clause-now : goal.returns-clause-now
 returns-clause-now c =

@@ -1,4 +1,4 @@
-use Rattle.std.proofs.Common.{◌≡◌, ◌+◌, ◌<◌, ◌^◌, Option, Some, refl, sym, subst}
+use Rattle.std.proofs.Common.{◌≡◌, ◌+◌, ◌<◌, ◌^◌, inr, Option, Some, refl, sym, subst}
 use Rattle.std.specs.Prelude.{List, slice_set}
 use Rattle.std.specs.List.{slice_get}
 use Rattle.rc_tuple.specs.Tuple.{Pairs}
@@ -9,7 +9,7 @@ use Rattle.rc_fragment.specs.Listing.{IsStored, found_by}
 use Rattle.rc_fragment.specs.Notes.{PlaceBecomes}
 use Rattle.rc_fragment.specs.Sources.{AreSame, Becomes, now_at, taken_at}
 use Rattle.rc_fragment.specs.declared.edge_rows.EdgeRows.{EdgeRows}
-use Rattle.rc_fragment.proofs.ChangeLemmas.{found_edge, found_there, place_becomes, place_of_filed, place_of_row, IsOfPlace}
+use Rattle.rc_fragment.proofs.ChangeLemmas.{emptied_kept, found_edge, found_there, place_becomes, place_of_filed, place_of_row, IsOfPlace}
 use Rattle.rc_fragment.proofs.PlaceLemmas.{set_from_same}
 use Rattle.rc_fragment.proofs.SourcesLemmas.{on_ok_from, on_err_from}
 use Rattle.rc_fragment.proofs.places.add_place.Goals as goal
@@ -82,8 +82,18 @@ returns-clause-err c =
     let b : Becomes x y s k (now_at x s k) (taken_at x s k) = record {
       now = set_from_same (now_at x) (now_at y) a.now s k;
       taken = set_from_same (taken_at x) (taken_at y) a.taken s k;
+      emptied = λ s h. inr (a.emptied s h);
       kinds = a.kinds;
       shape = a.shape;
     } in
     let r : PlaceBecomes edges set (e, s, k) (now_at x s k) (taken_at x s k) = place_becomes edges set e x y n refl c.requires.stored s k (now_at x s k) (taken_at x s k) b p q in
     subst (λ z. PlaceBecomes edges set (e, s, k) z (found_by taken_in edges e s k)) now (subst (λ z. PlaceBecomes edges set (e, s, k) (now_at x s k) z) taken r))
+
+pub returns-clause-kept : goal.returns-clause-kept
+returns-clause-kept c =
+    let edges : List EdgeRows = c.args.edges.now.items in
+    let e = c.args.edge in
+    let x : EdgeRows = c.index_mut-edge.result.now in
+    let y : EdgeRows = c.add.new.self in
+    let n : slice_get edges e ≡ Some x = found_edge edges e x c.requires.edge c.index_mut-edge.ensures.value in
+    on_err_from _ _ c.add.result c.add.ensures.err (λ (a : AreSame x y). emptied_kept edges (slice_set edges e y) e x y n refl a.emptied)

@@ -1,14 +1,14 @@
 use Rattle.std.proofs.Common.{◌≡◌, ◌+◌, ◌<◌, ◌∷◌, ℕ, length, drop, get_or, ap, subst, ◌∙◌, arith}
 use Rattle.std.specs.Prelude.{List, Option}
-use Rattle.std.proofs.lemmas.List.{drop_more}
+use Rattle.std.proofs.lemmas.List.{drop_all, drop_more}
 use Rattle.rc_tuple.specs.RisingSetLaws.{get_or_in}
 use Rattle.rc_edges.specs.EdgeMap.{Counted}
 use Rattle.rc_fragment.specs.Container.{taken_in}
 use Rattle.rc_fragment.specs.Listing.{found_by}
-use Rattle.rc_fragment.specs.Notes.{Place, AreNoted, IsNoteWithin, taken_at_place, place_of, places_of}
+use Rattle.rc_fragment.specs.Notes.{Place, AreEmptiedNoted, AreNoted, IsNoteWithin, taken_at_place, place_of, places_of}
 use Rattle.rc_fragment.specs.declared.edge_rows.EdgeRows.{EdgeRows}
 use Rattle.rc_fragment.specs.declared.note.Note.{Note}
-use Rattle.rc_fragment.proofs.PlaceLemmas.{same_length, set_as_it_was, noted_less}
+use Rattle.rc_fragment.proofs.PlaceLemmas.{same_length, set_as_it_was, noted_less, emptied_less}
 use Rattle.rc_fragment.proofs.places.revert_places.Goals as goal
 
 abbrev no_note : Note
@@ -37,8 +37,14 @@ loop-note-preserved c =
     let rest : places_of c.args.pairs.now (drop i c.args.notes.now) ≡ place ∷ places_of c.args.pairs.now (drop (i + 1) c.args.notes.now) =
     ap (places_of c.args.pairs.now) (drop_more c.args.notes.now i no_note c.loop-note-test.true) in
     record {
-      stored = c.revert_place.ensures.stored;
-      noted = noted_less old new place (places_of c.args.pairs.now (drop (i + 1) c.args.notes.now)) x c.revert_place.ensures (subst (AreNoted old) rest c.loop-note.invariant.noted);
-      shapes = c.revert_place.ensures.shapes ∙ c.loop-note.invariant.shapes;
-      same = λ e s k. set_as_it_was (found_by taken_in old) (found_by taken_in new) place c.revert_place.ensures.taken e s k ∙ c.loop-note.invariant.same e s k;
+      stored = c.revert_place.ensures.becomes.stored;
+      noted = noted_less old new place (places_of c.args.pairs.now (drop (i + 1) c.args.notes.now)) x c.revert_place.ensures.becomes (subst (AreNoted old) rest c.loop-note.invariant.noted);
+      emptied = emptied_less old new place (places_of c.args.pairs.now (drop (i + 1) c.args.notes.now)) c.revert_place.ensures.becomes.emptied c.revert_place.ensures.freed
+          (subst (AreEmptiedNoted old) rest c.loop-note.invariant.emptied);
+      shapes = c.revert_place.ensures.becomes.shapes ∙ c.loop-note.invariant.shapes;
+      same = λ e s k. set_as_it_was (found_by taken_in old) (found_by taken_in new) place c.revert_place.ensures.becomes.taken e s k ∙ c.loop-note.invariant.same e s k;
     }
+
+pub returns-clause-freed : goal.returns-clause-freed
+returns-clause-freed c =
+    subst (λ z. AreEmptiedNoted c.loop-note.edges.items (places_of c.args.pairs.now z)) (drop_all c.loop-note.note-index c.args.notes.now c.loop-note-test.false) c.loop-note.invariant.emptied

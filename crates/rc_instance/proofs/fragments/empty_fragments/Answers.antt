@@ -27,7 +27,7 @@ loop-preserved c =
       count = ap length pushed ∙ (let l : length (old ++ f ∷ []) ≡ length old + 1 = length-append old (f ∷ []) in omega (arith, l, c.loop.invariant.count));
       empty = λ z m. elim (in_append z old (f ∷ []) (subst (In z) pushed m)) [
         | inl a ↦ c.loop.invariant.empty z a
-        | inr (inl p) ↦ subst (IsEmptyFragment (edge_table c.args.accepted.now)) (sym p) (record { table = e.table; now = e.now; taken = e.taken })
+        | inr (inl p) ↦ subst (IsEmptyFragment (edge_table c.args.accepted.now)) (sym p) e
         | inr (inr q) ↦ absurd q
       ];
     }

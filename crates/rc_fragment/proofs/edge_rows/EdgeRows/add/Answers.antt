@@ -6,7 +6,8 @@ use Rattle.rc_edges.specs.EdgeMap.{Counted, IsRowOf, count_of, written}
 use Rattle.rc_fragment.specs.Container.{now_in, taken_in}
 use Rattle.rc_fragment.specs.Sources.{Sources, by_source, found_in}
 use Rattle.rc_fragment.specs.declared.container.Container.{Container}
-use Rattle.rc_fragment.proofs.SourcesLemmas.{found, changed, set_by, set_same, set_kind, again, takes_alone, takes_first, none_there, on_err, on_ok_from}
+use Rattle.rc_fragment.specs.declared.edge_rows.EdgeRows.{EdgeRows}
+use Rattle.rc_fragment.proofs.SourcesLemmas.{found, changed, set_by, set_same, set_kind, again, emptied_same, emptied_written, takes_alone, takes_first, none_there, on_err, on_err_from, on_ok_from, same_entries}
 use Rattle.rc_fragment.proofs.edge_rows.EdgeRows.add.Goals as goal
 
 pub add-requires-clause-room : goal.add-requires-clause-room
@@ -43,6 +44,7 @@ returns-in_err-add-clause-err c =
     on_err _ c.from_residual.result record {
       now = set_same es set source (Some v) w f e now_in v refl c.in_err-add.ensures.err;
       taken = set_same es set source (Some v) w f e taken_in v refl c.add.ensures.taken;
+      emptied = emptied_same es set source v w f e c.in_err-add.ensures.err c.add.ensures.taken;
       kinds = set_kind es set source (Some v) w f e c.args.self.now.shape.kind c.requires.kinds (c.add.ensures.kind ∙ c.requires.kinds source v f);
       shape = refl;
     }
@@ -63,6 +65,7 @@ returns-in-Some-clause-ok c =
       now = set_by es set source (Some v) w f e now_in (now_in v) key (g (fin.get (by_source es) source)) (c.in_ok-add.ensures.ok ∙ ap (λ z. written (now_in v) key (g z)) (sym f)) (λ k. refl);
       taken = set_by es set source (Some v) w f e taken_in (taken_in v) key (found_in taken_in (fin.get (by_source es) source) key)
           (again (taken_in w) (taken_in v) key c.add.ensures.taken ∙ ap (λ z. written (taken_in v) key (found_in taken_in z key)) (sym f)) (λ k. refl);
+      emptied = emptied_written es set source (Some w) e;
       kinds = set_kind es set source (Some v) w f e c.args.self.now.shape.kind c.requires.kinds (c.add.ensures.kind ∙ c.requires.kinds source v f);
       shape = refl;
     }
@@ -96,6 +99,17 @@ returns-clause-ok c =
           (c.in_ok-add-2.ensures.ok ∙ ap (λ z. written (now_in b) key (Some (c.args.row.now, count_of z + 1))) (no_now key) ∙ ap (λ z. written (now_in b) key (g z)) (sym f)) no_now;
       taken = set_by es set source None w f e taken_in (taken_in b) key (found_in taken_in (fin.get (by_source es) source) key)
           (again (taken_in w) (taken_in b) key c.add-2.ensures.taken ∙ ap (written (taken_in b) key) (no_taken key ∙ ap (λ z. found_in taken_in z key) (sym f))) no_taken;
+      emptied = emptied_written es set source (Some w) e;
       kinds = set_kind es set source None w f e c.args.self.now.shape.kind c.requires.kinds (c.add-2.ensures.kind ∙ c.new-container.ensures.kind);
       shape = refl;
     })
+
+pub returns-in_err-add-2-clause-err : goal.returns-in_err-add-2-clause-err
+returns-in_err-add-2-clause-err c =
+    let x : EdgeRows = c.args.self.now in
+    on_err _ c.from_residual-in_err-add-2.result (same_entries x (record x { sources = c.get_mut.follows.lender-at-none }) (λ i. (c.get_mut.follows.holds-at-none i).entries) refl c.requires.kinds)
+
+pub returns-clause-err : goal.returns-clause-err
+returns-clause-err c =
+    let x : EdgeRows = c.args.self.now in
+    on_err_from _ _ c.put.result c.put.ensures.err (λ p. same_entries x (record x { sources = c.put.new.sources }) (p ∙ (λ i. (c.get_mut.follows.holds-at-none i).entries)) refl c.requires.kinds)

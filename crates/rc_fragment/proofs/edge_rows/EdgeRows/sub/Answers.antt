@@ -7,7 +7,7 @@ use Rattle.rc_edges.specs.EdgeMap.{lowered, written}
 use Rattle.rc_fragment.specs.Container.{now_in, taken_in}
 use Rattle.rc_fragment.specs.Sources.{Sources, by_source, found_in}
 use Rattle.rc_fragment.specs.declared.container.Container.{Container}
-use Rattle.rc_fragment.proofs.SourcesLemmas.{found, changed, set_by, set_kind, again}
+use Rattle.rc_fragment.proofs.SourcesLemmas.{found, changed, set_by, set_kind, again, emptied_written}
 use Rattle.rc_fragment.proofs.edge_rows.EdgeRows.sub.Goals as goal
 
 pub unreachable-requires : goal.unreachable-requires
@@ -36,6 +36,7 @@ returns c =
           (c.sub.ensures.now ∙ ap (λ z. written (now_in v) key (lowered (found_in now_in z key))) (sym f)) (λ k. refl);
       taken = set_by es set source (Some v) w f e taken_in (taken_in v) key (found_in taken_in (fin.get (by_source es) source) key)
           (again (taken_in w) (taken_in v) key c.sub.ensures.taken ∙ ap (λ z. written (taken_in v) key (found_in taken_in z key)) (sym f)) (λ k. refl);
+      emptied = emptied_written es set source (Some w) e;
       kinds = set_kind es set source (Some v) w f e c.args.self.now.shape.kind c.requires.kinds (c.sub.ensures.kind ∙ c.requires.kinds source v f);
       shape = refl;
     }

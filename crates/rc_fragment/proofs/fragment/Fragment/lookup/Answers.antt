@@ -20,4 +20,4 @@ returns c =
     let m : length (shapes edges) ≡ length edges = length-map edges (λ (z : EdgeRows). z.shape) in
     let n : slice_get edges e ≡ Some x = found_edge edges e x (omega arith) c.index-rows.ensures in
     subst (λ (z : FragmentRows). (shape : EdgeShape) → HasShape z.table e shape → IsLookedUp shape z.now e c.args.source.now c.args.key.now (option_copied c.get.result)) c.self.view_is
-    (lookup_law edges c.self.invariant.stored e x n c.args.source.now c.args.key.now (option_copied c.get.result) c.get.ensures)
+    (lookup_law edges c.self.invariant.fragment.stored e x n c.args.source.now c.args.key.now (option_copied c.get.result) c.get.ensures)

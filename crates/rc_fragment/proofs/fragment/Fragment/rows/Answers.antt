@@ -20,4 +20,4 @@ returns c =
     let m : length (shapes edges) ≡ length edges = length-map edges (λ (z : EdgeRows). z.shape) in
     let n : slice_get edges e ≡ Some x = found_edge edges e x (omega arith) c.index-rows.ensures in
     if_ok_both c.all.result c.all.ensures.only c.all.ensures.each (λ ts only each.
-    subst (λ (z : FragmentRows). AreAllRows z.now e ts) c.self.view_is (all_rows edges c.self.invariant.stored e x n ts only each))
+    subst (λ (z : FragmentRows). AreAllRows z.now e ts) c.self.view_is (all_rows edges c.self.invariant.fragment.stored e x n ts only each))

@@ -26,4 +26,4 @@ returns-clause-ok c =
     let ts : List Pairs = listed_in (fin.get (by_source x.sources.entries) c.args.source.now) in
     on_ok_from _ _ c.scan.result c.scan.ensures.ok (λ is.
     subst (λ (z : FragmentRows). (shape : EdgeShape) → HasShape z.table e shape → HasScanned shape z.now e c.args.source.now c.args.out.now c.scan.new.out) c.self.view_is
-    (λ shape hs. (ts, is, scan_law edges c.self.invariant.stored e x n c.args.source.now shape hs)))
+    (λ shape hs. (ts, is, scan_law edges c.self.invariant.fragment.stored e x n c.args.source.now shape hs)))

@@ -1,13 +1,18 @@
-use Rattle.std.proofs.Common.{◌∙◌, replicate, None}
+use Rattle.std.proofs.Common.{◌∙◌, sym, replicate, None}
 use Rattle.rc_fragment.specs.Fragment.{edge_table}
 use Rattle.rc_instance.proofs.EmptyLemmas.{empty_instance, empty_relation, is_empty}
+use Rattle.rc_instance.proofs.NumberLemmas.{numbers-free}
 use Rattle.rc_instance.proofs.StripesOfLemmas.{stripes_of-length, stripes_of-table}
 use Rattle.rc_instance.proofs.instance.Instance.empty.Goals as goal
 
 pub invariant_of-result : goal.invariant_of-result
 invariant_of-result c =
     let e = c.in_ok-empty_fragments.ensures in
-    (empty_instance (edge_table c.args.accepted.now) c.in_ok-empty_fragments.field-0.items e.empty (replicate 256 None) e.table, e.few)
+    record {
+      stripes = empty_instance (edge_table c.args.accepted.now) c.in_ok-empty_fragments.field-0.items e.empty (replicate 256 None) e.table;
+      few = e.few;
+      numbers_held = c.none.ensures ∙ sym (numbers-free c.in_ok-empty_fragments.field-0.items 256);
+    }
 
 pub returns-clause-stripes : goal.returns-clause-stripes
 returns-clause-stripes c = stripes_of-length c.in_ok-empty_fragments.field-0.items (replicate 256 None) ∙ c.in_ok-empty_fragments.ensures.stripes

@@ -17,7 +17,7 @@ joined_rows-requires-clause-table c f m =
     let fs : List FragmentRows = c.self.inside.fragments.items in
     let ms : List (Option Mode) = c.self.inside.held in
     let t : table_of_fragments fs ≡ edge_table c.spec.result.now = sym (stripes_of-table fs ms) ∙ ap table_of c.self.view_is ∙ c.requires ∙ ap edge_table (sym c.spec.ensures.value) in
-    fragments_have_one_table fs ms c.self.invariant.0 f (subst (In f) c.deref.ensures.value m) ∙ t
+    fragments_have_one_table fs ms c.self.invariant.stripes f (subst (In f) c.deref.ensures.value m) ∙ t
 
 pub returns-clause-rows : goal.returns-clause-rows
 returns-clause-rows c =
@@ -34,4 +34,4 @@ returns-clause-relation c =
     if_ok_from c.joined_rows.result c.joined_rows.ensures (λ tuples e r none o.
     e ∙ (λ j. represented_by (c.spec.ensures.value j) (rows_of_fragments (c.deref.ensures.value j)))
     ∙ ap (represented_by c.args.accepted.now) (sym (stripes_of-rows fs ms))
-    ∙ free_law c.args.accepted.now sealed (stripes_of fs ms) c.self.invariant.0 r (ap (held_from 0) c.self.view_is ∙ none) (subst (λ z. IsOfRelation c.args.accepted.now z r) (sym c.self.view_is) o))
+    ∙ free_law c.args.accepted.now sealed (stripes_of fs ms) c.self.invariant.stripes r (ap (held_from 0) c.self.view_is ∙ none) (subst (λ z. IsOfRelation c.args.accepted.now z r) (sym c.self.view_is) o))

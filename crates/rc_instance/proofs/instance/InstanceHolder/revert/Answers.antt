@@ -1,75 +1,48 @@
-use Rattle.std.proofs.Common.{◌≡◌, ◌≤◌, ◌++◌, length, take, drop, sym, ap, subst, ◌∙◌, arith}
+use Rattle.std.proofs.Common.{◌≡◌, ◌<◌, ◌++◌, ℕ, refl, length, take, drop, sym, ap, subst, ◌∙◌, arith}
 use Rattle.std.specs.Prelude.{List, map}
-use Rattle.std.specs.List.{AllZip}
-use Rattle.rc_fragment.specs.FragmentRows.{FragmentRows}
-use Rattle.rc_instance.specs.Fragments.{IsReverted}
-use Rattle.rc_fragment.specs.Holder.{reverted}
-use Rattle.rc_instance.specs.Instance.{IsInstance, held_from, stripes_of, IsOfOneRelation, offered_at, room_at, table_of}
+use Rattle.rc_tuple.specs.RisingSet.{In}
+use Rattle.rc_fragment.specs.FragmentRows.{FragmentRows, rolled_back}
+use Rattle.rc_instance.specs.Fragments.{each_at}
+use Rattle.rc_instance.specs.Instance.{holding, stripes_of, IsOfOneRelation, IsWholeInstance}
 use Rattle.rc_instance.proofs.AlikeLemmas.{written}
-use Rattle.rc_instance.proofs.RevertLemmas.{held_reverted, reverted_instance, reverted_length, reverted_offers, reverted_room, reverted_sound, reverted_table}
+use Rattle.rc_instance.proofs.NumberLemmas.{all_rolled_back, are_below, whole_reverted}
+use Rattle.rc_instance.proofs.RevertLemmas.{holding-reverted, reverted_stripe, sound-reverted, stripes_of-reverted}
 use Rattle.rc_instance.proofs.instance.InstanceHolder.revert.Goals as goal
+
+pub revert_held-requires : goal.revert_held-requires
+revert_held-requires c n m =
+    let l : n < length c.self.inside.fragments.items = are_below c.self.inside.fragments.items c.self.inside.held c.self.inside.numbers c.self.invariant n (subst (In n) c.list.ensures m) in
+    subst (λ z. n < length z) (sym c.deref_mut.ensures.value) l
 
 pub invariant_of-self : goal.invariant_of-self
 invariant_of-self c =
     let fs : List FragmentRows = c.self.inside.fragments.items in
-    let new : List FragmentRows = c.revert_all.new.fragments in
-    let a : AllZip IsReverted fs new = subst (λ z. AllZip IsReverted z new) c.deref_mut.ensures.value c.revert_all.ensures in
-    let same : length new ≡ length fs = c.revert_all.auto.fragments ∙ ap length c.deref_mut.ensures.value in
+    let ns : List ℕ = c.self.inside.numbers in
+    let new : List FragmentRows = c.revert_held.new.fragments in
+    let a : new ≡ each_at rolled_back ns fs = c.revert_held.ensures ∙ (λ i. each_at rolled_back (c.list.ensures i) (c.deref_mut.ensures.value i)) in
+    let same : length new ≡ length fs = c.revert_held.auto.fragments ∙ ap length c.deref_mut.ensures.value in
     let w : take c.self.inside.fragments.len (new ++ drop (length new) fs) ≡ new = written c.self.inside.fragments.len new fs (omega (arith, c.self.inside.fragments.ok)) same in
-    let few : length new ≤ 256 = omega (arith, same, c.self.invariant.1) in
-    subst (λ z. IsInstance (stripes_of z c.self.inside.held) × (length z ≤ 256)) (sym w) (reverted_instance fs new c.self.inside.held a c.self.invariant.0, few)
+    let e : take c.self.inside.fragments.len (new ++ drop (length new) fs) ≡ map rolled_back fs = w ∙ a ∙ all_rolled_back fs c.self.inside.held ns c.self.invariant in
+    subst (λ z. IsWholeInstance z c.self.inside.held ns) (sym e) (whole_reverted fs c.self.inside.held ns c.self.invariant ns refl)
 
-pub returns-clause-now : goal.returns-clause-now
-returns-clause-now c =
+pub returns-clause-value : goal.returns-clause-value
+returns-clause-value c =
     let fs : List FragmentRows = c.self.inside.fragments.items in
-    let new : List FragmentRows = c.revert_all.new.fragments in
-    let a : AllZip IsReverted fs new = subst (λ z. AllZip IsReverted z new) c.deref_mut.ensures.value c.revert_all.ensures in
-    let same : length new ≡ length fs = c.revert_all.auto.fragments ∙ ap length c.deref_mut.ensures.value in
+    let ns : List ℕ = c.self.inside.numbers in
+    let new : List FragmentRows = c.revert_held.new.fragments in
+    let a : new ≡ each_at rolled_back ns fs = c.revert_held.ensures ∙ (λ i. each_at rolled_back (c.list.ensures i) (c.deref_mut.ensures.value i)) in
+    let same : length new ≡ length fs = c.revert_held.auto.fragments ∙ ap length c.deref_mut.ensures.value in
     let w : take c.self.inside.fragments.len (new ++ drop (length new) fs) ≡ new = written c.self.inside.fragments.len new fs (omega (arith, c.self.inside.fragments.ok)) same in
-    ap (λ z. held_from 0 (stripes_of z c.self.inside.held)) w ∙ held_reverted 0 fs new c.self.inside.held a ∙ ap (λ z. map reverted (held_from 0 z)) c.self.view_is
-
-pub returns-clause-kept : goal.returns-clause-kept
-returns-clause-kept c p q =
-    let fs : List FragmentRows = c.self.inside.fragments.items in
-    let new : List FragmentRows = c.revert_all.new.fragments in
-    let a : AllZip IsReverted fs new = subst (λ z. AllZip IsReverted z new) c.deref_mut.ensures.value c.revert_all.ensures in
-    let same : length new ≡ length fs = c.revert_all.auto.fragments ∙ ap length c.deref_mut.ensures.value in
-    let w : take c.self.inside.fragments.len (new ++ drop (length new) fs) ≡ new = written c.self.inside.fragments.len new fs (omega (arith, c.self.inside.fragments.ok)) same in
-    subst (λ z. room_at c.args.self.now p ≤ room_at (stripes_of z c.self.inside.held) p) (sym w)
-    (subst (λ z. room_at z p ≤ room_at (stripes_of new c.self.inside.held) p) c.self.view_is (reverted_room fs new c.self.inside.held a p))
-
-pub returns-clause-offers : goal.returns-clause-offers
-returns-clause-offers c p =
-    let fs : List FragmentRows = c.self.inside.fragments.items in
-    let new : List FragmentRows = c.revert_all.new.fragments in
-    let a : AllZip IsReverted fs new = subst (λ z. AllZip IsReverted z new) c.deref_mut.ensures.value c.revert_all.ensures in
-    let same : length new ≡ length fs = c.revert_all.auto.fragments ∙ ap length c.deref_mut.ensures.value in
-    let w : take c.self.inside.fragments.len (new ++ drop (length new) fs) ≡ new = written c.self.inside.fragments.len new fs (omega (arith, c.self.inside.fragments.ok)) same in
-    ap (λ z. offered_at (stripes_of z c.self.inside.held) p) w ∙ reverted_offers fs new c.self.inside.held a p ∙ ap (λ z. offered_at z p) c.self.view_is
+    let e : take c.self.inside.fragments.len (new ++ drop (length new) fs) ≡ map rolled_back fs = w ∙ a ∙ all_rolled_back fs c.self.inside.held ns c.self.invariant in
+    ap (λ z. holding (stripes_of z c.self.inside.held)) e ∙ ap holding (stripes_of-reverted fs c.self.inside.held ∙ ap (map reverted_stripe) c.self.view_is) ∙ holding-reverted c.args.self.now
 
 pub returns-clause-sound : goal.returns-clause-sound
 returns-clause-sound c spec o =
     let fs : List FragmentRows = c.self.inside.fragments.items in
-    let new : List FragmentRows = c.revert_all.new.fragments in
-    let a : AllZip IsReverted fs new = subst (λ z. AllZip IsReverted z new) c.deref_mut.ensures.value c.revert_all.ensures in
-    let same : length new ≡ length fs = c.revert_all.auto.fragments ∙ ap length c.deref_mut.ensures.value in
+    let ns : List ℕ = c.self.inside.numbers in
+    let new : List FragmentRows = c.revert_held.new.fragments in
+    let a : new ≡ each_at rolled_back ns fs = c.revert_held.ensures ∙ (λ i. each_at rolled_back (c.list.ensures i) (c.deref_mut.ensures.value i)) in
+    let same : length new ≡ length fs = c.revert_held.auto.fragments ∙ ap length c.deref_mut.ensures.value in
     let w : take c.self.inside.fragments.len (new ++ drop (length new) fs) ≡ new = written c.self.inside.fragments.len new fs (omega (arith, c.self.inside.fragments.ok)) same in
-    subst (λ z. IsOfOneRelation (stripes_of z c.self.inside.held) spec) (sym w) (reverted_sound fs new c.self.inside.held a spec (subst (λ z. IsOfOneRelation z spec) (sym c.self.view_is) o))
-
-pub returns-clause-stripes : goal.returns-clause-stripes
-returns-clause-stripes c =
-    let fs : List FragmentRows = c.self.inside.fragments.items in
-    let new : List FragmentRows = c.revert_all.new.fragments in
-    let a : AllZip IsReverted fs new = subst (λ z. AllZip IsReverted z new) c.deref_mut.ensures.value c.revert_all.ensures in
-    let same : length new ≡ length fs = c.revert_all.auto.fragments ∙ ap length c.deref_mut.ensures.value in
-    let w : take c.self.inside.fragments.len (new ++ drop (length new) fs) ≡ new = written c.self.inside.fragments.len new fs (omega (arith, c.self.inside.fragments.ok)) same in
-    ap (λ z. length (stripes_of z c.self.inside.held)) w ∙ reverted_length fs new c.self.inside.held a ∙ ap length c.self.view_is
-
-pub returns-clause-table : goal.returns-clause-table
-returns-clause-table c =
-    let fs : List FragmentRows = c.self.inside.fragments.items in
-    let new : List FragmentRows = c.revert_all.new.fragments in
-    let a : AllZip IsReverted fs new = subst (λ z. AllZip IsReverted z new) c.deref_mut.ensures.value c.revert_all.ensures in
-    let same : length new ≡ length fs = c.revert_all.auto.fragments ∙ ap length c.deref_mut.ensures.value in
-    let w : take c.self.inside.fragments.len (new ++ drop (length new) fs) ≡ new = written c.self.inside.fragments.len new fs (omega (arith, c.self.inside.fragments.ok)) same in
-    ap (λ z. table_of (stripes_of z c.self.inside.held)) w ∙ reverted_table fs new c.self.inside.held a ∙ ap table_of c.self.view_is
+    let e : take c.self.inside.fragments.len (new ++ drop (length new) fs) ≡ map rolled_back fs = w ∙ a ∙ all_rolled_back fs c.self.inside.held ns c.self.invariant in
+    subst (λ z. IsOfOneRelation z spec) (sym (ap (λ z. stripes_of z c.self.inside.held) e ∙ stripes_of-reverted fs c.self.inside.held ∙ ap (map reverted_stripe) c.self.view_is)) (sound-reverted c.args.self.now spec o)

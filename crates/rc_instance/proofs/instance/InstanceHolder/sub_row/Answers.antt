@@ -1,69 +1,50 @@
-use Rattle.std.proofs.Common.{◌≡◌, ◌<◌, length, sym, subst, arith}
+use Rattle.std.proofs.Common.{◌≡◌, ◌<◌, length, sym, ap, subst, arith}
 use Rattle.std.specs.Prelude.{List}
 use Rattle.rc_spec.specs.CountedRows.{lowered}
 use Rattle.rc_fragment.specs.Fragment.{IsThere}
+use Rattle.rc_fragment.specs.FragmentRows.{FragmentRows}
 use Rattle.rc_fragment.specs.Holder.{HeldStripe}
 use Rattle.rc_fragment.specs.declared.shape.EdgeShape.{EdgeShape}
 use Rattle.rc_instance.specs.Instance.{table_of}
-use Rattle.rc_fragment.specs.FragmentRows.{FragmentRows}
 use Rattle.rc_instance.proofs.ChangeLemmas as change
-use Rattle.rc_instance.proofs.StripeLemmas.{IsHeldAs, exclusive_is_held, held_below}
+use Rattle.rc_instance.proofs.StripeLemmas.{IsHeldAs, exclusive_is_held}
 use Rattle.rc_instance.proofs.instance.InstanceHolder.sub_row.Goals as goal
 
 pub index_mut-fragment-requires : goal.index_mut-fragment-requires
 index_mut-fragment-requires c =
-    let l : c.args.stripe < length c.self.inside.fragments.items = change.fragment_below c.self.inside.fragments.items c.self.inside.held c.args.self.now c.self.view_is c.args.stripe (held_below c.args.self.now c.args.stripe (exclusive_is_held _ _ c.requires.exclusive)) in
+    let l : c.args.stripe < length c.self.inside.fragments.items = change.fragment_held c.self.inside.fragments.items c.self.inside.held c.args.self.now c.self.view_is c.args.stripe (exclusive_is_held _ _ c.requires.exclusive) in
     omega (arith, l, c.self.inside.fragments.ok)
 
 pub sub_row-requires-clause-known : goal.sub_row-requires-clause-known
 sub_row-requires-clause-known c =
     let f : FragmentRows = c.index_mut-fragment.result.now in
-    let e : f.table ≡ table_of c.args.self.now = change.table_is c.self.inside.fragments.items c.self.inside.held c.args.self.now c.self.view_is c.args.stripe f (exclusive_is_held _ _ c.requires.exclusive) c.index_mut-fragment.ensures.value c.self.invariant.0 in
-    subst (λ (z : List EdgeShape). c.args.edge < length z) (sym e) c.requires.known
+    let e : f.table ≡ table_of c.args.self.now = change.table_is c.self.inside.fragments.items c.self.inside.held c.args.self.now c.self.view_is c.args.stripe f (exclusive_is_held _ _ c.requires.exclusive) c.index_mut-fragment.ensures.value c.self.invariant.stripes in
+    subst (λ (z : List EdgeShape). c.args.edge < length z) (sym e) c.requires.can.known
 
 pub sub_row-requires-clause-owned : goal.sub_row-requires-clause-owned
 sub_row-requires-clause-owned c =
     let f : FragmentRows = c.index_mut-fragment.result.now in
-    subst (λ z. 0 < z) (change.room_is c.self.inside.fragments.items c.self.inside.held c.args.self.now c.self.view_is c.args.stripe f (exclusive_is_held _ _ c.requires.exclusive) c.index_mut-fragment.ensures.value) c.requires.owned
+    change.has_room c.self.inside.fragments.items c.self.inside.held c.args.self.now c.self.view_is c.args.stripe f (exclusive_is_held _ _ c.requires.exclusive) c.index_mut-fragment.ensures.value c.requires.owned
 
 pub sub_row-requires-clause-there : goal.sub_row-requires-clause-there
 sub_row-requires-clause-there c =
     let f : FragmentRows = c.index_mut-fragment.result.now in
     let h : HeldStripe = c.requires.exclusive.0 in
     let a : IsHeldAs _ h = change.as_it_is c.self.inside.fragments.items c.self.inside.held c.args.self.now c.self.view_is c.args.stripe f (exclusive_is_held _ _ c.requires.exclusive) c.index_mut-fragment.ensures.value h c.requires.exclusive.1 c.requires.exclusive.2 in
-    subst (λ z. IsThere z c.args.edge c.args.row.now) (sym a.now) (c.requires.there h c.requires.exclusive.1 c.requires.exclusive.2)
+    subst (λ z. IsThere z c.args.edge c.args.row.now) (sym a.now) (c.requires.can.there h c.requires.exclusive.1 c.requires.exclusive.2)
 
 pub invariant_of-self : goal.invariant_of-self
 invariant_of-self c =
     let f : FragmentRows = c.index_mut-fragment.result.now in
-    change.invariant c.self.inside.fragments.items c.self.inside.held c.args.self.now c.self.view_is c.args.stripe f (exclusive_is_held _ _ c.requires.exclusive) c.index_mut-fragment.ensures.value c.sub_row.new.self c.sub_row.ensures.table c.sub_row.ensures.taken c.self.invariant
+    change.whole c.self.inside.fragments.items c.self.inside.held c.args.self.now c.self.view_is c.args.stripe f (exclusive_is_held _ _ c.requires.exclusive) c.index_mut-fragment.ensures.value c.sub_row.new.self
+    (ap (λ (z : FragmentRows). z.table) c.sub_row.ensures) (ap (λ (z : FragmentRows). z.taken) c.sub_row.ensures) c.self.inside.numbers c.self.invariant
 
-pub returns-clause-now : goal.returns-clause-now
-returns-clause-now c =
+pub returns-clause-value : goal.returns-clause-value
+returns-clause-value c =
     let f : FragmentRows = c.index_mut-fragment.result.now in
-    change.held_changed c.self.inside.fragments.items c.self.inside.held c.args.self.now c.self.view_is c.args.stripe f (exclusive_is_held _ _ c.requires.exclusive) c.index_mut-fragment.ensures.value c.sub_row.new.self c.sub_row.ensures.table c.sub_row.ensures.taken (lowered c.args.edge c.args.row.now) c.sub_row.ensures.now
-
-pub returns-clause-left : goal.returns-clause-left
-returns-clause-left c =
-    let f : FragmentRows = c.index_mut-fragment.result.now in
-    (λ p _. change.room_less c.self.inside.fragments.items c.self.inside.held c.args.self.now c.self.view_is c.args.stripe f (exclusive_is_held _ _ c.requires.exclusive) c.index_mut-fragment.ensures.value c.sub_row.new.self c.sub_row.ensures.table c.sub_row.ensures.taken c.sub_row.ensures.left p)
-
-pub returns-clause-others : goal.returns-clause-others
-returns-clause-others c =
-    let f : FragmentRows = c.index_mut-fragment.result.now in
-    (λ p _ d. change.room_other c.self.inside.fragments.items c.self.inside.held c.args.self.now c.self.view_is c.args.stripe f (exclusive_is_held _ _ c.requires.exclusive) c.index_mut-fragment.ensures.value c.sub_row.new.self c.sub_row.ensures.table c.sub_row.ensures.taken p d)
-
-pub returns-clause-offers : goal.returns-clause-offers
-returns-clause-offers c =
-    let f : FragmentRows = c.index_mut-fragment.result.now in
-    change.offers c.self.inside.fragments.items c.self.inside.held c.args.self.now c.self.view_is c.args.stripe f (exclusive_is_held _ _ c.requires.exclusive) c.index_mut-fragment.ensures.value c.sub_row.new.self c.sub_row.ensures.table c.sub_row.ensures.taken
+    change.tells_change c.self.inside.fragments.items c.self.inside.held c.args.self.now c.self.view_is c.args.stripe f (exclusive_is_held _ _ c.requires.exclusive) c.index_mut-fragment.ensures.value (lowered c.args.edge c.args.row.now) c.sub_row.new.self c.sub_row.ensures
 
 pub returns-clause-sound : goal.returns-clause-sound
 returns-clause-sound c =
     let f : FragmentRows = c.index_mut-fragment.result.now in
-    change.sound c.self.inside.fragments.items c.self.inside.held c.args.self.now c.self.view_is c.args.stripe f (exclusive_is_held _ _ c.requires.exclusive) c.index_mut-fragment.ensures.value c.sub_row.new.self c.sub_row.ensures.table c.sub_row.ensures.taken
-
-pub returns-clause-stripes : goal.returns-clause-stripes
-returns-clause-stripes c =
-    let f : FragmentRows = c.index_mut-fragment.result.now in
-    change.stripes_kept c.self.inside.fragments.items c.self.inside.held c.args.self.now c.self.view_is c.args.stripe f (exclusive_is_held _ _ c.requires.exclusive) c.index_mut-fragment.ensures.value c.sub_row.new.self c.sub_row.ensures.table c.sub_row.ensures.taken
+    change.sound c.self.inside.fragments.items c.self.inside.held c.args.self.now c.self.view_is c.args.stripe f (exclusive_is_held _ _ c.requires.exclusive) c.index_mut-fragment.ensures.value c.sub_row.new.self (ap (λ (z : FragmentRows). z.table) c.sub_row.ensures) (ap (λ (z : FragmentRows). z.taken) c.sub_row.ensures)
