@@ -1,5 +1,5 @@
 -- What may be written of a text, of what is written of its parts.
-use Rattle.std.proofs.Common.{◌≡◌, ℕ, ◌+◌, ◌<◌, ◌≤◌, ◌^◌, ◌⊎◌, inl, inr, List, ◌++◌, Option, Result, Ok, Err, ◌∙◌, refl, sym, subst, ap, arith}
+use Rattle.std.proofs.Common.{◌≡◌, ℕ, ◌+◌, inl, inr, List, ◌++◌, Option, Result, Ok, Err, ◌∙◌, refl, sym, subst, ap}
 use Rattle.rc_reader.specs.Grammar.{Broken, Reading, spec_reading}
 use Rattle.rc_reader.specs.Answers.{IsRead, rest_place}
 use Rattle.rc_reader.specs.declared.reading.Rest.{Rest}

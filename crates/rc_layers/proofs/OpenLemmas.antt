@@ -1,5 +1,5 @@
 -- What taking a stripe and changing its rows do to a holder all of whose stripes are held.
-use Rattle.std.specs.Prelude.{◌≡◌, ℕ, zero, suc, ◌+◌, ◌<◌, ◌≤◌, ◌==◌, not, Bool, true, false, cond, Option, Some, List, [], ◌∷◌, length, filter, map}
+use Rattle.std.specs.Prelude.{◌≡◌, ℕ, zero, suc, ◌+◌, ◌<◌, ◌≤◌, ◌==◌, ◌⊎◌, not, Bool, true, false, cond, Option, Some, List, [], ◌∷◌, length, filter, map, max}
 use Rattle.std.specs.List.{slice_get}
 use Rattle.std.specs.Option.{option_map}
 use Rattle.std.proofs.Common.{inl, inr, refl, sym, ap, subst, arith, ◌∙◌}
@@ -18,10 +18,11 @@ use Rattle.rc_spec.specs.declared.lock.Mode.TheVariants.{Exclusive}
 use Rattle.rc_spec.specs.declared.spec.Spec.{Spec}
 use Rattle.rc_fragment.specs.Fragment.{HasScanned, HasShape, IsThere, edge_table, shape_of}
 use Rattle.rc_fragment.specs.FragmentRows.{FragmentRows}
-use Rattle.rc_fragment.specs.Holder.{HeldStripe, HasTaken, IsAbove, IsHeld, IsHeldExclusive, changed_at, just_taken, reverted, with_now}
+use Rattle.rc_fragment.specs.Holder.{AreOffered, GoesOn, HasRoom, HeldStripe, HasTaken, Holding, IsAbove, IsHeld, IsHeldExclusive, LentStripe, changed_at, held_of, just_taken, offered_at, reverted, with_now, with_room, with_room_at}
+use Rattle.rc_fragment.specs.HoldingLaws.{held-taken}
 use Rattle.rc_fragment.specs.declared.shape.EdgeShape.{EdgeShape}
 use Rattle.rc_instance.specs.Instance.{HaveOneTable, table_of_fragments}
-use Rattle.rc_layers.specs.Open.{AreExclusive, AreFew, IsBeside, MayBeAdded}
+use Rattle.rc_layers.specs.Open.{AreExclusive, AreFew, IsBeside, IsOfSpec, MayBeAdded}
 
 -- ---- shapes
 
@@ -96,38 +97,57 @@ few_changed s e t limit held few h m w n =
     go g l true i = raised_few e t g.now limit l w i
     go g l false i = let k : w.2 ≤ limit = l w i in omega (arith, k)
 
+-- room for a change is room
+pub room_made : (s : Holding) (stripe : ℕ) → HasRoom (with_room_at stripe 1 s) stripe
+room_made s stripe l m e =
+    let o : (o : LentStripe) × In o s.lent × (l ≡ with_room stripe 1 o) = in_map (with_room stripe 1) l s.lent m in
+    let at : (o.0.held.stripe == stripe) ≡ true = eq-eqb o.0.held.stripe stripe (sym (ap (λ (z : LentStripe). z.held.stripe) o.2) ∙ e) in
+    subst (λ (z : LentStripe). 0 < z.room) (sym o.2) (subst (λ b. 0 < cond b (max o.0.room 1) o.0.room) (sym at) (omega arith))
+
 -- ---- one more stripe taken
 
-pub above_taken : (old new : List HeldStripe) (stripe : ℕ) (mode : Mode) (offered : Option (List EdgeRow)) → HasTaken old new stripe mode offered → IsAbove old stripe → IsAbove new (stripe + 1)
-above_taken old new stripe mode offered t a h m =
-    elim (in_append h old (just_taken stripe mode t.0 ∷ []) (subst (In h) t.1 m)) [
-      | inl i ↦ (let l : h.stripe < stripe = a h i in omega (arith, l))
-      | inr (inl p) ↦ (let q : h.stripe ≡ stripe = ap (λ (z : HeldStripe). z.stripe) p in omega (arith, q))
-      | inr (inr q) ↦ absurd q
-    ]
+-- the specification stays
+pub of_spec : (spec : Spec) (old new : Holding) → GoesOn old new → IsOfSpec spec old → IsOfSpec spec new
+of_spec spec old new on of = record { table = on.table ∙ of.table; stripes = ap length on.offered ∙ of.stripes }
 
-pub exclusive_taken : (old new : List HeldStripe) (stripe : ℕ) (offered : Option (List EdgeRow)) → HasTaken old new stripe Exclusive offered → AreExclusive stripe old → AreExclusive (stripe + 1) new
-exclusive_taken old new stripe offered t a p l = go (p == stripe) refl
+module _ (old new : Holding) (stripe : ℕ) (mode : Mode) (t : HasTaken old new stripe mode) where
+  -- each stripe held is one of before, or the one taken
+  pub split : (h : HeldStripe) → In h (held_of new) → In h (held_of old) ⊎ (h ≡ just_taken stripe mode t.rows)
+  split h m = elim (in_append h (held_of old) (just_taken stripe mode t.rows ∷ []) (subst (In h) (held-taken old new stripe mode t) m)) [
+    | inl i ↦ inl i
+    | inr (inl p) ↦ inr p
+    | inr (inr q) ↦ absurd q
+  ]
+
+  pub above_taken : IsAbove (held_of old) stripe → IsAbove (held_of new) (stripe + 1)
+  above_taken a h m = elim (split h m) [
+    | inl i ↦ (let l : h.stripe < stripe = a h i in omega (arith, l))
+    | inr p ↦ (let q : h.stripe ≡ stripe = ap (λ (z : HeldStripe). z.stripe) p in omega (arith, q))
+  ]
+
+  pub still_held : (p : ℕ) → IsHeld (held_of old) p → IsHeld (held_of new) p
+  still_held p w = (w.0, subst (In w.0) (sym (held-taken old new stripe mode t)) (append_in_left w.0 (held_of old) (just_taken stripe mode t.rows ∷ []) w.1), w.2)
+
+  pub few_taken : offered_at old stripe ≡ Some [] → AreFew 0 (held_of old) → AreFew 0 (held_of new)
+  few_taken none few h m w n = elim (split h m) [
+    | inl i ↦ few h i w n
+    | inr p ↦ absurd (let rows : t.rows ≡ [] = subst (λ (o : Option (List EdgeRow)). AreOffered o t.rows) none t.told in let i : In w [] = subst (In w) (ap (λ (z : HeldStripe). z.now) p ∙ rows) n in i)
+  ]
+
+pub exclusive_taken : (old new : Holding) (stripe : ℕ) → HasTaken old new stripe Exclusive → AreExclusive stripe (held_of old) → AreExclusive (stripe + 1) (held_of new)
+exclusive_taken old new stripe t a p l = go (p == stripe) refl
   where
-    there : p ≡ stripe → IsHeldExclusive new p
+    there : p ≡ stripe → IsHeldExclusive (held_of new) p
     there e =
-        let h : HeldStripe = just_taken stripe Exclusive t.0 in
-        (h, subst (In h) (sym t.1) (append_in_right h old (h ∷ []) (inl refl)), sym e, refl)
+        let h : HeldStripe = just_taken stripe Exclusive t.rows in
+        (h, subst (In h) (sym (held-taken old new stripe Exclusive t)) (append_in_right h (held_of old) (h ∷ []) (inl refl)), sym e, refl)
 
-    kept : IsHeldExclusive old p → IsHeldExclusive new p
-    kept w = (w.0, subst (In w.0) (sym t.1) (append_in_left w.0 old (just_taken stripe Exclusive t.0 ∷ []) w.1), w.2, w.3)
+    kept : IsHeldExclusive (held_of old) p → IsHeldExclusive (held_of new) p
+    kept w = (w.0, subst (In w.0) (sym (held-taken old new stripe Exclusive t)) (append_in_left w.0 (held_of old) (just_taken stripe Exclusive t.rows ∷ []) w.1), w.2, w.3)
 
-    go : (b : Bool) → (p == stripe) ≡ b → IsHeldExclusive new p
+    go : (b : Bool) → (p == stripe) ≡ b → IsHeldExclusive (held_of new) p
     go true e = there (eqb-true p stripe e)
     go false e = kept (a p (let d : p ≡ stripe → ⊥ = (λ q. false≢true (sym e ∙ eq-eqb p stripe q)) in omega (arith, l, d)))
-
-pub few_taken : (old new : List HeldStripe) (stripe : ℕ) → HasTaken old new stripe Exclusive (Some []) → AreFew 0 old → AreFew 0 new
-few_taken old new stripe t few h m w n =
-    elim (in_append h old (just_taken stripe Exclusive t.0 ∷ []) (subst (In h) t.1 m)) [
-      | inl i ↦ few h i w n
-      | inr (inl p) ↦ absurd (let none : In w [] = subst (In w) (ap (λ (z : HeldStripe). z.now) p ∙ t.2) n in none)
-      | inr (inr q) ↦ absurd q
-    ]
 
 -- a stripe above all that are held is not held
 pub not_held : (held : List HeldStripe) (stripe n : ℕ) → IsAbove held stripe → stripe ≤ n → IsHeld held n → ⊥

@@ -1,5 +1,5 @@
 -- Holders all of whose stripes are held for a change.
-use Rattle.std.specs.Prelude.{◌≡◌, ℕ, ◌<◌, ◌≤◌, List}
+use Rattle.std.specs.Prelude.{◌≡◌, ℕ, ◌<◌, ◌≤◌, List, length}
 use Rattle.rc_tuple.specs.RisingSet.{In}
 use Rattle.rc_tuple.specs.Tuple.{Pairs, project}
 use Rattle.rc_spec.specs.Fragments.{EdgeRow}
@@ -7,13 +7,13 @@ use Rattle.rc_spec.specs.Stripes.{stripe_total}
 use Rattle.rc_spec.specs.declared.items.EdgeKind.TheVariants.{Singleton}
 use Rattle.rc_spec.specs.declared.spec.Spec.{Spec}
 use Rattle.rc_fragment.specs.Fragment.{HasAlone, HasSingle, edge_table}
-use Rattle.rc_fragment.specs.Holder.{HeldStripe, IsHeldExclusive}
+use Rattle.rc_fragment.specs.Holder.{HeldStripe, Holding, IsHeldExclusive}
 use Rattle.rc_fragment.specs.declared.shape.EdgeShape.{EdgeShape}
 
 -- the edge table and the number of stripes are the specification's
-pub record IsOfSpec (spec : Spec) (shapes : List EdgeShape) (count : ℕ) : Type 0 where
-  pub table : shapes ≡ edge_table spec
-  pub stripes : count ≡ stripe_total spec
+pub record IsOfSpec (spec : Spec) (s : Holding) : Type 0 where
+  pub table : s.table ≡ edge_table spec
+  pub stripes : length s.offered ≡ stripe_total spec
 
 -- each stripe below this one is held Exclusive
 abbrev pub AreExclusive : ℕ → List HeldStripe → Type 0

@@ -1,4 +1,4 @@
--- Instances of which some stripes are held, and the relation that they are of once they are released.
+-- Holders of some stripes, and the relation that they are of once these are released.
 use Rattle.std.specs.Prelude.{◌≡◌, ℕ, ◌<◌, List, Some, length}
 use Rattle.rc_tuple.specs.RisingSet.{In}
 use Rattle.rc_tuple.specs.Tuple.{Pairs}
@@ -8,14 +8,13 @@ use Rattle.rc_spec.specs.Fragments.{fragment_of}
 use Rattle.rc_spec.specs.Stripes.{stripe_total}
 use Rattle.rc_spec.specs.declared.spec.Spec.{Spec}
 use Rattle.rc_fragment.specs.Fragment.{edge_table}
-use Rattle.rc_fragment.specs.Holder.{HeldStripe, IsHeld}
-use Rattle.rc_instance.specs.Instance.{Stripe, held_from, offered_at, table_of}
+use Rattle.rc_fragment.specs.Holder.{HeldStripe, Holding, IsHeld, held_of, offered_at}
 
--- the instance is one of the specification, each held stripe's rows now are its fragment of this relation, which satisfies the dependencies, and each other stripe offers its own
-pub record HoldsRelation (spec : Spec) (ss : List Stripe) (r : List Pairs) : Type 0 where
-  pub table : table_of ss ≡ edge_table spec
-  pub stripes : length ss ≡ stripe_total spec
+-- the holder is one of the specification, each held stripe's rows now are its fragment of this relation, which satisfies the dependencies, and each other stripe offers its own
+pub record HoldsRelation (spec : Spec) (s : Holding) (r : List Pairs) : Type 0 where
+  pub table : s.table ≡ edge_table spec
+  pub stripes : length s.offered ≡ stripe_total spec
   pub relation : IsRelation (all_columns spec) r
   pub satisfies : Satisfies r spec.deps
-  pub held : (h : HeldStripe) → In h (held_from 0 ss) → h.now ≡ fragment_of spec r h.stripe
-  pub others : (n : ℕ) → n < stripe_total spec → (IsHeld (held_from 0 ss) n → ⊥) → offered_at ss n ≡ Some (fragment_of spec r n)
+  pub held : (h : HeldStripe) → In h (held_of s) → h.now ≡ fragment_of spec r h.stripe
+  pub others : (n : ℕ) → n < stripe_total spec → (IsHeld (held_of s) n → ⊥) → offered_at s n ≡ Some (fragment_of spec r n)

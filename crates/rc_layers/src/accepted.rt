@@ -7,15 +7,13 @@ use crate::stop::Stop;
 use rc_place::{AcceptFault, accept};
 use rc_reader::{ReadRefusal, number_among, read_spec};
 use rc_spec::{Accepted, Named, Spec};
+use rc_text::MAX_TEXT_BYTES;
 use rc_tuple::ColSet;
 use std::alloc::Global;
 
-/// The most bytes that an input may have.
-const MAX_BYTES: usize = 1 << 24;
-
 /// The specification with which a text begins, accepted. What stands behind its line `end` isn't read.
 pub(crate) fn accepted_of(alloc: Global, text: &str) -> Result<Accepted, Stop> {
-    if text.len() > MAX_BYTES {
+    if text.len() > MAX_TEXT_BYTES {
         return Err(Stop::Many);
     }
     match read_spec(alloc, text.as_bytes()) {

@@ -3,7 +3,8 @@
 ghost use Rattle.std.specs.Prelude.{◌≡◌, [], IfOk, OnOk};
 ghost use Rattle.rc_spec.specs.Calls.{Fits};
 ghost use Rattle.rc_spec.specs.Stripes.{stripe_total};
-ghost use Rattle.rc_instance.specs.Instance.{IsOfRelation, held_from};
+ghost use Rattle.rc_fragment.specs.Holder.{held_of};
+ghost use Rattle.rc_instance.specs.Instance.{IsOfRelation, holding};
 ghost use Rattle.rc_work.specs.Fitting.{RoundsFit};
 ghost use Rattle.rc_layers.specs.Open.{AreExclusive};
 ghost use Rattle.rc_layers.specs.Relation.{HoldsRelation};
@@ -19,21 +20,18 @@ use rc_plan::Compiled;
 use rc_reader::{ReadRefusal, read_spec};
 use rc_rel::{PlainRel, Step};
 use rc_spec::{Call, Mode, Reply, Spec};
-use rc_text::push_bytes;
+use rc_text::{MAX_TEXT_BYTES, push_bytes};
 use rc_values::Ranks;
 use rc_work::{Work, print_step, read_work};
 use std::alloc::Global;
 
 // ---- workloads
 
-/// The most bytes that an input may have.
-const MAX_BYTES: usize = 1 << 24;
-
 /// The compiled specification of a text, and the workload behind it.
 pub(crate) fn read(alloc: Global, text: &str) -> Result<(Compiled, Work), Stop>
     ensures { IfOk result (λ read. RoundsFit read.0.spec read.1.rounds) }
 {
-    if text.len() > MAX_BYTES {
+    if text.len() > MAX_TEXT_BYTES {
         return Err(Stop::Many);
     }
     let (spec, rest) = match read_spec(alloc, text.as_bytes()) {
@@ -67,8 +65,9 @@ struct Replies {
 
 impl Sides {
     /// No tuple on both sides.
+    #[tactic(auto, using(crate::proofs::RelationLemmas::holds_nothing))]
     pub(crate) fn empty(alloc: Global, compiled: &Compiled) -> Result<Sides, Stop>
-        ensures free { IfOk result (λ sides. held_from 0 sides.instance ≡ []) }
+        ensures free { IfOk result (λ sides. held_of (holding sides.instance) ≡ []) }
         ensures relation { IfOk result (λ sides. IsOfRelation compiled.now.spec sides.instance sides.relation) }
     {
         Ok(Sides {
@@ -87,9 +86,9 @@ impl Sides {
         call: &Call,
     ) -> Result<Replies, Stop>
         requires fits { Fits compiled.now.spec call.now }
-        requires free { held_from 0 self.old.instance ≡ [] }
+        requires free { held_of (holding self.old.instance) ≡ [] }
         requires relation { IsOfRelation compiled.now.spec self.old.instance self.old.relation }
-        ensures { OnOk result (HoldsRelation compiled.now.spec self.new.instance self.new.relation) }
+        ensures { OnOk result (HoldsRelation compiled.now.spec (holding self.new.instance) self.new.relation) }
     {
         match run_plan(alloc, compiled, call, &mut self.instance) {
             Ok(reply) => {
@@ -114,9 +113,9 @@ impl Sides {
         out: &mut Vec<u8>,
     ) -> Result<(), Stop>
         requires fits { Fits compiled.now.spec call.now }
-        requires free { held_from 0 self.old.instance ≡ [] }
+        requires free { held_of (holding self.old.instance) ≡ [] }
         requires relation { IsOfRelation compiled.now.spec self.old.instance self.old.relation }
-        ensures { OnOk result (HoldsRelation compiled.now.spec self.new.instance self.new.relation) }
+        ensures { OnOk result (HoldsRelation compiled.now.spec (holding self.new.instance) self.new.relation) }
     {
         let alloc = *out.allocator();
         let replies = self.make_call(alloc, compiled, call)?;
@@ -125,10 +124,10 @@ impl Sides {
 
     /// Takes all stripes Exclusive.
     pub(crate) fn hold_all(&mut self, compiled: &Compiled)
-        requires free { held_from 0 self.old.instance ≡ [] }
+        requires free { held_of (holding self.old.instance) ≡ [] }
         requires relation { IsOfRelation compiled.now.spec self.old.instance self.old.relation }
-        ensures holds { HoldsRelation compiled.now.spec self.new.instance self.new.relation }
-        ensures open { AreExclusive (stripe_total compiled.now.spec) (held_from 0 self.new.instance) }
+        ensures holds { HoldsRelation compiled.now.spec (holding self.new.instance) self.new.relation }
+        ensures open { AreExclusive (stripe_total compiled.now.spec) (held_of (holding self.new.instance)) }
     {
         for stripe in 0..stripes_of(compiled.accepted()) {
             match self.instance.take(stripe, Mode::Exclusive) {
@@ -140,8 +139,8 @@ impl Sides {
 
     /// Frees all stripes; the rows now count as taken.
     pub(crate) fn release(&mut self, compiled: &Compiled) -> Result<(), Stop>
-        requires { HoldsRelation compiled.now.spec self.old.instance self.old.relation }
-        ensures free { OnOk result (held_from 0 self.new.instance ≡ []) }
+        requires { HoldsRelation compiled.now.spec (holding self.old.instance) self.old.relation }
+        ensures free { OnOk result (held_of (holding self.new.instance) ≡ []) }
         ensures relation { OnOk result (IsOfRelation compiled.now.spec self.new.instance self.new.relation) }
     {
         if self.relation.rows().len() >= 1 << 63 {

@@ -6,7 +6,8 @@ ghost use Rattle.rc_tuple.specs.RisingSet.{In};
 ghost use Rattle.rc_spec.specs.Stripes.{stripe_total};
 ghost use Rattle.rc_fragment.specs.Fragment.{HasShape, edge_table};
 ghost use Rattle.rc_fragment.specs.FragmentRows.{FragmentRows};
-ghost use Rattle.rc_instance.specs.Instance.{held_from, table_of};
+ghost use Rattle.rc_fragment.specs.Holder.{held_of, offered_at};
+ghost use Rattle.rc_instance.specs.Instance.{holding};
 ghost use Rattle.rc_layers.specs.Open.{AreExclusive, AreFew, IsBeside, IsOfSpec, MayBeAdded};
 
 use crate::rows::{fragment_of, has, same, shape_of, stripes_of};
@@ -44,7 +45,7 @@ pub(crate) fn stripe_of_row(accepted: &Accepted, edge: u8, row: &Tuple) -> Resul
         return Err(Stop::Name);
     }
     let number = accepted.class_of(edge);
-    let class = &spec.classes.list()[number as usize];
+    let class = spec.class(number);
     if !class.cols.within(row.cols()) || class.stripes == 0 || class.stripes > 256 {
         return Err(Stop::Line);
     }
@@ -104,11 +105,11 @@ fn may_be_added(fragment: &Fragment, shape: &EdgeShape, edge: u8, row: &Tuple) -
 
 /// Takes all stripes Exclusive, where none is held.
 pub(crate) fn open_all<H: Holder>(holder: &mut H, accepted: &Accepted) -> Result<(), Stop>
-    requires of { IsOfSpec accepted.now (H.table holder.old) (H.stripes holder.old) }
-    requires none { H.held holder.old ≡ [] }
-    ensures of { IsOfSpec accepted.now (H.table holder.new) (H.stripes holder.new) }
-    ensures open { OnOk result (AreExclusive (stripe_total accepted.now) (H.held holder.new)) }
-    ensures few { OnOk result (((n : ℕ) → n < stripe_total accepted.now → H.offered holder.old n ≡ Some []) → AreFew 0 (H.held holder.new)) }
+    requires of { IsOfSpec accepted.now (H.seen holder.old) }
+    requires none { held_of (H.seen holder.old) ≡ [] }
+    ensures of { IsOfSpec accepted.now (H.seen holder.new) }
+    ensures open { OnOk result (AreExclusive (stripe_total accepted.now) (held_of (H.seen holder.new))) }
+    ensures few { OnOk result (((n : ℕ) → n < stripe_total accepted.now → offered_at (H.seen holder.old) n ≡ Some []) → AreFew 0 (held_of (H.seen holder.new))) }
 {
     for stripe in 0..stripes_of(accepted) {
         match holder.take(stripe, Mode::Exclusive) {
@@ -129,12 +130,12 @@ pub(crate) fn add<H: Holder>(
     row: &Tuple,
     limit: u32,
 ) -> Result<bool, Stop>
-    requires of { IsOfSpec accepted.now (H.table holder.old) (H.stripes holder.old) }
-    requires open { AreExclusive (stripe_total accepted.now) (H.held holder.old) }
-    requires few { AreFew limit (H.held holder.old) }
-    ensures of { IsOfSpec accepted.now (H.table holder.new) (H.stripes holder.new) }
-    ensures open { OnOk result (AreExclusive (stripe_total accepted.now) (H.held holder.new)) }
-    ensures few { OnOk result (AreFew (limit + 1) (H.held holder.new)) }
+    requires of { IsOfSpec accepted.now (H.seen holder.old) }
+    requires open { AreExclusive (stripe_total accepted.now) (held_of (H.seen holder.old)) }
+    requires few { AreFew limit (held_of (H.seen holder.old)) }
+    ensures of { IsOfSpec accepted.now (H.seen holder.new) }
+    ensures open { OnOk result (AreExclusive (stripe_total accepted.now) (held_of (H.seen holder.new))) }
+    ensures few { OnOk result (AreFew (limit + 1) (held_of (H.seen holder.new))) }
 {
     let shape = shape_of(accepted, edge)?;
     if !row.cols().equals(shape.target) {
@@ -157,10 +158,10 @@ pub(crate) fn sub<H: Holder>(
     edge: u8,
     row: &Tuple,
 ) -> Result<bool, Stop>
-    requires of { IsOfSpec accepted.now (H.table holder.old) (H.stripes holder.old) }
-    requires open { AreExclusive (stripe_total accepted.now) (H.held holder.old) }
-    ensures of { IsOfSpec accepted.now (H.table holder.new) (H.stripes holder.new) }
-    ensures open { OnOk result (AreExclusive (stripe_total accepted.now) (H.held holder.new)) }
+    requires of { IsOfSpec accepted.now (H.seen holder.old) }
+    requires open { AreExclusive (stripe_total accepted.now) (held_of (H.seen holder.old)) }
+    ensures of { IsOfSpec accepted.now (H.seen holder.new) }
+    ensures open { OnOk result (AreExclusive (stripe_total accepted.now) (held_of (H.seen holder.new))) }
 {
     let shape = shape_of(accepted, edge)?;
     let stripe = stripe_of_row(accepted, edge, row)?;
@@ -175,10 +176,10 @@ pub(crate) fn sub<H: Holder>(
 
 /// Takes all changes back.
 pub(crate) fn revert<H: Holder>(holder: &mut H, accepted: &Accepted)
-    requires of { IsOfSpec accepted.now (H.table holder.old) (H.stripes holder.old) }
-    requires open { AreExclusive (stripe_total accepted.now) (H.held holder.old) }
-    ensures of { IsOfSpec accepted.now (H.table holder.new) (H.stripes holder.new) }
-    ensures open { AreExclusive (stripe_total accepted.now) (H.held holder.new) }
+    requires of { IsOfSpec accepted.now (H.seen holder.old) }
+    requires open { AreExclusive (stripe_total accepted.now) (held_of (H.seen holder.old)) }
+    ensures of { IsOfSpec accepted.now (H.seen holder.new) }
+    ensures open { AreExclusive (stripe_total accepted.now) (held_of (H.seen holder.new)) }
 {
     holder.revert();
 }
@@ -187,8 +188,8 @@ pub(crate) fn revert<H: Holder>(holder: &mut H, accepted: &Accepted)
 
 /// Copies of all fragments.
 fn copies(alloc: Global, instance: &Instance, accepted: &Accepted) -> Result<Vec<Fragment>, Stop>
-    requires of { IsOfSpec accepted.now (table_of instance.now) (length instance.now) }
-    requires open { AreExclusive (stripe_total accepted.now) (held_from 0 instance.now) }
+    requires of { IsOfSpec accepted.now (holding instance.now) }
+    requires open { AreExclusive (stripe_total accepted.now) (held_of (holding instance.now)) }
     ensures table { IfOk result (λ fragments. (f : FragmentRows) → In f fragments.items → f.table ≡ edge_table accepted.now) }
     ensures count { IfOk result (λ fragments. length fragments.items ≡ stripe_total accepted.now) }
 {
@@ -205,10 +206,10 @@ pub(crate) fn made_of_copies(
     instance: &Instance,
     accepted: &Accepted,
 ) -> Result<Instance, Stop>
-    requires of { IsOfSpec accepted.now (table_of instance.now) (length instance.now) }
-    requires open { AreExclusive (stripe_total accepted.now) (held_from 0 instance.now) }
-    ensures of { IfOk result (λ made. IsOfSpec accepted.now (table_of made) (length made)) }
-    ensures free { IfOk result (λ made. held_from 0 made ≡ []) }
+    requires of { IsOfSpec accepted.now (holding instance.now) }
+    requires open { AreExclusive (stripe_total accepted.now) (held_of (holding instance.now)) }
+    ensures of { IfOk result (λ made. IsOfSpec accepted.now (holding made)) }
+    ensures free { IfOk result (λ made. held_of (holding made) ≡ []) }
 {
     let fragments = copies(alloc, instance, accepted)?;
     if fragments.is_empty() || fragments.len() > 256 {

@@ -2,7 +2,8 @@
 
 ghost use Rattle.std.specs.Prelude.{◌≡◌, [], OnOk};
 ghost use Rattle.rc_spec.specs.Calls.{Fits};
-ghost use Rattle.rc_instance.specs.Instance.{IsOfRelation, held_from};
+ghost use Rattle.rc_fragment.specs.Holder.{held_of};
+ghost use Rattle.rc_instance.specs.Instance.{IsOfRelation, holding};
 ghost use Rattle.rc_work.specs.Fitting.{RoundsFit, TurnsFit};
 
 use crate::calls::{Sides, read};
@@ -65,9 +66,9 @@ fn make_round(
     out: &mut Vec<u8>,
 ) -> Result<(), Stop>
     requires fit { TurnsFit compiled.now.spec turns.now }
-    requires free { held_from 0 sides.old.instance ≡ [] }
+    requires free { held_of (holding sides.old.instance) ≡ [] }
     requires relation { IsOfRelation compiled.now.spec sides.old.instance sides.old.relation }
-    ensures free { OnOk result (held_from 0 sides.new.instance ≡ []) }
+    ensures free { OnOk result (held_of (holding sides.new.instance) ≡ []) }
     ensures relation { OnOk result (IsOfRelation compiled.now.spec sides.new.instance sides.new.relation) }
 {
     for turn in turns {
@@ -88,9 +89,9 @@ fn make(
     out: &mut Vec<u8>,
 ) -> Result<(), Stop>
     requires fits { Fits compiled.now.spec call.now }
-    requires free { held_from 0 sides.old.instance ≡ [] }
+    requires free { held_of (holding sides.old.instance) ≡ [] }
     requires relation { IsOfRelation compiled.now.spec sides.old.instance sides.old.relation }
-    ensures free { OnOk result (held_from 0 sides.new.instance ≡ []) }
+    ensures free { OnOk result (held_of (holding sides.new.instance) ≡ []) }
     ensures relation { OnOk result (IsOfRelation compiled.now.spec sides.new.instance sides.new.relation) }
 {
     sides.push_step(compiled, ranks, call, out)?;
@@ -106,9 +107,9 @@ fn make_told(
     out: &mut Vec<u8>,
 ) -> Result<(), Stop>
     requires fits { Fits compiled.now.spec call.now }
-    requires free { held_from 0 sides.old.instance ≡ [] }
+    requires free { held_of (holding sides.old.instance) ≡ [] }
     requires relation { IsOfRelation compiled.now.spec sides.old.instance sides.old.relation }
-    ensures free { OnOk result (held_from 0 sides.new.instance ≡ []) }
+    ensures free { OnOk result (held_of (holding sides.new.instance) ≡ []) }
     ensures relation { OnOk result (IsOfRelation compiled.now.spec sides.new.instance sides.new.relation) }
 {
     sides.push_step(compiled, ranks, call, out)?;

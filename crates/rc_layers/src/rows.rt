@@ -4,8 +4,8 @@ ghost use Rattle.std.specs.Prelude.{◌≡◌, ℕ, ◌<◌, ◌≤◌, ◌↔�
 ghost use Rattle.rc_tuple.specs.RisingSet.{In};
 ghost use Rattle.rc_spec.specs.Stripes.{stripe_total};
 ghost use Rattle.rc_fragment.specs.Fragment.{HasShape, IsThere, edge_table};
-ghost use Rattle.rc_fragment.specs.Holder.{HeldStripe};
-ghost use Rattle.rc_instance.specs.Instance.{held_from, table_of};
+ghost use Rattle.rc_fragment.specs.Holder.{HeldStripe, held_of};
+ghost use Rattle.rc_instance.specs.Instance.{holding};
 ghost use Rattle.rc_layers.specs.Open.{AreExclusive, IsOfSpec};
 
 use crate::stop::Stop;
@@ -106,11 +106,11 @@ pub(crate) fn fragment_of<'a, H: Holder>(
     accepted: &Accepted,
     stripe: u32,
 ) -> &'a Fragment
-    requires of { IsOfSpec accepted.now (H.table holder.now) (H.stripes holder.now) }
-    requires open { AreExclusive (stripe_total accepted.now) (H.held holder.now) }
+    requires of { IsOfSpec accepted.now (H.seen holder.now) }
+    requires open { AreExclusive (stripe_total accepted.now) (held_of (H.seen holder.now)) }
     requires known { stripe < stripe_total accepted.now }
     ensures table { result.now.table ≡ edge_table accepted.now }
-    ensures rows { (h : HeldStripe) → In h (H.held holder.now) → h.stripe ≡ stripe → result.now.now ≡ h.now }
+    ensures rows { (h : HeldStripe) → In h (held_of (H.seen holder.now)) → h.stripe ≡ stripe → result.now.now ≡ h.now }
 {
     holder.fragment(stripe)
 }
@@ -147,8 +147,8 @@ pub(crate) fn push_rows(
     instance: &Instance,
     out: &mut Vec<u8>,
 ) -> Result<(), Stop>
-    requires of { IsOfSpec accepted.now (table_of instance.now) (length instance.now) }
-    requires open { AreExclusive (stripe_total accepted.now) (held_from 0 instance.now) }
+    requires of { IsOfSpec accepted.now (holding instance.now) }
+    requires open { AreExclusive (stripe_total accepted.now) (held_of (holding instance.now)) }
 {
     for edge in 0..accepted.spec().edges.list().len() as u8 {
         for stripe in 0..stripes_of(accepted) {
@@ -177,7 +177,7 @@ fn push_rows_at(
     for row in &rows {
         let count = count_of(alloc, fragment, &shape, edge, row)?;
         push_bytes(out, b"row ")?;
-        push_bytes(out, accepted.spec().edges.list()[edge as usize].name.list())?;
+        push_bytes(out, accepted.spec().edge(edge).name.list())?;
         push_row(accepted, ranks, stripe, row, count, out)?;
     }
     Ok(())

@@ -3,9 +3,10 @@
 ghost use Rattle.std.specs.Prelude.{◌≡◌, ◌+◌, ◌<◌, [], length, IfOk, IfSome, IsTrue, OnOk};
 ghost use Rattle.rc_spec.specs.Stripes.{stripe_total};
 ghost use Rattle.rc_fragment.specs.Fragment.{edge_table};
-ghost use Rattle.rc_fragment.specs.Holder.{IsAbove};
-ghost use Rattle.rc_instance.specs.Instance.{held_from, table_of};
-ghost use Rattle.rc_layers.specs.Open.{AreExclusive};
+ghost use Rattle.rc_fragment.specs.Holder.{GoesOn, IsAbove, held_of};
+ghost use Rattle.rc_instance.specs.Instance.{holding};
+ghost use Rattle.rc_layers.specs.Open.{AreExclusive, IsOfSpec};
+ghost use Rattle.rc_spec.specs.declared.spec.Spec.{Spec};
 ghost use Rattle.rc_layers.specs.Session.{IsAt};
 
 use crate::accepted::{accepted_of, behind_spec, number_of};
@@ -80,7 +81,7 @@ fn begin(alloc: Global, accepted: &Accepted) -> Result<Session, Stop>
 /// Whether all stripes are held for a change.
 fn is_open(session: &Session, accepted: &Accepted) -> bool
     requires { IsAt accepted.now session.now }
-    ensures { IsTrue result → AreExclusive (stripe_total accepted.now) (held_from 0 session.now.instance) }
+    ensures { IsTrue result → AreExclusive (stripe_total accepted.now) (held_of (holding session.now.instance)) }
 {
     match session.stage {
         Stage::Filling(_) => true,
@@ -180,10 +181,9 @@ fn take_back(session: &mut Session, accepted: &Accepted, out: &mut Vec<u8>) -> R
 
 /// Takes the changes back where no stripe is held.
 fn revert_nothing(instance: &mut Instance)
-    requires { held_from 0 instance.old ≡ [] }
-    ensures free { held_from 0 instance.new ≡ [] }
-    ensures stripes { length instance.new ≡ length instance.old }
-    ensures table { table_of instance.new ≡ table_of instance.old }
+    requires { held_of (holding instance.old) ≡ [] }
+    ensures free { held_of (holding instance.new) ≡ [] }
+    ensures of { (spec : Spec) → IsOfSpec spec (holding instance.old) → IsOfSpec spec (holding instance.new) }
 {
     instance.revert();
 }
@@ -287,7 +287,7 @@ fn take(
 /// A stripe below which all are that are held, unless all are.
 fn first_above(session: &Session, accepted: &Accepted) -> Option<u32>
     requires { IsAt accepted.now session.now }
-    ensures { IfSome result (IsAbove (held_from 0 session.now.instance)) }
+    ensures { IfSome result (IsAbove (held_of (holding session.now.instance))) }
 {
     match session.stage {
         Stage::Fresh => Some(0),
@@ -300,11 +300,10 @@ fn first_above(session: &Session, accepted: &Accepted) -> Option<u32>
 
 /// Takes a stripe above all that are held.
 fn take_above(instance: &mut Instance, stripe: u32, mode: Mode)
-    requires known { stripe < length instance.old }
-    requires above { IsAbove (held_from 0 instance.old) stripe }
-    ensures above { IsAbove (held_from 0 instance.new) (stripe + 1) }
-    ensures stripes { length instance.new ≡ length instance.old }
-    ensures table { table_of instance.new ≡ table_of instance.old }
+    requires known { stripe < length (holding instance.old).offered }
+    requires above { IsAbove (held_of (holding instance.old)) stripe }
+    ensures above { IsAbove (held_of (holding instance.new)) (stripe + 1) }
+    ensures goes_on { GoesOn (holding instance.old) (holding instance.new) }
 {
     match instance.take(stripe, mode) {
         Ok(()) => {}

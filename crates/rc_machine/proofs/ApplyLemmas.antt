@@ -1,8 +1,10 @@
 -- A tuple's rows on held stripes, edge by edge.
-use Rattle.std.specs.Prelude.{◌≡◌, ℕ, suc, pred, ◌+◌, ◌<◌, ◌≤◌, ◌^◌, ◌==◌, Bool, true, false, List, [], ◌∷◌, ◌++◌, cond, length}
+use Rattle.std.specs.Prelude.{◌≡◌, ℕ, suc, pred, ◌+◌, ◌<◌, ◌≤◌, ◌^◌, ◌==◌, Bool, true, false, List, [], ◌∷◌, ◌++◌, Some, cond, drop, get_or, length, map}
 use Rattle.std.specs.List.{range_with_len}
 use Rattle.std.proofs.Common.{inl, inr, refl, sym, ap, subst, ◌∙◌, arith, zero-add}
 use Rattle.std.proofs.lemmas.Bool.{and_parts, eqb-true}
+use Rattle.std.proofs.lemmas.List.{length-map}
+use Rattle.std.proofs.lemmas.List.FromFn.{get_or-map-range_with_len, length-map-range_with_len}
 use Rattle.rc_tuple.specs.RisingSet.{In}
 use Rattle.rc_tuple.specs.RisingSetLaws.{in_map, map_in}
 use Rattle.rc_tuple.specs.ColSetLaws.{in_range_bounds, range_with_len_more, rising_range}
@@ -15,11 +17,16 @@ use Rattle.rc_spec.specs.ContentsLaws.{target_within}
 use Rattle.rc_spec.specs.CountedRows.{count_at, is_row_at, lowered, raised, row_in, with_count}
 use Rattle.rc_spec.specs.CountedRowsLaws.{in_with_count, with_count_old}
 use Rattle.rc_spec.specs.Decomposition.{bound, edge_at}
-use Rattle.rc_spec.specs.Fragments.{EdgeRow}
-use Rattle.rc_fragment.specs.Fragment.{IsThere}
-use Rattle.rc_fragment.specs.Holder.{HeldStripe, IsHeldExclusive, changed_at, with_now}
-use Rattle.rc_machine.specs.Apply.{IsAddable, all_changed, stripe_in}
-use Rattle.rc_machine.proofs.ReadLemmas.{target_rises}
+use Rattle.rc_spec.specs.Fragments.{EdgeRow, edge_numbers}
+use Rattle.rc_fragment.specs.declared.shape.EdgeShape.{EdgeShape}
+use Rattle.rc_fragment.specs.Fragment.{HasAlone, HasColumns, HasSingle, IsThere, edge_table, shape_of}
+use Rattle.rc_fragment.specs.Holder.{CanLower, CanRaise, HasRoom, HeldStripe, Holding, IsHeldExclusive, changed_at, held_of, with_change, with_change_at, with_now}
+use Rattle.rc_fragment.specs.HoldingLaws.{held-change}
+use Rattle.rc_machine.specs.Apply.{AreAddable, AreAllThere, AreExclusive, HasRoomFor, IsAddable, IsSameButLent, all_changed, place_in, stripe_in}
+use Rattle.rc_machine.specs.declared.places.RowPlace.{RowPlace}
+use Rattle.rc_machine.proofs.LentLemmas.{lent_again, lent_new}
+use Rattle.rc_machine.proofs.PlaceLemmas.{next_room, rest_room}
+use Rattle.rc_machine.proofs.ReadLemmas.{shape_in_table, target_rises}
 
 -- ---- the columns of a row
 
@@ -150,3 +157,87 @@ module _ (change : Change) (leaves : LeavesOthers change) (spec : Spec) (t : Pai
 
 pub next_range : (n : ℕ) → range_with_len 0 (n + 1) ≡ range_with_len 0 n ++ n ∷ []
 next_range n = range_with_len_more 0 n ∙ ap (λ z. range_with_len 0 n ++ z ∷ []) (zero-add n)
+
+-- ---- the rows that a call changes, one after another
+
+-- the rows of the first edges are changed, and there is room for those of the others
+pub record AreChangedFirst (change : Change) (spec : Spec) (t : Pairs) (places : List RowPlace) (n : ℕ) (old new : Holding) : Type 0 where
+  pub held : held_of new ≡ all_changed change spec t (range_with_len 0 n) (held_of old)
+  pub room : HasRoomFor (drop n places) new
+  pub lent : IsSameButLent old new
+
+module _ (change : Change) (leaves : LeavesOthers change) (spec : Spec) (t : Pairs) (places : List RowPlace) (are : places ≡ map (place_in spec t) (edge_numbers spec)) (old mid : Holding) where
+  as_many : length places ≡ length spec.edges
+  as_many = ap length are ∙ length-map-range_with_len (place_in spec t) 0 (length spec.edges)
+
+  module _ (n : ℕ) (p : RowPlace) (l : n < length places) (is : p ≡ get_or places n p) (f : AreChangedFirst change spec t places n old mid) where
+    pub known : n < length spec.edges
+    known = subst (λ k. n < k) as_many l
+
+    place_is : p ≡ place_in spec t n
+    place_is = is ∙ ap (λ ps. get_or ps n p) are ∙ get_or-map-range_with_len (place_in spec t) 0 (length spec.edges) n n p known (zero-add n)
+
+    -- the next edge's stripe is held for a change, and has room for it
+    pub next_exclusive : AreExclusive spec t (held_of old) → IsHeldExclusive (held_of mid) p.stripe
+    next_exclusive x =
+        subst (λ (z : RowPlace). IsHeldExclusive (held_of mid) z.stripe) (sym place_is)
+        (subst (λ (held : List HeldStripe). IsHeldExclusive held (stripe_in spec t n)) (sym f.held) (still_exclusive change leaves spec t n (held_of old) (x n known)))
+
+    pub next_has_room : HasRoom mid p.stripe
+    next_has_room = next_room n places p mid l (sym is) f.room
+
+    pub one_changed_more : (new : Holding) → new ≡ with_change_at p.stripe (change p.edge p.row) mid → AreChangedFirst change spec t places (n + 1) old new
+    one_changed_more new e = record {
+      held = ap held_of e ∙ held-change p.stripe (change p.edge p.row) mid
+          ∙ ap (λ (z : RowPlace). changed_at z.stripe (change z.edge z.row) (held_of mid)) place_is
+          ∙ ap (changed_at (stripe_in spec t n) (change n (row_in spec t n))) f.held
+          ∙ sym (one_more change leaves spec t (range_with_len 0 n) n (held_of old))
+          ∙ sym (ap (λ edges. all_changed change spec t edges (held_of old)) (next_range n));
+      room = rest_room n places p mid l (sym is) f.room (change p.edge p.row) new e;
+      lent = lent_again old mid new f.lent (lent_new mid new (map (with_change p.stripe (change p.edge p.row)) mid.lent) e);
+    }
+
+    mid_table : old.table ≡ edge_table spec → mid.table ≡ edge_table spec
+    mid_table e = ap (λ (s : Holding). s.table) f.lent ∙ e
+
+    known_in : old.table ≡ edge_table spec → n < length mid.table
+    known_in e = subst (λ k. n < k) (sym (ap length (mid_table e) ∙ length-map spec.edges (shape_of spec))) known
+
+    -- the next row is there, or can be added
+    pub next_there : AreAllThere spec t (held_of old) → old.table ≡ edge_table spec → CanLower mid p.stripe p.edge p.row
+    next_there x table = subst (λ (z : RowPlace). CanLower mid z.stripe z.edge z.row) (sym place_is) (record {
+      known = known_in table;
+      there = λ h m. still_there change leaves spec t n (held_of old) (x n known) h (subst (In h) f.held m);
+    })
+
+    pub next_addable : IsSealed spec → cols_of t ≡ all_columns spec → AreAddable spec t (held_of old) → old.table ≡ edge_table spec → CanRaise mid p.stripe p.edge p.row
+    next_addable sealed whole x table = subst (λ (z : RowPlace). CanRaise mid z.stripe z.edge z.row) (sym place_is) (record {
+      known = known_in table;
+      columns = subst (λ ss. HasColumns ss n (row_in spec t n)) (sym (mid_table table)) (λ shape has.
+          let same : Some (shape_of spec (edge_at spec n)) ≡ Some shape = sym (shape_in_table spec n known) ∙ has in
+          let shape_is : shape_of spec (edge_at spec n) ≡ shape = cc in
+          cols_of-row_in spec sealed t whole n known ∙ ap (λ (z : EdgeShape). z.target) shape_is);
+      small = λ h m s. small_count n (row_in spec t n) h.now (addable h m s).small;
+      alone = λ h m s. subst (λ ss. HasAlone ss h.now n (row_in spec t n)) (sym (mid_table table)) (addable h m s).alone;
+      single = λ h m s. subst (λ ss. HasSingle ss h.now n (row_in spec t n)) (sym (mid_table table)) (addable h m s).single;
+    })
+      where
+        addable : (h : HeldStripe) → In h (held_of mid) → h.stripe ≡ stripe_in spec t n → IsAddable spec t n h.now
+        addable h m s = still_addable change leaves spec t n (held_of old) (x n known) h (subst (In h) f.held m) s
+
+  -- after the last row all are changed
+  pub all_are_changed : (n : ℕ) → n ≡ length places → AreChangedFirst change spec t places n old mid → held_of mid ≡ all_changed change spec t (edge_numbers spec) (held_of old)
+  all_are_changed n e f = f.held ∙ ap (λ k. all_changed change spec t (range_with_len 0 k) (held_of old)) (e ∙ as_many)
+
+  pub none_changed : held_of mid ≡ held_of old → HasRoomFor places mid → IsSameButLent old mid → AreChangedFirst change spec t places 0 old mid
+  none_changed held room lent = record { held = held; room = room; lent = lent }
+
+  -- the places are on stripes held for a change
+  pub places_exclusive : AreExclusive spec t (held_of old) → (p : RowPlace) → In p places → IsHeldExclusive (held_of old) p.stripe
+  places_exclusive x p m =
+      let q : (e : ℕ) × In e (edge_numbers spec) × (p ≡ place_in spec t e) = in_map (place_in spec t) p (edge_numbers spec) (subst (In p) are m) in
+      let b : (0 ≤ q.0) × (q.0 < 0 + length spec.edges) = in_range_bounds 0 (length spec.edges) q.0 q.1 in
+      subst (λ (z : RowPlace). IsHeldExclusive (held_of old) z.stripe) (sym q.2) (x q.0 (omega (arith, b.1)))
+
+pub few_places : (spec : Spec) → IsSealed spec → (t : Pairs) (places : List RowPlace) → places ≡ map (place_in spec t) (edge_numbers spec) → length places < 2 ^ 16
+few_places spec sealed t places are = let n : length places ≡ length spec.edges = ap length are ∙ length-map-range_with_len (place_in spec t) 0 (length spec.edges) in omega (arith, sealed.in_range)

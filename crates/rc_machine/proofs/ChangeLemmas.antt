@@ -26,7 +26,6 @@ use Rattle.rc_plan.specs.declared.statement.Statement.{Statement}
 use Rattle.rc_plan.specs.Compiled.{IsPlanOf}
 use Rattle.rc_plan.specs.Evaluation.{RunState, eval, run_one}
 use Rattle.rc_plan.specs.Laws.{Serves}
-use Rattle.rc_plan.specs.RunLaws.{searching}
 use Rattle.rc_plan.specs.StripeLocks.{stripes_of}
 use Rattle.rc_machine.specs.Apply.{all_changed, stripe_in}
 use Rattle.rc_machine.specs.Machine.{HasEvaluated, HasServed, locks_of, stripes_held}
@@ -34,6 +33,7 @@ use Rattle.rc_machine.specs.Run.{IsAt}
 use Rattle.rc_machine.proofs.ApplyLemmas.{Change, IsSameFrom, LeavesOthers, goes_to}
 use Rattle.rc_machine.proofs.CheckStepLemmas.{evaluated}
 use Rattle.rc_machine.proofs.RunLemmas.{has_evaluated, has_served, serves, stripes_named}
+use Rattle.rc_plan.specs.Search.{searching}
 
 -- ---- the rows of one stripe
 
@@ -202,7 +202,7 @@ part_of spec r stripes stripe m =
 
 module _ (spec : Spec) (sealed : IsSealed spec) (plan : List Statement) (call : Call) (fits : Fits spec call) (planned : IsPlanOf spec call.op plan) (change : Change) (leaves : LeavesOthers change) (local : IsLocal change)
     (x : Statement) (rest : List Statement) (bs : List Pairs) (held : List HeldStripe) (at : IsAt spec plan call (x ∷ rest) bs held) (answer : Reply) (t : Pairs)
-    (f : (rows : List EdgeRow) → run_one spec (op_at spec call.op).kind call.args (searching bs (locks_of held) rows) x
+    (f : (rows : List EdgeRow) → run_one spec (op_at spec call.op) call (searching bs (locks_of held) rows) x
     ≡ record { bindings = bs; named = locks_of held; reply = Some answer; rows = all_done change spec t (edge_numbers spec) rows }) where
   new : List HeldStripe
   new = all_changed change spec t (edge_numbers spec) held

@@ -2,7 +2,6 @@
 use Rattle.std.specs.Prelude.{◌≡◌, ℕ, Bool, true, false, List, [], ◌∷◌, None, Some, cond, length}
 use Rattle.std.specs.Ordering.{nat_cmp}
 use Rattle.std.proofs.Common.{inl, inr, refl, sym, ap, subst, ◌∙◌}
-use Rattle.std.proofs.lemmas.Option.{get_or_from_slice_get}
 use Rattle.rc_tuple.specs.RisingSet.{In, IsRising, gather}
 use Rattle.rc_tuple.specs.RisingSetLaws.{gather-rising, nat_order, rising_filter}
 use Rattle.rc_tuple.specs.ColSet.{Within, has}
@@ -12,14 +11,13 @@ use Rattle.rc_tuple.specs.TupleLaws.{fewer_cols, rising_cols, rising_cols-projec
 use Rattle.rc_spec.specs.declared.call.Call.{Call}
 use Rattle.rc_spec.specs.declared.call.Reply.{Reply}
 use Rattle.rc_spec.specs.declared.call.Reply.TheVariants.{Conflict, Present}
-use Rattle.rc_spec.specs.declared.items.Op.{Op}
 use Rattle.rc_spec.specs.declared.items.OpKind.{OpKind}
 use Rattle.rc_spec.specs.declared.items.OpKind.TheVariants.{Query, Insert, Remove}
 use Rattle.rc_spec.specs.declared.spec.Spec.{Spec}
 use Rattle.rc_spec.specs.Acceptance.{IsSealed}
-use Rattle.rc_spec.specs.Calls.{Fits, all_columns, value_columns}
+use Rattle.rc_spec.specs.Calls.{Fits, all_columns, value_columns, FitsAt}
 use Rattle.rc_spec.specs.Fragments.{EdgeRow, rows_on}
-use Rattle.rc_spec.specs.Placement.{no_op, op_at}
+use Rattle.rc_spec.specs.Placement.{op_at}
 use Rattle.rc_fragment.specs.Holder.{AreOfRelation, HeldStripe}
 use Rattle.rc_plan.specs.declared.statement.Statement.{Statement}
 use Rattle.rc_plan.specs.declared.statement.Statement.TheVariants.{CheckAbsent, CheckDep, Probe}
@@ -28,12 +26,14 @@ use Rattle.rc_plan.specs.declared.statement.Which.TheVariants as which
 use Rattle.rc_plan.specs.Compiled.{IsPlanOf}
 use Rattle.rc_plan.specs.Evaluation.{RunState, eval, run, run_one, some_differs, some_left}
 use Rattle.rc_plan.specs.InsertLaws.{probe_searching}
-use Rattle.rc_plan.specs.PlanRules.{IsInsert, KeepsAll, Progress, after, given_columns}
-use Rattle.rc_plan.specs.RunLaws.{IsSearching, run-replied, searching}
+use Rattle.rc_plan.specs.PlanRules.{IsInsert, KeepsAll, Progress, after}
+use Rattle.rc_plan.specs.RunLaws.{run-replied}
 use Rattle.rc_plan.specs.StripeLocks.{StripeLock, stripes_of}
 use Rattle.rc_machine.specs.Machine.{HasEvaluated, HasServed, locks_of, stripes_held}
 use Rattle.rc_machine.specs.Run.{IsAt, IsOn, IsClassTaken}
 use Rattle.rc_machine.proofs.RunLemmas.{has_evaluated, has_served, unchanged_rows}
+use Rattle.rc_plan.specs.Search.{IsSearching, searching}
+use Rattle.rc_spec.specs.CallsLaws.{fits_at_op}
 
 whole_by : (spec : Spec) (t : Pairs) (pattern : List ℕ) (kind : OpKind) → IsInsert kind → cols_of t ≡ gather nat_cmp (value_columns spec pattern kind) → cols_of t ≡ all_columns spec
 whole_by spec t pattern (Query outs) i e = absurd i
@@ -43,8 +43,8 @@ whole_by spec t pattern Remove i e = absurd i
 -- an insert's tuple has all columns
 pub whole_tuple : (spec : Spec) (call : Call) → Fits spec call → IsInsert (op_at spec call.op).kind → cols_of call.args ≡ all_columns spec
 whole_tuple spec call fits i =
-    let is_op : op_at spec call.op ≡ fits.0 = get_or_from_slice_get spec.ops call.op fits.0 no_op fits.1.known in
-    whole_by spec call.args (op_at spec call.op).pattern (op_at spec call.op).kind i (subst (λ (op : Op). cols_of call.args ≡ given_columns spec op) (sym is_op) fits.1.columns)
+    let at : FitsAt spec call (op_at spec call.op) = fits_at_op spec call fits in
+    whole_by spec call.args (op_at spec call.op).pattern (op_at spec call.op).kind i at.columns
 
 module _ (spec : Spec) (sealed : IsSealed spec) (plan : List Statement) (call : Call) (fits : Fits spec call) where
   -- ---- Probe
@@ -130,7 +130,7 @@ module _ (spec : Spec) (sealed : IsSealed spec) (plan : List Statement) (call : 
     columns_rise = at.columns_rise;
     on = λ r a. check_on r (op_at spec call.op).kind at.progress bs (locks_of held) true at.progress.checked (at.on r a);
     runs = λ r a stripes w. at.runs r a stripes w
-        ∙ ap (λ b. run spec (op_at spec call.op).kind call.args rest (cond b (record { bindings = bs; named = locks_of held; reply = Some Present; rows = rows_on spec r stripes }) (searching bs (locks_of held) (rows_on spec r stripes)))) e;
+        ∙ ap (λ b. run spec (op_at spec call.op) call rest (cond b (record { bindings = bs; named = locks_of held; reply = Some Present; rows = rows_on spec r stripes }) (searching bs (locks_of held) (rows_on spec r stripes)))) e;
   }
 
   -- and after the check of a dependency that no binding breaks
@@ -146,22 +146,22 @@ module _ (spec : Spec) (sealed : IsSealed spec) (plan : List Statement) (call : 
     columns_rise = at.columns_rise;
     on = λ r a. check_on r (op_at spec call.op).kind at.progress bs (locks_of held) at.progress.absent (dep ∷ at.progress.checked) (at.on r a);
     runs = λ r a stripes w. at.runs r a stripes w
-        ∙ ap (λ b. run spec (op_at spec call.op).kind call.args rest (cond b (record { bindings = bs; named = locks_of held; reply = Some (Conflict dep); rows = rows_on spec r stripes }) (searching bs (locks_of held) (rows_on spec r stripes)))) e;
+        ∙ ap (λ b. run spec (op_at spec call.op) call rest (cond b (record { bindings = bs; named = locks_of held; reply = Some (Conflict dep); rows = rows_on spec r stripes }) (searching bs (locks_of held) (rows_on spec r stripes)))) e;
   }
 
   -- ---- ends
 
   -- a run whose next statement gives the reply, and may change the rows
   pub evaluated : (x : Statement) (rest : List Statement) (bs : List Pairs) (held : List HeldStripe) (at : IsAt spec plan call (x ∷ rest) bs held) (answer : Reply) (change : List EdgeRow → List EdgeRow)
-      → ((rows : List EdgeRow) → run_one spec (op_at spec call.op).kind call.args (searching bs (locks_of held) rows) x ≡ record { bindings = bs; named = locks_of held; reply = Some answer; rows = change rows })
+      → ((rows : List EdgeRow) → run_one spec (op_at spec call.op) call (searching bs (locks_of held) rows) x ≡ record { bindings = bs; named = locks_of held; reply = Some answer; rows = change rows })
       → (r : List Pairs) → AreOfRelation spec held r
       → eval spec plan call (rows_on spec r (stripes_held held)) ≡ record { bindings = bs; named = locks_of held; reply = Some answer; rows = change (rows_on spec r (stripes_held held)) }
   evaluated x rest bs held at answer change f r a =
-      at.runs r a (stripes_held held) (λ c m. m) ∙ ap (run spec (op_at spec call.op).kind call.args rest) (f (rows_on spec r (stripes_held held)))
-      ∙ run-replied spec (op_at spec call.op).kind call.args rest bs (locks_of held) answer (change (rows_on spec r (stripes_held held)))
+      at.runs r a (stripes_held held) (λ c m. m) ∙ ap (run spec (op_at spec call.op) call rest) (f (rows_on spec r (stripes_held held)))
+      ∙ run-replied spec (op_at spec call.op) call rest bs (locks_of held) answer (change (rows_on spec r (stripes_held held)))
 
   module _ (planned : IsPlanOf spec call.op plan) (x : Statement) (rest : List Statement) (bs : List Pairs) (held : List HeldStripe) (at : IsAt spec plan call (x ∷ rest) bs held) (answer : Reply)
-      (f : (rows : List EdgeRow) → run_one spec (op_at spec call.op).kind call.args (searching bs (locks_of held) rows) x ≡ record { bindings = bs; named = locks_of held; reply = Some answer; rows = rows }) where
+      (f : (rows : List EdgeRow) → run_one spec (op_at spec call.op) call (searching bs (locks_of held) rows) x ≡ record { bindings = bs; named = locks_of held; reply = Some answer; rows = rows }) where
     ends : (r : List Pairs) → AreOfRelation spec held r
         → eval spec plan call (rows_on spec r (stripes_held held)) ≡ record { bindings = bs; named = locks_of held; reply = Some answer; rows = rows_on spec r (stripes_held held) }
     ends = evaluated x rest bs held at answer (λ rows. rows) f

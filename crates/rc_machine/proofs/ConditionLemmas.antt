@@ -45,13 +45,12 @@ use Rattle.rc_plan.specs.declared.statement.Statement.{Statement}
 use Rattle.rc_plan.specs.declared.statement.Statement.TheVariants.{Apply}
 use Rattle.rc_plan.specs.declared.statement.Which.{Which}
 use Rattle.rc_plan.specs.declared.statement.Which.TheVariants as which
-use Rattle.rc_plan.specs.InsertLaws.{HasNamed}
 use Rattle.rc_plan.specs.MatchLaws.{all_seen_match}
 use Rattle.rc_plan.specs.PlanRules.{FindsTuples, IsInsert, IsQuery, KeepsAll}
 use Rattle.rc_plan.specs.RemoveLaws.{covered_without_probe}
 use Rattle.rc_plan.specs.RunLaws.{cols_of-project}
-use Rattle.rc_plan.specs.StripeLocks.{stripes_of}
-use Rattle.rc_plan.specs.StripeLocksLaws.{AreIn, physical_stripe-agreeing, striping_in_target}
+use Rattle.rc_plan.specs.StripeLocks.{stripes_of, AreIn}
+use Rattle.rc_plan.specs.StripeLocksLaws.{physical_stripe-agreeing, striping_in_target}
 use Rattle.rc_machine.specs.Apply.{AreAddable, AreAllThere, AreExclusive, stripe_in}
 use Rattle.rc_machine.specs.Machine.{locks_of, stripes_held}
 use Rattle.rc_machine.specs.Run.{IsAt, IsOn}
@@ -59,6 +58,7 @@ use Rattle.rc_machine.proofs.CheckStepLemmas.{whole_tuple}
 use Rattle.rc_machine.proofs.ReadLemmas.{shape_in_table}
 use Rattle.rc_machine.proofs.ReadStepLemmas.{good_stripes}
 use Rattle.rc_machine.proofs.RunLemmas.{stripes_named}
+use Rattle.rc_plan.specs.NamedStripes.{HasNamed}
 
 -- ---- stripes held for a change
 

@@ -1,7 +1,8 @@
 mod ApplyLemmas
+pub mod LentLemmas
 mod LockLemmas
+mod PlaceLemmas
 mod ReadLemmas
-mod RowLemmas
 pub mod RevertLemmas
 pub mod RunLemmas
 pub mod StepLemmas

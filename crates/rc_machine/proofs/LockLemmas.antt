@@ -1,8 +1,8 @@
 -- Stripes taken one after another, in rising order.
-use Rattle.std.specs.Prelude.{◌≡◌, ℕ, zero, suc, ◌+◌, ◌<◌, ◌≤◌, List, [], ◌∷◌, ◌++◌, Option, None, Some, length, take, get_or}
+use Rattle.std.specs.Prelude.{◌≡◌, ℕ, zero, suc, ◌+◌, ◌<◌, ◌≤◌, List, [], ◌∷◌, ◌++◌, Option, None, Some, length, map, take, get_or}
 use Rattle.std.specs.declared.cmp.Ordering.TheVariants.{Less}
 use Rattle.std.specs.Ordering.{nat_cmp}
-use Rattle.std.proofs.Common.{inl, inr, sym, ap, subst, ◌∙◌, arith, add-one, append_assoc}
+use Rattle.std.proofs.Common.{inl, inr, refl, sym, ap, subst, ◌∙◌, arith, add-one, append_assoc, append-nil}
 use Rattle.std.proofs.lemmas.Cmp.{ranked}
 use Rattle.std.specs.List.{sum_by}
 use Rattle.std.proofs.lemmas.List.{map-append, take_all}
@@ -11,23 +11,23 @@ use Rattle.std.proofs.Math.Seq.{take-suc}
 use Rattle.rc_tuple.specs.ColSetLaws.{in_range_bounds}
 use Rattle.rc_tuple.specs.Tuple.{Pairs}
 use Rattle.rc_tuple.specs.RisingSet.{In, IsRising}
-use Rattle.rc_tuple.specs.RisingSetLaws.{get_or_in, in_map, map_in, in_append, append_in_left}
+use Rattle.rc_tuple.specs.RisingSetLaws.{get_or_in, in_map, map_in, in_append}
 use Rattle.rc_spec.specs.declared.lock.Mode.{Mode}
-use Rattle.rc_spec.specs.Fragments.{EdgeRow}
 use Rattle.rc_spec.specs.declared.items.Class.{Class}
 use Rattle.rc_spec.specs.declared.spec.Spec.{Spec}
 use Rattle.rc_spec.specs.Placement.{IsPlaced, class_at, no_class, stripes_of_first}
 use Rattle.rc_spec.specs.PlacementLaws.{physical_stripe_below}
 use Rattle.rc_spec.specs.Stripes.{band_start, physical_stripe, stripe_total}
 use Rattle.rc_fragment.specs.declared.held.Held.{Held}
-use Rattle.rc_fragment.specs.Holder.{AreOffered, HasRisen, HasTaken, HeldStripe, IsAbove, IsHeld, IsRefusal, RefusedTake, just_taken}
+use Rattle.rc_fragment.specs.Holder.{AreOffered, GoesOn, HasRefused, HasRisen, HasTaken, HasTakenNothing, HeldStripe, Holding, IsAbove, IsRefusal, LentStripe, RefusedTake, held_of, just_taken, offered_at}
+use Rattle.rc_fragment.specs.HoldingLaws.{held-taken, risen_again}
 use Rattle.rc_fragment.specs.declared.held.TakeStop.{TakeStop}
 use Rattle.rc_fragment.specs.declared.held.TakeStop.TheVariants as take_stop
 use Rattle.rc_plan.specs.declared.statement.Which.{Which}
 use Rattle.rc_plan.specs.declared.statement.Which.TheVariants as which
 use Rattle.rc_plan.specs.Evaluation.{stripes_locked}
 use Rattle.rc_machine.specs.declared.stop.Stop.TheVariants as stop
-use Rattle.rc_machine.specs.Locks.{HasLocked, IsRefusedTake}
+use Rattle.rc_machine.specs.Locks.{HasLocked, HasRefusedOne}
 use Rattle.rc_machine.specs.Stopped.{stopped}
 
 pub less_from : (x y : ℕ) → nat_cmp x y ≡ Less → x < y
@@ -42,25 +42,31 @@ first_below (y ∷ xs) (suc i) d x r l m = elim m [
   | inr n ↦ first_below xs i d x r.1 (omega arith) n
 ]
 
--- a stripe above those held isn't held
-pub not_held : (held : List HeldStripe) (s : ℕ) → IsAbove held s → IsHeld held s → ⊥
-not_held held s f h = let l : h.0.stripe < s = f h.0 h.1 in let e : h.0.stripe ≡ s = h.2 in omega (arith, l, e)
+pub locked_none : (s : Holding) (mode : Mode) → HasLocked s s [] mode
+locked_none s mode = record {
+  more = [];
+  beside = sym (append-nil (held_of s));
+  stripes_are = refl;
+  modes = λ h m. absurd m;
+  unchanged = λ h m. absurd m;
+  told = λ h m. absurd m;
+}
 
-module _ (old mid : List HeldStripe) (stripes : List ℕ) (i : ℕ) (mode : Mode) (offered : ℕ → Option (List EdgeRow)) (l : i < length stripes) (f : HasLocked old mid (take i stripes) mode offered) where
+module _ (old mid : Holding) (stripes : List ℕ) (i : ℕ) (mode : Mode) (l : i < length stripes) (f : HasLocked old mid (take i stripes) mode) where
   -- the next stripe is above those of before and those taken
-  pub next_above : IsRising nat_cmp stripes → ((s : ℕ) → In s stripes → IsAbove old s) → IsAbove mid (get_or stripes i 0)
-  next_above r above h m = elim (in_append h old f.more (subst (In h) f.beside m)) [
+  pub next_above : IsRising nat_cmp stripes → ((s : ℕ) → In s stripes → IsAbove (held_of old) s) → IsAbove (held_of mid) (get_or stripes i 0)
+  next_above r above h m = elim (in_append h (held_of old) f.more (subst (In h) f.beside m)) [
     | inl n ↦ above (get_or stripes i 0) (get_or_in stripes i 0 l) h n
     | inr n ↦ first_below stripes i 0 h.stripe r l (subst (In h.stripe) f.stripes_are (map_in (λ (h : HeldStripe). h.stripe) h f.more n))
   ]
 
-  pub locked_more : (new : List HeldStripe) (told : Option (List EdgeRow)) → HasTaken mid new (get_or stripes i 0) mode told → told ≡ offered (get_or stripes i 0) → HasLocked old new (take (i + 1) stripes) mode offered
-  locked_more new told t same =
+  pub locked_more : (new : Holding) → GoesOn old mid → HasTaken mid new (get_or stripes i 0) mode → HasLocked old new (take (i + 1) stripes) mode
+  locked_more new on t =
       let s : ℕ = get_or stripes i 0 in
-      let now : HeldStripe = just_taken s mode t.0 in
+      let now : HeldStripe = just_taken s mode t.rows in
       record {
         more = f.more ++ now ∷ [];
-        beside = t.1 ∙ ap (λ z. z ++ now ∷ []) f.beside ∙ append_assoc old f.more (now ∷ []);
+        beside = held-taken mid new s mode t ∙ ap (λ z. z ++ now ∷ []) f.beside ∙ append_assoc (held_of old) f.more (now ∷ []);
         stripes_are = map-append (λ (h : HeldStripe). h.stripe) f.more (now ∷ []) ∙ ap (λ z. z ++ s ∷ []) f.stripes_are ∙ sym (ap (λ k. take k stripes) (add-one i) ∙ take-suc stripes i 0 l);
         modes = λ h m. elim (in_append h f.more (now ∷ []) m) [
           | inl n ↦ f.modes h n
@@ -74,34 +80,33 @@ module _ (old mid : List HeldStripe) (stripes : List ℕ) (i : ℕ) (mode : Mode
         ];
         told = λ h m. elim (in_append h f.more (now ∷ []) m) [
           | inl n ↦ f.told h n
-          | inr (inl e) ↦ subst (λ (h : HeldStripe). AreOffered (offered h.stripe) h.taken) (sym e) (subst (λ o. AreOffered o t.0) same t.2)
+          | inr (inl e) ↦ subst (λ (h : HeldStripe). AreOffered (offered_at old h.stripe) h.taken) (sym e) (subst (λ offered. AreOffered (get_or offered s None) t.rows) on.offered t.told)
           | inr (inr z) ↦ absurd z
         ];
       }
 
--- what isn't held after a take wasn't before
-pub offers_more : (first before after : ℕ → Option (List EdgeRow)) (mid new : List HeldStripe) (s : ℕ) (mode : Mode) (told : Option (List EdgeRow)) → HasTaken mid new s mode told
-    → ((p : ℕ) → (IsHeld mid p → ⊥) → before p ≡ first p) → ((p : ℕ) → (IsHeld new p → ⊥) → after p ≡ before p) → (p : ℕ) → (IsHeld new p → ⊥) → after p ≡ first p
-offers_more first before after mid new s mode told t a b p n =
-    b p n ∙ a p (λ h. n (h.0, subst (In h.0) (sym t.1) (append_in_left h.0 mid (just_taken s mode t.0 ∷ []) h.1), h.2))
-
 -- ---- refused takes
+
+-- a count that rose later rose
+pub risen_since : (first old new : Holding) → GoesOn first old → HasRisen old.refusals new.refusals → HasRisen first.refusals new.refusals
+risen_since first old new on r = elim on.refused [ inl same ↦ subst (λ n. HasRisen n new.refusals) same.0 r | inr risen ↦ risen_again first.refusals old.refusals new.refusals risen.0 r ]
 
 refused_stripe : (last : Option RefusedTake) (answer : Held) (s : ℕ) (mode : Mode) (held : List HeldStripe) → IsRefusal last answer s mode held → answer.stripe ≡ s
 refused_stripe None answer s mode held h = absurd h
 refused_stripe (Some last) answer s mode held h = h.1
 
-pub refused_take : (first before after : ℕ) (stripes : List ℕ) (s : ℕ) (mode : Mode) (mid new : List HeldStripe) (last : Option RefusedTake) (answer : Held) → first ≤ before → new ≡ mid → IsAbove mid s → In s stripes
-    → HasRisen before after × IsRefusal last answer s mode mid → HasRisen first after × IsRefusedTake stripes mode new last answer
-refused_take first before after stripes s mode mid new last answer l same above m h =
-    let is : answer.stripe ≡ s = refused_stripe last answer s mode mid h.1 in (
-      elim h.0 [ inl k ↦ inl (omega arith) | inr k ↦ inr k ],
-      record {
-        last_refusal = subst (λ z. IsRefusal last answer z mode new) (sym is) (subst (IsRefusal last answer s mode) (sym same) h.1);
-        above = subst (λ z. IsAbove new z) (sym is) (subst (λ z. IsAbove z s) (sym same) above);
-        wanted = subst (λ z. In z stripes) (sym is) m;
-      },
-    )
+-- a refused take of one of some stripes
+pub refused_one : (first old new : Holding) (stripes : List ℕ) (s : ℕ) (mode : Mode) (answer : Held) → GoesOn first old → HasTakenNothing old new → IsAbove (held_of old) s → In s stripes
+    → HasRefused old new s mode answer → HasRefusedOne first new stripes mode answer
+refused_one first old new stripes s mode answer on none above m r =
+    let is : answer.stripe ≡ s = refused_stripe new.last_refusal answer s mode (held_of old) r.last in
+    let same : held_of new ≡ held_of old = ap (map (λ (l : LentStripe). l.held)) none.lent in
+    record {
+      risen = risen_since first old new on r.risen;
+      last = subst (λ z. IsRefusal new.last_refusal answer z mode (held_of new)) (sym is) (subst (IsRefusal new.last_refusal answer s mode) (sym same) r.last);
+      above = subst (λ z. IsAbove (held_of new) z) (sym is) (subst (λ held. IsAbove held s) (sym same) above);
+      wanted = subst (λ z. In z stripes) (sym is) m;
+    }
 
 -- ---- what a Lock names
 

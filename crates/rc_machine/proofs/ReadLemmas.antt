@@ -1,5 +1,5 @@
 -- What the containers of held stripes answer a binding, merged with it, is its part of a join.
-use Rattle.std.specs.Prelude.{◌≡◌, ℕ, zero, suc, ◌+◌, ◌<◌, ◌≤◌, true, List, [], ◌∷◌, ◌++◌, ◌⊎◌, None, Some, filter, length, take, get_or, Result, Ok, Err, IfOk, OnOk}
+use Rattle.std.specs.Prelude.{◌≡◌, ℕ, zero, suc, ◌+◌, ◌<◌, ◌≤◌, true, List, [], ◌∷◌, ◌++◌, ◌⊎◌, None, Some, filter, length, take, get_or, Result, Ok, Err, IfOk, OnErr, OnOk}
 use Rattle.std.specs.List.{flat_map, range_with_len}
 use Rattle.std.specs.Option.{option_map}
 use Rattle.std.specs.Ordering.{nat_cmp}
@@ -13,28 +13,28 @@ use Rattle.rc_tuple.specs.ColSet.{Within}
 use Rattle.rc_tuple.specs.ColSetLaws.{union_left, union_right}
 use Rattle.rc_tuple.specs.Tuple.{IsTuple, Pairs, agrees, cols_of, merge, merges_of, project, tuple_cmp}
 use Rattle.rc_tuple.specs.TupleLaws.{agree_from, rising_cols, rising_pairs, tuple_order}
-use Rattle.rc_spec.specs.declared.items.Class.{Class}
 use Rattle.rc_spec.specs.declared.spec.Spec.{Spec}
 use Rattle.rc_spec.specs.Acceptance.{IsSealed}
 use Rattle.rc_spec.specs.Adequacy.{KeepsA3}
 use Rattle.rc_spec.specs.Contents.{join}
 use Rattle.rc_spec.specs.Decomposition.{bound, edge_at, no_edge, node_at, no_node}
-use Rattle.rc_spec.specs.DecompositionLaws.{at_found, edge_at_in}
+use Rattle.rc_spec.specs.DecompositionLaws.{edge_at_in}
 use Rattle.rc_spec.specs.Fragments.{EdgeRow, edge_row_cmp, tuples_of_edge}
 use Rattle.rc_spec.specs.FragmentsLaws.{edge_row_order, in_tuples_of_edge, tuples_of_edge_in}
 use Rattle.rc_spec.specs.HeathLaws.{IsJoined, in_join, join_in, rising_join}
-use Rattle.rc_spec.specs.Placement.{class_at, class_of, no_class}
+use Rattle.rc_spec.specs.Placement.{class_at, class_of}
 use Rattle.rc_spec.specs.PlacementLaws.{class_of_known}
 use Rattle.rc_spec.specs.Stripes.{physical_stripe}
 use Rattle.rc_fragment.specs.declared.shape.EdgeShape.{EdgeShape}
 use Rattle.rc_fragment.specs.Fragment.{HasScanned, HasShape, IsLookedUp, IsThere, edge_table, shape_of}
-use Rattle.rc_fragment.specs.Holder.{HeldStripe}
+use Rattle.rc_fragment.specs.Holder.{HeldStripe, Holding, IsHeld, IsLent, held_of}
+use Rattle.rc_fragment.specs.FragmentRows.{FragmentRows}
 use Rattle.rc_plan.specs.declared.statement.ReadMode.TheVariants.{Lookup, Scan}
-use Rattle.rc_plan.specs.Evaluation.{band}
-use Rattle.rc_plan.specs.ReadLaws.{project-agreeing}
+use Rattle.rc_spec.specs.JoinLaws.{project-agreeing}
 use Rattle.rc_plan.specs.StripeLocksLaws.{physical_stripe-agreeing, physical_stripe-in_band, striping_in_target}
-use Rattle.rc_machine.specs.Machine.{rows_now}
+use Rattle.rc_machine.specs.Machine.{rows_now, stripes_held}
 use Rattle.rc_machine.specs.Read.{AreGood, AreMerges, HasMerged, HasMergedAll, HasMergedOn, IsMergeOf, IsMergeOn, IsReader}
+use Rattle.rc_plan.specs.StripeLocks.{band}
 
 -- ---- results
 
@@ -42,14 +42,22 @@ pub on_ok : {E : Type 0} {P Q : Type 0} (r : Result (Unit {0}) E) → (P → Q) 
 on_ok (Ok x) f h = f h
 on_ok (Err e) f h = tt
 
+pub on_err : {T E : Type 0} {P Q : Type 0} (r : Result T E) → (P → Q) → OnErr r P → OnErr r Q
+on_err (Ok x) f h = tt
+on_err (Err e) f h = f h
+
+pub at_err : {T E : Type 0} {P : Type 0} (r : Result T E) → P → OnErr r P
+at_err (Ok x) p = tt
+at_err (Err e) p = p
+
 pub if_ok : {T E : Type 0} {P Q : T → Type 0} (r : Result T E) → ((x : T) → P x → Q x) → IfOk r P → IfOk r Q
 if_ok (Ok x) f h = f x h
 if_ok (Err e) f h = tt
 
 -- ---- edges
 
-pub class_found : (spec : Spec) (classes : List Class) (n : ℕ) (c : Class) → classes ≡ spec.classes → n < length spec.classes → c ≡ get_or classes n c → class_at spec n ≡ c
-class_found spec classes n c e l is = at_found classes spec.classes n no_class c e l is
+pub class_known : (spec : Spec) → IsSealed spec → (e : ℕ) → e < length spec.edges → class_of spec e < length spec.classes
+class_known spec sealed e l = class_of_known spec e sealed.in_range (sealed.accepted.placed.p1 e l)
 
 -- the shape of an edge in the table
 pub shape_in_table : (spec : Spec) (e : ℕ) → e < length spec.edges → HasShape (edge_table spec) e (shape_of spec (edge_at spec e))
@@ -109,35 +117,47 @@ module _ (spec : Spec) (sealed : IsSealed spec) (e : ℕ) (known : e < length sp
   key_there : IsReader spec e Lookup b → (u : Pairs) → IsThere rows e u → agrees b u ≡ true → project (edge_at spec e).key u ≡ project (edge_at spec e).key b
   key_there reads u t g = same_there (edge_at spec e).key (λ c m. a3.inside c (union_right (bound spec (edge_at spec e).from) (edge_at spec e).key c m)) reads.key u t g
 
-  pub looked_up_none : (old : List Pairs) → IsReader spec e Lookup b
-      → IsLookedUp (shape_of spec (edge_at spec e)) rows e (project (bound spec (edge_at spec e).from) b) (project (edge_at spec e).key b) None → HasMerged b e rows old old
-  looked_up_none old reads h = record {
-    kept = λ c m. m;
-    only = λ c m. inl m;
-    each = λ c m. absurd (h m.0 m.1 (source_there reads m.0 m.1 m.2) (key_there reads m.0 m.1 m.2));
-  }
+  module _ (old : List Pairs) where
+    pub looked_up_none : (source key : Pairs) → source ≡ project (bound spec (edge_at spec e).from) b → key ≡ project (edge_at spec e).key b → IsReader spec e Lookup b
+        → IsLookedUp (shape_of spec (edge_at spec e)) rows e source key None → HasMerged b e rows old old
+    looked_up_none source key by_source by_key reads h = record {
+      kept = λ c m. m;
+      only = λ c m. inl m;
+      each = λ c m. absurd (h m.0 m.1 (source_there reads m.0 m.1 m.2 ∙ sym by_source) (key_there reads m.0 m.1 m.2 ∙ sym by_key));
+    }
 
-  pub looked_up_some : (old : List Pairs) (t : Pairs) → IsReader spec e Lookup b
-      → IsLookedUp (shape_of spec (edge_at spec e)) rows e (project (bound spec (edge_at spec e).from) b) (project (edge_at spec e).key b) (Some t) → HasMerged b e rows old (old ++ merges_of b (t ∷ []))
-  looked_up_some old t reads h = appended b e rows old (t ∷ [])
-      (λ u m. elim m [ inl q ↦ subst (λ z. IsThere rows e z) (sym q) h.0 | inr z ↦ absurd z ])
-      (λ u m g. inl (h.3 u m (source_there reads u m g) (key_there reads u m g)))
+    pub looked_up_some : (t source key : Pairs) → source ≡ project (bound spec (edge_at spec e).from) b → key ≡ project (edge_at spec e).key b → IsReader spec e Lookup b
+        → IsLookedUp (shape_of spec (edge_at spec e)) rows e source key (Some t) → HasMerged b e rows old (old ++ merges_of b (t ∷ []))
+    looked_up_some t source key by_source by_key reads h = appended b e rows old (t ∷ [])
+        (λ u m. elim m [ inl q ↦ subst (λ z. IsThere rows e z) (sym q) h.0 | inr z ↦ absurd z ])
+        (λ u m g. inl (h.3 u m (source_there reads u m g ∙ sym by_source) (key_there reads u m g ∙ sym by_key)))
 
-  pub scanned : (old ts : List Pairs) → IsReader spec e Scan b → HasScanned (shape_of spec (edge_at spec e)) rows e (project (bound spec (edge_at spec e).from) b) [] ts → HasMerged b e rows old (old ++ merges_of b ts)
-  scanned old ts reads h = appended b e rows old ts
-      (λ u m. (h.2.only u (subst (In u) h.1 m)).0)
-      (λ u m g. subst (In u) (sym h.1)
-      (h.2.each u m (same_there (bound spec (edge_at spec e).from) (λ c n. a3.inside c (union_left (bound spec (edge_at spec e).from) (edge_at spec e).key c n)) reads.source u m g)))
+    pub scanned : (ts : List Pairs) (source : Pairs) → source ≡ project (bound spec (edge_at spec e).from) b → IsReader spec e Scan b
+        → HasScanned (shape_of spec (edge_at spec e)) rows e source [] ts → HasMerged b e rows old (old ++ merges_of b ts)
+    scanned ts source by_source reads h = appended b e rows old ts
+        (λ u m. (h.2.only u (subst (In u) h.1 m)).0)
+        (λ u m g. subst (In u) (sym h.1)
+        (h.2.each u m (same_there (bound spec (edge_at spec e).from) (λ c n. a3.inside c (union_left (bound spec (edge_at spec e).from) (edge_at spec e).key c n)) reads.source u m g ∙ sym by_source)))
 
 -- ---- the answers of several stripes
 
-pub on_one : (b : Pairs) (e : ℕ) (held : List HeldStripe) (stripe : ℕ) (rows : List EdgeRow) (old new : List Pairs) → (h : HeldStripe) → In h held → h.stripe ≡ stripe
-    → ((h : HeldStripe) → In h held → h.stripe ≡ stripe → rows ≡ h.now) → HasMerged b e rows old new → HasMergedOn b e held (stripe ∷ []) old new
-on_one b e held stripe rows old new h m is same f = record {
-  kept = f.kept;
-  only = λ c n. elim (f.only c n) [ inl q ↦ inl q | inr q ↦ inr (h, m, subst (λ ws. IsMergeOf b e ws c) (same h m is) q) ];
-  each = λ g n asked c q. elim asked [ inl s ↦ f.each c (subst (λ ws. IsMergeOf b e ws c) (sym (same g n s)) q) | inr z ↦ absurd z ];
-}
+pub is_held : (held : List HeldStripe) (stripe : ℕ) → In stripe (stripes_held held) → IsHeld held stripe
+is_held held stripe m = let q = in_map (λ (h : HeldStripe). h.stripe) stripe held m in (q.0, q.1, sym q.2)
+
+module _ (s : Holding) (stripe : ℕ) (fragment : FragmentRows) (m : In stripe (stripes_held (held_of s))) (lent : IsLent s stripe fragment) where
+  pub lent_columns : (spec : Spec) → AreGood spec (held_of s) → (w : EdgeRow) → In w fragment.now → cols_of w.1 ≡ bound spec (edge_at spec w.0).to
+  lent_columns spec good w n =
+      let q : IsHeld (held_of s) stripe = is_held (held_of s) stripe m in
+      (good q.0 q.1).columns w (subst (In w) (lent.now q.0 q.1 q.2) n)
+
+  pub on_one : (b : Pairs) (e : ℕ) (old new : List Pairs) → HasMerged b e fragment.now old new → HasMergedOn b e (held_of s) (stripe ∷ []) old new
+  on_one b e old new f =
+      let q : IsHeld (held_of s) stripe = is_held (held_of s) stripe m in
+      record {
+        kept = f.kept;
+        only = λ c n. elim (f.only c n) [ inl k ↦ inl k | inr k ↦ inr (q.0, q.1, subst (λ ws. IsMergeOf b e ws c) (lent.now q.0 q.1 q.2) k) ];
+        each = λ g n asked c k. elim asked [ inl z ↦ f.each c (subst (λ ws. IsMergeOf b e ws c) (sym (lent.now g n z)) k) | inr z ↦ absurd z ];
+      }
 
 pub on_none : (b : Pairs) (e : ℕ) (held : List HeldStripe) (old : List Pairs) → HasMergedOn b e held [] old old
 on_none b e held old = record { kept = λ c m. m; only = λ c m. inl m; each = λ h m asked c q. absurd asked }
@@ -151,9 +171,6 @@ on_more b e held asked stripe old mid new f g = record {
 }
 
 module _ (spec : Spec) (sealed : IsSealed spec) (e : ℕ) (known : e < length spec.edges) (b : Pairs) (held : List HeldStripe) (good : AreGood spec held) where
-  class_known : class_of spec e < length spec.classes
-  class_known = class_of_known spec e sealed.in_range (sealed.accepted.placed.p1 e known)
-
   -- where the row of a merge lies
   lies_on : (h : HeldStripe) → In h held → (u : Pairs) → IsThere h.now e u → physical_stripe spec (class_of spec e) u ≡ h.stripe
   lies_on h m u t = (good h m).own_stripe (e, u, t.0) t.1
@@ -176,7 +193,7 @@ module _ (spec : Spec) (sealed : IsSealed spec) (e : ℕ) (known : e < length sp
   band_is_all old new f = record {
     kept = f.kept;
     only = f.only;
-    each = λ c q. f.each q.0 q.1 (subst (λ z. In z (band spec (class_of spec e))) (lies_on q.0 q.1 q.2.0 q.2.1) (physical_stripe-in_band spec sealed.accepted.placed (class_of spec e) q.2.0 class_known)) c q.2;
+    each = λ c q. f.each q.0 q.1 (subst (λ z. In z (band spec (class_of spec e))) (lies_on q.0 q.1 q.2.0 q.2.1) (physical_stripe-in_band spec sealed.accepted.placed (class_of spec e) q.2.0 (class_known spec sealed e known))) c q.2;
   }
 
 -- ---- all bindings
@@ -184,7 +201,7 @@ module _ (spec : Spec) (sealed : IsSealed spec) (e : ℕ) (known : e < length sp
 pub merges_none : (e : ℕ) (held : List HeldStripe) → AreMerges [] e held []
 merges_none e held = record { only = λ c m. absurd m; each = λ b m c q. absurd m }
 
-in_next : {A : Type 0} (xs : List A) (i : ℕ) (x y : A) → i < length xs → x ≡ get_or xs i x → In y (take (i + 1) xs) → In y (take i xs) ⊎ (y ≡ x)
+pub in_next : {A : Type 0} (xs : List A) (i : ℕ) (x y : A) → i < length xs → x ≡ get_or xs i x → In y (take (i + 1) xs) → In y (take i xs) ⊎ (y ≡ x)
 in_next xs i x y l e m = elim (in_append y (take i xs) (get_or xs i x ∷ []) (subst (In y) (ap (λ k. take k xs) (add-one i) ∙ take-suc xs i x l) m)) [
   | inl h ↦ inl h
   | inr (inl h) ↦ inr (h ∙ sym e)

@@ -27,15 +27,16 @@ use Rattle.rc_plan.specs.declared.statement.Statement.{Statement}
 use Rattle.rc_plan.specs.declared.statement.Statement.TheVariants.{Read}
 use Rattle.rc_plan.specs.declared.statement.Which.{Which}
 use Rattle.rc_plan.specs.declared.statement.Which.TheVariants as which
-use Rattle.rc_plan.specs.Evaluation.{band, run}
+use Rattle.rc_plan.specs.Evaluation.{run}
 use Rattle.rc_plan.specs.PlanRules.{Covers, HasProbed, IsFindable, IsInsert, KeepsAll, MayRead, Progress, after}
-use Rattle.rc_plan.specs.RunLaws.{IsSearching, read_keeps, read_same, searching}
-use Rattle.rc_plan.specs.StripeLocks.{stripes_of}
+use Rattle.rc_plan.specs.RunLaws.{read_keeps, read_same}
+use Rattle.rc_plan.specs.StripeLocks.{stripes_of, band}
 use Rattle.rc_machine.specs.Machine.{locks_of, rows_now, stripes_held}
 use Rattle.rc_machine.specs.Read.{AreGood, AreReaders}
 use Rattle.rc_machine.specs.Run.{IsAt, IsOn, IsClassTaken}
 use Rattle.rc_machine.proofs.ReadLemmas.{row_there, target_rises}
 use Rattle.rc_machine.proofs.RunLemmas.{now_together, stripes_named}
+use Rattle.rc_plan.specs.Search.{IsSearching, searching}
 
 merged_columns : (t u : Pairs) → IsRising nat_cmp (cols_of t) → IsRising nat_cmp (cols_of u) → Agree t u → IsRising nat_cmp (cols_of (merge t u))
 merged_columns t u rt ru f = rising_columns (merge t u) (rising_merge t u) (λ p q m n e. elim (in_merge t u p m) [
@@ -143,5 +144,5 @@ module _ (spec : Spec) (sealed : IsSealed spec) (plan : List Statement) (call : 
             no_probe = o.no_probe;
           };
       runs = λ r a stripes w.
-          at.runs r a stripes w ∙ ap (λ z. run spec (op_at spec call.op).kind call.args rest (searching z (locks_of held) (rows_on spec r stripes))) (same_at r a stripes w ∙ sym (joined_all r a));
+          at.runs r a stripes w ∙ ap (λ z. run spec (op_at spec call.op) call rest (searching z (locks_of held) (rows_on spec r stripes))) (same_at r a stripes w ∙ sym (joined_all r a));
     }

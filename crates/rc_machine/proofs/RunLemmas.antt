@@ -1,15 +1,13 @@
 -- A run of a plan over held stripes, statement by statement, against evaluation.
-use Rattle.std.specs.Prelude.{◌≡◌, ℕ, ◌<◌, List, [], ◌∷◌, Some, length}
+use Rattle.std.specs.Prelude.{◌≡◌, ℕ, List, [], ◌∷◌, Some}
 use Rattle.std.specs.List.{flat_map}
 use Rattle.std.specs.Ordering.{nat_cmp}
 use Rattle.std.proofs.Common.{inl, inr, refl, sym, ap, subst, ◌∙◌}
-use Rattle.std.proofs.lemmas.Option.{get_or_from_slice_get, slice_get_within}
 use Rattle.rc_tuple.specs.RisingSet.{In, IsRising, gather}
 use Rattle.rc_tuple.specs.RisingSetLaws.{same_rising, rising_gather, in_gather, gather_in, in_map, map_in, in_flat_map, flat_map_in}
 use Rattle.rc_tuple.specs.Tuple.{Pairs}
 use Rattle.rc_spec.specs.declared.call.Call.{Call}
 use Rattle.rc_spec.specs.declared.call.Reply.{Reply}
-use Rattle.rc_spec.specs.declared.items.Op.{Op}
 use Rattle.rc_spec.specs.declared.lock.Mode.{Mode}
 use Rattle.rc_spec.specs.declared.lock.Mode.TheVariants.{Shared, Exclusive}
 use Rattle.rc_spec.specs.declared.spec.Spec.{Spec}
@@ -17,18 +15,15 @@ use Rattle.rc_spec.specs.Acceptance.{IsSealed}
 use Rattle.rc_spec.specs.Calls.{Fits}
 use Rattle.rc_spec.specs.Fragments.{EdgeRow, all_rows, edge_row_cmp, fragment_of, rows_on, row_stripe}
 use Rattle.rc_spec.specs.FragmentsLaws.{edge_row_order, fragments_in, in_fragments, rising_fragments}
-use Rattle.rc_spec.specs.Placement.{no_op, op_at, KeepsO}
 use Rattle.rc_spec.specs.Plain.{plain}
 use Rattle.rc_fragment.specs.Holder.{AreOfRelation, HeldStripe}
 use Rattle.rc_plan.specs.declared.statement.Statement.{Statement}
 use Rattle.rc_plan.specs.Compiled.{IsPlanOf}
 use Rattle.rc_plan.specs.Evaluation.{eval, rows_as_taken}
 use Rattle.rc_plan.specs.Laws.{Serves}
-use Rattle.rc_plan.specs.PlanRules.{KeepsPlanRules}
-use Rattle.rc_plan.specs.ServeLaws.{plans_law}
 use Rattle.rc_plan.specs.StripeLocks.{Suffices, stripes_of}
-use Rattle.rc_plan.specs.StripeLocksLaws.{stripes_of_in}
 use Rattle.rc_machine.specs.Machine.{AreAsTaken, HasEvaluated, HasServed, locks_of, rows_now, rows_taken, stripes_held}
+use Rattle.rc_plan.specs.CompiledLaws.{plan_serves}
 
 -- ---- held stripes, put together
 
@@ -75,17 +70,10 @@ suffices_itself Shared = tt
 suffices_itself Exclusive = tt
 
 module _ (spec : Spec) (sealed : IsSealed spec) (plan : List Statement) (call : Call) (fits : Fits spec call) (planned : IsPlanOf spec call.op plan) where
-  is_op : op_at spec call.op ≡ fits.0
-  is_op = get_or_from_slice_get spec.ops call.op fits.0 no_op fits.1.known
-
-  known_op : call.op < length spec.ops
-  known_op = slice_get_within spec.ops call.op fits.0 fits.1.known
-
   -- a run that named exactly the held stripes serves its call
   pub serves : (r : List Pairs) (held : List HeldStripe) → AreOfRelation spec held r → (eval spec plan call (rows_on spec r (stripes_held held))).named ≡ locks_of held → Serves spec plan call r (locks_of held)
   serves r held a e =
-      plans_law spec sealed.in_range sealed.populated sealed.accepted.adequate sealed.accepted.placed call fits.0 fits.1 (subst (KeepsO spec) is_op (sealed.accepted.ops call.op known_op))
-      plan planned.known (subst (λ (op : Op). KeepsPlanRules spec op plan) is_op planned.rules) r a.relation a.satisfies (locks_of held)
+      plan_serves spec sealed call fits plan planned r a.relation a.satisfies (locks_of held)
       (λ lock m. (lock.1, subst (In lock) (ap (λ z. (eval spec plan call (rows_on spec r z)).named) (stripes_named held) ∙ e) m, suffices_itself lock.1))
 
   module _ (held : List HeldStripe) (rises : IsRising nat_cmp (stripes_held held)) (answer : Reply)
@@ -108,8 +96,7 @@ module _ (spec : Spec) (sealed : IsSealed spec) (plan : List Statement) (call : 
           reply = plain_answer r a;
           touches = sym s.named ∙ ap (λ z. (eval spec plan call z).named) (at_held r) ∙ named r a;
           rows = rows r a;
-          others = λ stripe n. s.others stripe (λ m. n (subst (λ z. In stripe z) (stripes_named held) (stripes_of_in (stripe, Exclusive) (locks_of held)
-              (subst (In (stripe, Exclusive)) (ap (λ z. (eval spec plan call z).named) (at_held r) ∙ named r a) m))));
+          others = λ stripe n. s.others stripe (λ m. n (subst (In (stripe, Exclusive)) (ap (λ z. (eval spec plan call z).named) (at_held r) ∙ named r a) m));
         }
 
     pub has_evaluated : (r : List Pairs) → AreOfRelation spec held r → HasEvaluated spec plan call held answer

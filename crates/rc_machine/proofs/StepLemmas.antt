@@ -5,7 +5,6 @@ use Rattle.std.specs.Cmp.{nat_cmp_is}
 use Rattle.std.specs.Ordering.{nat_cmp, ordering_then}
 use Rattle.std.proofs.Common.{inl, inr, refl, sym, ap, subst, ◌∙◌, arith}
 use Rattle.std.proofs.lemmas.List.{map-append}
-use Rattle.std.proofs.lemmas.Option.{get_or_from_slice_get}
 use Rattle.rc_tuple.specs.RisingSet.{In, IsRising, gather}
 use Rattle.rc_tuple.specs.RisingSetLaws.{same_rising, rising_gather, in_gather, gather_in, in_map, map_in, in_append, append_in_left, append_in_right, nat_order, slice_get_in}
 use Rattle.rc_tuple.specs.ColSet.{Within}
@@ -20,10 +19,10 @@ use Rattle.rc_spec.specs.declared.lock.Mode.{Mode}
 use Rattle.rc_spec.specs.declared.lock.Mode.TheVariants.{Exclusive}
 use Rattle.rc_spec.specs.declared.spec.Spec.{Spec}
 use Rattle.rc_spec.specs.Acceptance.{IsSealed}
-use Rattle.rc_spec.specs.Calls.{Fits, all_columns, value_columns}
+use Rattle.rc_spec.specs.Calls.{Fits, all_columns, value_columns, FitsAt}
 use Rattle.rc_spec.specs.InRange.{AreBelow, IsInRange, IsOpAmong}
 use Rattle.rc_spec.specs.Fragments.{EdgeRow, rows_on}
-use Rattle.rc_spec.specs.Placement.{class_at, no_op, op_at}
+use Rattle.rc_spec.specs.Placement.{op_at}
 use Rattle.rc_spec.specs.StripesLaws.{band_before}
 use Rattle.rc_fragment.specs.Holder.{AreOfRelation, HeldStripe, IsAbove}
 use Rattle.rc_plan.specs.declared.statement.Statement.{Statement}
@@ -32,15 +31,18 @@ use Rattle.rc_plan.specs.declared.statement.Which.{Which}
 use Rattle.rc_plan.specs.declared.statement.Which.TheVariants as which
 use Rattle.rc_plan.specs.Compiled.{IsPlanOf}
 use Rattle.rc_plan.specs.Evaluation.{named_by, run, stripes_locked}
-use Rattle.rc_plan.specs.InsertLaws.{HasNamed, more_named, tuple_named}
-use Rattle.rc_plan.specs.LockOrderLaws.{AreOfLocked, IsOfClass, IsOfClass-stripes_locked, of_locked_one}
+use Rattle.rc_plan.specs.InsertLaws.{more_named, tuple_named}
+use Rattle.rc_plan.specs.LockOrderLaws.{IsOfClass-stripes_locked, of_locked_one}
 use Rattle.rc_plan.specs.PlanRules.{HasLockMode, IsKeyBound, IsLocked, IsQuery, KeepsAll, after, at_start, given_columns}
-use Rattle.rc_plan.specs.RunLaws.{lock_keeps, search_begins, searching}
-use Rattle.rc_plan.specs.StripeLocks.{StripeLock, mode_number, stripe_lock_cmp, stripes_of}
-use Rattle.rc_plan.specs.StripeLocksLaws.{AreIn, AreIn-more, named_before, named_now, stripe_lock_order, stripes_of_in}
-use Rattle.rc_machine.specs.Locks.{HasLocked}
+use Rattle.rc_plan.specs.RunLaws.{lock_keeps, search_begins}
+use Rattle.rc_plan.specs.StripeLocks.{StripeLock, mode_number, stripe_lock_cmp, stripes_of, IsOfClass, AreIn}
+use Rattle.rc_plan.specs.StripeLocksLaws.{AreIn-more, named_before, named_now, stripe_lock_order, stripes_of_in}
+use Rattle.rc_machine.specs.Locks.{AreLocked}
 use Rattle.rc_machine.specs.Machine.{locks_of, stripes_held}
 use Rattle.rc_machine.specs.Run.{IsAt, IsOn, IsClassTaken}
+use Rattle.rc_plan.specs.NamedStripes.{HasNamed, AreOfLocked}
+use Rattle.rc_plan.specs.Search.{searching}
+use Rattle.rc_spec.specs.CallsLaws.{fits_at_op}
 
 -- ---- rising lists
 
@@ -92,9 +94,9 @@ module _ (spec : Spec) (sealed : IsSealed spec) (plan : List Statement) (call : 
   -- a run begins
   pub begins : (fits : Fits spec call) → IsPlanOf spec call.op plan → IsAt spec plan call plan (call.args ∷ []) []
   begins fits planned =
-      let is_op : op_at spec call.op ≡ fits.0 = get_or_from_slice_get spec.ops call.op fits.0 no_op fits.1.known in
-      let columns : cols_of call.args ≡ given_columns spec (op_at spec call.op) = subst (λ (op : Op). cols_of call.args ≡ given_columns spec op) (sym is_op) fits.1.columns in
-      let among : IsOpAmong (length spec.columns) fits.0 = sealed.in_range.known_ops fits.0 (slice_get_in spec.ops call.op fits.0 fits.1.known) in
+      let op : Op = op_at spec call.op in
+      let at : FitsAt spec call op = fits_at_op spec call fits in
+      let among : IsOpAmong (length spec.columns) op = sealed.in_range.known_ops op (slice_get_in spec.ops call.op op at.known) in
       record {
         progress = at_start spec (op_at spec call.op);
         keeps = planned.rules;
@@ -103,12 +105,12 @@ module _ (spec : Spec) (sealed : IsSealed spec) (plan : List Statement) (call : 
         stripes_rise = tt;
         classes = λ stripe m. absurd m;
         modes = λ n lock m. absurd m;
-        columns_rise = λ b m. elim m [ inl e ↦ subst (λ z. IsRising nat_cmp (cols_of z)) (sym e) fits.1.tuple.rising | inr z ↦ absurd z ];
+        columns_rise = λ b m. elim m [ inl e ↦ subst (λ z. IsRising nat_cmp (cols_of z)) (sym e) at.tuple.rising | inr z ↦ absurd z ];
         on = λ r a. record {
           sought = call.args;
-          rising = rising_pairs call.args fits.1.tuple;
-          inside = given_inside spec sealed.in_range fits.0 among call.args fits.1.columns;
-          search = search_begins spec r call.args (op_at spec call.op) columns;
+          rising = rising_pairs call.args at.tuple;
+          inside = given_inside spec sealed.in_range op among call.args at.columns;
+          search = search_begins spec r call.args op at.columns;
           taken = λ x m. absurd m;
           insert = λ i. record { begun = λ e. refl; named = λ x m. absurd m };
           no_probe = λ n. refl;
@@ -126,17 +128,13 @@ module _ (spec : Spec) (sealed : IsSealed spec) (plan : List Statement) (call : 
     -- what it takes is above all that is held
     pub lock_above : (s : ℕ) → In s (stripes_locked spec c choice bs) → IsAbove held s
     lock_above s m h n =
-        let g : (d : ℕ) × IsLocked at.progress d × IsOfClass spec d h.stripe = at.classes h.stripe (stripes_of_in (h.stripe, h.mode) (locks_of held) (map_in (λ (h : HeldStripe). (h.stripe, h.mode)) h held n)) in
+        let g : (d : ℕ) × IsLocked at.progress d × IsOfClass spec h.stripe d = at.classes h.stripe (stripes_of_in (h.stripe, h.mode) (locks_of held) (map_in (λ (h : HeldStripe). (h.stripe, h.mode)) h held n)) in
         let before : g.0 < c = keeps.k2 (g.0, g.1.0) g.1.1 in
         let bands = band_before spec g.0 c before class in
-        let now : IsOfClass spec c s = IsOfClass-stripes_locked spec sealed.accepted.placed c choice bs class s m in
+        let now : IsOfClass spec s c = IsOfClass-stripes_locked spec sealed.accepted.placed c choice bs class s m in
         omega (arith, g.2.before, bands, now.from)
 
-    -- where it takes the bindings' stripes, they have the class's columns
-    pub lock_columns : (r : List Pairs) → AreOfRelation spec held r → choice ≡ which.Keyed → (b : Pairs) → In b bs → Within (class_at spec c).cols (cols_of b)
-    lock_columns r a e b m k n = (at.on r a).search.columns b m k ((subst (λ z. IsKeyBound spec c z at.progress.columns) e keeps.k3) k n)
-
-    module _ (new : List HeldStripe) (offered : ℕ → Option (List EdgeRow)) (f : HasLocked held new (gather nat_cmp (stripes_locked spec c choice bs)) mode offered) where
+    module _ (new : List HeldStripe) (offered : ℕ → Option (List EdgeRow)) (f : AreLocked held new (gather nat_cmp (stripes_locked spec c choice bs)) mode offered) where
       in_more : (h : HeldStripe) → In h f.more → In h.stripe (stripes_locked spec c choice bs)
       in_more h m = in_gather nat_cmp nat_order h.stripe (stripes_locked spec c choice bs) (subst (In h.stripe) f.stripes_are (map_in (λ (h : HeldStripe). h.stripe) h f.more m))
 
@@ -172,7 +170,7 @@ module _ (spec : Spec) (sealed : IsSealed spec) (plan : List Statement) (call : 
           ])
 
       of_locked : AreOfLocked spec (after spec at.progress (Lock c choice mode)) (gather stripe_lock_cmp (locks_of held ++ named_by spec c choice mode bs))
-      of_locked = of_locked_one spec sealed.accepted.placed (op_at spec call.op).kind call.args at.progress (Lock c choice mode) (searching bs (locks_of held) []) class at.classes
+      of_locked = of_locked_one spec sealed.accepted.placed (op_at spec call.op) call at.progress (Lock c choice mode) (searching bs (locks_of held) []) class at.classes
 
       taken_now : (choice : Which) → IsKeyBound spec c choice at.progress.columns → IsClassTaken spec (after spec at.progress (Lock c choice mode)) (stripes_of (gather stripe_lock_cmp (locks_of held ++ named_by spec c choice mode bs))) c choice
       taken_now which.Keyed k = λ cover. k
@@ -221,5 +219,5 @@ module _ (spec : Spec) (sealed : IsSealed spec) (plan : List Statement) (call : 
             (λ s m.
             let q : (h : HeldStripe) × In h held × (s ≡ h.stripe) = in_map (λ (h : HeldStripe). h.stripe) s held m in
             w s (subst (λ z. In z (stripes_held new)) (sym q.2) (map_in (λ (h : HeldStripe). h.stripe) q.0 new (subst (In q.0) (sym f.beside) (append_in_left q.0 held f.more q.1)))))
-            ∙ ap (λ ns. run spec (op_at spec call.op).kind call.args rest (searching bs ns (rows_on spec r stripes))) (sym locks_are);
+            ∙ ap (λ ns. run spec (op_at spec call.op) call rest (searching bs ns (rows_on spec r stripes))) (sym locks_are);
       }

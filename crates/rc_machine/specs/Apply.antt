@@ -1,5 +1,5 @@
 -- A tuple's rows added to the edges on held stripes, or taken out of them.
-use Rattle.std.specs.Prelude.{◌≡◌, ℕ, ◌<◌, ◌^◌, List, [], ◌∷◌, length}
+use Rattle.std.specs.Prelude.{◌≡◌, ℕ, ◌<◌, ◌≤◌, ◌^◌, ◌==◌, List, [], ◌∷◌, count_by, length}
 use Rattle.rc_tuple.specs.RisingSet.{In}
 use Rattle.rc_tuple.specs.Tuple.{Pairs}
 use Rattle.rc_spec.specs.declared.spec.Spec.{Spec}
@@ -8,11 +8,16 @@ use Rattle.rc_spec.specs.Fragments.{EdgeRow}
 use Rattle.rc_spec.specs.Placement.{class_of}
 use Rattle.rc_spec.specs.Stripes.{physical_stripe}
 use Rattle.rc_fragment.specs.Fragment.{HasAlone, HasSingle, IsThere, edge_table}
-use Rattle.rc_fragment.specs.Holder.{HeldStripe, IsHeldExclusive, changed_at}
+use Rattle.rc_fragment.specs.Holder.{HeldStripe, Holding, IsHeldExclusive, LentStripe, changed_at}
+use Rattle.rc_machine.specs.declared.places.RowPlace.{RowPlace}
 
 -- the stripe on which a tuple's row of the edge falls
 abbrev pub stripe_in : Spec → Pairs → ℕ → ℕ
 stripe_in spec t e = physical_stripe spec (class_of spec e) (row_in spec t e)
+
+-- the tuple's row of the edge, and the stripe on which it falls
+abbrev pub place_in : Spec → Pairs → ℕ → RowPlace
+place_in spec t e = record { edge = e; stripe = stripe_in spec t e; row = row_in spec t e }
 
 -- the held stripes with the change of the tuple's row in each of some edges, on the stripe on which it falls
 abbrev pub all_changed : (ℕ → Pairs → List EdgeRow → List EdgeRow) → Spec → Pairs → List ℕ → List HeldStripe → List HeldStripe
@@ -36,3 +41,17 @@ AreAddable spec t held = (e : ℕ) → e < length spec.edges → (h : HeldStripe
 -- each edge has the tuple's row
 abbrev pub AreAllThere : Spec → Pairs → List HeldStripe → Type 0
 AreAllThere spec t held = (e : ℕ) → e < length spec.edges → (h : HeldStripe) → In h held → h.stripe ≡ stripe_in spec t e → IsThere h.now e (row_in spec t e)
+
+-- ---- room
+
+-- how many of the rows fall on the stripe
+abbrev pub count_on : ℕ → List RowPlace → ℕ
+count_on stripe places = count_by (λ (p : RowPlace). p.stripe == stripe) places
+
+-- each lent stripe has room for a change of each of the rows that fall on it
+abbrev pub HasRoomFor : List RowPlace → Holding → Type 0
+HasRoomFor places s = (l : LentStripe) → In l s.lent → count_on l.held.stripe places ≤ l.room
+
+-- all but what is lent is the same
+abbrev pub IsSameButLent : Holding → Holding → Type 0
+IsSameButLent old new = new ≡ record old { lent = new.lent }

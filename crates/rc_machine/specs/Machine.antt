@@ -1,5 +1,5 @@
 -- What a run of a plan over a holder leaves: held stripes, and a reply. (PLDI 2012, execution of query plans with two-phase locks.)
-use Rattle.std.specs.Prelude.{◌≡◌, ℕ, List, Option, Some, map}
+use Rattle.std.specs.Prelude.{◌≡◌, ℕ, List, Some, map}
 use Rattle.std.specs.List.{flat_map}
 use Rattle.std.specs.Ordering.{nat_cmp}
 use Rattle.rc_tuple.specs.RisingSet.{In, IsRising, gather}
@@ -7,12 +7,14 @@ use Rattle.rc_tuple.specs.Tuple.{Pairs}
 use Rattle.rc_spec.specs.declared.call.Call.{Call}
 use Rattle.rc_spec.specs.declared.call.Reply.{Reply}
 use Rattle.rc_spec.specs.declared.lock.Mode.{Mode}
+use Rattle.rc_spec.specs.declared.lock.Mode.TheVariants.{Exclusive}
 use Rattle.rc_spec.specs.declared.spec.Spec.{Spec}
 use Rattle.rc_spec.specs.Fragments.{EdgeRow, edge_row_cmp, fragment_of}
 use Rattle.rc_spec.specs.Plain.{plain}
 use Rattle.rc_fragment.specs.declared.held.Held.{Held}
-use Rattle.rc_fragment.specs.Holder.{HeldStripe, IsAbove, IsRefusal, RefusedTake}
+use Rattle.rc_fragment.specs.Holder.{AreOffered, AreOfRelation, HasRisen, HeldStripe, Holding, IsAbove, IsRefusal, held_of, offered_at}
 use Rattle.rc_plan.specs.declared.statement.Statement.{Statement}
+use Rattle.rc_plan.specs.Compiled.{SpecWithPlans, plan_at}
 use Rattle.rc_plan.specs.Evaluation.{eval, rows_as_taken, touched}
 use Rattle.rc_plan.specs.StripeLocks.{StripeLock}
 
@@ -48,18 +50,36 @@ pub record HasEvaluated (spec : Spec) (plan : List Statement) (call : Call) (hel
   pub rising : IsRising nat_cmp (stripes_held held)
   pub taken : rows_as_taken spec call.args answer (rows_now held) ≡ rows_taken held
 
--- The reply is the plain relation's, the call touches exactly the held stripes with their modes on it, each of them now has its fragment of the relation after, and each other stripe's fragment is the same before and after.
+-- The reply is the plain relation's, the call touches exactly the held stripes with their modes on it, each of them now has its fragment of the relation after, and the fragment of each stripe that isn't held Exclusive is the same before and after.
 pub record HasServed (spec : Spec) (plan : List Statement) (call : Call) (held : List HeldStripe) (answer : Reply) (r : List Pairs) : Type 0 where
   pub reply : (plain spec r call).reply ≡ answer
   pub touches : touched spec plan call r ≡ locks_of held
   pub rows : (h : HeldStripe) → In h held → h.now ≡ fragment_of spec (plain spec r call).relation h.stripe
-  pub others : (stripe : ℕ) → (In stripe (stripes_held held) → ⊥) → fragment_of spec (plain spec r call).relation stripe ≡ fragment_of spec r stripe
+  pub others : (stripe : ℕ) → (In (stripe, Exclusive) (locks_of held) → ⊥) → fragment_of spec (plain spec r call).relation stripe ≡ fragment_of spec r stripe
+
+-- evaluation gives the answer, and so does the plain step on each relation of which the held stripes, as taken, have fragments
+pub record HasReplied (spec : Spec) (plan : List Statement) (call : Call) (held : List HeldStripe) (answer : Reply) : Type 0 where
+  pub evaluated : HasEvaluated spec plan call held answer
+  pub served : (r : List Pairs) → AreOfRelation spec held r → HasServed spec plan call held answer r
+
+-- the same by the call's own plan
+abbrev pub HasAnswered : SpecWithPlans → Call → Holding → Reply → Type 0
+HasAnswered compiled call s answer = HasReplied compiled.spec (plan_at compiled.plans call.op) call (held_of s) answer
+
+-- each held stripe was taken with the rows that are offered of it, where they are told
+abbrev pub AreTakenAsOffered : Holding → Type 0
+AreTakenAsOffered s = (h : HeldStripe) → In h (held_of s) → AreOffered (offered_at s h.stripe) h.taken
 
 -- ---- after a refused take
 
--- Evaluation on the rows held names the refused stripe in the mode that was asked; it is above all that are held, and these are held at the last refused take.
-pub record IsRefused (spec : Spec) (plan : List Statement) (call : Call) (held : List HeldStripe) (last : Option RefusedTake) (answer : Held) : Type 0 where
+-- The count of refused takes rose. Evaluation on the rows held names the refused stripe in the mode that was asked; it is above all that are held, and these are held at the last refused take.
+pub record IsRefused (spec : Spec) (plan : List Statement) (call : Call) (old new : Holding) (answer : Held) : Type 0 where
+  pub risen : HasRisen old.refusals new.refusals
   pub mode : Mode
-  pub last_refusal : IsRefusal last answer answer.stripe mode held
-  pub above : IsAbove held answer.stripe
-  pub named : In (answer.stripe, mode) (eval spec plan call (rows_taken held)).named
+  pub last : IsRefusal new.last_refusal answer answer.stripe mode (held_of new)
+  pub above : IsAbove (held_of new) answer.stripe
+  pub named : In (answer.stripe, mode) (eval spec plan call (rows_taken (held_of new))).named
+
+-- the same by the call's own plan
+abbrev pub HasRefusedCall : SpecWithPlans → Call → Holding → Holding → Held → Type 0
+HasRefusedCall compiled call old new answer = IsRefused compiled.spec (plan_at compiled.plans call.op) call old new answer

@@ -1,24 +1,34 @@
--- What a served call takes from a holder that offers a relation, and what it leaves of the other stripes.
-use Rattle.std.specs.Prelude.{◌≡◌, ℕ, ◌<◌, List, Option, Some}
+-- What a served call takes from a holder that offers a relation, and what is offered of the other stripes.
+use Rattle.std.specs.Prelude.{◌≡◌, ℕ, ◌<◌, List, None, Some, get_or}
 use Rattle.std.proofs.Common.{sym, ap, subst, ◌∙◌}
 use Rattle.rc_tuple.specs.RisingSet.{In}
 use Rattle.rc_tuple.specs.RisingSetLaws.{in_map}
 use Rattle.rc_tuple.specs.Tuple.{Pairs}
 use Rattle.rc_spec.specs.declared.call.Call.{Call}
 use Rattle.rc_spec.specs.declared.call.Reply.{Reply}
+use Rattle.rc_spec.specs.declared.lock.Mode.TheVariants.{Exclusive}
 use Rattle.rc_spec.specs.declared.spec.Spec.{Spec}
-use Rattle.rc_spec.specs.Fragments.{EdgeRow, fragment_of}
+use Rattle.rc_spec.specs.Fragments.{fragment_of}
 use Rattle.rc_spec.specs.Plain.{plain}
 use Rattle.rc_spec.specs.Stripes.{stripe_total}
-use Rattle.rc_fragment.specs.Holder.{AreOffered, AreOfRelation, HeldStripe, IsHeld}
+use Rattle.rc_fragment.specs.Holder.{AreOffered, AreOfRelation, GoesOn, HeldStripe, Holding, IsHeld, held_of, offered_at}
+use Rattle.rc_plan.specs.StripeLocks.{StripeLock}
 use Rattle.rc_plan.specs.declared.statement.Statement.{Statement}
-use Rattle.rc_machine.specs.Machine.{HasServed}
+use Rattle.rc_machine.specs.Machine.{AreTakenAsOffered, HasServed}
 use Rattle.rc_machine.specs.Offers.{OffersAll}
 
+-- a holder offers what it offered before
+pub still_offers : (spec : Spec) (old new : Holding) (r : List Pairs) → GoesOn old new → OffersAll spec old r → OffersAll spec new r
+still_offers spec old new r on all = record {
+  relation = all.relation;
+  satisfies = all.satisfies;
+  few = all.few;
+  rows = λ n l. ap (λ offered. get_or offered n None) on.offered ∙ all.rows n l;
+}
+
 -- rows taken from a holder that offers all of a relation are that relation's
-pub taken_of_relation : (spec : Spec) (offered : ℕ → Option (List EdgeRow)) (held : List HeldStripe) (r : List Pairs) → OffersAll spec offered r
-    → ((h : HeldStripe) → In h held → h.stripe < stripe_total spec) → ((h : HeldStripe) → In h held → AreOffered (offered h.stripe) h.taken) → AreOfRelation spec held r
-taken_of_relation spec offered held r all known told = record {
+pub taken_of_relation : (spec : Spec) (s : Holding) (r : List Pairs) → OffersAll spec s r → ((h : HeldStripe) → In h (held_of s) → h.stripe < stripe_total spec) → AreTakenAsOffered s → AreOfRelation spec (held_of s) r
+taken_of_relation spec s r all known told = record {
   relation = all.relation;
   satisfies = all.satisfies;
   few = all.few;
@@ -26,8 +36,9 @@ taken_of_relation spec offered held r all known told = record {
 }
 
 -- and a stripe that a served call doesn't hold is offered as of the relation after the call
-pub others_after : (spec : Spec) (plan : List Statement) (call : Call) (offered now : ℕ → Option (List EdgeRow)) (held : List HeldStripe) (answer : Reply) (r : List Pairs) → OffersAll spec offered r
-    → HasServed spec plan call held answer r → ((p : ℕ) → (IsHeld held p → ⊥) → now p ≡ offered p)
-    → (n : ℕ) → n < stripe_total spec → (IsHeld held n → ⊥) → now n ≡ Some (fragment_of spec (plain spec r call).relation n)
-others_after spec plan call offered now held answer r all served stays n known out =
-    stays n out ∙ all.rows n known ∙ ap Some (sym (served.others n (λ m. let q : (h : HeldStripe) × In h held × (n ≡ h.stripe) = in_map (λ (h : HeldStripe). h.stripe) n held m in out (q.0, q.1, sym q.2))))
+pub others_after : (spec : Spec) (plan : List Statement) (call : Call) (s : Holding) (answer : Reply) (r : List Pairs) → OffersAll spec s r → HasServed spec plan call (held_of s) answer r
+    → (n : ℕ) → n < stripe_total spec → (IsHeld (held_of s) n → ⊥) → offered_at s n ≡ Some (fragment_of spec (plain spec r call).relation n)
+others_after spec plan call s answer r all served n known out =
+    all.rows n known ∙ ap Some (sym (served.others n (λ m.
+    let q : (h : HeldStripe) × In h (held_of s) × ((n, Exclusive) ≡ (h.stripe, h.mode)) = in_map (λ (h : HeldStripe). (h.stripe, h.mode)) (n, Exclusive) (held_of s) m in
+    out (q.0, q.1, sym (ap (λ (l : StripeLock). l.0) q.2)))))

@@ -10,10 +10,10 @@ use Rattle.rc_spec.specs.Placement.{class_at, class_of}
 use Rattle.rc_spec.specs.Stripes.{physical_stripe}
 use Rattle.rc_fragment.specs.Fragment.{IsThere}
 use Rattle.rc_fragment.specs.Holder.{AreGoodRows, HeldStripe}
-use Rattle.rc_plan.specs.Evaluation.{band}
 use Rattle.rc_plan.specs.PlanRules.{IsFindable}
 use Rattle.rc_plan.specs.declared.statement.ReadMode.{ReadMode}
 use Rattle.rc_machine.specs.Machine.{stripes_held}
+use Rattle.rc_plan.specs.StripeLocks.{band}
 
 -- The stripes on which a row of the class that agrees with the binding may fall are among these: where the binding has the columns that choose a stripe, that one, and else all of the class.
 pub record IsCovered (spec : Spec) (c : ℕ) (stripes : List ℕ) (b : Pairs) : Type 0 where

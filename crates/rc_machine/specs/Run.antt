@@ -10,20 +10,18 @@ use Rattle.rc_spec.specs.declared.items.OpKind.{OpKind}
 use Rattle.rc_spec.specs.declared.lock.Mode.TheVariants.{Exclusive}
 use Rattle.rc_spec.specs.declared.spec.Spec.{Spec}
 use Rattle.rc_spec.specs.Calls.{all_columns}
-use Rattle.rc_spec.specs.Fragments.{EdgeRow, rows_on}
+use Rattle.rc_spec.specs.Fragments.{rows_on}
 use Rattle.rc_spec.specs.Placement.{class_at, op_at}
-use Rattle.rc_fragment.specs.Holder.{AreOffered, AreOfRelation, HeldStripe, IsHeld}
+use Rattle.rc_fragment.specs.Holder.{AreOfRelation, HeldStripe}
 use Rattle.rc_plan.specs.declared.statement.Statement.{Statement}
 use Rattle.rc_plan.specs.declared.statement.Which.{Which}
 use Rattle.rc_plan.specs.declared.statement.Which.TheVariants as which
-use Rattle.rc_plan.specs.Evaluation.{band, eval, run}
-use Rattle.rc_plan.specs.InsertLaws.{HasNamed}
-use Rattle.rc_plan.specs.LockOrderLaws.{AreOfLocked}
+use Rattle.rc_plan.specs.Evaluation.{eval, run}
 use Rattle.rc_plan.specs.PlanRules.{AreKnown, Covers, IsInsert, IsQuery, KeepsFrom, Progress}
-use Rattle.rc_plan.specs.RunLaws.{IsSearching, searching}
-use Rattle.rc_plan.specs.StripeLocks.{StripeLock, stripes_of}
-use Rattle.rc_plan.specs.StripeLocksLaws.{AreIn}
-use Rattle.rc_machine.specs.Machine.{AreAsTaken, HasEvaluated, HasServed, locks_of, stripes_held}
+use Rattle.rc_plan.specs.StripeLocks.{StripeLock, stripes_of, band, AreIn}
+use Rattle.rc_machine.specs.Machine.{AreAsTaken, HasReplied, locks_of, stripes_held}
+use Rattle.rc_plan.specs.NamedStripes.{HasNamed, AreOfLocked}
+use Rattle.rc_plan.specs.Search.{IsSearching, searching}
 
 -- what is known of a locked class: where keyed locks cover a read, the bindings have the columns that choose a stripe, and else all of its stripes are named
 abbrev pub IsClassTaken : Spec → Progress → List ℕ → ℕ → Which → Type 0
@@ -57,17 +55,7 @@ pub record IsAt (spec : Spec) (plan : List Statement) (call : Call) (rest : List
   pub columns_rise : (b : Pairs) → In b bs → IsRising nat_cmp (cols_of b)
   pub on : (r : List Pairs) → AreOfRelation spec held r → IsOn spec r (op_at spec call.op).kind call.args progress bs (locks_of held)
   pub runs : (r : List Pairs) → AreOfRelation spec held r → (stripes : List ℕ) → Within (stripes_held held) stripes
-      → eval spec plan call (rows_on spec r stripes) ≡ run spec (op_at spec call.op).kind call.args rest (searching bs (locks_of held) (rows_on spec r stripes))
-
--- the rows taken of held stripes are those that were offered, and what is offered of the others stays
-pub record AreTold (told : ℕ → Option (List EdgeRow)) (held : List HeldStripe) (offered : ℕ → Option (List EdgeRow)) : Type 0 where
-  pub taken : (h : HeldStripe) → In h held → AreOffered (told h.stripe) h.taken
-  pub others : (p : ℕ) → (IsHeld held p → ⊥) → offered p ≡ told p
-
--- a run has answered: evaluation gives the answer, and so does the plain step on each relation of which the held stripes, as taken, have fragments
-pub record HasReplied (spec : Spec) (plan : List Statement) (call : Call) (held : List HeldStripe) (answer : Reply) : Type 0 where
-  pub evaluated : HasEvaluated spec plan call held answer
-  pub served : (r : List Pairs) → AreOfRelation spec held r → HasServed spec plan call held answer r
+      → eval spec plan call (rows_on spec r stripes) ≡ run spec (op_at spec call.op) call rest (searching bs (locks_of held) (rows_on spec r stripes))
 
 -- a run goes on with the rest of its plan, or has answered
 abbrev pub HasGoneOn : Spec → List Statement → Call → List Statement → List Pairs → List HeldStripe → Option Reply → Type 0

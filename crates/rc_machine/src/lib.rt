@@ -6,6 +6,7 @@ mod check;
 mod emit;
 mod lock;
 mod machine;
+mod places;
 mod read;
 mod step;
 mod stop;

@@ -9,18 +9,19 @@ ghost use Rattle.rc_spec.specs.Acceptance.{IsSealed};
 ghost use Rattle.rc_spec.specs.Placement.{class_at};
 ghost use Rattle.rc_spec.specs.Stripes.{physical_stripe, stripe_total};
 ghost use Rattle.rc_spec.specs.declared.spec.Spec.{Spec};
-ghost use Rattle.rc_fragment.specs.Holder.{HasRisen, IsAbove, IsHeld};
+ghost use Rattle.rc_fragment.specs.Holder.{GoesOn, IsAbove, held_of};
 ghost use Rattle.rc_fragment.specs.declared.held.Held.{Held};
 ghost use Rattle.rc_fragment.specs.declared.held.TakeStop.TheVariants as take_stop;
-ghost use Rattle.rc_plan.specs.Evaluation.{band, stripes_locked};
+ghost use Rattle.rc_plan.specs.Evaluation.{stripes_locked};
 ghost use Rattle.rc_plan.specs.declared.statement.Which.TheVariants as which_stripes;
-ghost use Rattle.rc_machine.specs.Locks.{HasLocked, IsRefusedTake};
+ghost use Rattle.rc_machine.specs.Locks.{HasLocked, HasRefusedOne};
 ghost use Rattle.rc_machine.specs.declared.stop.Stop.TheVariants as stop;
+ghost use Rattle.rc_plan.specs.StripeLocks.{band};
 
 use crate::Stop;
 use rc_fragment::{Holder, TakeStop};
-use rc_plan::Which;
-use rc_spec::{Mode, Spec, band_start, physical_stripe};
+use rc_plan::{Which, stripes_locked};
+use rc_spec::{Mode, Spec};
 use rc_tuple::{Memory, Tuple};
 use std::alloc::Global;
 
@@ -37,88 +38,34 @@ pub(crate) fn lock<H: Holder>(
 ) -> Result<(), Stop>
     requires sealed { IsSealed spec.now }
     requires known { class < length spec.now.classes }
-    requires columns { which ≡ which_stripes.Keyed → (b : Pairs) → In b bindings.now → Within (class_at spec.now class).cols (cols_of b) }
-    requires total { H.stripes holder.old ≡ stripe_total spec.now }
-    requires above { (s : ℕ) → In s (stripes_locked spec.now class which bindings.now) → IsAbove (H.held holder.old) s }
-    ensures ok { OnOk result (HasLocked (H.held holder.old) (H.held holder.new) (gather nat_cmp (stripes_locked spec.now class which bindings.now)) mode (H.offered holder.old)) }
-    ensures some { (n : ℕ) × HasLocked (H.held holder.old) (H.held holder.new) (take n (gather nat_cmp (stripes_locked spec.now class which bindings.now))) mode (H.offered holder.old) }
-    ensures refused { (h : Held) → result ≡ Err (stop.Held h) → HasRisen (H.refusals holder.old) (H.refusals holder.new) × IsRefusedTake (gather nat_cmp (stripes_locked spec.now class which bindings.now)) mode (H.held holder.new) (H.last_refusal holder.new) h }
-    ensures refusals { H.refusals holder.old ≤ H.refusals holder.new }
-    ensures offers { (p : ℕ) → (IsHeld (H.held holder.new) p → ⊥) → H.offered holder.new p ≡ H.offered holder.old p }
-    ensures stripes { H.stripes holder.new ≡ H.stripes holder.old }
-    ensures table { H.table holder.new ≡ H.table holder.old }
+    requires total { length (H.seen holder.old).offered ≡ stripe_total spec.now }
+    requires above { (s : ℕ) → In s (stripes_locked spec.now class which bindings.now) → IsAbove (held_of (H.seen holder.old)) s }
+    ensures ok { OnOk result (HasLocked (H.seen holder.old) (H.seen holder.new) (gather nat_cmp (stripes_locked spec.now class which bindings.now)) mode) }
+    ensures some { (n : ℕ) × HasLocked (H.seen holder.old) (H.seen holder.new) (take n (gather nat_cmp (stripes_locked spec.now class which bindings.now))) mode }
+    ensures refused { (h : Held) → result ≡ Err (stop.Held h) → HasRefusedOne (H.seen holder.old) (H.seen holder.new) (gather nat_cmp (stripes_locked spec.now class which bindings.now)) mode h }
+    ensures goes_on { GoesOn (H.seen holder.old) (H.seen holder.new) }
     ensures sound { (spec : Spec) → H.is_sound holder.old spec → H.is_sound holder.new spec }
 {
-    let stripes = named_stripes(alloc, spec, class, which, bindings)?;
+    let stripes = rising(stripes_locked(alloc, spec, class, which, bindings)?);
     take_all(holder, &stripes, mode)?;
     Ok(())
 }
 
 /// Takes the stripes one after another.
 fn take_all<H: Holder>(holder: &mut H, stripes: &[u32], mode: Mode) -> Result<(), TakeStop>
-    requires known { (s : ℕ) → In s stripes.now → s < H.stripes holder.old }
+    requires known { (s : ℕ) → In s stripes.now → s < length (H.seen holder.old).offered }
     requires rising { IsRising nat_cmp stripes.now }
-    requires above { (s : ℕ) → In s stripes.now → IsAbove (H.held holder.old) s }
-    ensures ok { OnOk result (HasLocked (H.held holder.old) (H.held holder.new) stripes.now mode (H.offered holder.old)) }
-    ensures some { (n : ℕ) × HasLocked (H.held holder.old) (H.held holder.new) (take n stripes.now) mode (H.offered holder.old) }
-    ensures refused { (h : Held) → result ≡ Err (take_stop.Held h) → HasRisen (H.refusals holder.old) (H.refusals holder.new) × IsRefusedTake stripes.now mode (H.held holder.new) (H.last_refusal holder.new) h }
-    ensures refusals { H.refusals holder.old ≤ H.refusals holder.new }
-    ensures offers { (p : ℕ) → (IsHeld (H.held holder.new) p → ⊥) → H.offered holder.new p ≡ H.offered holder.old p }
-    ensures stripes { H.stripes holder.new ≡ H.stripes holder.old }
-    ensures table { H.table holder.new ≡ H.table holder.old }
+    requires above { (s : ℕ) → In s stripes.now → IsAbove (held_of (H.seen holder.old)) s }
+    ensures ok { OnOk result (HasLocked (H.seen holder.old) (H.seen holder.new) stripes.now mode) }
+    ensures some { (n : ℕ) × HasLocked (H.seen holder.old) (H.seen holder.new) (take n stripes.now) mode }
+    ensures refused { (h : Held) → result ≡ Err (take_stop.Held h) → HasRefusedOne (H.seen holder.old) (H.seen holder.new) stripes.now mode h }
+    ensures goes_on { GoesOn (H.seen holder.old) (H.seen holder.new) }
     ensures sound { (spec : Spec) → H.is_sound holder.old spec → H.is_sound holder.new spec }
 {
     for stripe in stripes {
         holder.take(*stripe, mode)?;
     }
     Ok(())
-}
-
-/// The physical stripes that a Lock names, rising.
-fn named_stripes(
-    alloc: Global,
-    spec: &Spec,
-    class: u8,
-    which: Which,
-    bindings: &[Tuple],
-) -> Result<Vec<u32>, Memory>
-    requires sealed { IsSealed spec.now }
-    requires known { class < length spec.now.classes }
-    requires columns { which ≡ which_stripes.Keyed → (b : Pairs) → In b bindings.now → Within (class_at spec.now class).cols (cols_of b) }
-    ensures { IfOk result (λ stripes. stripes.items ≡ gather nat_cmp (stripes_locked spec.now class which bindings.now)) }
-{
-    match which {
-        Which::Keyed => Ok(rising(stripes_of(alloc, spec, class, bindings)?)),
-        Which::All => Ok(rising(band(alloc, spec, class)?)),
-    }
-}
-
-/// The stripes of a class on which the bindings fall.
-fn stripes_of(alloc: Global, spec: &Spec, class: u8, bindings: &[Tuple]) -> Result<Vec<u32>, Memory>
-    requires sealed { IsSealed spec.now }
-    requires known { class < length spec.now.classes }
-    requires columns { (b : Pairs) → In b bindings.now → Within (class_at spec.now class).cols (cols_of b) }
-    ensures { IfOk result (λ stripes. stripes.items ≡ map (physical_stripe spec.now class) bindings.now) }
-{
-    let mut stripes = Vec::new(alloc);
-    for binding in bindings {
-        stripes.push(physical_stripe(spec, class, binding))?;
-    }
-    Ok(stripes)
-}
-
-/// All stripes of a class.
-fn band(alloc: Global, spec: &Spec, class: u8) -> Result<Vec<u32>, Memory>
-    requires sealed { IsSealed spec.now }
-    requires known { class < length spec.now.classes }
-    ensures { IfOk result (λ stripes. stripes.items ≡ band spec.now class) }
-{
-    let start = band_start(spec, class);
-    let mut stripes = Vec::new(alloc);
-    for place in 0..spec.classes.list()[class as usize].stripes {
-        stripes.push(start + place)?;
-    }
-    Ok(stripes)
 }
 
 /// The numbers rising, without repeats. Takes no memory.

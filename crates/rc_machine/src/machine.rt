@@ -1,14 +1,11 @@
 //! The run of a plan.
 
-ghost use Rattle.std.specs.Prelude.{◌≡◌, ℕ, ◌≤◌, List, [], IfOk, IfErr, Err};
-ghost use Rattle.rc_tuple.specs.RisingSet.{In};
-ghost use Rattle.rc_tuple.specs.Tuple.{Pairs};
+ghost use Rattle.std.specs.Prelude.{◌≡◌, [], IfOk, IfErr, Err};
 ghost use Rattle.rc_spec.specs.Calls.{Fits};
 ghost use Rattle.rc_spec.specs.declared.spec.Spec.{Spec};
-ghost use Rattle.rc_fragment.specs.Holder.{AreOffered, AreOfRelation, HasRisen, HeldStripe, IsHeld};
+ghost use Rattle.rc_fragment.specs.Holder.{GoesOn, held_of};
 ghost use Rattle.rc_fragment.specs.declared.held.Held.{Held};
-ghost use Rattle.rc_plan.specs.Compiled.{plan_at};
-ghost use Rattle.rc_machine.specs.Machine.{AreAsTaken, HasEvaluated, HasServed, IsRefused};
+ghost use Rattle.rc_machine.specs.Machine.{AreAsTaken, AreTakenAsOffered, HasAnswered, HasRefusedCall};
 ghost use Rattle.rc_machine.specs.declared.stop.Stop.TheVariants as stop;
 
 use crate::Stop;
@@ -26,7 +23,7 @@ use std::alloc::Global;
 /// On any relation of which the rows as taken are fragments the plain step gives the same reply, the call touches
 /// exactly the held stripes, and they have the fragments of the relation after it. After a stop each held stripe has its
 /// rows as taken. `Held` comes only where the count of refused takes rose in this call, and is then the last refused
-/// take's. What is offered of a stripe that isn't held stays.
+/// take's. What the holder offers stays.
 ///
 /// Costs, for each Read and binding, a look-up or the rows of one source, on one stripe where the binding chooses it and
 /// else on each of the class; and for an Apply one change in each edge.
@@ -38,16 +35,13 @@ pub fn run_plan<H: Holder>(
 ) -> Result<Reply, Stop>
     requires fits { Fits compiled.now.spec call.now }
     requires sound { H.is_sound holder.old compiled.now.spec }
-    requires free { H.held holder.old ≡ [] }
-    ensures evaluated { IfOk result (λ reply. HasEvaluated compiled.now.spec (plan_at compiled.now.plans call.now.op) call.now (H.held holder.new) reply) }
-    ensures served { IfOk result (λ reply. (r : List Pairs) → AreOfRelation compiled.now.spec (H.held holder.new) r → HasServed compiled.now.spec (plan_at compiled.now.plans call.now.op) call.now (H.held holder.new) reply r) }
-    ensures taken { (h : HeldStripe) → In h (H.held holder.new) → AreOffered (H.offered holder.old h.stripe) h.taken }
-    ensures stopped { IfErr result (λ _. AreAsTaken (H.held holder.new)) }
-    ensures refused { (h : Held) → result ≡ Err (stop.Held h) → HasRisen (H.refusals holder.old) (H.refusals holder.new) × IsRefused compiled.now.spec (plan_at compiled.now.plans call.now.op) call.now (H.held holder.new) (H.last_refusal holder.new) h }
-    ensures refusals { H.refusals holder.old ≤ H.refusals holder.new }
-    ensures offers { (p : ℕ) → (IsHeld (H.held holder.new) p → ⊥) → H.offered holder.new p ≡ H.offered holder.old p }
-    ensures stripes { H.stripes holder.new ≡ H.stripes holder.old }
-    ensures table { H.table holder.new ≡ H.table holder.old }
+    requires free { held_of (H.seen holder.old) ≡ [] }
+    ensures answered { IfOk result (HasAnswered compiled.now call.now (H.seen holder.new)) }
+    ensures taken { AreTakenAsOffered (H.seen holder.new) }
+    ensures stopped { IfErr result (λ _. AreAsTaken (held_of (H.seen holder.new))) }
+    ensures refused { (h : Held) → result ≡ Err (stop.Held h)
+        → HasRefusedCall compiled.now call.now (H.seen holder.old) (H.seen holder.new) h }
+    ensures goes_on { GoesOn (H.seen holder.old) (H.seen holder.new) }
     ensures sound { (spec : Spec) → H.is_sound holder.old spec → H.is_sound holder.new spec }
 {
     let spec = compiled.accepted().spec();

@@ -9,13 +9,14 @@ ghost use Rattle.rc_spec.specs.Decomposition.{bound, edge_at};
 ghost use Rattle.rc_spec.specs.Fragments.{EdgeRow, tuples_of_edge};
 ghost use Rattle.rc_spec.specs.Placement.{class_of};
 ghost use Rattle.rc_fragment.specs.Fragment.{edge_table};
-ghost use Rattle.rc_plan.specs.Evaluation.{band};
+ghost use Rattle.rc_fragment.specs.Holder.{held_of};
 ghost use Rattle.rc_plan.specs.declared.statement.ReadMode.TheVariants as read_mode;
 ghost use Rattle.rc_machine.specs.Machine.{rows_now, stripes_held};
 ghost use Rattle.rc_machine.specs.Read.{AreGood, AreReaders, HasMerged, HasMergedAll, HasMergedOn, IsCovered, IsReader};
+ghost use Rattle.rc_plan.specs.StripeLocks.{band};
 
 use rc_fragment::{Fragment, Holder};
-use rc_plan::ReadMode;
+use rc_plan::{ReadMode, push_merge, push_merges};
 use rc_spec::{Spec, band_start, physical_stripe};
 use rc_tuple::{Memory, Tuple, Tuples, distinct};
 use std::alloc::Global;
@@ -33,10 +34,10 @@ pub(crate) fn read<H: Holder>(
 ) -> Result<Vec<Tuple>, Memory>
     requires sealed { IsSealed spec.now }
     requires known { edge < length spec.now.edges }
-    requires table { H.table holder.now ≡ edge_table spec.now }
-    requires good { AreGood spec.now (H.held holder.now) }
-    requires readers { AreReaders spec.now edge mode (H.held holder.now) bindings.now }
-    ensures { IfOk result (λ joined. joined.items ≡ join bindings.now (tuples_of_edge edge (rows_now (H.held holder.now)))) }
+    requires table { (H.seen holder.now).table ≡ edge_table spec.now }
+    requires good { AreGood spec.now (held_of (H.seen holder.now)) }
+    requires readers { AreReaders spec.now edge mode (held_of (H.seen holder.now)) bindings.now }
+    ensures { IfOk result (λ joined. joined.items ≡ join bindings.now (tuples_of_edge edge (rows_now (held_of (H.seen holder.now))))) }
 {
     let mut merges = Vec::new(alloc);
     for binding in bindings {
@@ -56,15 +57,14 @@ fn push_joined<H: Holder>(
 ) -> Result<(), Memory>
     requires sealed { IsSealed spec.now }
     requires known { edge < length spec.now.edges }
-    requires table { H.table holder.now ≡ edge_table spec.now }
-    requires good { AreGood spec.now (H.held holder.now) }
+    requires table { (H.seen holder.now).table ≡ edge_table spec.now }
+    requires good { AreGood spec.now (held_of (H.seen holder.now)) }
     requires reader { IsReader spec.now edge mode binding.now }
-    requires covered { IsCovered spec.now (class_of spec.now edge) (stripes_held (H.held holder.now)) binding.now }
-    ensures { OnOk result (HasMergedAll binding.now edge (H.held holder.now) merges.old.items merges.new.items) }
+    requires covered { IsCovered spec.now (class_of spec.now edge) (stripes_held (held_of (H.seen holder.now))) binding.now }
+    ensures { OnOk result (HasMergedAll binding.now edge (held_of (H.seen holder.now)) merges.old.items merges.new.items) }
 {
     let class = spec.class_of(edge);
-    let striped = &spec.classes.list()[class as usize];
-    if striped.cols.within(binding.cols()) {
+    if spec.class(class).cols.within(binding.cols()) {
         let stripe = physical_stripe(spec, class, binding);
         return push_found(merges, holder, stripe, spec, edge, mode, binding);
     }
@@ -84,15 +84,15 @@ fn push_from_band<H: Holder>(
     requires sealed { IsSealed spec.now }
     requires class { class < length spec.now.classes }
     requires known { edge < length spec.now.edges }
-    requires table { H.table holder.now ≡ edge_table spec.now }
-    requires good { AreGood spec.now (H.held holder.now) }
+    requires table { (H.seen holder.now).table ≡ edge_table spec.now }
+    requires good { AreGood spec.now (held_of (H.seen holder.now)) }
     requires tuple { IsTuple binding.now }
     requires reader { IsReader spec.now edge mode binding.now }
-    requires held { (stripe : ℕ) → In stripe (band spec.now class) → In stripe (stripes_held (H.held holder.now)) }
-    ensures { OnOk result (HasMergedOn binding.now edge (H.held holder.now) (band spec.now class) merges.old.items merges.new.items) }
+    requires held { (stripe : ℕ) → In stripe (band spec.now class) → In stripe (stripes_held (held_of (H.seen holder.now))) }
+    ensures { OnOk result (HasMergedOn binding.now edge (held_of (H.seen holder.now)) (band spec.now class) merges.old.items merges.new.items) }
 {
     let start = band_start(spec, class);
-    for place in 0..spec.classes.list()[class as usize].stripes {
+    for place in 0..spec.class(class).stripes {
         push_found(merges, holder, start + place, spec, edge, mode, binding)?;
     }
     Ok(())
@@ -109,13 +109,13 @@ fn push_found<H: Holder>(
     binding: &Tuple,
 ) -> Result<(), Memory>
     requires sealed { IsSealed spec.now }
-    requires held { In stripe (stripes_held (H.held holder.now)) }
+    requires held { In stripe (stripes_held (held_of (H.seen holder.now))) }
     requires known { edge < length spec.now.edges }
-    requires table { H.table holder.now ≡ edge_table spec.now }
-    requires good { AreGood spec.now (H.held holder.now) }
+    requires table { (H.seen holder.now).table ≡ edge_table spec.now }
+    requires good { AreGood spec.now (held_of (H.seen holder.now)) }
     requires tuple { IsTuple binding.now }
     requires reader { IsReader spec.now edge mode binding.now }
-    ensures { OnOk result (HasMergedOn binding.now edge (H.held holder.now) (stripe ∷ []) merges.old.items merges.new.items) }
+    ensures { OnOk result (HasMergedOn binding.now edge (held_of (H.seen holder.now)) (stripe ∷ []) merges.old.items merges.new.items) }
 {
     let fragment = holder.fragment(stripe);
     match mode {
@@ -140,7 +140,7 @@ fn push_looked_up(
     requires reader { IsReader spec.now edge read_mode.Lookup binding.now }
     ensures { OnOk result (HasMerged binding.now edge fragment.now.now merges.old.items merges.new.items) }
 {
-    let read = &spec.edges.list()[edge as usize];
+    let read = spec.edge(edge);
     let source = binding.project(spec.bound(read.from))?;
     let key = binding.project(read.key)?;
     match fragment.lookup(edge, source.pairs(), key.pairs()) {
@@ -165,29 +165,9 @@ fn push_scanned(
     requires reader { IsReader spec.now edge read_mode.Scan binding.now }
     ensures { OnOk result (HasMerged binding.now edge fragment.now.now merges.old.items merges.new.items) }
 {
-    let read = &spec.edges.list()[edge as usize];
+    let read = spec.edge(edge);
     let source = binding.project(spec.bound(read.from))?;
     let mut rows = Tuples::new(binding.alloc());
     fragment.scan(edge, source.pairs(), &mut rows)?;
     push_merges(merges, binding, rows.list())
-}
-
-/// Appends the merges of a binding with those of the tuples that agree with it.
-fn push_merges(merges: &mut Vec<Tuple>, binding: &Tuple, rows: &[Tuple]) -> Result<(), Memory>
-    ensures { OnOk result (merges.new.items ≡ merges.old.items ++ merges_of binding.now rows.now) }
-{
-    for row in rows {
-        push_merge(merges, binding, row)?;
-    }
-    Ok(())
-}
-
-/// Appends the merge of a binding with a tuple, if they agree.
-fn push_merge(merges: &mut Vec<Tuple>, binding: &Tuple, row: &Tuple) -> Result<(), Memory>
-    ensures { OnOk result (merges.new.items ≡ merges.old.items ++ merges_of binding.now (row.now ∷ [])) }
-{
-    if let Some(merge) = binding.merge(row)? {
-        merges.push(merge)?;
-    }
-    Ok(())
 }

@@ -4,13 +4,12 @@ ghost use Rattle.std.specs.Prelude.{◌≡◌, ℕ, ◌+◌, ◌<◌, ◌≤◌,
 ghost use Rattle.rc_tuple.specs.RisingSet.{In};
 ghost use Rattle.rc_spec.specs.Acceptance.{IsSealed};
 ghost use Rattle.rc_spec.specs.Calls.{Fits};
-ghost use Rattle.rc_spec.specs.Fragments.{EdgeRow};
 ghost use Rattle.rc_spec.specs.declared.spec.Spec.{Spec};
-ghost use Rattle.rc_fragment.specs.Holder.{HasRisen};
+ghost use Rattle.rc_fragment.specs.Holder.{GoesOn, held_of};
 ghost use Rattle.rc_fragment.specs.declared.held.Held.{Held};
 ghost use Rattle.rc_plan.specs.Compiled.{IsPlanOf};
-ghost use Rattle.rc_machine.specs.Machine.{AreAsTaken, IsRefused};
-ghost use Rattle.rc_machine.specs.Run.{AreTold, HasGoneOn, IsAt};
+ghost use Rattle.rc_machine.specs.Machine.{AreAsTaken, AreTakenAsOffered, IsRefused};
+ghost use Rattle.rc_machine.specs.Run.{HasGoneOn, IsAt};
 ghost use Rattle.rc_machine.specs.declared.stop.Stop.TheVariants as stop;
 
 use crate::Stop;
@@ -26,6 +25,7 @@ use rc_tuple::{Memory, Tuple};
 use std::alloc::Global;
 
 /// Runs the statement with this number. The run goes on, or has answered; after a stop no held stripe is changed.
+#[tactic(auto, using(rc_fragment::specs::HoldingLaws::goes_on_same, crate::proofs::LentLemmas::lent_goes_on))]
 pub(crate) fn step<H: Holder>(
     alloc: Global,
     holder: &mut H,
@@ -40,14 +40,13 @@ pub(crate) fn step<H: Holder>(
     requires planned { IsPlanOf spec.now call.now.op plan.now }
     requires there { at < length plan.now }
     requires sound { H.is_sound holder.old spec.now }
-    requires run { IsAt spec.now plan.now call.now (drop at plan.now) bindings.old.items (H.held holder.old) }
-    ensures run { IfOk result (HasGoneOn spec.now plan.now call.now (drop (at + 1) plan.now) bindings.new.items (H.held holder.new)) }
-    ensures stopped { IfErr result (λ _. AreAsTaken (H.held holder.new)) }
-    ensures refused { (h : Held) → result ≡ Err (stop.Held h) → HasRisen (H.refusals holder.old) (H.refusals holder.new) × IsRefused spec.now plan.now call.now (H.held holder.new) (H.last_refusal holder.new) h }
-    ensures told { (told : ℕ → Option (List EdgeRow)) → AreTold told (H.held holder.old) (H.offered holder.old) → AreTold told (H.held holder.new) (H.offered holder.new) }
-    ensures refusals { H.refusals holder.old ≤ H.refusals holder.new }
-    ensures stripes { H.stripes holder.new ≡ H.stripes holder.old }
-    ensures table { H.table holder.new ≡ H.table holder.old }
+    requires run { IsAt spec.now plan.now call.now (drop at plan.now) bindings.old.items (held_of (H.seen holder.old)) }
+    requires taken { AreTakenAsOffered (H.seen holder.old) }
+    ensures run { IfOk result (HasGoneOn spec.now plan.now call.now (drop (at + 1) plan.now) bindings.new.items (held_of (H.seen holder.new))) }
+    ensures taken { AreTakenAsOffered (H.seen holder.new) }
+    ensures stopped { IfErr result (λ _. AreAsTaken (held_of (H.seen holder.new))) }
+    ensures refused { (h : Held) → result ≡ Err (stop.Held h) → IsRefused spec.now plan.now call.now (H.seen holder.old) (H.seen holder.new) h }
+    ensures goes_on { GoesOn (H.seen holder.old) (H.seen holder.new) }
     ensures sound { (spec : Spec) → H.is_sound holder.old spec → H.is_sound holder.new spec }
 {
     match plan[at] {
@@ -66,13 +65,10 @@ pub(crate) fn step<H: Holder>(
         Statement::CheckAbsent => Ok(present(bindings)),
         Statement::CheckDep { dep } => Ok(conflict(spec, dep, &call.args, bindings)?),
         Statement::Apply => {
-            let kind = &spec.ops.list()[call.op as usize].kind;
+            let kind = &spec.op(call.op).kind;
             Ok(Some(apply(holder, spec, kind, &call.args, bindings)?))
         }
-        Statement::Emit => {
-            let kind = &spec.ops.list()[call.op as usize].kind;
-            Ok(Some(emit(alloc, kind, bindings)?))
-        }
+        Statement::Emit => { Ok(Some(emit(alloc, &spec.op(call.op).kind, bindings)?)) }
         Statement::Commit | Statement::Release { .. } => unreachable!(),
     }
 }

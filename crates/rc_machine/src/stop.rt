@@ -6,7 +6,7 @@ use rc_tuple::Memory;
 pub enum Stop {
     /// Memory was wanted.
     Memory,
-    /// A stripe was held by another.
+    /// Something stood in the way of a stripe.
     Held(Held),
 }
 

@@ -11,7 +11,7 @@ loop-stripe-preserved c = record {
       let pushed : c.push.new.self.items ≡ old ++ c.in_ok-copy.field-0 ∷ [] = c.in_ok-push.ensures.items in
       elim (in_append f old (c.in_ok-copy.field-0 ∷ []) (subst (In f) pushed m)) [
         | inl a ↦ c.loop-stripe.invariant.table f a
-        | inr (inl p) ↦ ap (λ (z : FragmentRows). z.table) p ∙ c.in_ok-copy.ensures.table ∙ c.fragment_of.ensures.table
+        | inr (inl p) ↦ ap (λ (z : FragmentRows). z.table) p ∙ ap (λ (z : FragmentRows). z.table) c.in_ok-copy.ensures ∙ c.fragment_of.ensures.table
         | inr (inr q) ↦ absurd q
       ];
   count = search rules;

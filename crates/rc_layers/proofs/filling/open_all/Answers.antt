@@ -1,23 +1,30 @@
-use Rattle.std.proofs.Common.{◌≡◌, ◌+◌, List, [], Option, Some, rules, arith, subst, ◌∙◌}
-use Rattle.rc_spec.specs.Fragments.{EdgeRow}
+use Rattle.std.proofs.Common.{◌≡◌, ◌<◌, [], None, Some, ap, get_or, length, rules, arith, subst, sym, ◌∙◌}
+use Rattle.rc_tuple.specs.RisingSet.{In}
 use Rattle.rc_spec.specs.declared.lock.Mode.TheVariants.{Exclusive}
-use Rattle.rc_fragment.specs.Holder.{HasTaken, HeldStripe, IsAbove}
-use Rattle.rc_layers.proofs.OpenLemmas.{above_taken, exclusive_taken, few_taken, not_held}
+use Rattle.rc_fragment.specs.Holder.{Holding, offered_at}
+use Rattle.rc_fragment.specs.HoldingLaws.{goes_on_again, goes_on_same}
+use Rattle.rc_layers.proofs.OpenLemmas.{above_taken, exclusive_taken, few_taken}
 use Rattle.rc_layers.proofs.filling.open_all.Goals as goal
+
+pub loop-stripe-init : goal.loop-stripe-init
+loop-stripe-init g c = record {
+  goes_on = goes_on_same (g.H.Holder.seen c.args.holder.now);
+  above = λ h m. absurd (let i : In h [] = subst (In h) c.requires.none m in i);
+  exclusive = λ p l. absurd (let f : p < 0 = l in omega (arith, f));
+  few = λ f h m. absurd (let i : In h [] = subst (In h) c.requires.none m in i);
+}
 
 pub loop-stripe-preserved : goal.loop-stripe-preserved
 loop-stripe-preserved g c =
-    let old : List HeldStripe = g.H.Holder.held c.loop-stripe.holder in
-    let new : List HeldStripe = g.H.Holder.held c.take.new.self in
-    let told : Option (List EdgeRow) = g.H.Holder.offered c.loop-stripe.holder c.loop-stripe.stripe in
-    let taken : HasTaken old new c.loop-stripe.stripe Exclusive told = c.in-Ok.ensures.ok in
-    let above : IsAbove new (c.loop-stripe.stripe + 1) = above_taken old new c.loop-stripe.stripe Exclusive told taken c.loop-stripe.invariant.above in
+    let first : Holding = g.H.Holder.seen c.args.holder.now in
+    let old : Holding = g.H.Holder.seen c.loop-stripe.holder in
+    let new : Holding = g.H.Holder.seen c.take.new.self in
+    let stripe = c.loop-stripe.stripe in
     record {
-      spec = search rules;
-      above = above;
-      exclusive = exclusive_taken old new c.loop-stripe.stripe told taken c.loop-stripe.invariant.exclusive;
+      goes_on = goes_on_again first old new c.loop-stripe.invariant.goes_on c.in-Ok.ensures.ok.goes_on;
+      above = above_taken old new stripe Exclusive c.in-Ok.ensures.ok c.loop-stripe.invariant.above;
+      exclusive = exclusive_taken old new stripe c.in-Ok.ensures.ok c.loop-stripe.invariant.exclusive;
       few = λ f.
-          let none : told ≡ Some [] = c.loop-stripe.invariant.offers c.loop-stripe.stripe (omega arith) ∙ f c.loop-stripe.stripe (search rules) in
-          few_taken old new c.loop-stripe.stripe (subst (λ z. HasTaken old new c.loop-stripe.stripe Exclusive z) none taken) (c.loop-stripe.invariant.few f);
-      offers = λ n l. c.take.ensures.offers n (not_held new (c.loop-stripe.stripe + 1) n above l) ∙ c.loop-stripe.invariant.offers n (omega (arith, l));
+          let none : offered_at old stripe ≡ Some [] = ap (λ offered. get_or offered stripe None) c.loop-stripe.invariant.goes_on.offered ∙ f stripe (search rules) in
+          few_taken old new stripe Exclusive c.in-Ok.ensures.ok none (c.loop-stripe.invariant.few f);
     }

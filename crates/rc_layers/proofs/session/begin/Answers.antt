@@ -1,8 +1,12 @@
 use Rattle.std.proofs.Common.{◌<◌, subst, sym}
+use Rattle.rc_layers.proofs.RelationLemmas.{holds_nothing, of_spec_holding, offers_nothing}
 use Rattle.rc_layers.proofs.session.begin.Goals as goal
 
 pub returns : goal.returns
 returns c = record {
-  of = record { table = c.in_ok-instance.ensures.table; stripes = c.in_ok-instance.ensures.stripes };
-  stage = (c.in_ok-instance.ensures.empty.held, λ n l. c.in_ok-instance.ensures.empty.offered n (subst (λ z. n < z) (sym c.in_ok-instance.ensures.stripes) l));
+  of = of_spec_holding c.args.accepted.now c.in_ok-instance.instance c.in_ok-instance.ensures.table c.in_ok-instance.ensures.stripes;
+  stage = (
+    holds_nothing c.in_ok-instance.instance c.in_ok-instance.ensures.empty.held,
+    λ n l. offers_nothing c.in_ok-instance.instance c.in_ok-instance.ensures.empty n (subst (λ z. n < z) (sym c.in_ok-instance.ensures.stripes) l),
+  );
 }

@@ -1,32 +1,58 @@
-use Rattle.std.proofs.Common.{List, ◌<◌, length, subst, sym, ap, ◌∙◌}
-use Rattle.std.specs.List.{range_with_len}
-use Rattle.rc_spec.specs.CountedRows.{lowered, row_in}
-use Rattle.rc_tuple.specs.RisingSet.{In}
-use Rattle.rc_fragment.specs.Holder.{HeldStripe, IsHeldExclusive, changed_at}
-use Rattle.rc_machine.specs.Apply.{all_changed, stripe_in}
-use Rattle.rc_machine.proofs.ApplyLemmas.{next_range, one_more, lowered_leaves, still_there, still_exclusive}
+use Rattle.std.proofs.Common.{◌≡◌, map, subst, sym, ◌∙◌, arith}
+use Rattle.rc_spec.specs.CountedRows.{lowered}
+use Rattle.rc_spec.specs.Fragments.{edge_numbers}
+use Rattle.rc_fragment.specs.Holder.{Holding}
+use Rattle.rc_machine.specs.Apply.{HasRoomFor, place_in}
+use Rattle.rc_machine.proofs.ApplyLemmas.{all_are_changed, few_places, next_there, next_exclusive, next_has_room, none_changed, one_changed_more, places_exclusive, lowered_leaves}
+use Rattle.rc_machine.proofs.apply.sub_rows.Given.{Over}
+use Rattle.rc_machine.proofs.apply.sub_rows.Goals.{After-deref, After-deref-place-items}
 use Rattle.rc_machine.proofs.apply.sub_rows.Goals as goal
 
-pub sub_row_in-requires-clause-exclusive : goal.sub_row_in-requires-clause-exclusive
-sub_row_in-requires-clause-exclusive g c =
-    let l : c.loop-edge.edge < length c.args.spec.now.edges = subst (λ z. c.loop-edge.edge < length z) c.list.ensures c.loop-edge-test.true in
-    subst (λ (z : List HeldStripe). IsHeldExclusive z (stripe_in c.args.spec.now c.args.tuple.now c.loop-edge.edge)) (sym c.loop-edge.invariant.held)
-    (still_exclusive lowered lowered_leaves c.args.spec.now c.args.tuple.now c.loop-edge.edge (g.H.Holder.held c.args.holder.now) (c.requires.exclusive c.loop-edge.edge l))
+-- the places are those of the tuple's rows
+lent_places : (g : Over) (c : After-deref g) → c.deref.result.now ≡ map (place_in c.args.spec.now c.args.tuple.now) (edge_numbers c.args.spec.now)
+lent_places g c = c.deref.ensures.value ∙ c.in_ok-places.ensures
 
-pub sub_row_in-requires-clause-there : goal.sub_row_in-requires-clause-there
-sub_row_in-requires-clause-there g c h m s =
-    let l : c.loop-edge.edge < length c.args.spec.now.edges = subst (λ z. c.loop-edge.edge < length z) c.list.ensures c.loop-edge-test.true in
-    still_there lowered lowered_leaves c.args.spec.now c.args.tuple.now c.loop-edge.edge (g.H.Holder.held c.args.holder.now) (c.requires.there c.loop-edge.edge l) h (subst (In h) c.loop-edge.invariant.held m) s
+places : (g : Over) (c : After-deref-place-items g) → c.deref-place-items.result.now ≡ map (place_in c.args.spec.now c.args.tuple.now) (edge_numbers c.args.spec.now)
+places g c = c.deref-place-items.ensures.value ∙ c.in_ok-places.ensures
 
-pub loop-edge-preserved : goal.loop-edge-preserved
-loop-edge-preserved g c = record {
-  held = c.in_ok-sub_row_in.ensures.ok
-      ∙ ap (changed_at (stripe_in c.args.spec.now c.args.tuple.now c.loop-edge.edge) (lowered c.loop-edge.edge (row_in c.args.spec.now c.args.tuple.now c.loop-edge.edge))) c.loop-edge.invariant.held
-      ∙ sym (one_more lowered lowered_leaves c.args.spec.now c.args.tuple.now (range_with_len 0 c.loop-edge.edge) c.loop-edge.edge (g.H.Holder.held c.args.holder.now))
-      ∙ sym (ap (λ edges. all_changed lowered c.args.spec.now c.args.tuple.now edges (g.H.Holder.held c.args.holder.now)) (next_range c.loop-edge.edge));
-  refusals = c.in_ok-sub_row_in.ensures.refusals ∙ c.loop-edge.invariant.refusals;
-  offers = λ p. c.in_ok-sub_row_in.ensures.offers p ∙ c.loop-edge.invariant.offers p;
-  stripes = c.in_ok-sub_row_in.ensures.stripes ∙ c.loop-edge.invariant.stripes;
-  table = c.in_ok-sub_row_in.ensures.table ∙ c.loop-edge.invariant.table;
-  sound = λ spec h. c.in_ok-sub_row_in.ensures.sound spec (c.loop-edge.invariant.sound spec h);
+pub make_room-requires-clause-few : goal.make_room-requires-clause-few
+make_room-requires-clause-few g c = few_places c.args.spec.now c.requires.sealed c.args.tuple.now c.deref.result.now (lent_places g c)
+
+pub make_room-requires-clause-exclusive : goal.make_room-requires-clause-exclusive
+make_room-requires-clause-exclusive g c = places_exclusive lowered lowered_leaves c.args.spec.now c.args.tuple.now c.deref.result.now (lent_places g c) (g.H.Holder.seen c.args.holder.now) (g.H.Holder.seen c.args.holder.now) c.requires.can.exclusive
+
+pub loop-place-init : goal.loop-place-init
+loop-place-init g c =
+    let new : Holding = g.H.Holder.seen c.make_room.new.holder in
+    record {
+      rows = none_changed lowered lowered_leaves c.args.spec.now c.args.tuple.now c.deref-place-items.result.now (places g c) (g.H.Holder.seen c.args.holder.now) new
+          c.in_ok-make_room.ensures.held (subst (λ ps. HasRoomFor ps new) (c.deref.ensures.value ∙ sym c.deref-place-items.ensures.value) c.in_ok-make_room.ensures.room) c.in_ok-make_room.ensures.lent;
+      sound = c.in_ok-make_room.ensures.sound;
+    }
+
+pub sub_row-requires-clause-exclusive : goal.sub_row-requires-clause-exclusive
+sub_row-requires-clause-exclusive g c =
+    next_exclusive lowered lowered_leaves c.args.spec.now c.args.tuple.now c.deref-place-items.result.now (places g (goal.at.sub_row-requires-clause-exclusive g c).After-deref-place-items) (g.H.Holder.seen c.args.holder.now) (g.H.Holder.seen c.loop-place.holder)
+    c.loop-place.place-index c.place-item.result c.loop-place-test.true c.place-item.is c.loop-place.invariant.rows c.requires.can.exclusive
+
+pub sub_row-requires-clause-owned : goal.sub_row-requires-clause-owned
+sub_row-requires-clause-owned g c =
+    next_has_room lowered lowered_leaves c.args.spec.now c.args.tuple.now c.deref-place-items.result.now (places g (goal.at.sub_row-requires-clause-owned g c).After-deref-place-items) (g.H.Holder.seen c.args.holder.now) (g.H.Holder.seen c.loop-place.holder)
+    c.loop-place.place-index c.place-item.result c.loop-place-test.true c.place-item.is c.loop-place.invariant.rows
+
+pub sub_row-requires-clause-can : goal.sub_row-requires-clause-can
+sub_row-requires-clause-can g c =
+    next_there lowered lowered_leaves c.args.spec.now c.args.tuple.now c.deref-place-items.result.now (places g (goal.at.sub_row-requires-clause-can g c).After-deref-place-items) (g.H.Holder.seen c.args.holder.now) (g.H.Holder.seen c.loop-place.holder)
+    c.loop-place.place-index c.place-item.result c.loop-place-test.true c.place-item.is c.loop-place.invariant.rows c.requires.can.there c.requires.table
+
+pub loop-place-preserved : goal.loop-place-preserved
+loop-place-preserved g c = record {
+  rows = one_changed_more lowered lowered_leaves c.args.spec.now c.args.tuple.now c.deref-place-items.result.now (places g (goal.at.loop-place-preserved g c).After-deref-place-items) (g.H.Holder.seen c.args.holder.now) (g.H.Holder.seen c.loop-place.holder)
+      c.loop-place.place-index c.place-item.result c.loop-place-test.true c.place-item.is c.loop-place.invariant.rows (g.H.Holder.seen c.sub_row.new.self) c.sub_row.ensures.value;
+  sound = λ spec h. c.sub_row.ensures.sound spec (c.loop-place.invariant.sound spec h);
 }
+
+pub returns-clause-ok : goal.returns-clause-ok
+returns-clause-ok g c =
+    all_are_changed lowered lowered_leaves c.args.spec.now c.args.tuple.now c.deref-place-items.result.now (places g (goal.at.returns-clause-ok g c).After-deref-place-items) (g.H.Holder.seen c.args.holder.now) (g.H.Holder.seen c.loop-place.holder)
+    c.loop-place.place-index (omega arith) c.loop-place.invariant.rows

@@ -1,6 +1,7 @@
 use Rattle.std.specs.List.{range_with_len}
+use Rattle.rc_fragment.specs.Holder.{held_of}
 use Rattle.rc_machine.specs.Read.{HasMergedOn}
 use Rattle.rc_machine.proofs.read.push_from_band.Given as goal
 
 abbrev pub invariant-loop-place : goal.invariant-loop-place
-invariant-loop-place g l = HasMergedOn l.binding l.edge (g.H.Holder.held l.holder) (range_with_len l.start l.place) l.fn.merges.items l.merges.items
+invariant-loop-place g l = HasMergedOn l.binding l.edge (held_of (g.H.Holder.seen l.holder)) (range_with_len l.start l.place) l.fn.merges.items l.merges.items

@@ -2,8 +2,8 @@ use Rattle.std.proofs.Common.{◌<◌, [], subst, rules, arith}
 use Rattle.rc_tuple.specs.RisingSet.{In}
 use Rattle.rc_spec.specs.Stripes.{stripe_total}
 use Rattle.rc_spec.specs.declared.lock.Mode.TheVariants.{Exclusive}
-use Rattle.rc_fragment.specs.Holder.{HasTaken}
-use Rattle.rc_instance.specs.Instance.{held_from, offered_at}
+use Rattle.rc_fragment.specs.Holder.{Holding}
+use Rattle.rc_instance.specs.Instance.{holding}
 use Rattle.rc_layers.proofs.OpenLemmas.{above_taken, exclusive_taken}
 use Rattle.rc_layers.proofs.RelationLemmas.{holds_after_take, holds_at_first}
 use Rattle.rc_layers.proofs.calls.Sides.hold_all.Goals as goal
@@ -17,14 +17,12 @@ loop-stripe-init c = record {
 
 pub loop-stripe-preserved : goal.loop-stripe-preserved
 loop-stripe-preserved c =
-    let old = c.loop-stripe.self.instance in
-    let new = c.take.new.self in
+    let old : Holding = holding c.loop-stripe.self.instance in
+    let new : Holding = holding c.take.new.self in
     let stripe = c.loop-stripe.stripe in
     let below : stripe < stripe_total c.args.compiled.now.spec = search rules in
-    let taken : HasTaken (held_from 0 old) (held_from 0 new) stripe Exclusive (offered_at old stripe) = c.in-Ok.ensures.ok in
     record {
-      holds = holds_after_take c.args.compiled.now.spec old new c.loop-stripe.self.relation stripe Exclusive c.loop-stripe.invariant.holds below c.loop-stripe.invariant.above taken
-          c.take.ensures.table c.take.ensures.stripes c.take.ensures.offers;
-      above = above_taken (held_from 0 old) (held_from 0 new) stripe Exclusive (offered_at old stripe) taken c.loop-stripe.invariant.above;
-      exclusive = exclusive_taken (held_from 0 old) (held_from 0 new) stripe (offered_at old stripe) taken c.loop-stripe.invariant.exclusive;
+      holds = holds_after_take c.args.compiled.now.spec old new c.loop-stripe.self.relation stripe Exclusive c.loop-stripe.invariant.holds below c.loop-stripe.invariant.above c.in-Ok.ensures.ok;
+      above = above_taken old new stripe Exclusive c.in-Ok.ensures.ok c.loop-stripe.invariant.above;
+      exclusive = exclusive_taken old new stripe c.in-Ok.ensures.ok c.loop-stripe.invariant.exclusive;
     }

@@ -1,12 +1,12 @@
-use Rattle.rc_fragment.specs.Holder.{IsAbove}
-use Rattle.rc_instance.specs.Instance.{held_from}
+use Rattle.rc_fragment.specs.Holder.{IsAbove, held_of}
+use Rattle.rc_instance.specs.Instance.{holding}
 use Rattle.rc_layers.specs.Open.{AreExclusive}
 use Rattle.rc_layers.specs.Relation.{HoldsRelation}
 use Rattle.rc_layers.proofs.calls.Sides.hold_all.Given as goal
 
 abbrev pub invariant-loop-stripe : goal.invariant-loop-stripe
 invariant-loop-stripe l = record {
-  holds : HoldsRelation l.compiled.spec l.self.instance l.self.relation;
-  above : IsAbove (held_from 0 l.self.instance) l.stripe;
-  exclusive : AreExclusive l.stripe (held_from 0 l.self.instance);
+  holds : HoldsRelation l.compiled.spec (holding l.self.instance) l.self.relation;
+  above : IsAbove (held_of (holding l.self.instance)) l.stripe;
+  exclusive : AreExclusive l.stripe (held_of (holding l.self.instance));
 }

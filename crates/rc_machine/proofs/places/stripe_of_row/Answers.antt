@@ -1,7 +1,7 @@
 use Rattle.std.proofs.Common.{◌<◌, length, subst, sym, ap, ◌∙◌}
 use Rattle.rc_spec.specs.PlacementLaws.{class_of_known}
 use Rattle.rc_spec.specs.Stripes.{physical_stripe}
-use Rattle.rc_machine.proofs.apply.stripe_of_row.Goals as goal
+use Rattle.rc_machine.proofs.places.stripe_of_row.Goals as goal
 
 pub physical_stripe-requires-clause-known : goal.physical_stripe-requires-clause-known
 physical_stripe-requires-clause-known c =

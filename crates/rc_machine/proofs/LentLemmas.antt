@@ -1,0 +1,26 @@
+-- All but what is lent is the same.
+use Rattle.std.specs.Prelude.{◌≡◌, List}
+use Rattle.std.proofs.Common.{inl, refl, sym, ap, ◌∙◌}
+use Rattle.rc_fragment.specs.Holder.{GoesOn, Holding, LentStripe}
+use Rattle.rc_machine.specs.Apply.{IsSameButLent}
+
+abbrev with_lent : Holding → List LentStripe → Holding
+with_lent s ls = record s { lent = ls }
+
+pub lent_same : (s : Holding) → IsSameButLent s s
+lent_same s = refl
+
+-- other stripes are lent
+pub lent_new : (old new : Holding) (ls : List LentStripe) → new ≡ record old { lent = ls } → IsSameButLent old new
+lent_new old new ls e = e ∙ ap (with_lent old) (sym (ap (λ (s : Holding). s.lent) e))
+
+pub lent_again : (a b c : Holding) → IsSameButLent a b → IsSameButLent b c → IsSameButLent a c
+lent_again a b c p q = q ∙ ap (λ (s : Holding). with_lent s c.lent) p
+
+pub lent_goes_on : (old new : Holding) → IsSameButLent old new → GoesOn old new
+lent_goes_on old new e = record {
+  table = ap (λ (s : Holding). s.table) e;
+  offered = ap (λ (s : Holding). s.offered) e;
+  through = ap (λ (s : Holding). s.through) e;
+  refused = inl (ap (λ (s : Holding). s.refusals) e, ap (λ (s : Holding). s.last_refusal) e);
+}

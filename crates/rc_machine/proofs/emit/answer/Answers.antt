@@ -1,8 +1,0 @@
-use Rattle.std.proofs.Common.{◌∙◌}
-use Rattle.rc_machine.proofs.RowLemmas.{row_more}
-use Rattle.rc_machine.proofs.emit.answer.Goals as goal
-
-pub loop-binding-preserved : goal.loop-binding-preserved
-loop-binding-preserved c =
-    c.in_ok-add.ensures.ok
-    ∙ row_more c.args.outs.now c.args.bindings.now c.loop-binding.binding-index c.binding-item.result c.loop-binding.rows c.loop-binding-test.true c.binding-item.is c.loop-binding.invariant
