@@ -1,0 +1,104 @@
+-- Steps evaluated one after another over what is held.
+use Rattle.std.proofs.Common.{◌≡◌, ℕ, suc, ◌<◌, ◌≤◌, ◌^◌, Bool, true, false, List, [], ◌∷◌, filter, length, cond, Option, Some, None, refl, ap, ◌∙◌, subst, arith}
+use Rattle.rc_tuple.specs.RisingSet.{In}
+use Rattle.rc_tuple.specs.Tuple.{Pairs, project, tuple_eq}
+use Rattle.rc_spec.specs.declared.call.Reply.{Reply}
+use Rattle.rc_spec.specs.declared.spec.Spec.{Spec}
+use Rattle.rc_spec.specs.Calls.{Fits}
+use Rattle.rc_spec.specs.CallsLaws.{plain_keeps_relation}
+use Rattle.rc_spec.specs.Decomposition.{bound, edge_at}
+use Rattle.rc_spec.specs.Fragments.{EdgeRow, rows_on}
+use Rattle.rc_spec.specs.FragmentsLaws.{in_all_rows, in_fragments}
+use Rattle.rc_spec.specs.Plain.{plain}
+use Rattle.rc_spec.specs.PlainLaws.{plain_satisfies, plain_grows}
+use Rattle.rc_plan.specs.Compiled.{SpecWithPlans, plan_at, IsCompiled}
+use Rattle.rc_plan.specs.Evaluation.{eval}
+use Rattle.rc_plan.specs.Laws.{Serves}
+use Rattle.rc_plan.specs.CompiledLaws.{compiled_law}
+use Rattle.rc_plan.specs.StripeLocks.{StripeLock, stripes_of, AreHeld}
+use Rattle.rc_rel.specs.declared.entry.Step.{Step}
+use Rattle.rc_rel.specs.History.{replay}
+use Rattle.rc_rel.specs.HistoryLaws.{states_satisfy, states_are_relations, replay_in_states}
+use Rattle.rc_core.specs.declared.state.PassState.{PassState}
+use Rattle.rc_core.specs.declared.state.CoreState.{CoreState}
+use Rattle.rc_core.specs.State.{locks_of, rows_held}
+use Rattle.rc_core.specs.Good.{IsGood}
+use Rattle.rc_core.specs.Commits.{Evaluates, AreOf}
+use Rattle.rc_core.specs.CommitLaws.{rows_held_are}
+use Rattle.rc_core.specs.SizeLaws.{few_tuples}
+use Rattle.std.specs.List.{slice_get}
+
+-- ---- the first step, and the others
+
+abbrev the_reply : Option Reply → List (Option Reply) → Option Reply
+the_reply d [] = d
+the_reply d (x ∷ xs) = x
+
+abbrev the_others : List (Option Reply) → List (Option Reply)
+the_others [] = []
+the_others (x ∷ xs) = xs
+
+module _ (compiled : SpecWithPlans) (locks : List StripeLock) (x : Step) (steps : List Step) (rows : List EdgeRow) where
+  pub first_reply : Evaluates compiled locks (x ∷ steps) rows → (eval compiled.spec (plan_at compiled.plans x.call.op) x.call rows).reply ≡ Some x.reply
+  first_reply e = ap (the_reply None) e.replies
+
+  pub first_held : Evaluates compiled locks (x ∷ steps) rows → AreHeld (eval compiled.spec (plan_at compiled.plans x.call.op) x.call rows).named locks
+  first_held e = e.held.0
+
+  pub others_evaluate : Evaluates compiled locks (x ∷ steps) rows → Evaluates compiled locks steps (eval compiled.spec (plan_at compiled.plans x.call.op) x.call rows).rows
+  others_evaluate e = record { replies = ap the_others e.replies; held = e.held.1 }
+
+  pub all_evaluate : (eval compiled.spec (plan_at compiled.plans x.call.op) x.call rows).reply ≡ Some x.reply → AreHeld (eval compiled.spec (plan_at compiled.plans x.call.op) x.call rows).named locks
+      → Evaluates compiled locks steps (eval compiled.spec (plan_at compiled.plans x.call.op) x.call rows).rows → Evaluates compiled locks (x ∷ steps) rows
+  all_evaluate reply held rest = record { replies = (let r = rest.replies in λ i. reply i ∷ r i); held = (held, rest.held) }
+
+pub none_evaluate : (compiled : SpecWithPlans) (locks : List StripeLock) (rows : List EdgeRow) → Evaluates compiled locks [] rows
+none_evaluate compiled locks rows = record { replies = refl; held = tt }
+
+-- ---- the rows stay those of a relation
+
+length_filter : {A : Type 0} (q : A → Bool) (xs : List A) → length (filter q xs) ≤ length xs
+length_filter q [] = omega arith
+length_filter q (x ∷ xs) = go (q x) (length_filter q xs)
+  where
+    go : (b : Bool) → length (filter q xs) ≤ length xs → length (cond b (x ∷ filter q xs) (filter q xs)) ≤ length (x ∷ xs)
+    go true h = omega (arith, h)
+    go false h = omega (arith, h)
+
+pub rows_small : (spec : Spec) (stripes : List ℕ) (n : ℕ) (rows : List EdgeRow) → AreOf spec stripes n rows → (w : EdgeRow) → In w rows → w.2 < 2 ^ 63
+rows_small spec stripes n rows of w m =
+    let r : List Pairs = of.relation in
+    let q = in_all_rows spec r w (in_fragments spec r stripes w (subst (λ (l : List EdgeRow). In w l) of.rows m)).0 in
+    let l = length_filter (λ t. tuple_eq (project (bound spec (edge_at spec w.0).to) t) w.1) r in
+    let c : w.2 ≡ length (filter (λ t. tuple_eq (project (bound spec (edge_at spec w.0).to) t) w.1) r) = q.count in
+    let f = of.few in
+    omega arith
+
+pub rows_known : (spec : Spec) (r : List Pairs) (stripes : List ℕ) (rows : List EdgeRow) → rows ≡ rows_on spec r stripes → (w : EdgeRow) → In w rows → w.0 < length spec.edges
+rows_known spec r stripes rows is w m = (in_all_rows spec r w (in_fragments spec r stripes w (subst (λ (l : List EdgeRow). In w l) is m)).0).edge
+
+pub of_next : (compiled : SpecWithPlans) → IsCompiled compiled.spec compiled.plans → (locks : List StripeLock) (n : ℕ) (x : Step) → Fits compiled.spec x.call → (rows : List EdgeRow) → AreOf compiled.spec (stripes_of locks) (suc n) rows
+    → AreHeld (eval compiled.spec (plan_at compiled.plans x.call.op) x.call rows).named locks → AreOf compiled.spec (stripes_of locks) n (eval compiled.spec (plan_at compiled.plans x.call.op) x.call rows).rows
+of_next compiled ok locks n x fits rows of held =
+    let spec : Spec = compiled.spec in
+    let r : List Pairs = of.relation in
+    let s : Serves spec (plan_at compiled.plans x.call.op) x.call r locks =
+    compiled_law compiled ok x.call fits r of.is_relation of.satisfies locks
+    (subst (λ (l : List EdgeRow). AreHeld (eval spec (plan_at compiled.plans x.call.op) x.call l).named locks) of.rows held) in
+    record {
+      relation = (plain spec r x.call).relation;
+      is_relation = plain_keeps_relation spec r x.call fits of.is_relation;
+      satisfies = plain_satisfies spec r x.call of.satisfies;
+      few = (let g = plain_grows spec r x.call in let f = of.few in omega arith);
+      rows = ap (λ (l : List EdgeRow). (eval spec (plan_at compiled.plans x.call.op) x.call l).rows) of.rows ∙ s.rows;
+    }
+
+-- in a good state the rows held are those of the relation after the history
+pub held_of : (spec : Spec) (c : CoreState) (k : ℕ) (u : PassState) (n : ℕ) → IsGood spec c → slice_get c.passes k ≡ Some u → n ≤ 16 → AreOf spec (stripes_of (locks_of u)) n (rows_held u)
+held_of spec c k u n good at few = record {
+  relation = replay spec c.history;
+  is_relation = states_are_relations spec c.history good.history.fit (replay spec c.history) (replay_in_states spec c.history);
+  satisfies = states_satisfy spec c.history (replay spec c.history) (replay_in_states spec c.history);
+  few = (let f = few_tuples spec c good in omega arith);
+  rows = rows_held_are spec c.history u (good.passes k u at).rows;
+}

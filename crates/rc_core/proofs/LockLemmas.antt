@@ -1,0 +1,78 @@
+-- Locks that tie are one.
+use Rattle.std.proofs.Common.{◌≡◌, true, sym, refl, ap, ◌∙◌, ◌↔◌}
+use Rattle.std.specs.declared.cmp.Ordering.{Ordering}
+use Rattle.std.specs.declared.cmp.Ordering.TheVariants.{Less, Equal, Greater}
+use Rattle.std.specs.Ordering.{is_eq, ordering_reverse}
+use Rattle.std.proofs.Common.{ℕ, ◌+◌, ◌≤◌, ◌&&◌, leb, ltb, List, [], ◌∷◌, length, arith}
+use Rattle.std.specs.List.{list_any, list_all}
+use Rattle.std.proofs.lemmas.Bool.{false≢true}
+use Rattle.rc_tuple.specs.RisingSet.{In}
+use Rattle.rc_plan.specs.declared.statement.Statement.{Statement}
+use Rattle.rc_plan.specs.declared.statement.Statement.TheVariants.{Lock, Probe, Read, CheckAbsent, CheckDep, Apply, Emit, Commit, Release}
+use Rattle.rc_plan.specs.Compiled.{SpecWithPlans, plan_at}
+use Rattle.rc_rel.specs.declared.entry.Step.{Step}
+use Rattle.rc_core.specs.declared.state.PassState.{PassState}
+use Rattle.rc_core.specs.State.{locks_of}
+use Rattle.rc_core.specs.Passes.{IsOfClassLocked, HoldsNoMore}
+use Rattle.rc_core.specs.Commits.{locks_class_of, is_of_class_locked}
+use Rattle.rc_core.proofs.CommitLemmas.{any_in, in_any}
+use Rattle.rc_tuple.specs.ColSet.{has}
+use Rattle.rc_tuple.specs.ColSetLaws.{has-range}
+use Rattle.rc_tuple.specs.RisingSetLaws.{is_eq_equal, in_has, has_in, list_all_in, in_list_all}
+use Rattle.rc_spec.specs.declared.spec.Spec.{Spec}
+use Rattle.rc_spec.specs.Placement.{class_at}
+use Rattle.rc_spec.specs.Stripes.{band_start}
+use Rattle.rc_plan.specs.StripeLocks.{StripeLock, band, stripe_lock_cmp}
+use Rattle.rc_plan.specs.StripeLocksLaws.{band_of_class, stripe_lock_order, in_stripes_of, stripes_of_in}
+
+ties_itself : (lock : StripeLock) → is_eq (stripe_lock_cmp lock lock) ≡ true
+ties_itself lock = go (stripe_lock_cmp lock lock) (stripe_lock_order.total.antisymm lock lock)
+  where
+    go : (o : Ordering) → o ≡ ordering_reverse o → is_eq o ≡ true
+    go Less e = cc
+    go Equal e = refl
+    go Greater e = cc
+
+pub same_lock : (lock other : StripeLock) → (is_eq (stripe_lock_cmp lock other) ≡ true) ↔ (lock ≡ other)
+same_lock lock other = (
+  λ e. stripe_lock_order.ties lock other (is_eq_equal (stripe_lock_cmp lock other) e),
+  λ e. ap (λ (l : StripeLock). is_eq (stripe_lock_cmp lock l)) (sym e) ∙ ties_itself lock,
+)
+
+-- the stripes of a class lie between its first and its last
+pub has_band : (spec : Spec) (c p : ℕ) → has (band spec c) p ≡ (leb (band_start spec c) p && ltb p (band_start spec c + (class_at spec c).stripes))
+has_band spec c p = has-range (band_start spec c) (class_at spec c).stripes p
+
+-- ---- classes that plans lock
+
+class_found : (spec : Spec) (p : ℕ) (plan : List Statement) (x : Statement) → In x plan → locks_class_of spec p x ≡ true → IsOfClassLocked spec plan p
+class_found spec p plan (Lock c which mode) m e = (c, which, mode, m, (band_of_class spec p c).0 (in_has (band spec c) p e))
+class_found spec p plan (Probe cols) m e = absurd (false≢true e)
+class_found spec p plan (Read i mode) m e = absurd (false≢true e)
+class_found spec p plan CheckAbsent m e = absurd (false≢true e)
+class_found spec p plan (CheckDep dep) m e = absurd (false≢true e)
+class_found spec p plan Apply m e = absurd (false≢true e)
+class_found spec p plan Emit m e = absurd (false≢true e)
+class_found spec p plan Commit m e = absurd (false≢true e)
+class_found spec p plan (Release c) m e = absurd (false≢true e)
+
+stripe_test : (compiled : SpecWithPlans) (steps : List Step) (p : ℕ) → is_of_class_locked compiled steps p ≡ true → (x : Step) × In x steps × IsOfClassLocked compiled.spec (plan_at compiled.plans x.call.op) p
+stripe_test compiled steps p e =
+    let r = any_in (λ (s : Step). list_any (locks_class_of compiled.spec p) (plan_at compiled.plans s.call.op)) steps e in
+    let q = any_in (locks_class_of compiled.spec p) (plan_at compiled.plans r.0.call.op) r.2 in
+    (r.0, r.1, class_found compiled.spec p (plan_at compiled.plans r.0.call.op) q.0 q.1 q.2)
+
+test_stripe : (compiled : SpecWithPlans) (steps : List Step) (p : ℕ) (x : Step) → In x steps → IsOfClassLocked compiled.spec (plan_at compiled.plans x.call.op) p → is_of_class_locked compiled steps p ≡ true
+test_stripe compiled steps p x m (c, which, mode, here, of_class) =
+    in_any (λ (s : Step). list_any (locks_class_of compiled.spec p) (plan_at compiled.plans s.call.op)) steps x m
+    (in_any (locks_class_of compiled.spec p) (plan_at compiled.plans x.call.op) (Lock c which mode) here (has_in (band compiled.spec c) p ((band_of_class compiled.spec p c).1 of_class)))
+
+pub several_hold_no_more : (compiled : SpecWithPlans) (u : PassState) (steps : List Step) → 2 ≤ length steps → (list_all (λ (lock : StripeLock). is_of_class_locked compiled steps lock.0) (locks_of u) ≡ true) ↔ HoldsNoMore compiled u steps
+several_hold_no_more compiled u [] l = absurd (omega arith)
+several_hold_no_more compiled u (s ∷ []) l = absurd (omega arith)
+several_hold_no_more compiled u (s ∷ (t ∷ steps)) l = (
+  λ e p m. let w = in_stripes_of p (locks_of u) m in
+      stripe_test compiled (s ∷ (t ∷ steps)) p (ap (is_of_class_locked compiled (s ∷ (t ∷ steps))) w.2 ∙ list_all_in (λ (lock : StripeLock). is_of_class_locked compiled (s ∷ (t ∷ steps)) lock.0) (locks_of u) e w.0 w.1),
+  λ f. in_list_all (λ (lock : StripeLock). is_of_class_locked compiled (s ∷ (t ∷ steps)) lock.0) (locks_of u)
+      (λ lock m. let r = f lock.0 (stripes_of_in lock (locks_of u) m) in test_stripe compiled (s ∷ (t ∷ steps)) lock.0 r.0 r.1 r.2),
+)

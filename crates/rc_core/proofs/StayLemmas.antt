@@ -1,0 +1,50 @@
+-- Until there is a reply the rows of a run stay.
+use Rattle.std.proofs.Common.{◌≡◌, Bool, true, false, List, [], ◌∷◌, Some, cond, sym, refl, ◌∙◌}
+use Rattle.std.specs.Option.{is_some}
+use Rattle.std.proofs.lemmas.Bool.{false≢true}
+use Rattle.rc_tuple.specs.Tuple.{Pairs}
+use Rattle.rc_spec.specs.declared.call.Reply.TheVariants.{Present, Conflict}
+use Rattle.rc_spec.specs.declared.call.Call.{Call}
+use Rattle.rc_spec.specs.declared.items.Op.{Op}
+use Rattle.rc_spec.specs.declared.items.OpKind.{OpKind}
+use Rattle.rc_spec.specs.declared.items.OpKind.TheVariants.{Query, Insert, Remove}
+use Rattle.rc_spec.specs.declared.spec.Spec.{Spec}
+use Rattle.rc_plan.specs.declared.statement.Statement.{Statement}
+use Rattle.rc_plan.specs.declared.statement.Statement.TheVariants.{Lock, Probe, Read, CheckAbsent, CheckDep, Apply, Emit, Commit, Release}
+use Rattle.rc_plan.specs.Evaluation.{RunState, apply, emit, some_left, some_differs, remove_least, run_one, run_next}
+
+reply_goes : (b : Bool) (s t : RunState) → t.rows ≡ s.rows → (cond b t s).rows ≡ s.rows
+reply_goes true s t e = e
+reply_goes false s t e = refl
+
+least_replies : (spec : Spec) (bs : List Pairs) (s : RunState) → is_some (remove_least spec bs s).reply ≡ false → (remove_least spec bs s).rows ≡ s.rows
+least_replies spec [] s e = refl
+least_replies spec (b ∷ bs) s e = absurd (false≢true (sym e))
+
+apply_stays : (spec : Spec) (kind : OpKind) (args : Pairs) (s : RunState) → is_some (apply spec kind args s).reply ≡ false → (apply spec kind args s).rows ≡ s.rows
+apply_stays spec (Query outs) args s e = refl
+apply_stays spec Insert args s e = absurd (false≢true (sym e))
+apply_stays spec Remove args s e = least_replies spec s.bindings s e
+
+emit_stays : (kind : OpKind) (s : RunState) → (emit kind s).rows ≡ s.rows
+emit_stays (Query outs) s = refl
+emit_stays Insert s = refl
+emit_stays Remove s = refl
+
+one_stays : (spec : Spec) (op : Op) (call : Call) (s : RunState) (x : Statement) → is_some (run_one spec op call s x).reply ≡ false → (run_one spec op call s x).rows ≡ s.rows
+one_stays spec op call s (Lock c choice mode) e = refl
+one_stays spec op call s (Probe cols) e = refl
+one_stays spec op call s (Read i mode) e = refl
+one_stays spec op call s CheckAbsent e = reply_goes (some_left s.bindings) s record s { reply = Some Present } refl
+one_stays spec op call s (CheckDep dep) e = reply_goes (some_differs spec dep call.args s.bindings) s record s { reply = Some (Conflict dep) } refl
+one_stays spec op call s Apply e = apply_stays spec op.kind call.args s e
+one_stays spec op call s Emit e = emit_stays op.kind s
+one_stays spec op call s Commit e = refl
+one_stays spec op call s (Release c) e = refl
+
+pub next_stays : (spec : Spec) (op : Op) (call : Call) (s : RunState) (x : Statement) → is_some (run_next spec op call s x).reply ≡ false → (is_some s.reply ≡ false) × ((run_next spec op call s x).rows ≡ s.rows)
+next_stays spec op call s x e = go (is_some s.reply) refl e
+  where
+    go : (b : Bool) → is_some s.reply ≡ b → is_some (cond b s (run_one spec op call s x)).reply ≡ false → (is_some s.reply ≡ false) × ((cond b s (run_one spec op call s x)).rows ≡ s.rows)
+    go true q e' = absurd (false≢true (sym e' ∙ q))
+    go false q e' = (q, one_stays spec op call s x e')

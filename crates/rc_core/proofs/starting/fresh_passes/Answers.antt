@@ -1,0 +1,14 @@
+use Rattle.std.proofs.Common.{◌≡◌, ℕ, ◌+◌, ◌∷◌, ◌++◌, [], arith, map, sym, ap, ◌∙◌}
+use Rattle.std.proofs.lemmas.List.{map-append}
+use Rattle.std.specs.List.{range_with_len}
+use Rattle.rc_tuple.specs.ColSetLaws.{range_with_len_more}
+use Rattle.rc_core.specs.State.{fresh}
+use Rattle.rc_core.proofs.starting.fresh_passes.Goals as goal
+
+pub loop-number-preserved : goal.loop-number-preserved
+loop-number-preserved c =
+    c.in_ok-push.ensures.ok ∙ ap (λ l. l ++ c.fresh.result ∷ []) c.loop-number.invariant ∙ ap (λ u. map fresh (range_with_len 0 c.loop-number.number) ++ u ∷ []) (c.fresh.ensures ∙ ap fresh (zero c.loop-number.number))
+    ∙ sym (map-append fresh (range_with_len 0 c.loop-number.number) ((0 + c.loop-number.number) ∷ [])) ∙ ap (map fresh) (sym (range_with_len_more 0 c.loop-number.number))
+  where
+    zero : (n : ℕ) → n ≡ 0 + n
+    zero n = omega arith

@@ -1,0 +1,7 @@
+use Rattle.std.proofs.Common.{◌≡◌, ◌++◌, take, drop}
+use Rattle.std.specs.Ordering.{nat_cmp}
+use Rattle.rc_tuple.specs.RisingSet.{put}
+use Rattle.rc_core.proofs.stripe_changes.place_of.Given as goal
+
+abbrev pub invariant-loop-at : goal.invariant-loop-at
+invariant-loop-at l = put nat_cmp l.number l.numbers ≡ take l.at l.numbers ++ put nat_cmp l.number (drop l.at l.numbers)

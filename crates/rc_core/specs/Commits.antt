@@ -1,0 +1,75 @@
+-- What the test of a commit answers.
+use Rattle.std.specs.Prelude.{◌≡◌, ℕ, ◌+◌, ◌<◌, ◌≤◌, ◌^◌, ◌==◌, ◌&&◌, Bool, true, false, List, map, length, Option, Some, None}
+use Rattle.std.specs.List.{list_all, list_any}
+use Rattle.rc_tuple.specs.ColSet.{has}
+use Rattle.rc_tuple.specs.Tuple.{Pairs}
+use Rattle.rc_tuple.specs.Relation.{IsRelation, Satisfies}
+use Rattle.rc_spec.specs.declared.lock.Mode.{Mode}
+use Rattle.rc_spec.specs.declared.lock.Mode.TheVariants.{Shared, Exclusive}
+use Rattle.rc_spec.specs.declared.spec.Spec.{Spec}
+use Rattle.rc_spec.specs.Calls.{all_columns}
+use Rattle.rc_spec.specs.Fragments.{EdgeRow, rows_on}
+use Rattle.rc_plan.specs.declared.statement.Statement.{Statement}
+use Rattle.rc_plan.specs.declared.statement.Statement.TheVariants.{Lock, Probe, Read, CheckAbsent, CheckDep, Apply, Emit, Commit, Release}
+use Rattle.rc_plan.specs.Compiled.{SpecWithPlans, plan_at}
+use Rattle.rc_plan.specs.StripeLocks.{StripeLock, band}
+use Rattle.rc_plan.specs.Turns.{AllAreHeld, eval_replies, rows_after}
+use Rattle.rc_rel.specs.declared.entry.Step.{Step}
+use Rattle.rc_rel.specs.declared.entry.Entry.{Entry}
+use Rattle.rc_core.specs.declared.state.PassState.{PassState}
+use Rattle.rc_core.specs.Passes.{calls_with_plans, rows_then, MayCommit}
+
+-- the steps, evaluated one after another, have their replies and name what is held
+pub record Evaluates (compiled : SpecWithPlans) (locks : List StripeLock) (steps : List Step) (rows : List EdgeRow) : Type 0 where
+  pub replies : eval_replies compiled.spec (calls_with_plans compiled.plans steps) rows ≡ map (λ s. Some s.reply) steps
+  pub held : AllAreHeld compiled.spec (calls_with_plans compiled.plans steps) rows locks
+
+-- the rows are those of a relation on the stripes, which stays small for so many calls more
+pub record AreOf (spec : Spec) (stripes : List ℕ) (calls : ℕ) (found : List EdgeRow) : Type 0 where
+  pub relation : List Pairs
+  pub is_relation : IsRelation (all_columns spec) relation
+  pub satisfies : Satisfies relation spec.deps
+  pub few : length relation + calls < 2 ^ 63
+  pub rows : found ≡ rows_on spec relation stripes
+
+-- the rows after the steps, where they evaluate
+abbrev pub IsEvaluated : SpecWithPlans → List StripeLock → List Step → List EdgeRow → Option (List EdgeRow) → Type 0
+IsEvaluated compiled locks steps rows None = Evaluates compiled locks steps rows → ⊥
+IsEvaluated compiled locks steps rows (Some after) = Evaluates compiled locks steps rows × (after ≡ rows_after compiled.spec (calls_with_plans compiled.plans steps) rows)
+
+-- the rows after an entry's steps, where it may be committed
+abbrev pub IsCommitTest : SpecWithPlans → PassState → Entry → Option (List EdgeRow) → Type 0
+IsCommitTest compiled u e None = MayCommit compiled u e → ⊥
+IsCommitTest compiled u e (Some after) = MayCommit compiled u e × (after ≡ rows_then compiled u e.steps)
+
+-- the entry is the pass's next, and has 1 to 16 steps
+abbrev pub IsNextEntry : PassState → Entry → Type 0
+IsNextEntry u e = ((e.pass ≡ u.number) × (e.nth ≡ length u.own) × (length u.own < 2 ^ 48)) × ((1 ≤ length e.steps) × (length e.steps ≤ 16))
+
+-- ---- tests
+
+abbrev pub suffices : Mode → Mode → Bool
+suffices Exclusive wanted = true
+suffices Shared Shared = true
+suffices Shared Exclusive = false
+
+abbrev pub is_held : List StripeLock → StripeLock → Bool
+is_held held lock = list_any (λ l. l.0 == lock.0 && suffices l.1 lock.1) held
+
+abbrev pub are_held : List StripeLock → List StripeLock → Bool
+are_held locks held = list_all (is_held held) locks
+
+abbrev pub locks_class_of : Spec → ℕ → Statement → Bool
+locks_class_of spec p (Lock c which mode) = has (band spec c) p
+locks_class_of spec p (Probe cols) = false
+locks_class_of spec p (Read e mode) = false
+locks_class_of spec p CheckAbsent = false
+locks_class_of spec p (CheckDep dep) = false
+locks_class_of spec p Apply = false
+locks_class_of spec p Emit = false
+locks_class_of spec p Commit = false
+locks_class_of spec p (Release c) = false
+
+-- a plan of one of the steps locks the stripe's class
+abbrev pub is_of_class_locked : SpecWithPlans → List Step → ℕ → Bool
+is_of_class_locked compiled steps p = list_any (λ s. list_any (locks_class_of compiled.spec p) (plan_at compiled.plans s.call.op)) steps

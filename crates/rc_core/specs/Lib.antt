@@ -1,0 +1,17 @@
+pub mod State
+pub mod Passes
+pub mod Events
+pub mod Good
+pub mod Waits
+pub mod ListLaws
+pub mod KeepsLaws
+pub mod WaitsLaws
+pub mod OwnLaws
+pub mod CommitLaws
+pub mod StartLaws
+pub mod Laws
+pub mod RunLaws
+pub mod AgreeLaws
+pub mod DetermineLaws
+pub mod SizeLaws
+pub mod Commits

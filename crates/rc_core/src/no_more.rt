@@ -1,0 +1,173 @@
+//! Whether a pass that commits steps holds no more than they need.
+
+ghost use Rattle.std.specs.Prelude.{◌≡◌, ◌<◌, ◌↔◌, length, IfOk, IsTrue};
+ghost use Rattle.std.specs.List.{list_all, list_any};
+ghost use Rattle.rc_tuple.specs.RisingSet.{gather};
+ghost use Rattle.rc_tuple.specs.ColSet.{has};
+ghost use Rattle.rc_spec.specs.Acceptance.{IsSealed};
+ghost use Rattle.rc_spec.specs.Calls.{Fits};
+ghost use Rattle.rc_plan.specs.Compiled.{IsCompiled, plan_at};
+ghost use Rattle.rc_plan.specs.Evaluation.{eval};
+ghost use Rattle.rc_plan.specs.PlanRules.{IsKnown};
+ghost use Rattle.rc_plan.specs.StripeLocks.{band, stripe_lock_cmp, stripes_of};
+ghost use Rattle.rc_rel.specs.History.{StepsFit};
+ghost use Rattle.rc_core.specs.State.{locks_of, rows_held};
+ghost use Rattle.rc_core.specs.Passes.{HoldsNoMore};
+ghost use Rattle.rc_core.specs.Commits.{AreOf, is_of_class_locked, locks_class_of};
+
+use crate::PassState;
+use crate::evaluation::{Run, eval};
+use crate::locks::{StripeLock, gathered, order};
+use crate::rows::rows_held;
+use rc_plan::{Compiled, Statement};
+use rc_rel::Step;
+use rc_spec::{Spec, band_start};
+use rc_tuple::Memory;
+
+/// Whether one step needs all that is held, in its very mode, and of several steps some one locks the class of each
+/// held stripe.
+pub(crate) fn holds_no_more(
+    compiled: &Compiled,
+    pass_state: &PassState,
+    locks: &[StripeLock],
+    steps: &[Step],
+) -> Result<bool, Memory>
+    requires compiled { IsCompiled compiled.now.spec compiled.now.plans }
+    requires locks { locks.now ≡ locks_of pass_state.now }
+    requires fit { StepsFit compiled.now.spec steps.now }
+    requires held { AreOf compiled.now.spec (stripes_of (locks_of pass_state.now)) (length steps.now) (rows_held pass_state.now) }
+    ensures { IfOk result (λ found. IsTrue found ↔ HoldsNoMore compiled.now pass_state.now steps.now) }
+{
+    match steps {
+        [] => Ok(true),
+        [step] => names_all(compiled, pass_state, locks, step),
+        [_, _, ..] => Ok(classes_locked(compiled, locks, steps)),
+    }
+}
+
+/// Whether the step names exactly what is held.
+fn names_all(
+    compiled: &Compiled,
+    pass_state: &PassState,
+    locks: &[StripeLock],
+    step: &Step,
+) -> Result<bool, Memory>
+    requires compiled { IsCompiled compiled.now.spec compiled.now.plans }
+    requires locks { locks.now ≡ locks_of pass_state.now }
+    requires fit { Fits compiled.now.spec step.now.call }
+    requires held { AreOf compiled.now.spec (stripes_of (locks_of pass_state.now)) 1 (rows_held pass_state.now) }
+    ensures { IfOk result (λ found. IsTrue found ↔ (gather stripe_lock_cmp (locks_of pass_state.now) ≡ (eval compiled.now.spec (plan_at compiled.now.plans step.now.call.op) step.now.call (rows_held pass_state.now)).named)) }
+{
+    let run = eval(compiled, &step.call, rows_held(pass_state)?)?;
+    let all = gathered(pass_state.held.alloc(), locks)?;
+    Ok(is_named(&all, run))
+}
+
+/// Whether these are the locks that the run named.
+fn is_named(locks: &[StripeLock], run: Run) -> bool
+    ensures { IsTrue result ↔ (locks.now ≡ run.named) }
+{
+    let Run {
+        bindings: _,
+        named,
+        reply: _,
+        rows: _,
+    } = run;
+    are_same(locks, &named)
+}
+
+/// Whether the two lists have the same locks.
+fn are_same(locks: &[StripeLock], others: &[StripeLock]) -> bool
+    ensures { IsTrue result ↔ (locks.now ≡ others.now) }
+{
+    if locks.len() != others.len() {
+        return false;
+    }
+    for (at, lock) in locks.iter().enumerate() {
+        if !is_same(*lock, others[at]) {
+            return false;
+        }
+    }
+    true
+}
+
+/// Whether the two locks are one.
+#[tactic(auto, using(crate::proofs::LockLemmas::same_lock))]
+fn is_same(lock: StripeLock, other: StripeLock) -> bool
+    ensures { IsTrue result ↔ (lock ≡ other) }
+{
+    order(lock, other).is_eq()
+}
+
+/// Whether a plan of the steps locks the class of each of the stripes.
+fn classes_locked(compiled: &Compiled, locks: &[StripeLock], steps: &[Step]) -> bool
+    requires compiled { IsCompiled compiled.now.spec compiled.now.plans }
+    requires fit { StepsFit compiled.now.spec steps.now }
+    ensures { result ≡ list_all (λ lock. is_of_class_locked compiled.now steps.now lock.0) locks.now }
+{
+    for lock in locks {
+        if !is_of_class_locked(compiled, steps, lock.0) {
+            return false;
+        }
+    }
+    true
+}
+
+/// Whether a plan of the steps locks the stripe's class.
+fn is_of_class_locked(compiled: &Compiled, steps: &[Step], stripe: u32) -> bool
+    requires compiled { IsCompiled compiled.now.spec compiled.now.plans }
+    requires fit { StepsFit compiled.now.spec steps.now }
+    ensures { result ≡ is_of_class_locked compiled.now steps.now stripe }
+{
+    for step in steps {
+        if plan_locks(compiled, step.call.op, stripe) {
+            return true;
+        }
+    }
+    false
+}
+
+/// Whether the plan locks the stripe's class.
+fn plan_locks(compiled: &Compiled, op: u8, stripe: u32) -> bool
+    requires compiled { IsCompiled compiled.now.spec compiled.now.plans }
+    requires known { op < length compiled.now.spec.ops }
+    ensures { result ≡ list_any (locks_class_of compiled.now.spec stripe) (plan_at compiled.now.plans op) }
+{
+    let spec = compiled.accepted().spec();
+    for statement in compiled.plan(op).list() {
+        if locks_class_of(spec, stripe, statement) {
+            return true;
+        }
+    }
+    false
+}
+
+/// Whether the statement locks the stripe's class.
+fn locks_class_of(spec: &Spec, stripe: u32, statement: &Statement) -> bool
+    requires sealed { IsSealed spec.now }
+    requires known { IsKnown spec.now statement.now }
+    ensures { result ≡ locks_class_of spec.now stripe statement.now }
+{
+    match statement {
+        Statement::Lock { class, .. } => is_in_band(spec, *class, stripe),
+        Statement::Probe { .. }
+        | Statement::Read { .. }
+        | Statement::CheckAbsent
+        | Statement::CheckDep { .. }
+        | Statement::Apply
+        | Statement::Emit
+        | Statement::Commit
+        | Statement::Release { .. } => false,
+    }
+}
+
+/// Whether the stripe is one of the class's.
+#[tactic(auto, using(crate::proofs::LockLemmas::has_band))]
+fn is_in_band(spec: &Spec, class: u8, stripe: u32) -> bool
+    requires sealed { IsSealed spec.now }
+    requires known { class < length spec.now.classes }
+    ensures { result ≡ has (band spec.now class) stripe }
+{
+    let start = band_start(spec, class);
+    start <= stripe && stripe < start + spec.class(class).stripes
+}
