@@ -23,7 +23,7 @@ use Rattle.rc_plan.specs.Turns.{AllAreHeld, CallWithPlan, eval_replies, plain_re
 use Rattle.rc_plan.specs.StripeLocks.{StripeLock, stripes_of}
 use Rattle.rc_rel.specs.declared.entry.Step.{Step}
 use Rattle.rc_rel.specs.declared.entry.Entry.{Entry}
-use Rattle.rc_rel.specs.History.{steps_of, AreLegalFrom, IsLegal, after_steps, replay, own, own_placed, StepsFit}
+use Rattle.rc_rel.specs.History.{steps_of, AreLegalFrom, IsLegal, after_steps, replay, own, own_placed, placed, StepsFit}
 use Rattle.rc_rel.specs.HistoryLaws.{after_steps-append, AreLegalFrom-append, steps_of-append, AllFit-more, states_satisfy, states_are_relations, replay_in_states}
 use Rattle.rc_core.specs.declared.state.Hold.{Hold}
 use Rattle.rc_rel.specs.declared.entry.Placed.{Placed}
@@ -32,14 +32,13 @@ use Rattle.rc_core.specs.declared.state.PassState.{PassState}
 use Rattle.rc_core.specs.declared.state.Keeper.{Keeper}
 use Rattle.rc_core.specs.declared.state.Keeper.TheVariants.{Home, Writer}
 use Rattle.rc_core.specs.declared.state.CoreState.{CoreState}
-use Rattle.rc_core.specs.State.{has_writer, is_writer, stripe_at, stripes_in, is_mode, held_in, writes_of, shares_of, is_at, locks_of, rows_held, placed}
+use Rattle.rc_core.specs.State.{has_writer, is_writer, stripe_at, stripes_in, is_mode, held_in, writes_of, shares_of, is_at, locks_of, rows_held}
 use Rattle.rc_core.specs.Passes.{calls_with_plans, rows_then, renewed_as, renewed, committed, MayCommit}
 use Rattle.rc_core.specs.Events.{with_pass}
 use Rattle.rc_core.specs.Good.{HaveRows, IsGoodPass, IsGoodKeeper, IsGoodStripe, IsGoodEntry, IsGoodHistory, IsGood}
 use Rattle.rc_core.specs.KeepsLaws.{change, at_below}
 use Rattle.rc_core.specs.ListLaws.{stripes_have, stripes_in_have}
-use Rattle.rc_core.specs.OwnLaws.{own_end_mine, own_end_other}
-use Rattle.rc_rel.specs.OwnLaws.{numbered_more, placed_own}
+use Rattle.rc_rel.specs.OwnLaws.{numbered_more, own_end_mine, own_end_other, placed_own}
 
 -- ---- what is held, as fragments
 

@@ -11,26 +11,15 @@ use Rattle.rc_spec.specs.declared.spec.Spec.{Spec}
 use Rattle.rc_spec.specs.Fragments.{fragment_of}
 use Rattle.rc_rel.specs.declared.entry.Entry.{Entry}
 use Rattle.rc_rel.specs.History.{own_placed, replay}
+use Rattle.rc_rel.specs.OwnLaws.{same_places, stands_in_other}
 use Rattle.rc_core.specs.declared.state.PassState.{PassState}
 use Rattle.rc_core.specs.declared.state.Keeper.{Keeper}
 use Rattle.rc_core.specs.declared.state.Keeper.TheVariants.{Home, Writer}
 use Rattle.rc_core.specs.declared.state.CoreState.{CoreState}
-use Rattle.rc_core.specs.State.{is_writer, stripe_at, no_stripe, pass_at, placed}
+use Rattle.rc_core.specs.State.{is_writer, stripe_at, no_stripe, pass_at}
 use Rattle.rc_core.specs.Good.{IsGoodPass, IsGoodKeeper, IsGood}
 use Rattle.rc_core.specs.Laws.{PassesDetermineState}
-use Rattle.rc_core.specs.OwnLaws.{own_stands, stands_own}
 use Rattle.rc_core.specs.RunLaws.{pass_there}
-
--- two lists with the same elements at the same places
-same_places : {A : Type 0} (xs ys : List A) → ((i : ℕ) (x : A) → slice_get xs i ≡ Some x → slice_get ys i ≡ Some x) → ((i : ℕ) (y : A) → slice_get ys i ≡ Some y → slice_get xs i ≡ Some y) → xs ≡ ys
-same_places [] [] f g = refl
-same_places [] (y ∷ ys) f g = let e : None ≡ Some y = g 0 y refl in cc
-same_places (x ∷ xs) [] f g = let e : None ≡ Some x = f 0 x refl in cc
-same_places (x ∷ xs) (y ∷ ys) f g =
-    let e : Some y ≡ Some x = f 0 x refl in
-    let first : x ≡ y = cc in
-    let rest : xs ≡ ys = same_places xs ys (λ i z h. f (suc i) z h) (λ i z h. g (suc i) z h) in
-    λ i. first i ∷ rest i
 
 -- each entry of one history stands in the other at its place
 entry_stands : (spec : Spec) (c d : CoreState) → IsGood spec c → IsGood spec d → c.passes ≡ d.passes → (i : ℕ) (e : Entry) → slice_get c.history i ≡ Some e → slice_get d.history i ≡ Some e
@@ -41,10 +30,7 @@ entry_stands spec c d good good' same i e at =
     let at_c : slice_get c.passes k ≡ Some u = pass_there c k lt in
     let at_d : slice_get d.passes k ≡ Some u = ap (λ (l : List PassState). slice_get l k) (sym same) ∙ at_c in
     let own : own_placed c.history k ≡ own_placed d.history k = sym (good.passes k u at_c).own ∙ (good'.passes k u at_d).own in
-    let r = own_stands k 0 d.history (placed (0 + i) e) (subst (In (placed (0 + i) e)) own (stands_own 0 c.history i e at)) in
-    let place : 0 + i ≡ 0 + r.0 = r.1 in
-    let same_place : r.0 ≡ i = omega arith in
-    ap (slice_get d.history) (sym same_place) ∙ r.2
+    stands_in_other c.history d.history i e own at
 
 writer_of_pass : (x : Keeper) (k : ℕ) → is_writer x k ≡ true → x ≡ Writer k
 writer_of_pass (Home rows) k e = absurd (false≢true e)

@@ -6,7 +6,6 @@ pub mod Waits
 pub mod ListLaws
 pub mod KeepsLaws
 pub mod WaitsLaws
-pub mod OwnLaws
 pub mod CommitLaws
 pub mod StartLaws
 pub mod Laws

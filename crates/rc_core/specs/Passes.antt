@@ -14,12 +14,12 @@ use Rattle.rc_plan.specs.StripeLocks.{IsOfClass, stripe_lock_cmp, stripes_of}
 use Rattle.rc_plan.specs.Turns.{AllAreHeld, CallWithPlan, eval_replies, rows_after, with_plans}
 use Rattle.rc_rel.specs.declared.entry.Step.{Step}
 use Rattle.rc_rel.specs.declared.entry.Entry.{Entry}
-use Rattle.rc_rel.specs.History.{StepsFit}
+use Rattle.rc_rel.specs.History.{StepsFit, placed}
 use Rattle.rc_core.specs.declared.state.Hold.{Hold}
 use Rattle.rc_core.specs.declared.state.PassState.{PassState}
 use Rattle.rc_core.specs.declared.state.Keeper.{Keeper}
 use Rattle.rc_core.specs.declared.state.Keeper.TheVariants.{Home, Writer}
-use Rattle.rc_core.specs.State.{hold, stripes_in, locks_of, rows_held, placed}
+use Rattle.rc_core.specs.State.{hold, stripes_in, locks_of, rows_held}
 
 -- the stripe is above all that the pass holds
 abbrev pub IsAbove : PassState → ℕ → Type 0

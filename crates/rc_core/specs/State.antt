@@ -7,9 +7,7 @@ use Rattle.rc_spec.specs.declared.lock.Mode.{Mode}
 use Rattle.rc_spec.specs.declared.lock.Mode.TheVariants.{Shared, Exclusive}
 use Rattle.rc_spec.specs.Fragments.{EdgeRow, edge_row_cmp}
 use Rattle.rc_plan.specs.StripeLocks.{StripeLock}
-use Rattle.rc_rel.specs.declared.entry.Entry.{Entry}
 use Rattle.rc_core.specs.declared.state.Hold.{Hold}
-use Rattle.rc_rel.specs.declared.entry.Placed.{Placed}
 use Rattle.rc_core.specs.declared.state.PassState.{PassState}
 use Rattle.rc_core.specs.declared.state.Keeper.{Keeper}
 use Rattle.rc_core.specs.declared.state.Keeper.TheVariants.{Home, Writer}
@@ -88,7 +86,3 @@ fresh k = record no_pass { number = k }
 
 abbrev pub pass_at : List PassState → ℕ → PassState
 pass_at passes k = get_or passes k no_pass
-
--- an entry with its place in the history
-abbrev pub placed : ℕ → Entry → Placed
-placed i e = record { place = i; entry = e }

@@ -7,10 +7,10 @@ use Rattle.rc_tuple.specs.RisingSet.{In}
 use Rattle.rc_tuple.specs.RisingSetLaws.{flat_map_in, in_flat_map, in_slice_get, get_or_in, slice_get_in}
 use Rattle.rc_rel.specs.declared.entry.Entry.{Entry}
 use Rattle.rc_rel.specs.declared.entry.Placed.{Placed}
-use Rattle.rc_rel.specs.History.{own_placed, placed_from}
+use Rattle.rc_rel.specs.History.{own_placed, placed, placed_from}
+use Rattle.rc_rel.specs.OwnLaws.{stands_from, own_stands}
 use Rattle.rc_journal.specs.PartEntries.{PartEntries}
 use Rattle.rc_journal.specs.Merge.{AreByPass, ArePartsOf, IsMerged, placed_of}
-use Rattle.rc_journal.specs.PlacesLaws.{placed, stands_from, own_stands}
 
 -- ---- lists in the order of their places
 

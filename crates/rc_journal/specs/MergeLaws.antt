@@ -9,10 +9,11 @@ use Rattle.rc_tuple.specs.RisingSetLaws.{in_map, map_in, in_flat_map, flat_map_i
 use Rattle.rc_tuple.specs.ColSetLaws.{in_range_below}
 use Rattle.rc_rel.specs.declared.entry.Entry.{Entry}
 use Rattle.rc_rel.specs.declared.entry.Placed.{Placed}
-use Rattle.rc_rel.specs.History.{own_placed}
+use Rattle.rc_rel.specs.History.{own_placed, placed}
+use Rattle.rc_rel.specs.OwnLaws.{own_stands, same_placed, same_places}
 use Rattle.rc_journal.specs.PartEntries.{PartEntries}
 use Rattle.rc_journal.specs.Merge.{AreNumbersBelow, ArePartsOf, IsMerged, placed_of, places_of, with_all}
-use Rattle.rc_journal.specs.PlacesLaws.{placed, own_stands, same_lists, same_placed, distinct_places, distinct_range}
+use Rattle.rc_journal.specs.PlacesLaws.{distinct_places, distinct_range}
 
 -- ---- entries at their places
 
@@ -106,7 +107,7 @@ parts_stand parts history p w = (there, back)
 
 pub merged_is_history : (parts : List PartEntries) (journal : List Entry) → IsMerged parts journal → (history : List Entry) → ArePartsOf parts history → journal ≡ history
 merged_is_history parts journal m history p =
-    same_lists journal history
+    same_places journal history
     (λ i e h. (parts_stand parts history p (placed i e)).0 ((m (placed i e)).1 h))
     (λ i e h. (m (placed i e)).0 ((parts_stand parts history p (placed i e)).1 h))
 

@@ -1,14 +1,4 @@
-ghost use Rattle.rc_journal.specs.OwnPlaces.{MergedPartsAreOwn, OwnEntriesAreTheHistory, OwnEntriesStand, OwnPlacesAreNumbers};
-
-/// An entry is one of a pass's own with its place exactly where the history has it at that place and it is of that pass.
-pub fn own_entries_stand()
-    ensures { OwnEntriesStand }
-{}
-
-/// A history is determined by the own entries of all passes, with their places.
-pub fn own_entries_are_the_history()
-    ensures { OwnEntriesAreTheHistory }
-{}
+ghost use Rattle.rc_journal.specs.OwnPlaces.{MergedPartsAreOwn, OwnPlacesAreNumbers};
 
 /// The places of the own entries of all passes of a history are the numbers below its length, each once.
 pub fn own_places_are_numbers()

@@ -6,7 +6,5 @@ mod laws;
 mod part;
 
 pub use journal::{Journal, Room, merge};
-pub use laws::{
-    merged_parts_are_own, own_entries_are_the_history, own_entries_stand, own_places_are_numbers,
-};
+pub use laws::{merged_parts_are_own, own_places_are_numbers};
 pub use part::Part;

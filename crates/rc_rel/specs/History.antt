@@ -44,11 +44,14 @@ states spec history = states_from spec [] (steps_of history)
 abbrev pub own : List Entry → ℕ → List Entry
 own history pass = filter (λ e. e.pass == pass) history
 
+-- an entry with a place
+abbrev pub placed : ℕ → Entry → Placed
+placed n e = record { place = n; entry = e }
+
 -- a pass's own entries with their places, where the first entry has the place n
 abbrev pub placed_from : ℕ → List Entry → ℕ → List Placed
 placed_from n [] pass = []
-placed_from n (e ∷ history) pass =
-    if e.pass == pass then record { place = n; entry = e } ∷ placed_from (n + 1) history pass else placed_from (n + 1) history pass
+placed_from n (e ∷ history) pass = if e.pass == pass then placed n e ∷ placed_from (n + 1) history pass else placed_from (n + 1) history pass
 
 abbrev pub own_placed : List Entry → ℕ → List Placed
 own_placed history pass = placed_from 0 history pass

@@ -1,5 +1,5 @@
 ghost use Rattle.rc_rel.specs.HistoryLaws.{StatesSatisfy, StatesAreRelations};
-ghost use Rattle.rc_rel.specs.OwnLaws.{NumberedGoesOn, OwnAreFew, PlacedAreOwn, ReplaysAreFew};
+ghost use Rattle.rc_rel.specs.OwnLaws.{NumberedGoesOn, OwnAreFew, OwnEntriesAreTheHistory, OwnEntriesStand, PlacedAreOwn, ReplaysAreFew};
 
 /// Every state of a history satisfies the dependencies of its specification.
 pub fn states_satisfy()
@@ -19,6 +19,16 @@ pub fn numbered_goes_on()
 /// Without their places, the entries that a pass has with their places are its own entries.
 pub fn placed_are_own()
     ensures { PlacedAreOwn }
+{}
+
+/// An entry is one of a pass's own with its place exactly where the history has it at that place and it is of that pass.
+pub fn own_entries_stand()
+    ensures { OwnEntriesStand }
+{}
+
+/// A history is determined by the own entries of all passes, with their places.
+pub fn own_entries_are_the_history()
+    ensures { OwnEntriesAreTheHistory }
 {}
 
 /// A pass has at most as many entries as the history, and a replay at most as many tuples as the history has steps.

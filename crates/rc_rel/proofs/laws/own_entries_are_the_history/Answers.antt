@@ -1,0 +1,5 @@
+use Rattle.rc_rel.specs.OwnLaws as laws
+use Rattle.rc_rel.proofs.laws.own_entries_are_the_history.Goals as goal
+
+pub returns : goal.returns
+returns c = laws.own_determine
