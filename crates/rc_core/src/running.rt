@@ -10,14 +10,8 @@ use crate::{CoreState, Event};
 use rc_plan::Compiled;
 use rc_tuple::Memory;
 
-/// The state after an event, in a good state of this compiled specification: a new one, beside the old. `None` exactly
-/// where the event isn't allowed; the error says that memory was wanted. Costs a copy of the state, and for a commit the
-/// evaluation of its plans by going through all rows held.
-pub fn step(
-    compiled: &Compiled,
-    state: &CoreState,
-    event: &Event,
-) -> Result<Option<CoreState>, Memory>
+/// The state after an event.
+fn after(compiled: &Compiled, state: &CoreState, event: &Event) -> Result<Option<CoreState>, Memory>
     requires { IsGood compiled.now.spec state.now }
     ensures { IfOk result (λ next. IsAfter (IsAllowed compiled.now state.now event.now) (after compiled.now state.now event.now) next) }
 {
@@ -32,6 +26,22 @@ pub fn step(
         Event::Unlock { pass, stripe } => unlock(state, *pass, *stripe),
         Event::Learn { pass, length } => learn(state, *pass, *length),
     }
+}
+
+/// The state after an event, in a good state of this compiled specification: a new one, beside the old, and good. `None`
+/// exactly where the event isn't allowed; the error says that memory was wanted. Costs a copy of the state, and for a
+/// commit the evaluation of its plans by going through all rows held.
+pub fn step(
+    compiled: &Compiled,
+    state: &CoreState,
+    event: &Event,
+) -> Result<Option<CoreState>, Memory>
+    requires { IsGood compiled.now.spec state.now }
+    ensures next { IfOk result (λ next. IsAfter (IsAllowed compiled.now state.now event.now) (after compiled.now state.now event.now) next) }
+    ensures good { IfOk result (λ next. IfSome next (IsGood compiled.now.spec)) }
+{
+    let _accepted = compiled.accepted();
+    after(compiled, state, event)
 }
 
 /// The state after the events, each in its turn, from a good state of this compiled specification: a new one, beside the
