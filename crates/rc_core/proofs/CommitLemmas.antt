@@ -10,6 +10,7 @@ use Rattle.rc_spec.specs.declared.lock.Mode.{Mode}
 use Rattle.rc_spec.specs.declared.lock.Mode.TheVariants.{Shared, Exclusive}
 use Rattle.rc_plan.specs.StripeLocks.{StripeLock, Suffices, AreHeld}
 use Rattle.rc_core.specs.Commits.{suffices, is_held, are_held}
+use Rattle.rc_core.specs.ListLaws.{or_true}
 
 -- ---- locks that are held
 
@@ -35,10 +36,6 @@ pub in_any : {A : Type 0} (p : A → Bool) (xs : List A) (x : A) → In x xs →
 in_any p [] x m e = absurd m
 in_any p (y ∷ ys) x (inl q) e = ap (λ b. b || list_any p ys) (ap p (sym q) ∙ e)
 in_any p (y ∷ ys) x (inr m) e = ap (λ b. p y || b) (in_any p ys x m e) ∙ or_true (p y)
-  where
-    or_true : (b : Bool) → (b || true) ≡ true
-    or_true true = refl
-    or_true false = refl
 
 pub held_from_test : (locks held : List StripeLock) → are_held locks held ≡ true → AreHeld locks held
 held_from_test locks held e lock m =

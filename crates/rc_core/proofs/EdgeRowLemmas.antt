@@ -48,6 +48,9 @@ small_more e t m ws some small w h = elim (in_with_count e t (suc (count_at e t 
   | inr q ↦ (let l = small w q.0 in omega arith)
 ]
 
+zero_more : (n : ℕ) → n ≡ 0 + n
+zero_more n = omega arith
+
 all_raised_end : (spec : Spec) (t : Pairs) (es : List ℕ) (e : ℕ) (ws : List EdgeRow) → all_raised spec t (es ++ e ∷ []) ws ≡ raised e (row_in spec t e) (all_raised spec t es ws)
 all_raised_end spec t [] e ws = refl
 all_raised_end spec t (x ∷ es) e ws = all_raised_end spec t es e (raised x (row_in spec t x) ws)
@@ -55,9 +58,6 @@ all_raised_end spec t (x ∷ es) e ws = all_raised_end spec t es e (raised x (ro
 pub all_raised_more : (spec : Spec) (t : Pairs) (n : ℕ) (ws : List EdgeRow) → raised n (row_in spec t n) (all_raised spec t (range_with_len 0 n) ws) ≡ all_raised spec t (range_with_len 0 (n + 1)) ws
 all_raised_more spec t n ws =
     sym (all_raised_end spec t (range_with_len 0 n) n ws) ∙ ap (λ es. all_raised spec t es ws) (ap (λ k. range_with_len 0 n ++ k ∷ []) (zero_more n) ∙ sym (range_with_len_more 0 n))
-  where
-    zero_more : (n : ℕ) → n ≡ 0 + n
-    zero_more n = omega arith
 
 all_lowered_end : (spec : Spec) (t : Pairs) (es : List ℕ) (e : ℕ) (ws : List EdgeRow) → all_lowered spec t (es ++ e ∷ []) ws ≡ lowered e (row_in spec t e) (all_lowered spec t es ws)
 all_lowered_end spec t [] e ws = refl
@@ -66,6 +66,3 @@ all_lowered_end spec t (x ∷ es) e ws = all_lowered_end spec t es e (lowered x 
 pub all_lowered_more : (spec : Spec) (t : Pairs) (n : ℕ) (ws : List EdgeRow) → lowered n (row_in spec t n) (all_lowered spec t (range_with_len 0 n) ws) ≡ all_lowered spec t (range_with_len 0 (n + 1)) ws
 all_lowered_more spec t n ws =
     sym (all_lowered_end spec t (range_with_len 0 n) n ws) ∙ ap (λ es. all_lowered spec t es ws) (ap (λ k. range_with_len 0 n ++ k ∷ []) (zero_more n) ∙ sym (range_with_len_more 0 n))
-  where
-    zero_more : (n : ℕ) → n ≡ 0 + n
-    zero_more n = omega arith

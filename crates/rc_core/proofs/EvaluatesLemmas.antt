@@ -1,5 +1,5 @@
 -- Steps evaluated one after another over what is held.
-use Rattle.std.proofs.Common.{◌≡◌, ℕ, suc, ◌<◌, ◌≤◌, ◌^◌, Bool, true, false, List, [], ◌∷◌, filter, length, cond, Option, Some, None, refl, ap, ◌∙◌, subst, arith}
+use Rattle.std.proofs.Common.{◌≡◌, ℕ, suc, ◌<◌, ◌≤◌, ◌^◌, Bool, true, false, List, [], ◌∷◌, filter, length, cond, Option, Some, None, ap, ◌∙◌, subst, arith}
 use Rattle.rc_tuple.specs.RisingSet.{In}
 use Rattle.rc_tuple.specs.Tuple.{Pairs, project, tuple_eq}
 use Rattle.rc_spec.specs.declared.call.Reply.{Reply}
@@ -42,18 +42,12 @@ module _ (compiled : SpecWithPlans) (locks : List StripeLock) (x : Step) (steps 
   pub first_reply : Evaluates compiled locks (x ∷ steps) rows → (eval compiled.spec (plan_at compiled.plans x.call.op) x.call rows).reply ≡ Some x.reply
   first_reply e = ap (the_reply None) e.replies
 
-  pub first_held : Evaluates compiled locks (x ∷ steps) rows → AreHeld (eval compiled.spec (plan_at compiled.plans x.call.op) x.call rows).named locks
-  first_held e = e.held.0
-
   pub others_evaluate : Evaluates compiled locks (x ∷ steps) rows → Evaluates compiled locks steps (eval compiled.spec (plan_at compiled.plans x.call.op) x.call rows).rows
   others_evaluate e = record { replies = ap the_others e.replies; held = e.held.1 }
 
   pub all_evaluate : (eval compiled.spec (plan_at compiled.plans x.call.op) x.call rows).reply ≡ Some x.reply → AreHeld (eval compiled.spec (plan_at compiled.plans x.call.op) x.call rows).named locks
       → Evaluates compiled locks steps (eval compiled.spec (plan_at compiled.plans x.call.op) x.call rows).rows → Evaluates compiled locks (x ∷ steps) rows
   all_evaluate reply held rest = record { replies = (let r = rest.replies in λ i. reply i ∷ r i); held = (held, rest.held) }
-
-pub none_evaluate : (compiled : SpecWithPlans) (locks : List StripeLock) (rows : List EdgeRow) → Evaluates compiled locks [] rows
-none_evaluate compiled locks rows = record { replies = refl; held = tt }
 
 -- ---- the rows stay those of a relation
 

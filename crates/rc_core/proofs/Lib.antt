@@ -4,5 +4,3 @@ pub mod StayLemmas
 pub mod CommitLemmas
 pub mod EvaluatesLemmas
 pub mod LockLemmas
-mod EventsExample
-mod CommitExample

@@ -13,7 +13,7 @@ use Rattle.rc_core.specs.declared.state.Keeper.{Keeper}
 use Rattle.rc_core.specs.declared.state.Keeper.TheVariants.{Home, Writer}
 use Rattle.rc_core.specs.declared.state.StripeState.{StripeState}
 use Rattle.rc_core.specs.declared.state.CoreState.{CoreState}
-use Rattle.rc_core.specs.State.{has_writer, is_writer, stripe_at, no_stripe, shares_of}
+use Rattle.rc_core.specs.State.{has_writer, is_writer, stripe_at, shares_of}
 use Rattle.rc_core.specs.Good.{IsGoodPass, IsGoodKeeper, IsGood}
 use Rattle.rc_core.specs.Laws.{SharesAreHome, OwnAreOfHistory}
 use Rattle.rc_core.specs.KeepsLaws.{shares_count}
@@ -25,12 +25,6 @@ use Rattle.rc_core.specs.ListLaws.{not_has}
 use Rattle.std.proofs.lemmas.Bool.{or_right}
 use Rattle.rc_core.specs.State.{writes_of, is_at, counts_at}
 use Rattle.std.proofs.Common.{◌||◌}
-
--- a stripe that isn't there has nothing
-absent_stripe : (stripes : List StripeState) (p : ℕ) → (p < length stripes → ⊥) → stripe_at stripes p ≡ no_stripe
-absent_stripe [] p out = refl
-absent_stripe (s ∷ stripes) zero out = absurd (out (omega arith))
-absent_stripe (s ∷ stripes) (suc p) out = absent_stripe stripes p (λ l. out (omega arith))
 
 counted_there : (stripes : List StripeState) (p k : ℕ) → has (stripe_at stripes p).counted k ≡ true → p < length stripes
 counted_there [] p k e = absurd (false≢true e)
@@ -58,6 +52,10 @@ own_law spec c good k u at = ap (map (λ (x : Placed). x.entry)) (good.passes k 
 
 -- ---- where a pass is counted in, and what it writes
 
+pub writer_of_pass : (x : Keeper) (k : ℕ) → is_writer x k ≡ true → x ≡ Writer k
+writer_of_pass (Home rows) k e = absurd (false≢true e)
+writer_of_pass (Writer j) k e = ap Writer (eqb-true j k e)
+
 module _ (spec : Spec) (c : CoreState) (good : IsGood spec c) (p : ℕ) (k : ℕ) (u : PassState) (at : slice_get c.passes k ≡ Some u) where
   -- a pass for which the stripe is high isn't counted in there
   pub high_uncounted : IsHigh u p → In k (stripe_at c.stripes p).counted → ⊥
@@ -74,8 +72,4 @@ module _ (spec : Spec) (c : CoreState) (good : IsGood spec c) (p : ℕ) (k : ℕ
   sharing_counted m = in_has (stripe_at c.stripes p).counted k (sym ((good.passes k u at).counts p) ∙ shares_count u p m)
 
   pub writing_keeper : In p (writes_of u) → (stripe_at c.stripes p).keeper ≡ Writer k
-  writing_keeper m = go (stripe_at c.stripes p).keeper (sym ((good.passes k u at).writes p) ∙ has_in (writes_of u) p m)
-    where
-      go : (x : Keeper) → is_writer x k ≡ true → x ≡ Writer k
-      go (Home rows) e = absurd (false≢true e)
-      go (Writer j) e = ap Writer (eqb-true j k e)
+  writing_keeper m = writer_of_pass (stripe_at c.stripes p).keeper k (sym ((good.passes k u at).writes p) ∙ has_in (writes_of u) p m)

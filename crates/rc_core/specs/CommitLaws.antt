@@ -1,7 +1,7 @@
 -- An allowed commit leads from a good state to a good one: by the law of accepted plans, evaluation over what a pass holds replies as the plain relation does after the history, and leaves its rows.
 use Rattle.std.proofs.Common.{◌≡◌, ◌≢◌, ℕ, ◌<◌, ◌||◌, Bool, true, false, List, [], ◌∷◌, ◌++◌, map, length, Option, Some, None, if◌then◌else◌, sym, refl, ap, ◌∙◌, subst, inl, inr, arith, length-append}
 use Rattle.std.specs.List.{AllByRecursion, slice_get, flat_map}
-use Rattle.std.proofs.lemmas.Bool.{false≢true, ne_eqb, eqb-true}
+use Rattle.std.proofs.lemmas.Bool.{false≢true}
 use Rattle.std.proofs.lemmas.List.{append-nil, length-map}
 use Rattle.rc_tuple.specs.RisingSet.{In, gather}
 use Rattle.rc_tuple.specs.RisingSetLaws.{in_append, in_map, has_in}
@@ -32,11 +32,11 @@ use Rattle.rc_core.specs.declared.state.PassState.{PassState}
 use Rattle.rc_core.specs.declared.state.Keeper.{Keeper}
 use Rattle.rc_core.specs.declared.state.Keeper.TheVariants.{Home, Writer}
 use Rattle.rc_core.specs.declared.state.CoreState.{CoreState}
-use Rattle.rc_core.specs.State.{has_writer, is_writer, stripe_at, stripes_in, is_mode, held_in, writes_of, shares_of, is_at, locks_of, rows_held}
+use Rattle.rc_core.specs.State.{is_writer, stripe_at, stripes_in, is_mode, held_in, writes_of, shares_of, is_at, locks_of, rows_held}
 use Rattle.rc_core.specs.Passes.{calls_with_plans, rows_then, renewed_as, renewed, committed, MayCommit}
 use Rattle.rc_core.specs.Events.{with_pass}
 use Rattle.rc_core.specs.Good.{HaveRows, IsGoodPass, IsGoodKeeper, IsGoodStripe, IsGoodEntry, IsGoodHistory, IsGood}
-use Rattle.rc_core.specs.KeepsLaws.{change, at_below}
+use Rattle.rc_core.specs.KeepsLaws.{change, at_below, no_writer, other_writer}
 use Rattle.rc_core.specs.ListLaws.{stripes_have, stripes_in_have}
 use Rattle.rc_rel.specs.OwnLaws.{numbered_more, own_end_mine, own_end_other, placed_own}
 
@@ -196,21 +196,13 @@ module _ (compiled : SpecWithPlans) (ok : IsCompiled compiled.spec compiled.plan
   not_written : (p : ℕ) → is_writer (stripe_at c.stripes p).keeper k ≡ false → In p (writes_of u) → ⊥
   not_written p free m = false≢true (sym free ∙ sym (mine.writes p) ∙ has_in (writes_of u) p m)
 
-  no_writer : (x : Keeper) → has_writer x ≡ false → is_writer x k ≡ false
-  no_writer (Home rows) f = refl
-  no_writer (Writer j) f = cc
-
-  another_writes : (x : Keeper) (j : ℕ) → j ≢ k → is_writer x j ≡ true → is_writer x k ≡ false
-  another_writes (Home rows) j n f = refl
-  another_writes (Writer i) j n f = ne_eqb i k (λ g. n (sym (eqb-true i j f) ∙ g))
-
   longer : length c.history < length (c.history ++ e ∷ [])
   longer = let n = length-append c.history (e ∷ []) in omega arith
 
   -- a hold of another pass isn't written by this one, nor is what is shared
   held_by_other : (j : ℕ) (v : PassState) → j ≢ k → IsGoodPass compiled.spec c.history c.stripes j v → (h : Hold) → In h v.held → (m : Mode) → h.mode ≡ m → is_writer (stripe_at c.stripes h.stripe).keeper k ≡ false
-  held_by_other j v n g h x Exclusive is = another_writes (stripe_at c.stripes h.stripe).keeper j n (sym (g.writes h.stripe) ∙ has_in (writes_of v) h.stripe (stripes_in_have Exclusive h v.held x is))
-  held_by_other j v n g h x Shared is = no_writer (stripe_at c.stripes h.stripe).keeper (g.beside h.stripe (stripes_in_have Shared h v.held x is))
+  held_by_other j v n g h x Exclusive is = other_writer (stripe_at c.stripes h.stripe).keeper j k (sym (g.writes h.stripe) ∙ has_in (writes_of v) h.stripe (stripes_in_have Exclusive h v.held x is)) (λ is. n (sym is))
+  held_by_other j v n g h x Shared is = no_writer (stripe_at c.stripes h.stripe).keeper k (g.beside h.stripe (stripes_in_have Shared h v.held x is))
 
   -- the rows of another pass stay
   rows_of_other : (j : ℕ) (v : PassState) → j ≢ k → IsGoodPass compiled.spec c.history c.stripes j v → HaveRows compiled.spec (c.history ++ e ∷ []) v.held
@@ -237,7 +229,7 @@ module _ (compiled : SpecWithPlans) (ok : IsCompiled compiled.spec compiled.plan
   renewed_rows h x Exclusive is =
       ap (on_stripes spec (h.stripe ∷ [])) rows_then_are ∙ pieces_law spec (replay spec history') locked_stripes h.stripe (subst (In h.stripe) (sym (stripes_of-locks_of u)) (stripes_have h u.held x))
   renewed_rows h x Shared is =
-      mine.rows h x ∙ sym (others_stay h.stripe (not_written h.stripe (no_writer (stripe_at c.stripes h.stripe).keeper (mine.beside h.stripe (stripes_in_have Shared h u.held x is)))))
+      mine.rows h x ∙ sym (others_stay h.stripe (not_written h.stripe (no_writer (stripe_at c.stripes h.stripe).keeper k (mine.beside h.stripe (stripes_in_have Shared h u.held x is)))))
 
   rows_of_mine : HaveRows compiled.spec (c.history ++ e ∷ []) (committed compiled u (length c.history) e).held
   rows_of_mine h m =

@@ -1,5 +1,5 @@
 -- What the test of a commit answers.
-use Rattle.std.specs.Prelude.{◌≡◌, ℕ, ◌+◌, ◌<◌, ◌≤◌, ◌^◌, ◌==◌, ◌&&◌, Bool, true, false, List, map, length, Option, Some, None}
+use Rattle.std.specs.Prelude.{◌≡◌, ℕ, ◌+◌, ◌<◌, ◌≤◌, ◌^◌, ◌==◌, ◌&&◌, Bool, true, false, List, map, length, Some}
 use Rattle.std.specs.List.{list_all, list_any}
 use Rattle.rc_tuple.specs.ColSet.{has}
 use Rattle.rc_tuple.specs.Tuple.{Pairs}
@@ -13,11 +13,11 @@ use Rattle.rc_plan.specs.declared.statement.Statement.{Statement}
 use Rattle.rc_plan.specs.declared.statement.Statement.TheVariants.{Lock, Probe, Read, CheckAbsent, CheckDep, Apply, Emit, Commit, Release}
 use Rattle.rc_plan.specs.Compiled.{SpecWithPlans, plan_at}
 use Rattle.rc_plan.specs.StripeLocks.{StripeLock, band}
-use Rattle.rc_plan.specs.Turns.{AllAreHeld, eval_replies, rows_after}
+use Rattle.rc_plan.specs.Turns.{AllAreHeld, eval_replies}
 use Rattle.rc_rel.specs.declared.entry.Step.{Step}
 use Rattle.rc_rel.specs.declared.entry.Entry.{Entry}
 use Rattle.rc_core.specs.declared.state.PassState.{PassState}
-use Rattle.rc_core.specs.Passes.{calls_with_plans, rows_then, MayCommit}
+use Rattle.rc_core.specs.Passes.{calls_with_plans}
 
 -- the steps, evaluated one after another, have their replies and name what is held
 pub record Evaluates (compiled : SpecWithPlans) (locks : List StripeLock) (steps : List Step) (rows : List EdgeRow) : Type 0 where
@@ -31,16 +31,6 @@ pub record AreOf (spec : Spec) (stripes : List ℕ) (calls : ℕ) (found : List 
   pub satisfies : Satisfies relation spec.deps
   pub few : length relation + calls < 2 ^ 63
   pub rows : found ≡ rows_on spec relation stripes
-
--- the rows after the steps, where they evaluate
-abbrev pub IsEvaluated : SpecWithPlans → List StripeLock → List Step → List EdgeRow → Option (List EdgeRow) → Type 0
-IsEvaluated compiled locks steps rows None = Evaluates compiled locks steps rows → ⊥
-IsEvaluated compiled locks steps rows (Some after) = Evaluates compiled locks steps rows × (after ≡ rows_after compiled.spec (calls_with_plans compiled.plans steps) rows)
-
--- the rows after an entry's steps, where it may be committed
-abbrev pub IsCommitTest : SpecWithPlans → PassState → Entry → Option (List EdgeRow) → Type 0
-IsCommitTest compiled u e None = MayCommit compiled u e → ⊥
-IsCommitTest compiled u e (Some after) = MayCommit compiled u e × (after ≡ rows_then compiled u e.steps)
 
 -- the entry is the pass's next, and has 1 to 16 steps
 abbrev pub IsNextEntry : PassState → Entry → Type 0

@@ -1,9 +1,9 @@
 -- The passes determine the state.
-use Rattle.std.proofs.Common.{◌≡◌, ℕ, ◌<◌, true, List, length, Some, sym, refl, ap, ◌∙◌, subst, arith}
+use Rattle.std.proofs.Common.{◌≡◌, ℕ, ◌<◌, List, length, Some, sym, refl, ap, ◌∙◌, subst, arith}
 use Rattle.std.specs.List.{slice_get}
 use Rattle.std.specs.Ordering.{nat_cmp}
 use Rattle.std.proofs.lemmas.List.{ext_get_or}
-use Rattle.std.proofs.lemmas.Bool.{false≢true, eq-eqb, eqb-true}
+use Rattle.std.proofs.lemmas.Bool.{false≢true, eq-eqb}
 use Rattle.rc_tuple.specs.RisingSetLaws.{same_rising, slice_get_in, has_in, in_has, nat_order}
 use Rattle.rc_tuple.specs.ColSet.{has}
 use Rattle.rc_spec.specs.declared.spec.Spec.{Spec}
@@ -18,6 +18,7 @@ use Rattle.rc_core.specs.declared.state.CoreState.{CoreState}
 use Rattle.rc_core.specs.State.{is_writer, stripe_at, no_stripe, pass_at}
 use Rattle.rc_core.specs.Good.{IsGoodPass, IsGoodKeeper, IsGood}
 use Rattle.rc_core.specs.Laws.{PassesDetermineState}
+use Rattle.rc_core.specs.AgreeLaws.{writer_of_pass}
 use Rattle.rc_core.specs.RunLaws.{pass_there}
 
 -- each entry of one history stands in the other at its place
@@ -30,10 +31,6 @@ entry_stands spec c d good good' same i e at =
     let at_d : slice_get d.passes k ≡ Some u = ap (λ (l : List PassState). slice_get l k) (sym same) ∙ at_c in
     let own : own_placed c.history k ≡ own_placed d.history k = sym (good.passes k u at_c).own ∙ (good'.passes k u at_d).own in
     stands_in_other c.history d.history i e own at
-
-writer_of_pass : (x : Keeper) (k : ℕ) → is_writer x k ≡ true → x ≡ Writer k
-writer_of_pass (Home rows) k e = absurd (false≢true e)
-writer_of_pass (Writer j) k e = ap Writer (eqb-true j k e)
 
 -- what one stripe is, in both states
 module _ (spec : Spec) (c d : CoreState) (good : IsGood spec c) (good' : IsGood spec d) (same : c.passes ≡ d.passes) (history : c.history ≡ d.history) (p : ℕ) (in_c : p < length c.stripes) (in_d : p < length d.stripes) where

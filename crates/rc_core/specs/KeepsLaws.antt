@@ -77,7 +77,7 @@ module _ (spec : Spec) (c : CoreState) (k p : ℕ) (u w : PassState) (t : Stripe
 
   -- what has to be shown of the pass that changes: it sees the changed stripe, and the others as before
   pub record Sees : Type 0 where
-    pub number : w.number ≡ u.number
+    pub same : (w.number ≡ u.number) × (w.own ≡ u.own) × (w.seen ≡ u.seen)
     pub writes : has (writes_of w) p ≡ is_writer t.keeper k
     pub writes_else : (q : ℕ) → q ≢ p → has (writes_of w) q ≡ has (writes_of u) q
     pub counts : counts_at w p ≡ has t.counted k
@@ -85,22 +85,20 @@ module _ (spec : Spec) (c : CoreState) (k p : ℕ) (u w : PassState) (t : Stripe
     pub beside : In p (shares_of w) → has_writer t.keeper ≡ false
     pub beside_else : (q : ℕ) → q ≢ p → In q (shares_of w) → In q (shares_of u)
     pub rows : HaveRows spec c.history w.held
-    pub own : w.own ≡ u.own
-    pub seen : w.seen ≡ u.seen
     pub wish : (q : ℕ) → w.wish ≡ Some q → IsAbove w q
     pub turning : (q : ℕ) → w.turning ≡ Some q → w.wish ≡ Some q
 
   this_pass : Sees → IsGoodPass spec c.history (set c.stripes p t) k w
   this_pass s = let g = good.passes k u at in record {
-    number = s.number ∙ g.number;
+    number = s.same.0 ∙ g.number;
     writes = λ q. each_changed (λ q x. has (writes_of w) q ≡ is_writer x.keeper k) c.stripes p t no_stripe there s.writes (λ q n. s.writes_else q n ∙ g.writes q) q;
     counts = λ q. each_changed (λ q x. counts_at w q ≡ has x.counted k) c.stripes p t no_stripe there s.counts (λ q n. s.counts_else q n ∙ g.counts q) q;
     beside = λ q. each_changed (λ q x. In q (shares_of w) → has_writer x.keeper ≡ false) c.stripes p t no_stripe there s.beside (λ q n m. g.beside q (s.beside_else q n m)) q;
     rows = s.rows;
-    own = s.own ∙ g.own;
-    few = subst (λ (xs : List Placed). length xs ≤ 2 ^ 48) (sym s.own) g.few;
-    seen = subst (λ n. n ≤ length c.history) (sym s.seen) g.seen;
-    sees_own = subst (λ (z : List Placed × ℕ). (x : Placed) → In x z.0 → x.place < z.1) (λ i. (sym s.own i, sym s.seen i)) g.sees_own;
+    own = s.same.1 ∙ g.own;
+    few = subst (λ (xs : List Placed). length xs ≤ 2 ^ 48) (sym s.same.1) g.few;
+    seen = subst (λ n. n ≤ length c.history) (sym s.same.2) g.seen;
+    sees_own = subst (λ (z : List Placed × ℕ). (x : Placed) → In x z.0 → x.place < z.1) (λ i. (sym s.same.1 i, sym s.same.2 i)) g.sees_own;
     wish = s.wish;
     turning = s.turning;
   }
@@ -244,7 +242,7 @@ module _ (spec : Spec) (c : CoreState) (k p : ℕ) (u : PassState) (good : IsGoo
       (λ j v n g m. absurd (false≢true (sym (ap (λ l. has l j) free.1) ∙ sym (g.counts p) ∙ shares_count v p m)))
       (record { keeper = at_below c.passes k u at; rising = stripe.rising; known = stripe.known })
       (record {
-        number = refl;
+        same = (refl, refl, refl);
         writes = has-held_end Exclusive u.held (hold p Exclusive (home_rows s.keeper)) refl ∙ sym (eq-eqb k k refl);
         writes_else = λ q n. has-held_more Exclusive u.held (hold p Exclusive (home_rows s.keeper)) q (λ e f. n f);
         counts = ap (λ b. b || is_at u.turning p) (same_shares p) ∙ mine.counts p;
@@ -252,8 +250,6 @@ module _ (spec : Spec) (c : CoreState) (k p : ℕ) (u : PassState) (good : IsGoo
         beside = λ m. absurd (above_itself u p high.above (shares_held u p (old_shares p m)));
         beside_else = λ q n m. old_shares q m;
         rows = more_rows spec c.history u.held (hold p Exclusive (home_rows s.keeper)) mine.rows (good_home spec c.history (length c.passes) p s.keeper free.0 stripe.keeper);
-        own = refl;
-        seen = refl;
         wish = λ q e. absurd (no_mode None q refl e);
         turning = λ q e. absurd (no_mode u.turning q high.ahead e);
       })
@@ -275,7 +271,7 @@ module _ (spec : Spec) (c : CoreState) (k p : ℕ) (u : PassState) (good : IsGoo
       (λ j v n g m. ap has_writer is)
       (counted_stripe spec c.history (length c.passes) p k s stripe (at_below c.passes k u at))
       (record {
-        number = refl;
+        same = (refl, refl, refl);
         writes = same_writes p ∙ mine.writes p;
         writes_else = λ q n. same_writes q;
         counts = ap (λ b. b || is_at u.turning p) (has-held_end Shared u.held (hold p Shared rows) refl) ∙ sym (has-put_same k s.counted);
@@ -283,8 +279,6 @@ module _ (spec : Spec) (c : CoreState) (k p : ℕ) (u : PassState) (good : IsGoo
         beside = λ m. ap has_writer is;
         beside_else = λ q n m. elim (less_held Shared q u.held (hold p Shared rows) m) [ inl x ↦ x | inr x ↦ absurd (n x.1) ];
         rows = more_rows spec c.history u.held (hold p Shared rows) mine.rows (ap home_rows (sym is) ∙ good_home spec c.history (length c.passes) p s.keeper (ap has_writer is) stripe.keeper);
-        own = refl;
-        seen = refl;
         wish = λ q e. absurd (no_mode None q refl e);
         turning = λ q e. absurd (no_mode u.turning q high.ahead e);
       })
@@ -301,7 +295,7 @@ module _ (spec : Spec) (c : CoreState) (k p : ℕ) (u : PassState) (good : IsGoo
       (λ j v n g m. g.beside p m)
       (counted_stripe spec c.history (length c.passes) p k s stripe (at_below c.passes k u at))
       (record {
-        number = refl;
+        same = (refl, refl, refl);
         writes = mine.writes p;
         writes_else = λ q n. refl;
         counts = ap (λ b. has (shares_of u) p || b) (eq-eqb p p refl) ∙ or_true (has (shares_of u) p) ∙ sym (has-put_same k s.counted);
@@ -309,8 +303,6 @@ module _ (spec : Spec) (c : CoreState) (k p : ℕ) (u : PassState) (good : IsGoo
         beside = λ m. mine.beside p m;
         beside_else = λ q n m. m;
         rows = mine.rows;
-        own = refl;
-        seen = refl;
         wish = λ q e. subst (IsAbove u) (same_wish p q e) high.above;
         turning = λ q e. e;
       })
@@ -332,7 +324,7 @@ module _ (spec : Spec) (c : CoreState) (k p : ℕ) (u : PassState) (good : IsGoo
       (λ j v n g m. g.beside p m)
       (less_counted_stripe spec c.history (length c.passes) p k s stripe)
       (record {
-        number = refl;
+        same = (refl, refl, refl);
         writes = mine.writes p;
         writes_else = λ q n. refl;
         counts = or_false (has (shares_of u) p) ∙ not_has (shares_of u) p (λ m. above_itself u p (mine.wish p (mine.turning p turns)) (shares_held u p m)) ∙ sym (has-all_but_same k s.counted);
@@ -340,8 +332,6 @@ module _ (spec : Spec) (c : CoreState) (k p : ℕ) (u : PassState) (good : IsGoo
         beside = λ m. mine.beside p m;
         beside_else = λ q n m. m;
         rows = mine.rows;
-        own = refl;
-        seen = refl;
         wish = mine.wish;
         turning = λ q e. absurd (no_mode None q refl e);
       })
@@ -366,7 +356,7 @@ module _ (spec : Spec) (c : CoreState) (k p : ℕ) (u : PassState) (good : IsGoo
       (λ j v n g m. g.beside p m)
       (less_counted_stripe spec c.history (length c.passes) p k s stripe)
       (record {
-        number = refl;
+        same = (refl, refl, refl);
         writes = has-held_without_same Exclusive u.held p ∙ sym (no_writer s.keeper k (mine.beside p shares));
         writes_else = λ q n. has-held_without_other Exclusive u.held p q n;
         counts = ap (λ b. b || is_at u.turning p) (has-held_without_same Shared u.held p) ∙ not_turning (shares_held u p shares) u.turning refl ∙ sym (has-all_but_same k s.counted);
@@ -374,8 +364,6 @@ module _ (spec : Spec) (c : CoreState) (k p : ℕ) (u : PassState) (good : IsGoo
         beside = λ m. absurd ((held_without Shared p p u.held m).1 refl);
         beside_else = λ q n m. (held_without Shared p q u.held m).0;
         rows = rows_left;
-        own = refl;
-        seen = refl;
         wish = wish_left;
         turning = mine.turning;
       })
@@ -403,7 +391,7 @@ module _ (spec : Spec) (c : CoreState) (k p : ℕ) (u : PassState) (good : IsGoo
       (λ j v n g m. refl)
       (record { keeper = rows_of_it u.held mine.rows (writes_held u p writes); rising = stripe.rising; known = stripe.known })
       (record {
-        number = refl;
+        same = (refl, refl, refl);
         writes = has-held_without_same Exclusive u.held p;
         writes_else = λ q n. has-held_without_other Exclusive u.held p q n;
         counts = ap (λ b. b || is_at u.turning p) (has-held_without_same Shared u.held p ∙ sym (not_has (shares_of u) p (λ m. has_a_writer s.keeper now (mine.beside p m)))) ∙ mine.counts p;
@@ -411,8 +399,6 @@ module _ (spec : Spec) (c : CoreState) (k p : ℕ) (u : PassState) (good : IsGoo
         beside = λ m. refl;
         beside_else = λ q n m. (held_without Shared p q u.held m).0;
         rows = rows_left;
-        own = refl;
-        seen = refl;
         wish = wish_left;
         turning = mine.turning;
       })

@@ -80,14 +80,6 @@ in_stripes q holds m = in_map (λ (h : Hold). h.stripe) q holds m
 pub stripes_have : (h : Hold) (holds : List Hold) → In h holds → In h.stripe (stripes_in holds)
 stripes_have h holds m = map_in (λ (h : Hold). h.stripe) h holds m
 
-pub stripes_append : (q : ℕ) (xs ys : List Hold) → In q (stripes_in (xs ++ ys)) → In q (stripes_in xs) ⊎ In q (stripes_in ys)
-stripes_append q xs ys m =
-    let w = in_stripes q (xs ++ ys) m in
-    elim (in_append w.0 xs ys w.1) [
-      | inl h ↦ inl (subst (λ n. In n (stripes_in xs)) (sym w.2) (stripes_have w.0 xs h))
-      | inr h ↦ inr (subst (λ n. In n (stripes_in ys)) (sym w.2) (stripes_have w.0 ys h))
-    ]
-
 pub in_without : (p : ℕ) (h : Hold) (holds : List Hold) → In h (other_holds holds p) → In h holds × (h.stripe ≢ p)
 in_without p h holds m =
     let q : In h holds × (not (h.stripe == p) ≡ true) = in_filter (λ (x : Hold). not (x.stripe == p)) h holds m in

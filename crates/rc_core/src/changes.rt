@@ -6,7 +6,7 @@ ghost use Rattle.rc_tuple.specs.RisingSet.{In};
 ghost use Rattle.rc_core.specs.State.{held_in, is_mode, stripes_in};
 ghost use Rattle.rc_core.specs.Passes.{IsHigh, back, blocked, counted_in, learned, other_holds, released, rows_of_hold, took, turned};
 
-use crate::copied::{Copied, copy_and};
+use crate::copied::Copied;
 use crate::{Hold, Keeper, PassState, Rows};
 use rc_spec::Mode;
 use rc_tuple::{Memory, SmallList};
@@ -20,15 +20,10 @@ pub(crate) fn took(
 ) -> Result<PassState, Memory>
     ensures { IfOk result (λ w. w ≡ took mode pass_state.now stripe rows) }
 {
-    let hold = Hold { stripe, mode, rows };
-    Ok(PassState {
-        number: pass_state.number,
-        held: copy_and(&pass_state.held, hold)?,
-        turning: pass_state.turning,
-        own: pass_state.own.copied()?,
-        seen: pass_state.seen,
-        wish: None,
-    })
+    let mut changed = pass_state.copied()?;
+    changed.held.push(Hold { stripe, mode, rows })?;
+    changed.wish = None;
+    Ok(changed)
 }
 
 /// The pass wants the stripe.
