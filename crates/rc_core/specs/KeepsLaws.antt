@@ -370,7 +370,8 @@ module _ (spec : Spec) (c : CoreState) (k p : ℕ) (u : PassState) (good : IsGoo
 
   -- ---- unlock
 
-  rows_of_it : (holds : List Hold) → HaveRows spec c.history holds → In p (stripes_in holds) → rows_of_hold holds p ≡ fragment_of spec (replay spec c.history) p
+  -- each hold of the stripe has its rows
+  pub rows_of_it : (holds : List Hold) → HaveRows spec c.history holds → In p (stripes_in holds) → rows_of_hold holds p ≡ fragment_of spec (replay spec c.history) p
   rows_of_it [] rows m = absurd m
   rows_of_it (h ∷ holds) rows m = go (h.stripe == p) refl m (rows_of_it holds (λ x n. rows x (inr n)))
     where

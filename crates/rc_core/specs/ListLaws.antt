@@ -1,18 +1,22 @@
 -- Laws of lists: what stands at a place after a change, and which numbers a list has.
-use Rattle.std.proofs.Common.{◌≡◌, ◌≢◌, ℕ, zero, suc, ◌<◌, ◌⊎◌, ◌||◌, ◌&&◌, ◌==◌, Bool, true, false, List, [], ◌∷◌, ◌++◌, filter, not, length, set, get_or, Some, sym, refl, ap, ◌∙◌, subst, inl, inr, arith}
+use Rattle.std.proofs.Common.{◌≡◌, ◌≢◌, ℕ, zero, suc, ◌<◌, ◌⊎◌, ◌||◌, ◌&&◌, ◌==◌, Bool, true, false, List, [], ◌∷◌, ◌++◌, filter, not, cond, if◌then◌else◌, length, set, get_or, Some, sym, refl, ap, ◌∙◌, subst, inl, inr, arith}
 use Rattle.std.specs.List.{slice_get}
-use Rattle.std.specs.Ordering.{nat_cmp}
+use Rattle.std.specs.declared.cmp.Ordering.{Ordering}
+use Rattle.std.specs.declared.cmp.Ordering.TheVariants.{Less, Equal, Greater}
+use Rattle.std.specs.Ordering.{match_ordering, nat_cmp}
+use Rattle.std.proofs.lemmas.Cmp.{ranked}
 use Rattle.std.proofs.lemmas.Bool.{false≢true, cases_eq, eq-eqb, ne_eqb, not_from_false, not-true, eqb-false}
 use Rattle.std.proofs.lemmas.List.{get_or-set_same, get_or-set_other}
-use Rattle.rc_tuple.specs.RisingSet.{In, put}
+use Rattle.rc_tuple.specs.RisingSet.{In, IsRising, put}
 use Rattle.rc_tuple.specs.RisingSetLaws.{in_has, has_in, same_bool, in_filter, filter_in, in_map, map_in, in_append, append_in_left, append_in_right, in_put, put_new, put_old, nat_order}
 use Rattle.rc_tuple.specs.ColSet.{has}
 use Rattle.rc_tuple.specs.ColSetLaws.{has-filter}
 use Rattle.rc_core.specs.declared.state.Hold.{Hold}
-use Rattle.rc_core.specs.Passes.{other_holds}
+use Rattle.rc_core.specs.Passes.{other_holds, rows_of_hold}
 use Rattle.rc_spec.specs.declared.lock.Mode.{Mode}
 use Rattle.rc_spec.specs.declared.lock.Mode.TheVariants.{Shared, Exclusive}
-use Rattle.rc_core.specs.State.{stripes_in, is_mode, held_in}
+use Rattle.rc_spec.specs.Fragments.{EdgeRow}
+use Rattle.rc_core.specs.State.{hold, stripes_in, is_mode, held_in}
 
 module _ {A : Type 0} where
   pub at_set : (l : List A) (i j : ℕ) (a b : A) → slice_get (set l i a) j ≡ Some b → ((j ≡ i) × (a ≡ b)) ⊎ ((j ≢ i) × (slice_get l j ≡ Some b))
@@ -21,6 +25,18 @@ module _ {A : Type 0} where
   at_set (x ∷ xs) zero (suc j) a b e = inr ((λ h. omega arith), e)
   at_set (x ∷ xs) (suc i) zero a b e = inr ((λ h. omega arith), e)
   at_set (x ∷ xs) (suc i) (suc j) a b e = elim (at_set xs i j a b e) [ inl t ↦ inl (ap suc t.0, t.1) | inr t ↦ (let n = t.0 in inr ((λ h. n (omega arith)), t.1)) ]
+
+  pub get_set_same : (l : List A) (i : ℕ) (a b : A) → slice_get l i ≡ Some b → slice_get (set l i a) i ≡ Some a
+  get_set_same [] i a b e = cc
+  get_set_same (x ∷ xs) zero a b e = refl
+  get_set_same (x ∷ xs) (suc i) a b e = get_set_same xs i a b e
+
+  pub get_set_other : (l : List A) (i j : ℕ) (a : A) → j ≢ i → slice_get (set l i a) j ≡ slice_get l j
+  get_set_other [] i j a n = refl
+  get_set_other (x ∷ xs) zero zero a n = absurd (n refl)
+  get_set_other (x ∷ xs) zero (suc j) a n = refl
+  get_set_other (x ∷ xs) (suc i) zero a n = refl
+  get_set_other (x ∷ xs) (suc i) (suc j) a n = get_set_other xs i j a (λ e. n (ap suc e))
 
   -- what is true of the changed element and of the others is true of each
   pub each_changed : (P : ℕ → A → Type 0) (l : List A) (i : ℕ) (a d : A) → i < length l → P i a → ((j : ℕ) → j ≢ i → P j (get_or l j d)) → (j : ℕ) → P j (get_or (set l i a) j d)
@@ -71,6 +87,32 @@ has-all_but_same k xs = has-filter (λ j. not (j == k)) xs k ∙ ap (λ b. not b
 
 pub has-all_but_other : (k j : ℕ) (xs : List ℕ) → j ≢ k → has (all_but k xs) j ≡ has xs j
 has-all_but_other k j xs n = has-filter (λ i. not (i == k)) xs j ∙ ap (λ b. not b && has xs j) (ne_eqb j k n)
+
+-- one number more in a list that hasn't it
+pub length-put_new : (k : ℕ) (xs : List ℕ) → (In k xs → ⊥) → length (put nat_cmp k xs) ≡ suc (length xs)
+length-put_new k [] out = refl
+length-put_new k (x ∷ xs) out = go (nat_cmp k x) refl (length-put_new k xs (λ m. out (inr m)))
+  where
+    go : (o : Ordering) → nat_cmp k x ≡ o → length (put nat_cmp k xs) ≡ suc (length xs) → length (match_ordering o (k ∷ (x ∷ xs)) (x ∷ xs) (x ∷ put nat_cmp k xs)) ≡ suc (length (x ∷ xs))
+    go Less e ih = refl
+    go Equal e ih = absurd (out (inl (nat_order.ties k x e)))
+    go Greater e ih = ap suc ih
+
+length-all_but_absent : (k : ℕ) (xs : List ℕ) → (In k xs → ⊥) → length (all_but k xs) ≡ length xs
+length-all_but_absent k [] out = refl
+length-all_but_absent k (x ∷ xs) out = ap (λ b. length (cond (not b) (x ∷ all_but k xs) (all_but k xs))) (ne_eqb x k (λ e. out (inl (sym e)))) ∙ ap suc (length-all_but_absent k xs (λ m. out (inr m)))
+
+-- one number less in a rising list that has it
+pub length-all_but : (k : ℕ) (xs : List ℕ) → IsRising nat_cmp xs → In k xs → suc (length (all_but k xs)) ≡ length xs
+length-all_but k [] up m = absurd m
+length-all_but k (x ∷ xs) up m = elim (cases_eq x k) [
+  | inl e ↦ ap (λ b. suc (length (cond (not b) (x ∷ all_but k xs) (all_but k xs)))) (eq-eqb x k e) ∙ ap suc (length-all_but_absent k xs (λ n. (let l = ranked x k Less (sym (up.0 k n)) in omega (arith, l, e))))
+  | inr n ↦ ap (λ b. suc (length (cond (not b) (x ∷ all_but k xs) (all_but k xs)))) (ne_eqb x k n) ∙ ap suc (length-all_but k xs up.1 (later n m))
+]
+  where
+    later : x ≢ k → In k (x ∷ xs) → In k xs
+    later n (inl e) = absurd (n (sym e))
+    later n (inr y) = y
 
 -- ---- stripes of holds
 
@@ -163,3 +205,39 @@ has-held_without_other m holds p q n = same_has (stripes_in (held_in m (other_ho
     (λ x. let w = in_stripes_in m q holds x in
     subst (λ i. In i (stripes_in (held_in m (other_holds holds p)))) (sym w.3)
     (stripes_in_have m w.0 (other_holds holds p) (filter_in (λ (y : Hold). not (y.stripe == p)) w.0 holds w.1 (not_from_false (w.0.stripe == p) (ne_eqb w.0.stripe p (λ e. n (w.3 ∙ e))))) w.2))
+
+-- the others, by their numbers
+pub stripes-other : (holds : List Hold) (p : ℕ) → stripes_in (other_holds holds p) ≡ all_but p (stripes_in holds)
+stripes-other [] p = refl
+stripes-other (h ∷ holds) p = go (stripes-other holds p) (not (h.stripe == p))
+  where
+    go : stripes_in (other_holds holds p) ≡ all_but p (stripes_in holds) → (b : Bool) → stripes_in (cond b (h ∷ other_holds holds p) (other_holds holds p)) ≡ cond b (h.stripe ∷ all_but p (stripes_in holds)) (all_but p (stripes_in holds))
+    go same true = ap (λ (xs : List ℕ). h.stripe ∷ xs) same
+    go same false = same
+
+-- a hold above all others, taken out again and looked up
+pub other-end : (holds : List Hold) (p : ℕ) (mode : Mode) (rows : List EdgeRow) → ((q : ℕ) → In q (stripes_in holds) → q < p) → other_holds (holds ++ hold p mode rows ∷ []) p ≡ holds
+other-end [] p mode rows above = ap (λ (b : Bool). cond (not b) (hold p mode rows ∷ []) []) (eq-eqb p p refl)
+other-end (h ∷ holds) p mode rows above =
+    ap (λ (b : Bool). cond (not b) (h ∷ other_holds (holds ++ hold p mode rows ∷ []) p) (other_holds (holds ++ hold p mode rows ∷ []) p)) (ne_eqb h.stripe p (λ e. let l = above h.stripe (inl refl) in omega arith))
+    ∙ ap (λ (hs : List Hold). h ∷ hs) (other-end holds p mode rows (λ q m. above q (inr m)))
+
+pub rows-end : (holds : List Hold) (p : ℕ) (mode : Mode) (rows : List EdgeRow) → ((q : ℕ) → In q (stripes_in holds) → q < p) → rows_of_hold (holds ++ hold p mode rows ∷ []) p ≡ rows
+rows-end [] p mode rows above = ap (λ (b : Bool). if b then rows else []) (eq-eqb p p refl)
+rows-end (h ∷ holds) p mode rows above =
+    ap (λ (b : Bool). if b then h.rows else rows_of_hold (holds ++ hold p mode rows ∷ []) p) (ne_eqb h.stripe p (λ e. let l = above h.stripe (inl refl) in omega arith))
+    ∙ rows-end holds p mode rows (λ q m. above q (inr m))
+
+-- ---- rising lists
+
+module _ {A : Type 0} (R : A → A → Ordering) where
+  pub rising_end : (xs : List A) (x : A) → IsRising R xs → ((y : A) → In y xs → R y x ≡ Less) → IsRising R (xs ++ x ∷ [])
+  rising_end [] x up above = ((λ y m. absurd m), tt)
+  rising_end (y ∷ ys) x up above = ((λ z m. first z m), rising_end ys x up.1 (λ z m. above z (inr m)))
+    where
+      first : (z : A) → In z (ys ++ x ∷ []) → R y z ≡ Less
+      first z m = elim (in_append z ys (x ∷ []) m) [
+        | inl n ↦ up.0 z n
+        | inr (inl e) ↦ subst (λ w. R y w ≡ Less) (sym e) (above y (inl refl))
+        | inr (inr n) ↦ absurd n
+      ]

@@ -77,7 +77,7 @@ few_tuples spec c good =
 -- ---- the number of passes counted in
 
 -- rising numbers from a up to n
-length-rising : (a n : ℕ) (xs : List ℕ) → a ≤ n → IsRising nat_cmp xs → ((k : ℕ) → In k xs → (a ≤ k) × (k < n)) → a + length xs ≤ n
+pub length-rising : (a n : ℕ) (xs : List ℕ) → a ≤ n → IsRising nat_cmp xs → ((k : ℕ) → In k xs → (a ≤ k) × (k < n)) → a + length xs ≤ n
 length-rising a n [] le up inside = omega arith
 length-rising a n (x ∷ xs) le up inside =
     let b = inside x (inl refl) in
