@@ -1,0 +1,219 @@
+-- A closed row has one history.
+use Rattle.std.proofs.Common.{◌≡◌, ℕ, zero, suc, ◌+◌, ◌<◌, ◌||◌, List, [], ◌∷◌, ◌++◌, length, map, drop, take, get_or, Some, None, sym, refl, ap, ◌∙◌, subst, inl, inr, arith, length-append}
+use Rattle.std.specs.Prelude.{All}
+use Rattle.std.specs.List.{slice_get, range_with_len, remove}
+use Rattle.std.proofs.lemmas.Bool.{cases_eq, false≢true, eq-eqb}
+use Rattle.std.proofs.lemmas.List.{length-map, map-append}
+use Rattle.std.proofs.lemmas.List.FromFn.{length-range_with_len}
+use mathlib.Core.Option.{some, some-injective}
+use lib.ListN.{get_elem?}
+use Rattle.rc_tuple.specs.RisingSet.{In}
+use Rattle.rc_tuple.specs.RisingSetLaws.{has_in}
+use Rattle.rc_tuple.specs.ColSet.{has}
+use Rattle.rc_spec.specs.Fragments.{fragment_of}
+use Rattle.rc_spec.specs.declared.lock.Mode.TheVariants.{Shared, Exclusive}
+use Rattle.rc_spec.specs.declared.spec.Spec.{Spec}
+use Rattle.rc_fragment.specs.Keep.{KeptRows}
+use Rattle.rc_rel.specs.declared.entry.Entry.{Entry}
+use Rattle.rc_rel.specs.History.{own_placed, replay}
+use Rattle.rc_core.specs.declared.state.Hold.{Hold}
+use Rattle.rc_core.specs.declared.state.Keeper.{Keeper}
+use Rattle.rc_core.specs.declared.state.Keeper.TheVariants.{Home, Writer}
+use Rattle.rc_core.specs.declared.state.PassState.{PassState}
+use Rattle.rc_core.specs.State.{stripe_at, is_at, is_writer, stripes_in, held_in}
+use Rattle.rc_core.specs.Good.{IsGoodHistory, IsGoodKeeper}
+use Rattle.atomic_table.specs.Table.{State, Final, Seen}
+use Rattle.rc_row.specs.declared.close.EndedPass.{EndedPass}
+use Rattle.rc_row.specs.declared.law.Key.{Key}
+use Rattle.rc_row.specs.declared.law.Standing.{Standing}
+use Rattle.rc_row.specs.declared.law.View.{View}
+use Rattle.rc_row.specs.declared.row.Row.TheInside.{Inside}
+use Rattle.rc_row.specs.Ended.{IsEndedPass, HasHistory, AreEnded}
+use Rattle.rc_row.specs.Law.{Slot, kept_of, spec_by, stripes_by, numbers_in, passes_view, AreSeatedAt, IsKept}
+use Rattle.rc_row.specs.Passes.{PassSeen, RowSeen, core_of, spec_of}
+use Rattle.rc_row.specs.RowInside.{IsWholeRow, row_seen}
+use Rattle.rc_row.proofs.ListLemmas.{all_at, get_before, get_last}
+use Rattle.rc_row.proofs.StripeLemmas.{there, no_latch}
+
+-- ---- passes by number
+
+abbrev pub numbers_of : List PassSeen → List ℕ
+numbers_of passes = map (λ pass. (core_of pass).number) passes
+
+abbrev pub standings_of : List PassSeen → List Standing
+standings_of passes = map (λ pass. pass.standing) passes
+
+-- a pass with nothing, which isn't turning back
+abbrev pub IsIdle : PassSeen → Type 0
+IsIdle pass = ((core_of pass).held ≡ []) × ((core_of pass).turning ≡ None)
+
+-- in a range, what stands before an element is below it
+pub range_split : (a n x : ℕ) (before after : List ℕ) → before ++ x ∷ after ≡ range_with_len a n → (x ≡ a + length before) × ((k : ℕ) → In k before → k < x)
+range_split a zero x [] after e = cc
+range_split a zero x (b ∷ before) after e = cc
+range_split a (suc n) x [] after e = let first : x ≡ a = cc in (first ∙ omega arith, λ k m. absurd m)
+range_split a (suc n) x (b ∷ before) after e =
+    let first : b ≡ a = cc in
+    let later : before ++ x ∷ after ≡ range_with_len (a + 1) n = cc in
+    let r = range_split (a + 1) n x before after later in
+    let here : x ≡ a + 1 + length before = r.0 in
+    (omega (arith, here), λ k m. elim m [ inl is ↦ omega (arith, is, first, here) | inr y ↦ r.1 k y ])
+
+numbers_of_standings : (passes : List PassSeen) → numbers_in (standings_of passes) ≡ numbers_of passes
+numbers_of_standings [] = refl
+numbers_of_standings (pass ∷ passes) = ap (λ l. (core_of pass).number ∷ l) (numbers_of_standings passes)
+
+pub count_of : (passes : List PassSeen) (n : ℕ) → numbers_of passes ≡ range_with_len 0 n → length passes ≡ n
+count_of passes n numbers = sym (length-map passes (λ pass. (core_of pass).number)) ∙ ap (λ (l : List ℕ). length l) numbers ∙ length-range_with_len 0 n
+
+-- the first of what is left
+pub next_of : {A : Type 0} → (all : List A) (n : ℕ) (x : A) (left : List A) → drop n all ≡ x ∷ left → (take (suc n) all ≡ take n all ++ x ∷ []) × (drop (suc n) all ≡ left) × (all ≡ take n all ++ x ∷ left)
+next_of [] zero x left e = cc
+next_of [] (suc n) x left e = cc
+next_of (y ∷ all) zero x left e = let first : y ≡ x = cc in let rest : all ≡ left = cc in (ap (λ z. z ∷ []) first, rest, λ i. first i ∷ rest i)
+next_of (y ∷ all) (suc n) x left e = let r = next_of all n x left e in (ap (λ l. y ∷ l) r.0, r.1, ap (λ l. y ∷ l) r.2)
+
+-- each pass that was gathered has a lower number than the next
+pub in_order : (all : List PassSeen) (n many : ℕ) (x : PassSeen) (left : List PassSeen) → numbers_of all ≡ range_with_len 0 many → drop n all ≡ x ∷ left → (k : ℕ) → In k (numbers_in (standings_of (take n all))) → k < (core_of x).number
+in_order all n many x left numbers e k m =
+    let split : all ≡ take n all ++ x ∷ left = (next_of all n x left e).2 in
+    let whole : numbers_of (take n all) ++ (core_of x).number ∷ numbers_of left ≡ range_with_len 0 many = sym (map-append (λ (pass : PassSeen). (core_of pass).number) (take n all) (x ∷ left)) ∙ ap numbers_of (sym split) ∙ numbers in
+    (range_split 0 many (core_of x).number (numbers_of (take n all)) (numbers_of left) whole).1 k (subst (In k) (numbers_of_standings (take n all)) m)
+
+pub front_of : {A : Type 0} → (xs : List A) (x : A) → 0 < length xs → x ≡ get_or xs 0 x → xs ≡ x ∷ remove xs 0
+front_of [] x lt e = absurd (omega arith)
+front_of (y ∷ xs) x lt e = λ i. sym e i ∷ xs
+
+-- what is true of each pair and of the last is true of each
+pub pairs_end : {A B : Type 0} → (R : A → B → Type 0) (xs : List A) (ys : List B) (x : A) (y : B) → length ys ≡ length xs → ((k : ℕ) (a : A) (b : B) → slice_get xs k ≡ Some a → slice_get ys k ≡ Some b → R a b) → R x y
+    → (k : ℕ) (a : A) (b : B) → slice_get (xs ++ x ∷ []) k ≡ Some a → slice_get (ys ++ y ∷ []) k ≡ Some b → R a b
+pairs_end {A} {B} R [] [] x y wide each last zero a b e f = let is : x ≡ a = cc in let is' : y ≡ b = cc in subst (λ (z : A × B). R z.0 z.1) (λ i. (is i, is' i)) last
+pairs_end R [] [] x y wide each last (suc k) a b e f = cc
+pairs_end R [] (b' ∷ ys) x y wide each last k a b e f = absurd (omega arith)
+pairs_end R (a' ∷ xs) [] x y wide each last k a b e f = absurd (omega arith)
+pairs_end R (a' ∷ xs) (b' ∷ ys) x y wide each last zero a b e f = each 0 a b e f
+pairs_end R (a' ∷ xs) (b' ∷ ys) x y wide each last (suc k) a b e f = pairs_end R xs ys x y (omega arith) (λ j. each (suc j)) last k a b e f
+
+-- one pass more is ended
+pub ended_more : (passes : List PassSeen) (ended : List EndedPass) (pass : PassSeen) (e : EndedPass) → AreEnded passes ended → IsEndedPass (core_of pass).own pass.kept e → AreEnded (passes ++ pass ∷ []) (ended ++ e ∷ [])
+ended_more passes ended pass e are is = (
+  (let n = length-append passes (pass ∷ []) in let m = length-append ended (e ∷ []) in let w = are.0 in omega arith),
+  pairs_end (λ p x. IsEndedPass (core_of p).own p.kept x) passes ended pass e are.0 are.1 is,
+)
+
+-- ---- the end
+
+-- the slots of a closed row
+pub record AreClosed (spec : Spec) (passes : List PassSeen) (slots : List Slot) : Type 0 where
+  pub history : List Entry
+  pub good : IsGoodHistory spec (length passes) history
+  pub own : (k : ℕ) (pass : PassSeen) → slice_get passes k ≡ Some pass → (core_of pass).own ≡ own_placed history k
+  pub rows : (p : ℕ) → p < length slots → get_elem? slots p ≡ some (Some (kept_of spec (fragment_of spec (replay spec history) p)))
+
+-- the pass at the place k is that of the number a + k
+seated_at : (all : List PassState) (seat : ℕ → ℕ) (id a : ℕ) (passes : List PassSeen) (k : ℕ) (pass : PassSeen) → AreSeatedAt all seat id (standings_of passes) → numbers_of passes ≡ range_with_len a (length passes)
+    → slice_get passes k ≡ Some pass → slice_get all (a + k) ≡ Some (core_of pass)
+seated_at all seat id a [] k pass f numbers e = cc
+seated_at all seat id a (x ∷ passes) zero pass f numbers e =
+    let first : (core_of x).number ≡ a = cc in
+    let is : x ≡ pass = cc in
+    ap (slice_get all) (omega (arith, first)) ∙ f.0.0 ∙ ap (λ (y : PassSeen). Some (core_of y)) is
+seated_at all seat id a (x ∷ passes) (suc k) pass f numbers e =
+    let later : numbers_of passes ≡ range_with_len (a + 1) (length passes) = cc in
+    ap (slice_get all) (omega arith) ∙ seated_at all seat id (a + 1) passes k pass f.1 later e
+
+at_place : {A : Type 0} → (xs : List A) (k : ℕ) → k < length xs → (x : A) × (slice_get xs k ≡ Some x)
+at_place [] k lt = absurd (omega arith)
+at_place (x ∷ xs) zero lt = (x, refl)
+at_place (x ∷ xs) (suc k) lt = at_place xs k (omega arith)
+
+none_in : (xs : List ℕ) → ((k : ℕ) → In k xs → ⊥) → xs ≡ []
+none_in [] out = refl
+none_in (x ∷ xs) out = absurd (out x (inl refl))
+
+module _ (key : Key) (id : ℕ) (passes : List PassSeen) (s : State Slot View) (kept : IsKept key s) (at : get_elem? s.views id ≡ some (passes_view (standings_of passes))) (numbers : numbers_of passes ≡ range_with_len 0 key.passes)
+    (idle : (k : ℕ) (pass : PassSeen) → slice_get passes k ≡ Some pass → IsIdle pass) where
+  many : length passes ≡ key.passes
+  many = count_of passes key.passes numbers
+
+  same_many : length kept.core.passes ≡ length passes
+  same_many = kept.shows.passes ∙ sym many
+
+  pub is_core : (k : ℕ) (pass : PassSeen) → slice_get passes k ≡ Some pass → slice_get kept.core.passes k ≡ Some (core_of pass)
+  is_core k pass e =
+      ap (slice_get kept.core.passes) (omega arith)
+      ∙ seated_at kept.core.passes kept.seat id 0 passes k pass (kept.views id (passes_view (standings_of passes)) at).passes (numbers ∙ ap (range_with_len 0) (sym many)) e
+
+  -- each pass of the core is idle
+  idle_core : (k : ℕ) → k < length kept.core.passes → (u : PassState) × (slice_get kept.core.passes k ≡ Some u) × (u.held ≡ []) × (u.turning ≡ None)
+  idle_core k lt =
+      let x = at_place passes k (subst (λ n. k < n) same_many lt) in
+      let i : IsIdle x.0 = idle k x.0 x.1 in
+      (core_of x.0, is_core k x.0 x.1, i.0, i.1)
+
+  -- nobody writes a stripe
+  unwritten : (p : ℕ) → p < stripes_by key → (stripe_at kept.core.stripes p).keeper ≡ Home (fragment_of (spec_by key) (replay (spec_by key) kept.core.history) p)
+  unwritten p lt = go (stripe_at kept.core.stripes p).keeper refl (kept.good.stripes p (there key s kept p lt)).keeper
+    where
+      go : (x : Keeper) → (stripe_at kept.core.stripes p).keeper ≡ x → IsGoodKeeper (spec_by key) kept.core.history (length kept.core.passes) p x → x ≡ Home (fragment_of (spec_by key) (replay (spec_by key) kept.core.history) p)
+      go (Home rows) is g = ap Home g
+      go (Writer k) is g =
+          let u = idle_core k g in
+          let w = (kept.good.passes k u.0 u.1).writes p in
+          absurd (false≢true (sym (ap (λ (holds : List Hold). has (stripes_in (held_in Exclusive holds)) p) u.2) ∙ w ∙ ap (λ (x : Keeper). is_writer x k) is ∙ eq-eqb k k refl))
+
+  -- nobody is counted in
+  uncounted : (p : ℕ) → p < stripes_by key → (stripe_at kept.core.stripes p).counted ≡ []
+  uncounted p lt = none_in (stripe_at kept.core.stripes p).counted (λ k m.
+      let u = idle_core k ((kept.good.stripes p (there key s kept p lt)).known k m) in
+      let w = (kept.good.passes k u.0 u.1).counts p in
+      false≢true (sym (λ i. has (stripes_in (held_in Shared (u.2 i))) p || is_at (u.3 i) p) ∙ w ∙ has_in (stripe_at kept.core.stripes p).counted k m))
+
+  pub closed_home : (p : ℕ) → p < stripes_by key → get_elem? s.homes p ≡ some (some (Some (kept_of (spec_by key) (fragment_of (spec_by key) (replay (spec_by key) kept.core.history) p))))
+  closed_home p lt = kept.shows.homes p (fragment_of (spec_by key) (replay (spec_by key) kept.core.history) p) (there key s kept p lt) (unwritten p lt) (no_latch key s kept p (uncounted p lt))
+
+  pub closed : (slots : List Slot) → length s.homes ≡ length slots → ((k : ℕ) (y : Slot) → get_elem? s.homes k ≡ some (some y) → get_elem? slots k ≡ some y) → AreClosed (spec_by key) passes slots
+  closed slots wide homes = record {
+    history = kept.core.history;
+    good = subst (λ n. IsGoodHistory (spec_by key) n kept.core.history) same_many kept.good.history;
+    own = λ k pass e. (kept.good.passes k (core_of pass) (is_core k pass e)).own;
+    rows = λ p lt. homes p (Some (kept_of (spec_by key) (fragment_of (spec_by key) (replay (spec_by key) kept.core.history) p))) (closed_home p (let w = kept.shows.slots in omega (arith, wide)));
+  }
+
+-- the row's table at the end
+module _ (a : Inside) (row : RowSeen) (is : row_seen a ≡ row) (whole : IsWholeRow a) (passes : List PassSeen) (id : ℕ) (v : View) (words : List ℕ) (slots : List Slot)
+    (all : v ≡ passes_view (standings_of passes)) (final : Final (Seen (IsKept a.table.shared.key) id v) words slots) (numbers : numbers_of passes ≡ range_with_len 0 row.key.passes) (idle : All IsIdle passes) where
+  closed_slots : AreClosed (spec_of (row_seen a)) passes slots
+  closed_slots = go final
+    where
+      go : Final (Seen (IsKept a.table.shared.key) id v) words slots → AreClosed (spec_by a.table.shared.key) passes slots
+      go (s, (kept, at), same, wide, homes) =
+          closed a.table.shared.key id passes s kept (at ∙ ap some all) (numbers ∙ ap (λ (r : RowSeen). range_with_len 0 r.key.passes) (sym is)) (λ k pass e. all_at IsIdle passes k pass idle e) slots wide homes
+
+  -- each slot has a fragment
+  pub closed_slot : (p : ℕ) → p < length slots → (keep : KeptRows) × (get_elem? slots p ≡ some (Some keep))
+  closed_slot p lt = (kept_of (spec_by a.table.shared.key) (fragment_of (spec_by a.table.shared.key) (replay (spec_by a.table.shared.key) closed_slots.history) p), closed_slots.rows p lt)
+
+  -- and the fragments that were taken out of them are those of one history
+  pub has_history : (fragments : List KeptRows) → length fragments ≡ length slots → length slots ≡ a.table.shared.table_id.slots
+      → ((p : ℕ) (keep : KeptRows) → p < length slots → get_elem? slots p ≡ some (Some keep) → slice_get fragments p ≡ Some keep) → HasHistory (spec_of row) passes fragments
+  has_history fragments wide count items = subst (λ (r : RowSeen). HasHistory (spec_of r) passes fragments) is (record {
+    history = closed_slots.history;
+    good = closed_slots.good;
+    own = closed_slots.own;
+    count = wide ∙ count ∙ whole.slots;
+    rows = λ p lt. (let inside : p < length slots = omega (arith, wide) in items p (kept_of (spec_by a.table.shared.key) (fragment_of (spec_by a.table.shared.key) (replay (spec_by a.table.shared.key) closed_slots.history) p)) inside (closed_slots.rows p inside));
+  })
+
+-- the fragments that were taken, and one more
+pub taken_more : (slots : List Slot) (taken : List KeptRows) (keep : KeptRows) (i : ℕ) → length taken ≡ i → get_elem? slots i ≡ some (Some keep)
+    → ((p : ℕ) (k : KeptRows) → p < i → get_elem? slots p ≡ some (Some k) → slice_get taken p ≡ Some k)
+    → (p : ℕ) (k : KeptRows) → p < i + 1 → get_elem? slots p ≡ some (Some k) → slice_get (taken ++ keep ∷ []) p ≡ Some k
+taken_more slots taken keep i count here before p k lt at = elim (cases_eq p i) [
+  | inl e ↦ ap (slice_get (taken ++ keep ∷ [])) (e ∙ sym count) ∙ get_last taken keep ∙ some-injective (Some keep) (Some k) (sym here ∙ ap (get_elem? slots) (sym e) ∙ at)
+  | inr apart ↦ get_before taken (keep ∷ []) p k (before p k (omega (arith, lt, apart)) at)
+]
+
+-- the slot of a stripe at home isn't empty
+pub slot_clash : (x : Slot) (keep : KeptRows) → x ≡ None → x ≡ Some keep → ⊥
+slot_clash x keep a b = let e : None ≡ Some keep = sym a ∙ b in cc

@@ -1,0 +1,28 @@
+-- What a step told, once the number that it found was tested.
+use Rattle.std.proofs.Common.{◌≡◌, ◌≢◌, ℕ, ◌%◌, Bool, subst}
+use Rattle.std.specs.Prelude.{MatchBool, Option, Some, None, IfSome, IfNone}
+use Rattle.std.proofs.lemmas.Bool.{eq-eqb, ne_eqb}
+use Rattle.rc_row.specs.declared.law.Key.{Key}
+use Rattle.rc_row.specs.declared.law.View.{View}
+use Rattle.atomic_table.specs.Table.{Me}
+use Rattle.rc_row.specs.Law.{Slot}
+use Rattle.rc_row.specs.Told.{EntersOrTurns, HasEntered, HasLatched, HasLocked, HasTurned, IsLatchedOut, IsLockedOut, LatchesOrNot, LocksOrNot}
+
+module _ (key : Key) (m m' : Me Slot View) (p found : ℕ) where
+  pub has_locked : found ≡ 0 → LocksOrNot key m p found m' → HasLocked key m p m'
+  has_locked e t = subst (λ (b : Bool). MatchBool b (HasLocked key m p m') (IsLockedOut key m p found m')) (eq-eqb found 0 e) t
+
+  pub has_entered : found % 65536 ≡ 0 → EntersOrTurns key m p found m' → HasEntered key m p m'
+  has_entered e t = subst (λ (b : Bool). MatchBool b (HasEntered key m p m') (HasTurned key m p found m')) (eq-eqb (found % 65536) 0 e) t
+
+  pub has_latched : found ≡ 0 → LatchesOrNot key m p found m' → HasLatched key m p m'
+  has_latched e t = subst (λ (b : Bool). MatchBool b (HasLatched key m p m') (IsLatchedOut key m p found m')) (eq-eqb found 0 e) t
+
+  pub is_latched_out : found ≢ 0 → LatchesOrNot key m p found m' → IsLatchedOut key m p found m'
+  is_latched_out n t = subst (λ (b : Bool). MatchBool b (HasLatched key m p m') (IsLatchedOut key m p found m')) (ne_eqb found 0 n) t
+
+pub some_of : {A : Type 0} (o : Option A) (x : A) (P : A → Type 0) → o ≡ Some x → IfSome o P → P x
+some_of {A} o x P e t = subst (λ (y : Option A). IfSome y P) e t
+
+pub none_of : {A : Type 0} (o : Option A) (P : Type 0) → o ≡ None → IfNone o P → P
+none_of {A} o P e t = subst (λ (y : Option A). IfNone y P) e t

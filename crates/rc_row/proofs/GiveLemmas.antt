@@ -1,0 +1,107 @@
+-- What is known of the fragment of a stripe that is given back.
+use Rattle.std.proofs.Common.{◌≡◌, ℕ, ◌+◌, ◌-◌, ◌≤◌, Bool, List, [], ◌∷◌, ◌++◌, length, take, if◌then◌else◌, None, sym, refl, ap, ◌∙◌, subst, inl, inr, arith}
+use Rattle.std.specs.List.{All, remove}
+use Rattle.std.specs.Prelude.{vec_len}
+use Rattle.std.specs.Ordering.{nat_cmp}
+use Rattle.std.proofs.lemmas.Bool.{eq-eqb, ne_eqb}
+use Rattle.std.proofs.lemmas.List.{map-append}
+use Rattle.std.proofs.lemmas.List.Elements.{All-get_or}
+use Rattle.std.proofs.Math.Seq.{take-length}
+use Rattle.rc_tuple.specs.RisingSet.{In, IsRising}
+use Rattle.rc_tuple.specs.RisingSetLaws.{in_append}
+use Rattle.rc_spec.specs.declared.lock.Mode.{Mode}
+use Rattle.rc_spec.specs.declared.spec.Spec.{Spec}
+use Rattle.rc_fragment.specs.Fragment.{edge_table}
+use Rattle.rc_fragment.specs.FragmentRows.{FragmentRows}
+use Rattle.rc_fragment.specs.Keep.{IsAtRest, kept_rows}
+use Rattle.rc_core.specs.declared.state.Hold.{Hold}
+use Rattle.rc_core.specs.State.{hold, held_in, shares_of, stripes_in, writes_of}
+use Rattle.rc_core.specs.Passes.{rows_of_hold}
+use Rattle.rc_core.specs.ListLaws.{in_stripes_in, stripes_have}
+use Rattle.rc_spec.specs.declared.lock.Mode.TheVariants.{Exclusive, Shared}
+use Rattle.atomic_table.specs.Table.{rest}
+use Rattle.rc_row.specs.declared.law.View.{View}
+use Rattle.rc_row.specs.declared.pass.Pass.TheInside.{Inside}
+use Rattle.rc_row.specs.HeldRows.{HeldRows}
+use Rattle.rc_row.specs.Law.{Slot, kept_of, standing_of}
+use Rattle.rc_row.specs.PassInside.{IsWholePass, hands, pass_seen}
+use Rattle.rc_row.specs.Passes.{OfHeld, PassSeen, core_of, held_without, holds_taken}
+use Rattle.rc_row.specs.Turns.{IsHeldAt, turned_by_count}
+use Rattle.rc_row.proofs.TurnLemmas.{place_inside, read_here, some_out, turned_first}
+use Rattle.rc_row.proofs.ChangeLemmas.{gone_here, not_after, removed_here}
+use Rattle.rc_row.proofs.WholeLemmas.{rising_there, taken_seen}
+
+rows_else : (before more : List HeldRows) (p : ℕ) → (In p (stripes_in (holds_taken before)) → ⊥) → rows_of_hold (holds_taken (before ++ more)) p ≡ rows_of_hold (holds_taken more) p
+rows_else [] more p none = refl
+rows_else (h ∷ before) more p none =
+    ap (λ (b : Bool). if b then h.fragment.taken else rows_of_hold (holds_taken (before ++ more)) p) (ne_eqb h.stripe p (λ e. none (inl (sym e)))) ∙ rows_else before more p (λ m. none (inr m))
+
+pub take_all : (held : List HeldRows) (n : ℕ) → n ≡ length held → take n held ≡ held
+take_all held n e = ap (λ (k : ℕ). take k held) e ∙ take-length held
+
+module _ (held : List HeldRows) (p at : ℕ) (h : IsHeldAt held p at) where
+  -- the core has the stripe with the rows as taken
+  pub rows_here : rows_of_hold (holds_taken held) p ≡ h.here.fragment.taken
+  rows_here =
+      ap (λ (hs : List HeldRows). rows_of_hold (holds_taken hs) p) h.is ∙ rows_else h.before (h.here ∷ h.after) p h.first
+      ∙ ap (λ (b : Bool). if b then h.here.fragment.taken else rows_of_hold (holds_taken h.after) p) (eq-eqb h.here.stripe p h.stripe)
+
+  -- what is true of each is true of it
+  pub each_here : (P : HeldRows → Type 0) → All P held → P h.here
+  each_here P all = subst P (read_here held p at h h.here) (All-get_or P held at h.here (place_inside held p at h) all)
+
+  -- the mode in which the core has it
+  pub mode_here : (mode : Mode) → IsRising nat_cmp (stripes_in (holds_taken held)) → In p (stripes_in (held_in mode (holds_taken held))) → h.here.mode ≡ mode
+  mode_here mode up m =
+      let w = in_stripes_in mode p (holds_taken held) m in
+      let among : In w.0 (holds_taken h.before ++ holds_taken (h.here ∷ h.after)) = subst (In w.0) (ap holds_taken h.is ∙ map-append (λ (x : HeldRows). hold x.stripe x.mode x.fragment.taken) h.before (h.here ∷ h.after)) w.1 in
+      elim (in_append w.0 (holds_taken h.before) (holds_taken (h.here ∷ h.after)) among) [
+        | inl x ↦ absurd (h.first (subst (λ (q : ℕ). In q (stripes_in (holds_taken h.before))) (sym w.3) (stripes_have w.0 (holds_taken h.before) x)))
+        | inr (inl e) ↦ ap (λ (x : Hold). x.mode) (sym e) ∙ w.2
+        | inr (inr x) ↦ absurd (not_after held p at h up (subst (λ (q : ℕ). In q (stripes_in (holds_taken h.after))) (sym w.3) (stripes_have w.0 (holds_taken h.after) x)))
+      ]
+
+  -- at rest, it goes home as the rows that the core has
+  pub kept_here : (spec : Spec) → All (λ (x : HeldRows). x.fragment.table ≡ edge_table spec) held → All (λ (x : HeldRows). x.stripe ≡ p → IsAtRest x.fragment) held
+      → kept_rows h.here.fragment ≡ kept_of spec (rows_of_hold (holds_taken held) p)
+  kept_here spec shapes rest =
+      let shape = each_here (λ (x : HeldRows). x.fragment.table ≡ edge_table spec) shapes in
+      let still = each_here (λ (x : HeldRows). x.stripe ≡ p → IsAtRest x.fragment) rest h.stripe in
+      λ i. record { table = shape i; rows = (sym still.taken ∙ sym rows_here) i }
+
+-- ---- of a pass
+
+module _ (a : Inside) (whole : IsWholePass a) (seen : PassSeen) (is : pass_seen a ≡ seen) (p at : ℕ) (h : IsHeldAt a.held.items p at) where
+  pub writes_here : In p (writes_of (core_of seen)) → h.here.mode ≡ Exclusive
+  writes_here m = mode_here a.held.items p at h Exclusive (rising_there a whole) (subst (λ (hs : List Hold). In p (stripes_in (held_in Exclusive hs))) (sym (taken_seen a whole seen is)) m)
+
+  pub shares_here : In p (shares_of (core_of seen)) → h.here.mode ≡ Shared
+  shares_here m = mode_here a.held.items p at h Shared (rising_there a whole) (subst (λ (hs : List Hold). In p (stripes_in (held_in Shared hs))) (sym (taken_seen a whole seen is)) m)
+
+  -- what is left of it without the stripe
+  pub left_here : (items : List HeldRows) → items ≡ remove a.held.items at → (items ≡ h.before ++ h.after) × (items ≡ held_without a.held.items p)
+  left_here items e =
+      let gone = e ∙ removed_here a.held.items p at h in
+      (gone, gone ∙ sym (gone_here a.held.items p at h (rising_there a whole)))
+
+  -- the fragment, as a slot keeps it, has the rows that the core has
+  pub home_here : (spec : Spec) (f : FragmentRows) (v : View) → f ≡ h.here.fragment → All (λ (x : HeldRows). x.fragment.table ≡ edge_table spec) seen.held → OfHeld seen.held p IsAtRest → v ≡ a.seat.me.0
+      → kept_rows f ≡ kept_of spec (rows_of_hold (standing_of v).core.held p)
+  home_here spec f v same shapes rest e =
+      let items = sym (ap (λ (s : PassSeen). s.held) is) in
+      ap kept_rows same ∙ kept_here a.held.items p at h spec (subst (All (λ (x : HeldRows). x.fragment.table ≡ edge_table spec)) items shapes) (subst (λ (hs : List HeldRows). OfHeld hs p IsAtRest) items rest)
+      ∙ ap (λ (hs : List Hold). kept_of spec (rows_of_hold hs p)) (whole.agrees.taken ∙ ap (λ (w : View). (standing_of w).core.held) (sym e))
+
+  module _ (m : In p (writes_of (core_of seen))) (all len below : ℕ) (a_is : all ≡ length (hands (take len a.held.items))) (len_is : len ≡ vec_len a.held) (below_is : below ≡ length (hands (take at a.held.items))) where
+    all_is : all ≡ length (hands a.held.items)
+    all_is = a_is ∙ ap (λ (hs : List HeldRows). length (hands hs)) (take_all a.held.items len (len_is ∙ a.held.ok.0))
+
+    pub some_above : 1 + below ≤ all
+    some_above = let some = some_out a.held.items p at h (writes_here m) in let e = all_is in omega arith
+
+    pub front_here : (slots : List (ℕ × Slot)) → slots ≡ turned_by_count (all - 1 - below) a.seat.me.1 → slots ≡ (p, None) ∷ hands h.before ++ hands h.after
+    front_here slots e = e ∙ turned_first a.held.items p at h (writes_here m) (all - 1 - below) a.seat.me.1 (λ i. all_is i - 1 - below_is i) whole.agrees.hands_are
+
+-- what lies in front, and the rest
+pub front_of : (slots more : List (ℕ × Slot)) (x : ℕ × Slot) → slots ≡ x ∷ more → slots ≡ x ∷ rest slots
+front_of slots more x e = e ∙ ap (λ (xs : List (ℕ × Slot)). x ∷ xs) (sym (ap rest e))

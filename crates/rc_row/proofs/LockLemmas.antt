@@ -1,0 +1,126 @@
+-- Locking a stripe to write it, and unlocking it, keep the rule.
+use Rattle.std.proofs.Common.{◌≡◌, ◌≢◌, ℕ, suc, ◌*◌, ◌+◌, ◌-◌, ◌%◌, ◌^◌, ◌<◌, ◌==◌, List, ◌∷◌, length, set, Some, None, sym, refl, ap, ◌∙◌, subst, inl, inr, arith, length-set}
+use Rattle.std.specs.Prelude.{slice_index}
+use Rattle.std.specs.List.{slice_get}
+use Rattle.std.proofs.lemmas.Bool.{cases_eq, eq-eqb, ne_eqb}
+use Rattle.std.proofs.lemmas.List.{set-get_or}
+use mathlib.Core.Option.{some, none}
+use lib.ListN.{get_elem?}
+use prog.Atomic.{either}
+use Rattle.rc_tuple.specs.RisingSet.{In}
+use Rattle.rc_tuple.specs.RisingSetLaws.{has_in}
+use Rattle.rc_spec.specs.Fragments.{EdgeRow}
+use Rattle.rc_spec.specs.declared.lock.Mode.TheVariants.{Exclusive}
+use Rattle.rc_core.specs.declared.state.CoreState.{CoreState}
+use Rattle.rc_core.specs.declared.state.Keeper.TheVariants.{Home, Writer}
+use Rattle.rc_core.specs.declared.state.PassState.{PassState}
+use Rattle.rc_core.specs.declared.state.StripeState.{StripeState}
+use Rattle.rc_core.specs.State.{stripe_at, home_rows, writes_of}
+use Rattle.rc_core.specs.Passes.{IsHigh, locked, blocked, released, rows_of_hold}
+use Rattle.rc_core.specs.Events.{with_pass, with_keeper, IsUnlocked}
+use Rattle.rc_core.specs.KeepsLaws.{lock_keeps, block_keeps, unlock_keeps}
+use Rattle.atomic_table.specs.Table.{State, step, Act, keeps, takes, gives, stepped, Allows, Valid, carried_after}
+use Rattle.atomic_table.proofs.Lists.{set_here, set_else}
+use Rattle.rc_row.specs.declared.law.Key.{Key}
+use Rattle.rc_row.specs.declared.law.Standing.{Standing}
+use Rattle.rc_row.specs.declared.law.View.{View}
+use Rattle.rc_row.specs.Law.{Slot, kept_of, spec_by, stripes_by, stripe_word, writer_mark, pass_view, IsKept}
+use Rattle.rc_row.specs.Standings.{KeepsOut, with_core, refused}
+use Rattle.rc_row.specs.Told.{found_in_word, HasLocked, IsLockedOut, LocksOrNot, ToldAtLock, ToldAtUnlock}
+use Rattle.rc_core.specs.ListLaws.{get_set_same}
+use Rattle.rc_row.proofs.MoveLemmas.{its_pass}
+use Rattle.rc_row.proofs.StripeLemmas.{by_true, by_false, has_one, home_is, free_word, mark_of_writer, keeps_writer_out, there, made, homes_with, no_latch, moved_stripe, moved_alone, high_unwritten}
+
+-- what a lock owes, where the number found in the word becomes n
+abbrev LockOwes : Key → ℕ → ℕ → Standing → List (ℕ × Slot) → State Slot View → ℕ → ℕ → Type 0
+LockOwes key p id a carried s n found = (w : View) × (act : Act Slot) × Valid s.homes carried act × IsKept key (stepped s (stripe_word p) n id carried w act) × LocksOrNot key (pass_view a, carried) p found (w, carried_after carried act)
+
+module _ (key : Key) (p id : ℕ) (a : Standing) (carried : List (ℕ × Slot)) (lt : p < stripes_by key) (s : State Slot View) (kept : IsKept key s) (at : get_elem? s.views id ≡ some (pass_view a)) where
+  -- a lock that finds the stripe free
+  lock_takes : IsHigh a.core p → (found : ℕ) → slice_index s.words (stripe_word p) ≡ found → found ≡ 0 → LockOwes key p id a carried s (suc a.core.number) found
+  lock_takes high found read free =
+      let k : ℕ = a.core.number in
+      let c : CoreState = kept.core in
+      let t : StripeState = stripe_at kept.core.stripes p in
+      let is : slice_get kept.core.passes a.core.number ≡ Some a.core = its_pass key s kept id a None at in
+      let unlocked : IsUnlocked (stripe_at kept.core.stripes p) = free_word (stripe_at kept.core.stripes p) (sym (kept.shows.words p lt) ∙ read ∙ free) in
+      let rows : List EdgeRow = home_rows (stripe_at kept.core.stripes p).keeper in
+      let w : PassState = locked a.core p rows in
+      let good = lock_keeps (spec_by key) c k p a.core kept.good is (there key s kept p lt) high unlocked in (
+        pass_view (with_core a w),
+        takes p (Some (kept_of (spec_by key) rows)),
+        kept.shows.homes p rows (there key s kept p lt) (home_is t.keeper unlocked.0) (no_latch key s kept p unlocked.1),
+        moved_stripe key s kept id a at (with_core a w) refl p (suc k) (with_keeper t (Writer k)) lt (let e = ap (λ (xs : List ℕ). length xs) unlocked.1 in omega arith) good
+            (set s.homes p none) (length-set s.homes p none)
+            (homes_with key s kept p (with_keeper t (Writer k)) (set s.homes p none) lt (λ q n. set_else s.homes p q none n) (λ r e f. cc)),
+        by_true (IsLockedOut key (pass_view a, carried) p found (pass_view (with_core a w), (p, Some (kept_of (spec_by key) rows)) ∷ carried)) (found == 0) (eq-eqb found 0 free) (record {
+          rows = rows;
+          view = refl;
+          slots = refl;
+          one = has_one (spec_by key) (with_pass c c.history (set c.stripes p (with_keeper t (Writer k))) k w) k w good (get_set_same c.passes k w a.core is);
+        }),
+      )
+
+  -- a lock that finds the stripe taken
+  lock_blocks : IsHigh a.core p → (found : ℕ) → slice_index s.words (stripe_word p) ≡ found → found ≢ 0 → LockOwes key p id a carried s found found
+  lock_blocks high found read taken =
+      let is : slice_get kept.core.passes a.core.number ≡ Some a.core = its_pass key s kept id a None at in
+      let b : Standing = refused Exclusive a p (found_in_word found) (blocked a.core p) a.core.held in (
+        pass_view b,
+        keeps,
+        tt,
+        subst (λ (words : List ℕ). IsKept key (record { words = words; homes = s.homes; views = set s.views id (pass_view b) })) (sym (ap (set s.words (stripe_word p)) (sym read) ∙ set-get_or s.words (stripe_word p) 0))
+            (moved_alone key s kept id a at b refl (block_keeps (spec_by key) kept.core a.core.number a.core kept.good is p high)),
+        by_false (HasLocked key (pass_view a, carried) p (pass_view b, carried)) (found == 0) (ne_eqb found 0 taken) (record {
+          keeps_out = subst (λ n. KeepsOut Exclusive key.passes a.core.number (found_in_word n)) read
+              (keeps_writer_out key (stripe_at kept.core.stripes p) (slice_index s.words (stripe_word p)) a.core.number (made key s kept p lt) (high_unwritten key s kept id a at p high) (λ e. taken (sym read ∙ e)));
+          view = refl;
+          slots = refl;
+        }),
+      )
+
+-- a compare-exchange on a stripe's word that locks it, or finds it taken
+pub locks : (key : Key) (slots p id : ℕ) (a : Standing) (carried : List (ℕ × Slot)) (new : ℕ) → p < stripes_by key → IsHigh a.core p → new ≡ suc a.core.number
+    → Allows (IsKept key) slots id (pass_view a, carried) (stripe_word p) (λ n. either (n == 0) new n) (ToldAtLock (Some key) (step slots (stripe_word p) 0 new none) (pass_view a, carried))
+locks key slots p id a carried new lt high new_is s kept wide at small =
+    let found : ℕ = slice_index s.words (stripe_word p) in
+    elim (cases_eq found 0) [
+      | inl free ↦ given (either (found == 0) new found) (subst (λ n. LockOwes key p id a carried s n found) (sym new_is ∙ ap (λ b. either b new found) (sym (eq-eqb found 0 free))) (lock_takes key p id a carried lt s kept at high found refl free))
+      | inr taken ↦ given (either (found == 0) new found) (subst (λ n. LockOwes key p id a carried s n found) (ap (λ b. either b new found) (sym (ne_eqb found 0 taken))) (lock_blocks key p id a carried lt s kept at high found refl taken))
+    ]
+  where
+    given : (n : ℕ) → LockOwes key p id a carried s n (slice_index s.words (stripe_word p))
+        → (w : View) × (act : Act Slot) × Valid s.homes carried act × IsKept key (stepped s (stripe_word p) n id carried w act)
+        × ToldAtLock (Some key) (step slots (stripe_word p) 0 new none) (pass_view a, carried) (slice_index s.words (stripe_word p)) (w, carried_after carried act)
+    given n t = (t.0, t.1, t.2, t.3, λ q e. (let same : p ≡ q = omega arith in subst (λ z. LocksOrNot key (pass_view a, carried) z (slice_index s.words (stripe_word p)) (t.0, carried_after carried t.1)) same t.4))
+
+-- a fetch-sub on a stripe's word by its writer: the slot that was taken last goes home, with the rows that the view has for it
+pub unlocks : (key : Key) (slots p id : ℕ) (a : Standing) (others : List (ℕ × Slot)) (mark : ℕ) → p < stripes_by key → In p (writes_of a.core) → mark ≡ suc a.core.number
+    → Allows (IsKept key) slots id (pass_view a, (p, Some (kept_of (spec_by key) (rows_of_hold a.core.held p))) ∷ others) (stripe_word p) (λ n. (n + (2 ^ 64 - mark)) % 2 ^ 64)
+    (ToldAtUnlock (step slots (stripe_word p) mark 0 none) (pass_view a, (p, Some (kept_of (spec_by key) (rows_of_hold a.core.held p))) ∷ others))
+unlocks key slots p id a others mark lt held mark_is s kept wide at small =
+    let k : ℕ = a.core.number in
+    let c : CoreState = kept.core in
+    let is : slice_get kept.core.passes a.core.number ≡ Some a.core = its_pass key s kept id a None at in
+    let w : PassState = released a.core p in
+    let x : ℕ = (slice_index s.words (stripe_word p) + (2 ^ 64 - mark)) % 2 ^ 64 in
+    let rows : List EdgeRow = rows_of_hold a.core.held p in
+    let t : StripeState = with_keeper (stripe_at kept.core.stripes p) (Home (rows_of_hold a.core.held p)) in
+    let home = some (Some (kept_of (spec_by key) rows)) in
+    let good = unlock_keeps (spec_by key) c k p a.core kept.good is (there key s kept p lt) held in (
+      pass_view (with_core a w),
+      gives,
+      tt,
+      moved_stripe key s kept id a at (with_core a w) refl p x t lt left good
+          (set s.homes p home) (length-set s.homes p home)
+          (homes_with key s kept p t (set s.homes p home) lt (λ q n. set_else s.homes p q home n)
+          (λ r e f. set_here s.homes p home (let n = kept.shows.slots in omega arith) ∙ ap (λ y. some (some (Some (kept_of (spec_by key) (home_rows y))))) e)),
+      (λ q e. (let same : p ≡ q = omega arith in (ap (λ z. pass_view (with_core a (released a.core z))) same, refl))),
+    )
+  where
+    mine : writer_mark (stripe_at kept.core.stripes p).keeper ≡ suc a.core.number
+    mine = mark_of_writer (stripe_at kept.core.stripes p).keeper a.core.number
+        (sym ((kept.good.passes a.core.number a.core (its_pass key s kept id a None at)).writes p) ∙ has_in (writes_of a.core) p held)
+
+    left : (slice_index s.words (stripe_word p) + (2 ^ 64 - mark)) % 2 ^ 64 ≡ 0 + 65536 * length (stripe_at kept.core.stripes p).counted
+    left = let m = made key s kept p lt in let i = m.is in let b = m.mark in let d = m.passes in let f = m.count in let g = mine in let h = small in omega arith

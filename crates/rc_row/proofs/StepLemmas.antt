@@ -1,0 +1,91 @@
+-- A pass after a step: it is whole again, and is of its row.
+use Rattle.std.proofs.Common.{◌≡◌, ℕ, ◌<◌, ◌==◌, List, [], ◌∷◌, ◌++◌, length, not, Option, None, sym, refl, ap, ◌∙◌, subst, arith}
+use Rattle.std.specs.Prelude.{vec_capacity}
+use Rattle.std.specs.Ordering.{nat_cmp}
+use Rattle.std.proofs.lemmas.List.Elements.{All-push}
+use Rattle.rc_tuple.specs.RisingSet.{IsRising}
+use Rattle.rc_tuple.specs.RisingSetLaws.{rising_filter}
+use Rattle.rc_spec.specs.declared.lock.Mode.{Mode}
+use Rattle.rc_spec.specs.declared.spec.Spec.{Spec}
+use Rattle.rc_spec.specs.Fragments.{EdgeRow}
+use Rattle.rc_fragment.specs.Fragment.{edge_table}
+use Rattle.rc_journal.specs.PartEntries.{PartEntries}
+use Rattle.rc_rel.specs.declared.entry.Placed.{Placed}
+use Rattle.rc_core.specs.declared.state.Hold.{Hold}
+use Rattle.rc_core.specs.State.{stripes_in}
+use Rattle.rc_core.specs.Passes.{IsAbove, other_holds, took, released}
+use Rattle.rc_core.specs.ListLaws.{stripes-other}
+use Rattle.atomic_table.specs.Seated.{TableId}
+use Rattle.rc_row.specs.declared.law.Standing.{Standing}
+use Rattle.rc_row.specs.declared.pass.Pass.TheInside.{Inside}
+use Rattle.rc_row.specs.HeldRows.{HeldRows, just_held}
+use Rattle.rc_row.specs.Law.{kept_of, pass_view, standing_of}
+use Rattle.rc_row.specs.PassInside.{AreOwnKept, IsWholePass, hand_of, hands, pass_seen}
+use Rattle.rc_row.specs.Passes.{IsPassOf, PassSeen, RowSeen, held_without, holds_taken, spec_of, stripes_of, with_taken, without_stripe}
+use Rattle.rc_row.specs.Standings.{with_core}
+use Rattle.rc_row.proofs.AgreeLemmas.{agrees_as, agrees_taken}
+use Rattle.rc_row.proofs.ChangeLemmas.{taken-without}
+
+-- a pass keeps its number, what it has seen and its entries
+pub record KeepsOwn (a b : Inside) : Type 0 where
+  pub number : b.number ≡ a.number
+  pub seen : b.seen ≡ a.seen
+  pub made : b.made ≡ a.made
+  pub entries : b.entries ≡ a.entries
+  pub table : b.seat.table_id ≡ a.seat.table_id
+  pub room : vec_capacity b.held ≡ vec_capacity a.held
+
+module _ (a b : Inside) (whole : IsWholePass a) (keeps : KeepsOwn a b) where
+  -- the rest of a pass is whole where its own entries and what it has seen are as they were
+  pub whole_as : (s : Standing) → b.seat.me.0 ≡ pass_view s → s.core.seen ≡ (standing_of a.seat.me.0).core.seen → s.core.own ≡ (standing_of a.seat.me.0).core.own
+      → s.core.number ≡ (standing_of a.seat.me.0).core.number → s.core.turning ≡ None → b.seat.me.1 ≡ hands b.held.items → holds_taken b.held.items ≡ s.core.held
+      → IsRising nat_cmp (stripes_in s.core.held) → IsWholePass b
+  whole_as s view seen own number ahead slots taken rising =
+      let is : standing_of b.seat.me.0 ≡ s = ap standing_of view in
+      let same_own : (standing_of b.seat.me.0).core.own ≡ (standing_of a.seat.me.0).core.own = ap (λ (t : Standing). t.core.own) is ∙ own in
+      record {
+        agrees = agrees_as b.number s b.seat.me b.held.items view (keeps.number ∙ whole.agrees.number_is ∙ sym number) (let n = keeps.number in let l = whole.agrees.small in omega arith) ahead slots taken rising;
+        seen = keeps.seen ∙ whole.seen ∙ sym seen ∙ sym (ap (λ (t : Standing). t.core.seen) is);
+        made = keeps.made ∙ whole.made ∙ ap (λ (xs : List Placed). length xs) (sym same_own);
+        entries = subst (λ (z : Option PartEntries × List Placed). AreOwnKept z.0 z.1) (λ i. (sym keeps.entries i, sym same_own i)) whole.entries;
+        room = let r = whole.room in let c = keeps.room in let t = ap (λ (t : TableId). t.slots) keeps.table in omega arith;
+      }
+
+  pub whole_taken : (spec : Spec) (mode : Mode) (p : ℕ) (rows : List EdgeRow) → IsAbove (standing_of a.seat.me.0).core p
+      → b.seat.me.0 ≡ pass_view (with_core (standing_of a.seat.me.0) (took mode (standing_of a.seat.me.0).core p rows)) → b.seat.me.1 ≡ hand_of mode p ++ a.seat.me.1
+      → b.held.items ≡ a.held.items ++ just_held p mode (kept_of spec rows) ∷ [] → IsWholePass b
+  whole_taken spec mode p rows above view slots held =
+      let g = agrees_taken a.number a.seat.me a.held.items whole.agrees spec mode p rows b.seat.me above view slots in
+      let is : standing_of b.seat.me.0 ≡ with_core (standing_of a.seat.me.0) (took mode (standing_of a.seat.me.0).core p rows) = ap standing_of view in
+      whole_as (with_core (standing_of a.seat.me.0) (took mode (standing_of a.seat.me.0).core p rows)) view refl refl refl whole.agrees.ahead
+      (g.hands_are ∙ ap hands (sym held)) (ap holds_taken held ∙ g.taken ∙ ap (λ (t : Standing). t.core.held) is)
+      (subst (λ (t : Standing). IsRising nat_cmp (stripes_in t.core.held)) is g.rising)
+
+  pub seen_taken : (spec : Spec) (mode : Mode) (p : ℕ) (rows : List EdgeRow) (seen : PassSeen) → pass_seen a ≡ seen
+      → b.seat.me.0 ≡ pass_view (with_core (standing_of a.seat.me.0) (took mode (standing_of a.seat.me.0).core p rows))
+      → b.held.items ≡ a.held.items ++ just_held p mode (kept_of spec rows) ∷ [] → pass_seen b ≡ with_taken spec mode p rows seen
+  seen_taken spec mode p rows seen is view held =
+      (λ i. record { table = keeps.table i; standing = standing_of (view i); held = held i; kept = keeps.entries i }) ∙ ap (with_taken spec mode p rows) is
+
+  -- a stripe given back
+  pub whole_without : (p : ℕ) → b.seat.me.0 ≡ pass_view (with_core (standing_of a.seat.me.0) (released (standing_of a.seat.me.0).core p)) → b.seat.me.1 ≡ hands b.held.items
+      → b.held.items ≡ held_without a.held.items p → IsWholePass b
+  whole_without p view slots held =
+      whole_as (with_core (standing_of a.seat.me.0) (released (standing_of a.seat.me.0).core p)) view refl refl refl whole.agrees.ahead slots
+      (ap holds_taken held ∙ taken-without p a.held.items ∙ ap (λ (hs : List Hold). other_holds hs p) whole.agrees.taken)
+      (subst (IsRising nat_cmp) (sym (stripes-other (standing_of a.seat.me.0).core.held p)) (rising_filter nat_cmp (λ (q : ℕ). not (q == p)) (stripes_in (standing_of a.seat.me.0).core.held) whole.agrees.rising))
+
+  pub seen_without : (p : ℕ) (seen : PassSeen) → pass_seen a ≡ seen → b.seat.me.0 ≡ pass_view (with_core (standing_of a.seat.me.0) (released (standing_of a.seat.me.0).core p))
+      → b.held.items ≡ held_without a.held.items p → pass_seen b ≡ without_stripe p seen
+  seen_without p seen is view held =
+      (λ i. record { table = keeps.table i; standing = standing_of (view i); held = held i; kept = keeps.entries i }) ∙ ap (without_stripe p) is
+
+-- ---- whose a pass is
+
+pub pass_of_taken : (row : RowSeen) (pass : PassSeen) (mode : Mode) (p : ℕ) (rows : List EdgeRow) → IsPassOf row pass → p < stripes_of row → IsPassOf row (with_taken (spec_of row) mode p rows pass)
+pass_of_taken row pass mode p rows of lt = record {
+  table = of.table;
+  inside = All-push (λ (h : HeldRows). h.stripe < stripes_of row) pass.held (just_held p mode (kept_of (spec_of row) rows)) of.inside lt;
+  shapes = All-push (λ (h : HeldRows). h.fragment.table ≡ edge_table (spec_of row)) pass.held (just_held p mode (kept_of (spec_of row) rows)) of.shapes refl;
+  keeps = of.keeps;
+}

@@ -1,0 +1,222 @@
+-- What the table shows of a stripe, and the changes of one pass that leave the latches alone.
+use Rattle.std.proofs.Common.{◌≡◌, ◌≢◌, ℕ, suc, ◌*◌, ◌+◌, ◌-◌, ◌/◌, ◌%◌, ◌<◌, ◌≤◌, ◌==◌, ◌||◌, Bool, true, false, List, [], ◌∷◌, length, set, Option, Some, None, if◌then◌else◌, sym, refl, ap, ◌∙◌, subst, inl, inr, arith, length-set}
+use Rattle.std.specs.Prelude.{slice_index, MatchBool}
+use Rattle.std.specs.List.{slice_get}
+use Rattle.std.proofs.lemmas.Bool.{cases_eq, false≢true, eq-eqb, ne_eqb, eqb-true, eqb-false}
+use Rattle.std.proofs.lemmas.List.{get_or-set_same, get_or-set_other}
+use mathlib.Core.Option.{some}
+use lib.ListN.{get_elem?}
+use Rattle.rc_tuple.specs.RisingSet.{In}
+use Rattle.rc_tuple.specs.ColSet.{has}
+use Rattle.rc_spec.specs.Fragments.{EdgeRow}
+use Rattle.rc_spec.specs.declared.lock.Found.TheVariants.{Pass, Readers}
+use Rattle.rc_spec.specs.declared.lock.Mode.TheVariants.{Shared, Exclusive}
+use Rattle.rc_spec.specs.declared.spec.Spec.{Spec}
+use Rattle.rc_rel.specs.declared.entry.Entry.{Entry}
+use Rattle.rc_rel.specs.HistoryLaws.{states_are_relations, states_satisfy, replay_in_states}
+use Rattle.rc_rel.specs.History.{replay}
+use Rattle.rc_core.specs.declared.state.CoreState.{CoreState}
+use Rattle.rc_core.specs.declared.state.Keeper.{Keeper}
+use Rattle.rc_core.specs.declared.state.Keeper.TheVariants.{Home, Writer}
+use Rattle.rc_core.specs.declared.state.PassState.{PassState}
+use Rattle.rc_core.specs.declared.state.StripeState.{StripeState}
+use Rattle.rc_core.specs.State.{stripe_at, no_stripe, has_writer, is_writer, home_rows, writes_of, is_at}
+use Rattle.rc_core.specs.Passes.{IsHigh}
+use Rattle.rc_core.specs.Events.{with_pass, IsUnlocked}
+use Rattle.rc_core.specs.Good.{IsGood, IsGoodKeeper}
+use Rattle.rc_core.specs.ListLaws.{each_changed, not_has}
+use Rattle.rc_core.specs.KeepsLaws.{above_itself, writes_held}
+use Rattle.rc_core.specs.AgreeLaws.{sharing_counted}
+use Rattle.rc_core.specs.SizeLaws.{few_tuples, few_counted}
+use Rattle.atomic_table.specs.Table.{State}
+use Rattle.rc_row.specs.declared.law.Key.{Key}
+use Rattle.rc_row.specs.declared.law.Standing.{Standing}
+use Rattle.rc_row.specs.declared.law.View.{View}
+use Rattle.rc_row.specs.Law.{Slot, kept_of, spec_by, stripes_by, stripe_word, latch_word, writer_mark, word_of, pass_view, AreSeatedAt, HasLatch, HaveLatch, has_pass, HomesAre, IsKept}
+use Rattle.rc_row.specs.Standings.{KeepsOut, HaveOneRelation}
+use Rattle.rc_row.specs.Told.{found_in_word}
+use Rattle.rc_row.proofs.MoveLemmas.{Home?, moved, its_pass, its_latch}
+
+-- ---- choices by a test
+
+pub by_true : {X : Type 0} (Y : Type 0) (b : Bool) → b ≡ true → X → MatchBool b X Y
+by_true Y true e x = x
+by_true Y false e x = absurd (false≢true e)
+
+pub by_false : (X : Type 0) {Y : Type 0} (b : Bool) → b ≡ false → Y → MatchBool b X Y
+by_false X true e y = absurd (false≢true (sym e))
+by_false X false e y = y
+
+-- ---- what a good state says
+
+-- what a pass of a good state holds has one relation
+pub has_one : (spec : Spec) (c : CoreState) (k : ℕ) (u : PassState) → IsGood spec c → slice_get c.passes k ≡ Some u → HaveOneRelation spec u.held
+has_one spec c k u good at = record {
+  relation = replay spec c.history;
+  is_relation = states_are_relations spec c.history good.history.fit (replay spec c.history) (replay_in_states spec c.history);
+  satisfies = states_satisfy spec c.history (replay spec c.history) (replay_in_states spec c.history);
+  few = (let l = few_tuples spec c good in omega arith);
+  rows = (good.passes k u at).rows;
+}
+
+pub home_is : (x : Keeper) → has_writer x ≡ false → x ≡ Home (home_rows x)
+home_is (Home rows) e = refl
+home_is (Writer k) e = absurd (false≢true (sym e))
+
+-- a word that is 0
+pub free_word : (t : StripeState) → word_of t ≡ 0 → IsUnlocked t
+free_word t e = go t.keeper t.counted e
+  where
+    go : (x : Keeper) (counted : List ℕ) → writer_mark x + 65536 * length counted ≡ 0 → (has_writer x ≡ false) × (counted ≡ [])
+    go (Home rows) [] e = (refl, refl)
+    go (Home rows) (k ∷ counted) e = absurd (omega arith)
+    go (Writer k) counted e = absurd (omega arith)
+
+-- a word with no writer
+pub unwritten_word : (x : Keeper) → writer_mark x ≡ 0 → has_writer x ≡ false
+unwritten_word (Home rows) e = refl
+unwritten_word (Writer k) e = absurd (omega arith)
+
+mark_known : (spec : Spec) (history : List Entry) (passes p : ℕ) (x : Keeper) → IsGoodKeeper spec history passes p x → writer_mark x ≤ passes
+mark_known spec history passes p (Home rows) g = omega arith
+mark_known spec history passes p (Writer k) g = omega (arith, g)
+
+mark_other : (x : Keeper) (k : ℕ) → is_writer x k ≡ false → writer_mark x ≢ suc k
+mark_other (Home rows) k e n = omega arith
+mark_other (Writer j) k e n = let m = eqb-false j k e in m (omega arith)
+
+pub mark_of_writer : (x : Keeper) (k : ℕ) → is_writer x k ≡ true → writer_mark x ≡ suc k
+mark_of_writer (Home rows) k e = absurd (false≢true e)
+mark_of_writer (Writer j) k e = ap suc (eqb-true j k e)
+
+-- what a stripe's word is made of
+pub record IsMade (key : Key) (t : StripeState) (word : ℕ) : Type 0 where
+  pub is : word ≡ writer_mark t.keeper + 65536 * length t.counted
+  pub mark : writer_mark t.keeper ≤ key.passes
+  pub passes : key.passes ≤ 255
+  pub count : length t.counted ≤ 255
+
+-- what is found in a word that isn't free
+pub keeps_writer_out : (key : Key) (t : StripeState) (word me : ℕ) → IsMade key t word → is_writer t.keeper me ≡ false → word ≢ 0 → KeepsOut Exclusive key.passes me (found_in_word word)
+keeps_writer_out key t word me made other some_there = go (word % 65536 == 0) refl
+  where
+    go : (b : Bool) → (word % 65536 == 0) ≡ b → KeepsOut Exclusive key.passes me (if b then Readers (word / 65536) else Pass (word % 65536 - 1))
+    go true e = let z = eqb-true (word % 65536) 0 e in let m = made.is in let a = made.mark in let b = made.passes in let c = made.count in (omega arith, omega arith)
+    go false e = let z = eqb-false (word % 65536) 0 e in let m = made.is in let a = made.mark in let b = made.passes in let c = made.count in let n = mark_other t.keeper me other in (omega arith, λ same. n (omega arith))
+
+pub keeps_reader_out : (key : Key) (t : StripeState) (word me : ℕ) → IsMade key t word → is_writer t.keeper me ≡ false → word % 65536 ≢ 0 → KeepsOut Shared key.passes me (found_in_word word)
+keeps_reader_out key t word me made other taken = go (word % 65536 == 0) refl
+  where
+    go : (b : Bool) → (word % 65536 == 0) ≡ b → KeepsOut Shared key.passes me (if b then Readers (word / 65536) else Pass (word % 65536 - 1))
+    go true e = absurd (taken (eqb-true (word % 65536) 0 e))
+    go false e = let z = eqb-false (word % 65536) 0 e in let m = made.is in let a = made.mark in let b = made.passes in let c = made.count in let n = mark_other t.keeper me other in (omega arith, λ same. n (omega arith))
+
+-- ---- what the table shows
+
+module _ (key : Key) (s : State Slot View) (kept : IsKept key s) where
+  pub there : (p : ℕ) → p < stripes_by key → p < length kept.core.stripes
+  there p lt = subst (λ n. p < n) (sym kept.good.all_stripes) lt
+
+  pub made : (p : ℕ) → p < stripes_by key → IsMade key (stripe_at kept.core.stripes p) (slice_index s.words (stripe_word p))
+  made p lt = record {
+    is = kept.shows.words p lt;
+    mark = subst (λ n. writer_mark (stripe_at kept.core.stripes p).keeper ≤ n) kept.shows.passes
+        (mark_known (spec_by key) kept.core.history (length kept.core.passes) p (stripe_at kept.core.stripes p).keeper (kept.good.stripes p (there p lt)).keeper);
+    passes = subst (λ n. n ≤ 255) kept.shows.passes kept.good.few_passes;
+    count = few_counted (spec_by key) kept.core p kept.good (there p lt);
+  }
+
+  pub word_inside : (p : ℕ) → p < stripes_by key → stripe_word p < length s.words
+  word_inside p lt = let w = kept.shows.wide in omega arith
+
+  pub latch_inside : (p : ℕ) → p < stripes_by key → latch_word (stripes_by key) p < length s.words
+  latch_inside p lt = let w = kept.shows.wide in omega arith
+
+  -- the commit word stays
+  pub commit_stays : (i x : ℕ) → i ≢ 0 → slice_index (set s.words i x) 0 ≡ length kept.core.history
+  commit_stays i x n = get_or-set_other s.words i 0 x 0 (λ e. n (sym e)) ∙ kept.shows.commit
+
+  -- the word of a stripe that changed, and the others
+  pub words_with : (p x : ℕ) (t : StripeState) → p < stripes_by key → x ≡ word_of t
+      → (q : ℕ) → q < stripes_by key → slice_index (set s.words (stripe_word p) x) (stripe_word q) ≡ word_of (stripe_at (set kept.core.stripes p t) q)
+  words_with p x t lt is q below = elim (cases_eq q p) [
+    | inl e ↦ ap (λ n. slice_index (set s.words (stripe_word p) x) (stripe_word n)) e ∙ get_or-set_same s.words (stripe_word p) x 0 (word_inside p lt) ∙ is
+        ∙ ap word_of (sym (ap (stripe_at (set kept.core.stripes p t)) e ∙ get_or-set_same kept.core.stripes p t no_stripe (there p lt)))
+    | inr n ↦ get_or-set_other s.words (stripe_word p) (stripe_word q) x 0 (λ e. n (omega arith)) ∙ kept.shows.words q below
+        ∙ ap word_of (sym (get_or-set_other kept.core.stripes p q t no_stripe n))
+  ]
+
+  -- the latch words stay where a stripe's word changes
+  pub latches_stay : (p x : ℕ) → p < stripes_by key → (q : ℕ) → q < stripes_by key → slice_index (set s.words (stripe_word p) x) (latch_word (stripes_by key) q) ≡ slice_index kept.latches q
+  latches_stay p x lt q below = get_or-set_other s.words (stripe_word p) (latch_word (stripes_by key) q) x 0 (λ e. omega arith) ∙ kept.shows.latch_words q below
+
+  -- the slots at home where a stripe changes
+  pub homes_with : (p : ℕ) (t : StripeState) (homes : List Home?) → p < stripes_by key → ((q : ℕ) → q ≢ p → get_elem? homes q ≡ get_elem? s.homes q)
+      → ((rows : List EdgeRow) → t.keeper ≡ Home rows → slice_index kept.latches p ≡ 0 → get_elem? homes p ≡ some (some (Some (kept_of (spec_by key) rows))))
+      → HomesAre (spec_by key) (set kept.core.stripes p t) kept.latches homes
+  homes_with p t homes lt same here q rows below is free =
+      each_changed (λ j y. j < length kept.core.stripes → y.keeper ≡ Home rows → slice_index kept.latches j ≡ 0 → get_elem? homes j ≡ some (some (Some (kept_of (spec_by key) rows))))
+      kept.core.stripes p t no_stripe (there p lt) (λ l e f. here rows e f) (λ j n l e f. same j n ∙ kept.shows.homes j rows l e f) q
+      (subst (λ n. q < n) (length-set kept.core.stripes p t) below) is free
+
+  -- where the keeper stays, they stay
+  pub homes_stay : (p : ℕ) (t : StripeState) → p < stripes_by key → t.keeper ≡ (stripe_at kept.core.stripes p).keeper → HomesAre (spec_by key) (set kept.core.stripes p t) kept.latches s.homes
+  homes_stay p t lt same = homes_with p t s.homes lt (λ q n. refl) (λ rows e free. kept.shows.homes p rows (there p lt) (sym same ∙ e) free)
+
+  -- a pass that has a latch, by the number in the latch's word
+  latched_pass : (seat : ℕ → ℕ) (id k : ℕ) (latch : Option ℕ) (more : List Standing) → AreSeatedAt kept.core.passes seat id more → HaveLatch kept.latches latch more → has_pass more k ≡ true
+      → (u : PassState) × (slice_get kept.core.passes k ≡ Some u) × HasLatch kept.latches latch u × (u.number ≡ k)
+  latched_pass seat id k latch [] f a has = absurd (false≢true has)
+  latched_pass seat id k latch (x ∷ more) f a has = elim (cases_eq x.core.number k) [
+    | inl e ↦ (x.core, ap (slice_get kept.core.passes) (sym e) ∙ f.0.0, a.0, e)
+    | inr n ↦ latched_pass seat id k latch more f.1 a.1 (sym (ap (λ b. b || has_pass more k) (ne_eqb x.core.number k n)) ∙ has)
+  ]
+
+  -- where nobody is counted in, nobody has the latch
+  pub no_latch : (p : ℕ) → (stripe_at kept.core.stripes p).counted ≡ [] → slice_index kept.latches p ≡ 0
+  no_latch p none_in = elim (cases_eq (slice_index kept.latches p) 0) [
+    | inl e ↦ e
+    | inr taken ↦
+        (let j : ℕ = slice_index kept.latches p - 1 in
+        let named = kept.named p in
+        let x = kept.seated j (omega arith) in
+        let f = kept.views (kept.seat j) x.view x.at in
+        let r = latched_pass kept.seat (kept.seat j) j x.view.latch x.view.passes f.passes f.latch x.has in
+        let number = r.3 in
+        let latched : is_at x.view.latch p ≡ true = ◌∙◌ {b = slice_index kept.latches p == suc r.0.number} (r.2.at p) (eq-eqb (slice_index kept.latches p) (suc r.0.number) (omega arith)) in
+        absurd (subst (In j) none_in (sharing_counted (spec_by key) kept.core kept.good p j r.0 r.1 (r.2.shares p latched))))
+  ]
+
+-- ---- a pass with no latch changes
+
+-- a pass with no latch stays one
+pub still_bare : (latches : List ℕ) (u w : PassState) → HasLatch latches None u → w.number ≡ u.number → HasLatch latches None w
+still_bare latches u w a number = record {
+  at = λ p. a.at p ∙ ap (λ n. slice_index latches p == suc n) (sym number);
+  shares = λ p has. absurd (false≢true has);
+  idle = λ p has. absurd (false≢true has);
+}
+
+module _ (key : Key) (s : State Slot View) (kept : IsKept key s) (id : ℕ) (a : Standing) (at : get_elem? s.views id ≡ some (pass_view a)) where
+  -- it changes with a stripe and its word
+  pub moved_stripe : (b : Standing) → b.core.number ≡ a.core.number → (p x : ℕ) (t : StripeState) → p < stripes_by key → x ≡ word_of t
+      → IsGood (spec_by key) (with_pass kept.core kept.core.history (set kept.core.stripes p t) a.core.number b.core)
+      → (homes : List Home?) → length homes ≡ length s.homes → HomesAre (spec_by key) (set kept.core.stripes p t) kept.latches homes
+      → IsKept key (record { words = set s.words (stripe_word p) x; homes = homes; views = set s.views id (pass_view b) })
+  moved_stripe b number p x t lt is good homes width right =
+      moved key s kept id a None at b None number kept.core.history (set kept.core.stripes p t) good (omega arith)
+      kept.latches refl kept.named (still_bare kept.latches a.core b.core (its_latch key s kept id a None at) number) (λ j q n. refl)
+      (set s.words (stripe_word p) x) homes (length-set s.words (stripe_word p) x) (commit_stays key s kept (stripe_word p) x (λ e. omega arith))
+      (words_with key s kept p x t lt is) (latches_stay key s kept p x lt) width right
+
+  -- it changes alone
+  pub moved_alone : (b : Standing) → b.core.number ≡ a.core.number → IsGood (spec_by key) (with_pass kept.core kept.core.history kept.core.stripes a.core.number b.core)
+      → IsKept key (record { words = s.words; homes = s.homes; views = set s.views id (pass_view b) })
+  moved_alone b number good =
+      moved key s kept id a None at b None number kept.core.history kept.core.stripes good (omega arith)
+      kept.latches refl kept.named (still_bare kept.latches a.core b.core (its_latch key s kept id a None at) number) (λ j q n. refl)
+      s.words s.homes refl kept.shows.commit kept.shows.words kept.shows.latch_words refl kept.shows.homes
+
+  -- a pass for which the stripe is high doesn't write it
+  pub high_unwritten : (p : ℕ) → IsHigh a.core p → is_writer (stripe_at kept.core.stripes p).keeper a.core.number ≡ false
+  high_unwritten p high = sym ((kept.good.passes a.core.number a.core (its_pass key s kept id a None at)).writes p) ∙ not_has (writes_of a.core) p (λ m. above_itself a.core p high.above (writes_held a.core p m))

@@ -1,0 +1,7 @@
+use Rattle.std.proofs.Common.{◌≡◌, ◌++◌, take, drop}
+use Rattle.rc_fragment.specs.FragmentRows.{settled}
+use Rattle.rc_row.specs.Passes.{all_with}
+use Rattle.rc_row.proofs.commit.settle_all.Given as goal
+
+abbrev pub invariant-loop-i : goal.invariant-loop-i
+invariant-loop-i l = (l.held.items ≡ all_with settled (take l.i l.fn.held.items) ++ drop l.i l.fn.held.items) × (l.held.cap ≡ l.fn.held.cap)

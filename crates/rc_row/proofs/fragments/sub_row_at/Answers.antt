@@ -1,0 +1,16 @@
+use Rattle.std.proofs.Common.{◌≡◌, set, ap, ◌∙◌}
+use Rattle.rc_spec.specs.CountedRows.{lowered}
+use Rattle.rc_fragment.specs.FragmentRows.{changed}
+use Rattle.rc_row.proofs.TurnLemmas.{read_here}
+use Rattle.rc_row.proofs.ChangeLemmas.{here_with, changed_here}
+use Rattle.rc_row.proofs.fragments.sub_row_at.Goals as goal
+
+pub returns-clause-items : goal.returns-clause-items
+returns-clause-items c =
+    let h = c.place_of-at.ensures in
+    let held = c.args.held.now.items in
+    let at = c.place_of-at.result in
+    let p = c.args.stripe in
+    let change = changed (lowered c.args.edge c.args.row.now) in
+    let is : c.index_mut.result.now ≡ h.here = c.index_mut.ensures.value ∙ read_here held p at h c.index_mut.result.now in
+    ap (set held at) (c.sub_row.ensures ∙ ap (here_with change) is) ∙ changed_here held p at h c.requires.rising change

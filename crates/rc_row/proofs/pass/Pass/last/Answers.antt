@@ -1,0 +1,19 @@
+use Rattle.std.proofs.Common.{◌≡◌, ◌-◌, List, length, Some, option_copied, sym, ap, ◌∙◌, subst}
+use Rattle.std.specs.List.{slice_get}
+use Rattle.rc_tuple.specs.RisingSet.{In}
+use Rattle.rc_tuple.specs.RisingSetLaws.{slice_get_in}
+use Rattle.rc_row.specs.HeldRows.{HeldRows}
+use Rattle.rc_row.specs.Passes.{PassSeen}
+use Rattle.rc_row.proofs.pass.Pass.last.Goals as goal
+
+pub returns-clause-some : goal.returns-clause-some
+returns-clause-some c =
+    let held = c.deref.result.now in
+    let here = c.in_ok-held.held.now in
+    let is : Some here ≡ slice_get held (length held - 1) = ap option_copied (sym c.in_ok-held.was) ∙ c.last.ensures.value in
+    record {
+      here = here;
+      among = subst (λ (hs : List HeldRows). In here hs) (c.deref.ensures.value ∙ ap (λ (s : PassSeen). s.held) c.self.view_is) (slice_get_in held (length held - 1) here (sym is));
+      stripe_is = sym c.stripe.ensures;
+      mode_is = sym c.mode.ensures;
+    }

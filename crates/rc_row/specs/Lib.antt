@@ -1,0 +1,16 @@
+pub mod Standings
+pub mod Law
+pub mod Seats
+pub mod Told
+pub mod HeldRows
+pub mod HeldInside
+pub mod Passes
+pub mod PassInside
+pub mod NoteInside
+pub mod RowInside
+pub mod Rooms
+pub mod Turns
+pub mod Released
+pub mod Ended
+pub mod Laws
+pub mod ShownLaws

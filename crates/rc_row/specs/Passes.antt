@@ -1,0 +1,223 @@
+-- What clauses see of a row, a pass and a note, and what the calls of a row make of a pass.
+use Rattle.std.specs.Prelude.{◌≡◌, ℕ, ◌-◌, ◌<◌, ◌≤◌, ◌^◌, ◌==◌, not, List, [], ◌∷◌, ◌++◌, map, filter, length, Option, Some, None, All, IsSome, cond}
+use Rattle.std.specs.List.{range_with_len}
+use Rattle.rc_tuple.specs.Tuple.{Pairs}
+use Rattle.rc_spec.specs.CountedRows.{count_at}
+use Rattle.rc_spec.specs.declared.call.Call.{Call}
+use Rattle.rc_spec.specs.declared.lock.Mode.{Mode}
+use Rattle.rc_spec.specs.declared.call.Reply.{Reply}
+use Rattle.rc_spec.specs.declared.spec.Spec.{Spec}
+use Rattle.rc_spec.specs.Fragments.{EdgeRow}
+use Rattle.rc_plan.specs.Compiled.{SpecWithPlans}
+use Rattle.rc_fragment.specs.Fragment.{edge_table, HasAlone, HasColumns, HasSingle, IsThere}
+use Rattle.rc_fragment.specs.FragmentRows.{FragmentRows, rolled_back, settled}
+use Rattle.rc_fragment.specs.Keep.{IsAtRest}
+use Rattle.rc_journal.specs.PartEntries.{PartEntries}
+use Rattle.rc_rel.specs.declared.entry.Entry.{Entry}
+use Rattle.rc_rel.specs.declared.entry.Placed.{Placed}
+use Rattle.rc_rel.specs.History.{placed}
+use Rattle.rc_core.specs.declared.state.Hold.{Hold}
+use Rattle.rc_core.specs.declared.state.PassState.{PassState}
+use Rattle.rc_core.specs.State.{hold}
+use Rattle.rc_core.specs.Passes.{took, released, committed}
+use Rattle.atomic_table.specs.Seated.{TableId}
+use Rattle.rc_row.specs.declared.law.Key.{Key}
+use Rattle.rc_row.specs.declared.law.Standing.{Standing}
+use Rattle.rc_row.specs.declared.keeping.Keeping.{Keeping}
+use Rattle.rc_row.specs.declared.keeping.Keeping.TheVariants.{Entries, Counts}
+use Rattle.rc_row.specs.HeldRows.{HeldRows, just_held}
+use Rattle.rc_row.specs.Law.{compiled_by, spec_by, stripes_by, kept_of}
+use Rattle.rc_row.specs.Standings.{start, with_core}
+
+-- ---- what is seen
+
+-- a row: which table it is, what that was told, and what its passes keep of their entries
+pub record RowSeen : Type 0 where
+  pub table : TableId
+  pub key : Key
+  pub keeping : Keeping
+
+-- a pass: whose it is, all that the core has of it with its refused steps, the fragments of what it holds as they are, and the
+-- entries that it keeps in memory, where it keeps them
+pub record PassSeen : Type 0 where
+  pub table : TableId
+  pub standing : Standing
+  pub held : List HeldRows
+  pub kept : Option PartEntries
+
+-- a note: whose it is, and the length of the history that it tells
+pub record NoteSeen : Type 0 where
+  pub table : TableId
+  pub told : ℕ
+
+abbrev pub core_of : PassSeen → PassState
+core_of pass = pass.standing.core
+
+abbrev pub compiled_of : RowSeen → SpecWithPlans
+compiled_of row = compiled_by row.key
+
+abbrev pub spec_of : RowSeen → Spec
+spec_of row = spec_by row.key
+
+-- how many stripes a row has
+abbrev pub stripes_of : RowSeen → ℕ
+stripes_of row = stripes_by row.key
+
+-- ---- whose a pass is
+
+-- it keeps entries where the row's passes do
+abbrev pub KeepsAs : Keeping → Option PartEntries → Type 0
+KeepsAs Entries None = ⊥
+KeepsAs Entries (Some part) = Unit {0}
+KeepsAs Counts None = Unit {0}
+KeepsAs Counts (Some part) = ⊥
+
+-- a pass of the row: it holds stripes and fragments of the row's specification
+pub record IsPassOf (row : RowSeen) (pass : PassSeen) : Type 0 where
+  pub table : pass.table ≡ row.table
+  pub inside : All (λ h. h.stripe < stripes_of row) pass.held
+  pub shapes : All (λ h. h.fragment.table ≡ edge_table (spec_of row)) pass.held
+  pub keeps : KeepsAs row.keeping pass.kept
+
+-- ---- what is held
+
+-- the holds with the rows as taken, and as they are
+abbrev pub holds_taken : List HeldRows → List Hold
+holds_taken held = map (λ h. hold h.stripe h.mode h.fragment.taken) held
+
+abbrev pub holds_now : List HeldRows → List Hold
+holds_now held = map (λ h. hold h.stripe h.mode h.fragment.now) held
+
+-- what holds of the fragment of the stripe, where it is held
+abbrev pub OfHeld : List HeldRows → ℕ → (FragmentRows → Type 0) → Type 0
+OfHeld held p fact = All (λ h. h.stripe ≡ p → fact h.fragment) held
+
+-- no change of what is held is pending
+abbrev pub AreAtRest : List HeldRows → Type 0
+AreAtRest held = All (λ h. IsAtRest h.fragment) held
+
+abbrev pub with_fragment : (HeldRows → FragmentRows) → HeldRows → HeldRows
+with_fragment fragment h = record h { fragment = fragment h }
+
+-- the fragment of the stripe changed
+abbrev pub held_with : ℕ → (FragmentRows → FragmentRows) → List HeldRows → List HeldRows
+held_with p change held = map (with_fragment (λ h. cond (h.stripe == p) (change h.fragment) h.fragment)) held
+
+-- the fragment of each changed
+abbrev pub all_with : (FragmentRows → FragmentRows) → List HeldRows → List HeldRows
+all_with change held = map (with_fragment (λ h. change h.fragment)) held
+
+abbrev pub held_without : List HeldRows → ℕ → List HeldRows
+held_without held p = filter (λ h. not (h.stripe == p)) held
+
+-- ---- what calls make of a pass
+
+-- it holds the stripe too, with the rows that lay home
+abbrev pub with_taken : Spec → Mode → ℕ → List EdgeRow → PassSeen → PassSeen
+with_taken spec mode p rows pass = record pass {
+  standing = with_core pass.standing (took mode (core_of pass) p rows);
+  held = pass.held ++ just_held p mode (kept_of spec rows) ∷ [];
+}
+
+-- it holds the stripe no more
+abbrev pub without_stripe : ℕ → PassSeen → PassSeen
+without_stripe p pass = record pass { standing = with_core pass.standing (released (core_of pass) p); held = held_without pass.held p }
+
+-- it holds nothing
+abbrev pub idle : PassSeen → PassSeen
+idle pass = record pass { standing = with_core pass.standing (record (core_of pass) { held = [] }); held = [] }
+
+abbrev pub with_standing : Standing → PassSeen → PassSeen
+with_standing standing pass = record pass { standing = standing }
+
+-- the fragment of one held stripe changed
+abbrev pub with_held : ℕ → (FragmentRows → FragmentRows) → PassSeen → PassSeen
+with_held p change pass = record pass { held = held_with p change pass.held }
+
+-- all changes that aren't committed are taken back
+abbrev pub reverted : PassSeen → PassSeen
+reverted pass = record pass { held = all_with rolled_back pass.held }
+
+-- one entry more, where entries are kept
+abbrev pub with_entry : Option PartEntries → Placed → Option PartEntries
+with_entry None w = None
+with_entry (Some part) w = Some (record { list = part.list ++ w ∷ []; spare = part.spare - 1 })
+
+-- the entry is committed at the place, and what was changed counts as taken
+abbrev pub with_commit : SpecWithPlans → ℕ → Entry → PassSeen → PassSeen
+with_commit compiled place e pass = record pass {
+  standing = with_core pass.standing (committed compiled (core_of pass) place e);
+  held = all_with settled pass.held;
+  kept = with_entry pass.kept (placed place e);
+}
+
+-- the next entry of a pass, where it is of one call
+abbrev pub next_entry : PassState → Call → Reply → Entry
+next_entry u call reply = record { pass = u.number; nth = length u.own; steps = record { call = call; reply = reply } ∷ [] }
+
+-- there is room for one more entry, where entries are kept
+abbrev pub HasSpare : Option PartEntries → Type 0
+HasSpare None = Unit {0}
+HasSpare (Some part) = 1 ≤ part.spare
+
+-- the same entries, with as much room for more at least
+abbrev pub IsMoreRoom : Option PartEntries → Option PartEntries → Type 0
+IsMoreRoom None None = Unit {0}
+IsMoreRoom None (Some new) = ⊥
+IsMoreRoom (Some old) None = ⊥
+IsMoreRoom (Some old) (Some new) = (new.list ≡ old.list) × (old.spare ≤ new.spare)
+
+-- what a pass hands out of its entries: all of its own, or nothing where it keeps none
+abbrev pub AreEntriesOf : PassSeen → Option (List Placed) → Type 0
+AreEntriesOf pass None = pass.kept ≡ None
+AreEntriesOf pass (Some list) = (list ≡ (core_of pass).own) × IsSome pass.kept
+
+-- only the room for entries is another, and it isn't smaller
+pub record HasReserved (old new : PassSeen) : Type 0 where
+  pub kept : Option PartEntries
+  pub is : new ≡ record old { kept = kept }
+  pub more : IsMoreRoom old.kept kept
+
+-- while it waited nothing but its wish and its refused steps changed
+pub record HasWaited (old new : PassSeen) : Type 0 where
+  pub wish : Option ℕ
+  pub is : new ≡ with_standing (record { core = record (core_of old) { wish = wish }; refusals = new.standing.refusals; last_refusal = new.standing.last_refusal }) old
+  pub refusals : old.standing.refusals ≤ new.standing.refusals
+
+-- ---- changes of a fragment
+
+-- The row can be added to the edge of the fragment, or its count raised: there is room for a change, the row has the columns of the edge's
+-- target, no other row has its source and key, and in a singleton none with its source has another key.
+pub record CanAddRow (e : ℕ) (row : Pairs) (f : FragmentRows) : Type 0 where
+  pub known : e < length f.table
+  pub owned : 0 < f.room
+  pub small : count_at e row f.now < 2 ^ 63
+  pub columns : HasColumns f.table e row
+  pub alone : HasAlone f.table f.now e row
+  pub single : HasSingle f.table f.now e row
+
+-- the edge of the fragment has the row, and there is room for a change
+pub record CanSubRow (e : ℕ) (row : Pairs) (f : FragmentRows) : Type 0 where
+  pub known : e < length f.table
+  pub owned : 0 < f.room
+  pub there : IsThere f.now e row
+
+-- ---- new and ended rows
+
+-- what a pass keeps before its first entry
+abbrev pub none_kept : Keeping → Option PartEntries
+none_kept Entries = Some (record { list = []; spare = 0 })
+none_kept Counts = None
+
+-- the pass k of a new row
+abbrev pub new_pass : RowSeen → ℕ → PassSeen
+new_pass row k = record { table = row.table; standing = start k; held = []; kept = none_kept row.keeping }
+
+-- the passes of a new row, by number
+abbrev pub new_passes : RowSeen → List PassSeen
+new_passes row = map (new_pass row) (range_with_len 0 row.key.passes)
+
+-- all passes of a row, by number, holding nothing
+pub record AreIdlePasses (row : RowSeen) (passes : List PassSeen) : Type 0 where
+  pub numbers : map (λ pass. (core_of pass).number) passes ≡ range_with_len 0 row.key.passes
+  pub idle : All (λ pass. IsPassOf row pass × (pass.held ≡ [])) passes

@@ -1,0 +1,12 @@
+-- What giving stripes back asks.
+use Rattle.std.specs.Prelude.{◌≡◌, ℕ, List}
+use Rattle.rc_tuple.specs.RisingSet.{In}
+use Rattle.rc_spec.specs.declared.lock.Mode.{Mode}
+use Rattle.rc_row.specs.HeldRows.{HeldRows}
+
+-- the stripe is held in this mode
+pub record IsHeldSo (held : List HeldRows) (stripe : ℕ) (mode : Mode) : Type 0 where
+  pub here : HeldRows
+  pub among : In here held
+  pub stripe_is : here.stripe ≡ stripe
+  pub mode_is : here.mode ≡ mode

@@ -1,0 +1,45 @@
+-- Words, homes and views show one state, in which no passes wait in a circle.
+use Rattle.std.proofs.Common.{◌≡◌, ℕ, ◌<◌, ◌||◌, true, List, [], ◌∷◌, length, get_or, Some, sym, ap, ◌∙◌, inl, inr, arith}
+use Rattle.std.specs.Prelude.{slice_index}
+use Rattle.std.specs.List.{slice_get}
+use Rattle.std.proofs.lemmas.Bool.{cases_eq, false≢true, ne_eqb}
+use Rattle.std.proofs.lemmas.List.{ext_get_or}
+use Rattle.std.proofs.lemmas.Option.{get_or_from_slice_get}
+use Rattle.rc_core.specs.declared.state.PassState.{PassState}
+use Rattle.rc_core.specs.State.{no_pass}
+use Rattle.rc_core.specs.DetermineLaws.{passes_determine}
+use Rattle.rc_core.specs.WaitsLaws.{no_circle}
+use Rattle.atomic_table.specs.Table.{State}
+use Rattle.rc_row.specs.declared.law.Key.{Key}
+use Rattle.rc_row.specs.declared.law.Standing.{Standing}
+use Rattle.rc_row.specs.declared.law.View.{View}
+use Rattle.rc_row.specs.Law.{Slot, spec_by, AreSeatedAt, has_pass, IsKept}
+use Rattle.rc_row.specs.Laws.{OneStateIsShown, NoCircleIsShown}
+
+-- a pass of a view is the same in each state that the view shows
+in_both : (xs ys : List PassState) (seat seat' : ℕ → ℕ) (i j k : ℕ) (more : List Standing) → AreSeatedAt xs seat i more → AreSeatedAt ys seat' j more → has_pass more k ≡ true
+    → (u : PassState) × (slice_get xs k ≡ Some u) × (slice_get ys k ≡ Some u)
+in_both xs ys seat seat' i j k [] f g has = absurd (false≢true has)
+in_both xs ys seat seat' i j k (s ∷ more) f g has = elim (cases_eq s.core.number k) [
+  | inl e ↦ (s.core, ap (slice_get xs) (sym e) ∙ f.0.0, ap (slice_get ys) (sym e) ∙ g.0.0)
+  | inr n ↦ in_both xs ys seat seat' i j k more f.1 g.1 (sym (ap (λ b. b || has_pass more k) (ne_eqb s.core.number k n)) ∙ has)
+]
+
+module _ (key : Key) (s : State Slot View) (a b : IsKept key s) where
+  same_pass : (k : ℕ) → k < length a.core.passes → get_or a.core.passes k no_pass ≡ get_or b.core.passes k no_pass
+  same_pass k lt =
+      let x = a.seated k lt in
+      let r = in_both a.core.passes b.core.passes a.seat b.seat (a.seat k) (a.seat k) k x.view.passes (a.views (a.seat k) x.view x.at).passes (b.views (a.seat k) x.view x.at).passes x.has in
+      get_or_from_slice_get a.core.passes k r.0 no_pass r.1 ∙ sym (get_or_from_slice_get b.core.passes k r.0 no_pass r.2)
+
+  same_latch : (p : ℕ) → p < length a.latches → slice_index a.latches p ≡ slice_index b.latches p
+  same_latch p lt = let n = a.shows.latch_count in sym (a.shows.latch_words p (omega arith)) ∙ b.shows.latch_words p (omega arith)
+
+pub one_state : OneStateIsShown
+one_state key s a b = (
+  passes_determine (spec_by key) a.core b.core a.good b.good (ext_get_or no_pass a.core.passes b.core.passes (a.shows.passes ∙ sym b.shows.passes) (same_pass key s a b)),
+  ext_get_or 0 a.latches b.latches (a.shows.latch_count ∙ sym b.shows.latch_count) (same_latch key s a b),
+)
+
+pub no_circle_shown : NoCircleIsShown
+no_circle_shown key s kept passes circle = no_circle (spec_by key) kept.core passes kept.good circle

@@ -1,0 +1,71 @@
+-- What a seat's view has of a pass, and how the steps of a row change it.
+use Rattle.std.specs.Prelude.{◌≡◌, ◌≢◌, ℕ, suc, ◌<◌, ◌≤◌, ◌^◌, List, Option, Some, None, length}
+use Rattle.rc_tuple.specs.RisingSet.{In}
+use Rattle.rc_tuple.specs.Tuple.{Pairs}
+use Rattle.rc_tuple.specs.Relation.{IsRelation, Satisfies}
+use Rattle.rc_spec.specs.Calls.{all_columns}
+use Rattle.rc_spec.specs.Fragments.{fragment_of}
+use Rattle.rc_spec.specs.declared.lock.Found.{Found}
+use Rattle.rc_spec.specs.declared.lock.Found.TheVariants.{Pass, Readers, Latch}
+use Rattle.rc_spec.specs.declared.lock.Mode.{Mode}
+use Rattle.rc_spec.specs.declared.lock.Mode.TheVariants.{Shared, Exclusive}
+use Rattle.rc_spec.specs.declared.spec.Spec.{Spec}
+use Rattle.rc_core.specs.declared.state.Hold.{Hold}
+use Rattle.rc_core.specs.declared.state.PassState.{PassState}
+use Rattle.rc_core.specs.State.{fresh}
+use Rattle.rc_core.specs.Passes.{other_holds, turned}
+use Rattle.rc_row.specs.declared.law.Standing.{Standing}
+
+-- the pass k at the start
+abbrev pub start : ℕ → Standing
+start k = record { core = fresh k; refusals = 0; last_refusal = None }
+
+abbrev pub with_core : Standing → PassState → Standing
+with_core s u = record s { core = u }
+
+-- the pass after one more refused step, which asked for the stripe p in the mode, found this, and left it these holds
+abbrev pub refused : Mode → Standing → ℕ → Found → PassState → List Hold → Standing
+refused mode s p found u held = record {
+  core = u;
+  refusals = suc s.refusals;
+  last_refusal = Some (record { stripe = p; mode = mode; found = found; held = held });
+}
+
+-- reader in, where a writer was found
+abbrev pub turned_by : Standing → ℕ → Found → Standing
+turned_by s p found = refused Shared s p found (turned s.core p) s.core.held
+
+-- another pass has the latch of the stripe p, which the pass shares and will share no more
+abbrev pub latched_out : Standing → ℕ → Found → Standing
+latched_out s p found = refused Shared s p found s.core (other_holds s.core.held p)
+
+-- what is wanted after a refusal: the stripe, but where its latch alone was in the way, nothing
+abbrev pub wish_after : Found → ℕ → Option ℕ
+wish_after (Pass k) p = Some p
+wish_after (Readers n) p = Some p
+wish_after (Latch k) p = None
+
+-- the pass after a call that was refused the stripe: it holds what it held
+abbrev pub turned_away : Mode → Standing → ℕ → Found → Standing
+turned_away mode s p found = refused mode s p found (record s.core { wish = wish_after found p }) s.core.held
+
+-- the pass wants nothing
+abbrev pub without_wish : Standing → Standing
+without_wish s = with_core s (record s.core { wish = None })
+
+-- What a step of the pass `me` may find in the way of a lock of that mode, where there are so many passes: another pass that
+-- writes the stripe; readers, in the way of a writer alone; another pass that has the latch, in the way of a reader alone.
+abbrev pub KeepsOut : Mode → ℕ → ℕ → Found → Type 0
+KeepsOut mode passes me (Pass k) = (k < passes) × (k ≢ me)
+KeepsOut Exclusive passes me (Readers n) = (1 ≤ n) × (n ≤ 255)
+KeepsOut Shared passes me (Readers n) = ⊥
+KeepsOut Exclusive passes me (Latch k) = ⊥
+KeepsOut Shared passes me (Latch k) = (k < passes) × (k ≢ me)
+
+-- all that is held has the rows of one relation, which satisfies the dependencies and is small
+pub record HaveOneRelation (spec : Spec) (holds : List Hold) : Type 0 where
+  pub relation : List Pairs
+  pub is_relation : IsRelation (all_columns spec) relation
+  pub satisfies : Satisfies relation spec.deps
+  pub few : length relation < 2 ^ 63
+  pub rows : (h : Hold) → In h holds → h.rows ≡ fragment_of spec relation h.stripe

@@ -1,0 +1,130 @@
+-- What each step on the table tells the pass that makes it.
+use Rattle.std.specs.Prelude.{◌≡◌, ℕ, ◌*◌, ◌-◌, ◌/◌, ◌%◌, ◌<◌, ◌≤◌, ◌^◌, ◌==◌, if◌then◌else◌, List, ◌∷◌, Option, Some, None, MatchBool}
+use Rattle.rc_spec.specs.Fragments.{EdgeRow}
+use Rattle.rc_spec.specs.declared.lock.Found.{Found}
+use Rattle.rc_spec.specs.declared.lock.Found.TheVariants.{Pass, Readers, Latch}
+use Rattle.rc_spec.specs.declared.lock.Mode.TheVariants.{Shared, Exclusive}
+use Rattle.rc_rel.specs.declared.entry.Entry.{Entry}
+use Rattle.rc_core.specs.Passes.{locked, blocked, shared, back, released, committed, rows_of_hold}
+use Rattle.atomic_table.specs.Table.{Me, Step, rest}
+use Rattle.rc_row.specs.declared.law.Key.{Key}
+use Rattle.rc_row.specs.declared.law.View.{View}
+use Rattle.rc_row.specs.Standings.{with_core, refused, turned_by, latched_out, KeepsOut, HaveOneRelation}
+use Rattle.rc_row.specs.Law.{Slot, kept_of, spec_by, compiled_by, stripes_by, stripe_word, latch_word, standing_of, pass_view, view_of}
+
+-- a seat, as it is seen: its view, and the slots that it has out
+abbrev Who : Type 0
+Who = Me Slot View
+
+-- what the word of a stripe that isn't free says: its writer, or how many readers are counted in
+abbrev pub found_in_word : ℕ → Found
+found_in_word word = if word % 65536 == 0 then Readers (word / 65536) else Pass (word % 65536 - 1)
+
+-- what the word of a latch says that is taken
+abbrev pub found_in_latch : ℕ → Found
+found_in_latch word = Latch (word - 1)
+
+-- ---- lock and unlock
+
+-- the pass writes the stripe p, and has its slot with the rows that lay home
+pub record HasLocked (key : Key) (m : Who) (p : ℕ) (m' : Who) : Type 0 where
+  pub rows : List EdgeRow
+  pub view : m'.0 ≡ pass_view (with_core (standing_of m.0) (locked (standing_of m.0).core p rows))
+  pub slots : m'.1 ≡ (p, Some (kept_of (spec_by key) rows)) ∷ m.1
+  pub one : HaveOneRelation (spec_by key) (locked (standing_of m.0).core p rows).held
+
+-- somebody writes it, or is counted in
+pub record IsLockedOut (key : Key) (m : Who) (p found : ℕ) (m' : Who) : Type 0 where
+  pub keeps_out : KeepsOut Exclusive key.passes (standing_of m.0).core.number (found_in_word found)
+  pub view : m'.0 ≡ pass_view (refused Exclusive (standing_of m.0) p (found_in_word found) (blocked (standing_of m.0).core p) (standing_of m.0).core.held)
+  pub slots : m'.1 ≡ m.1
+
+abbrev pub LocksOrNot : Key → Who → ℕ → ℕ → Who → Type 0
+LocksOrNot key m p found m' = MatchBool (found == 0) (HasLocked key m p m') (IsLockedOut key m p found m')
+
+abbrev pub ToldAtLock : Option Key → Step Slot → Who → ℕ → Who → Type 0
+ToldAtLock None st m found m' = Unit {0}
+ToldAtLock (Some key) st m found m' = (p : ℕ) → st.word ≡ stripe_word p → LocksOrNot key m p found m'
+
+-- the pass holds the stripe p no more, and its slot is home
+abbrev pub HasUnlocked : Who → ℕ → Who → Type 0
+HasUnlocked m p m' = (m'.0 ≡ pass_view (with_core (standing_of m.0) (released (standing_of m.0).core p))) × (m'.1 ≡ rest m.1)
+
+abbrev pub ToldAtUnlock : Step Slot → Who → ℕ → Who → Type 0
+ToldAtUnlock st m found m' = (p : ℕ) → st.word ≡ stripe_word p → HasUnlocked m p m'
+
+-- ---- readers
+
+-- the pass shares the stripe, whose rows stay as long as it does
+pub record HasEntered (key : Key) (m : Who) (p : ℕ) (m' : Who) : Type 0 where
+  pub rows : List EdgeRow
+  pub view : m'.0 ≡ pass_view (with_core (standing_of m.0) (shared (standing_of m.0).core p rows))
+  pub slots : m'.1 ≡ m.1
+  pub one : HaveOneRelation (spec_by key) (shared (standing_of m.0).core p rows).held
+
+-- a writer was found, and the pass turns back
+pub record HasTurned (key : Key) (m : Who) (p found : ℕ) (m' : Who) : Type 0 where
+  pub keeps_out : KeepsOut Shared key.passes (standing_of m.0).core.number (found_in_word found)
+  pub view : m'.0 ≡ pass_view (turned_by (standing_of m.0) p (found_in_word found))
+  pub slots : m'.1 ≡ m.1
+
+abbrev pub EntersOrTurns : Key → Who → ℕ → ℕ → Who → Type 0
+EntersOrTurns key m p found m' = MatchBool (found % 65536 == 0) (HasEntered key m p m') (HasTurned key m p found m')
+
+abbrev pub ToldAtEnter : Option Key → Step Slot → Who → ℕ → Who → Type 0
+ToldAtEnter None st m found m' = Unit {0}
+ToldAtEnter (Some key) st m found m' = (p : ℕ) → st.word ≡ stripe_word p → EntersOrTurns key m p found m'
+
+-- the pass that turned back is counted out
+abbrev pub IsBack : Who → Who → Type 0
+IsBack m m' = (m'.0 ≡ pass_view (with_core (standing_of m.0) (back (standing_of m.0).core))) × (m'.1 ≡ m.1)
+
+abbrev pub ToldAtBack : Step Slot → Who → ℕ → Who → Type 0
+ToldAtBack st m found m' = IsBack m m'
+
+-- the pass shares the stripe p no more
+abbrev pub HasLeft : Who → ℕ → Who → Type 0
+HasLeft m p m' = (m'.0 ≡ pass_view (with_core (standing_of m.0) (released (standing_of m.0).core p))) × (m'.1 ≡ m.1)
+
+abbrev pub ToldAtLeave : Step Slot → Who → ℕ → Who → Type 0
+ToldAtLeave st m found m' = (p : ℕ) → st.word ≡ stripe_word p → HasLeft m p m'
+
+-- ---- latches
+
+-- the latch is the pass's, with the slot and the rows with which it shares the stripe
+abbrev pub HasLatched : Key → Who → ℕ → Who → Type 0
+HasLatched key m p m' = (m'.0 ≡ view_of (standing_of m.0) (Some p)) × (m'.1 ≡ (p, Some (kept_of (spec_by key) (rows_of_hold (standing_of m.0).core.held p))) ∷ m.1)
+
+-- another pass has it
+pub record IsLatchedOut (key : Key) (m : Who) (p found : ℕ) (m' : Who) : Type 0 where
+  pub keeps_out : KeepsOut Shared key.passes (standing_of m.0).core.number (found_in_latch found)
+  pub view : m'.0 ≡ pass_view (latched_out (standing_of m.0) p (found_in_latch found))
+  pub slots : m'.1 ≡ m.1
+
+abbrev pub LatchesOrNot : Key → Who → ℕ → ℕ → Who → Type 0
+LatchesOrNot key m p found m' = MatchBool (found == 0) (HasLatched key m p m') (IsLatchedOut key m p found m')
+
+abbrev pub ToldAtLatch : Option Key → Step Slot → Who → ℕ → Who → Type 0
+ToldAtLatch None st m found m' = Unit {0}
+ToldAtLatch (Some key) st m found m' = (p : ℕ) → st.word ≡ latch_word (stripes_by key) p → LatchesOrNot key m p found m'
+
+-- the latch is free, and the slot home
+abbrev pub HasUnlatched : Who → Who → Type 0
+HasUnlatched m m' = (m'.0 ≡ pass_view (standing_of m.0)) × (m'.1 ≡ rest m.1)
+
+abbrev pub ToldAtUnlatch : Step Slot → Who → ℕ → Who → Type 0
+ToldAtUnlatch st m found m' = HasUnlatched m m'
+
+-- ---- commit
+
+-- the entry has the place that was found
+pub record HasCommitted (key : Key) (e : Entry) (m : Who) (found : ℕ) (m' : Who) : Type 0 where
+  pub seen : (standing_of m.0).core.seen ≤ found
+  pub small : found < 255 * 2 ^ 48
+  pub view : m'.0 ≡ pass_view (with_core (standing_of m.0) (committed (compiled_by key) (standing_of m.0).core found e))
+  pub slots : m'.1 ≡ m.1
+  pub one : HaveOneRelation (spec_by key) (committed (compiled_by key) (standing_of m.0).core found e).held
+
+abbrev pub ToldAtCommit : Option Key → Entry → Step Slot → Who → ℕ → Who → Type 0
+ToldAtCommit None e st m found m' = Unit {0}
+ToldAtCommit (Some key) e st m found m' = HasCommitted key e m found m'

@@ -1,0 +1,64 @@
+//! Which slot a seat can reach, and where a pass has the fragment of a stripe.
+
+ghost use Rattle.std.specs.Prelude.{◌≡◌, ◌/◌, ◌%◌, ◌<◌, ◌≤◌, ◌^◌, length, take};
+ghost use Rattle.rc_tuple.specs.RisingSet.{In};
+ghost use Rattle.rc_core.specs.State.{stripes_in};
+ghost use Rattle.rc_row.specs.PassInside.{hands};
+ghost use Rattle.rc_row.specs.Passes.{holds_taken};
+ghost use Rattle.rc_row.specs.Told.{found_in_word};
+ghost use Rattle.rc_row.specs.Turns.{IsHeldAt, turned_by_count};
+
+use crate::held::HeldFragment;
+use crate::law::View;
+use atomic_table::Seat;
+use rc_fragment::Keep;
+use rc_spec::{Found, Mode};
+
+/// Puts so many of the slots that were taken last behind the others. It costs nothing at run time.
+pub(crate) fn turn_by(seat: &mut Seat<Option<Keep>, View>, count: usize)
+    ensures { (seat.new.table_id ≡ seat.old.table_id) × (seat.new.id ≡ seat.old.id) × (seat.new.me ≡ (seat.old.me.0, turned_by_count count seat.old.me.1)) }
+{
+    for _ in 0..count {
+        seat.turn();
+    }
+}
+
+/// Where the fragment of a held stripe is.
+pub(crate) fn place_of(held: &Vec<HeldFragment>, stripe: u32) -> usize
+    requires { In stripe (stripes_in (holds_taken held.now.items)) }
+    ensures { IsHeldAt held.now.items stripe result }
+{
+    for i in 0..held.len() {
+        if held[i].stripe() == stripe {
+            return i;
+        }
+    }
+    unreachable!()
+}
+
+/// How many of the first are written.
+pub(crate) fn written_among(held: &Vec<HeldFragment>, end: usize) -> usize
+    requires { end ≤ length held.now.items }
+    ensures { result ≡ length (hands (take end held.now.items)) }
+{
+    let mut count = 0;
+    for i in 0..end {
+        match held[i].mode() {
+            Mode::Exclusive => count += 1,
+            Mode::Shared => {}
+        }
+    }
+    count
+}
+
+/// What a stripe's word says, where it isn't 0.
+pub(crate) fn found_in(word: u64) -> Found
+    requires { word % 65536 ≡ 0 → word / 65536 < 2 ^ 32 }
+    ensures { result ≡ found_in_word word }
+{
+    if word % 65536 == 0 {
+        Found::Readers((word / 65536) as u32)
+    } else {
+        Found::Pass((word % 65536 - 1) as u32)
+    }
+}

@@ -1,0 +1,160 @@
+//! The calls of a writer.
+
+ghost use Rattle.std.specs.Prelude.{◌≡◌, List, ◌<◌, [], ◌∷◌, ◌++◌, IfNone, IfSome, None, Some, vec_capacity, vec_len};
+ghost use Rattle.rc_tuple.specs.RisingSet.{In};
+ghost use Rattle.rc_spec.specs.Fragments.{EdgeRow};
+ghost use Rattle.rc_spec.specs.declared.lock.Mode.TheVariants.{Exclusive};
+ghost use Rattle.rc_core.specs.State.{writes_of};
+ghost use Rattle.rc_core.specs.Passes.{IsAbove};
+ghost use Rattle.atomic_table.specs.Table.{rest};
+ghost use Rattle.rc_fragment.specs.Keep.{IsAtRest, KeptRows};
+ghost use Rattle.rc_row.specs.HeldRows.{just_held};
+ghost use Rattle.rc_row.specs.Passes.{HasWaited, IsPassOf, OfHeld, PassSeen, core_of, spec_of, stripes_of, with_standing, with_taken, without_stripe};
+ghost use Rattle.rc_row.specs.Standings.{HaveOneRelation, KeepsOut, turned_away};
+
+use crate::hands::{found_in, place_of, turn_by, written_among};
+use crate::held::HeldFragment;
+use crate::law::View;
+use crate::pass::Pass;
+use crate::row::{Row, stripe_word};
+use crate::waiting::SPINS;
+use atomic_table::Seat;
+use rc_fragment::Keep;
+use rc_spec::Found;
+use std::hint;
+use std::marker::Brand;
+use std::sync::Wait;
+
+impl Row {
+    /// Locks the stripe to write it, or answers what was in the way. The stripe is above all that the pass holds. Costs
+    /// one atomic step, and takes no memory. (PLDI 2012, striped locks.)
+    ///
+    /// Afterwards all that the pass holds has the rows of one relation that satisfies the dependencies. A refused step is
+    /// counted, and the pass holds what it held.
+    pub fn try_lock(&self, pass: &mut Pass, stripe: u32) -> Option<Found>
+        requires pass { IsPassOf self.now pass.old }
+        requires stripe { stripe < stripes_of self.now }
+        requires above { IsAbove (core_of pass.old) stripe }
+        ensures pass { IsPassOf self.now pass.new }
+        ensures taken { IfNone result ((rows : List EdgeRow) × (pass.new ≡ with_taken (spec_of self.now) Exclusive stripe rows pass.old)) }
+        ensures one { IfNone result (HaveOneRelation (spec_of self.now) (core_of pass.new).held) }
+        ensures found { IfSome result (λ found. KeepsOut Exclusive self.now.key.passes (core_of pass.old).number found) }
+        ensures refused { IfSome result (λ found. pass.new ≡ with_standing (turned_away Exclusive pass.old.standing stripe found) pass.old) }
+    {
+        // The table has a slot for each stripe, so that what the pass holds has room for one more.
+        let _ = &self.table;
+        let mark = pass.number as u64 + 1;
+        let found = self.lock_step::<Brand>(&mut pass.seat, mark, stripe);
+        if found != 0 {
+            return Some(found_in(found));
+        }
+        self.take_out(&mut pass.seat, &mut pass.held, stripe);
+        None
+    }
+
+    /// The fragment in the slot that was taken last goes to the pass.
+    fn take_out(
+        &self,
+        seat: &mut Seat<Option<Keep>, View>,
+        held: &mut Vec<HeldFragment>,
+        stripe: u32,
+    )
+        requires row { seat.old.table_id ≡ self.now.table }
+        requires stripe { stripe < stripes_of self.now }
+        requires slot { (keep : KeptRows) × (seat.old.me.1 ≡ (stripe, Some keep) ∷ rest seat.old.me.1) }
+        requires room { vec_len held.old < vec_capacity held.old }
+        ensures seat { (seat.new.table_id ≡ seat.old.table_id) × (seat.new.id ≡ seat.old.id) × (seat.new.me ≡ (seat.old.me.0, (stripe, None) ∷ rest seat.old.me.1)) }
+        ensures held { (keep : KeptRows) → seat.old.me.1 ≡ (stripe, Some keep) ∷ rest seat.old.me.1 → held.new.items ≡ held.old.items ++ just_held stripe Exclusive keep ∷ [] }
+        ensures room { vec_capacity held.new ≡ vec_capacity held.old }
+    {
+        match self.table.shared.exchange(seat, stripe as usize, None) {
+            Some(keep) => held.push_reserved(HeldFragment::locked(stripe, keep)),
+            None => unreachable!(),
+        }
+    }
+
+    /// Locks the stripe as `try_lock` does, and waits where something is in the way. If it returns, the stripe is
+    /// locked; nothing is promised of when. It spins for a while before it parks.
+    pub fn wait_lock<R: Wait>(&self, rt: &R, pass: &mut Pass, stripe: u32)
+        requires pass { IsPassOf self.now pass.old }
+        requires stripe { stripe < stripes_of self.now }
+        requires above { IsAbove (core_of pass.old) stripe }
+        ensures pass { IsPassOf self.now pass.new }
+        ensures taken { (waited : PassSeen) × (rows : List EdgeRow) × HasWaited pass.old waited × (pass.new ≡ with_taken (spec_of self.now) Exclusive stripe rows waited) }
+        ensures one { HaveOneRelation (spec_of self.now) (core_of pass.new).held }
+    {
+        for _ in rt.forever() {
+            match self.try_lock(pass, stripe) {
+                None => return,
+                Some(_) => self.wait_free(rt, stripe),
+            }
+        }
+        unreachable!()
+    }
+
+    /// Waits while the word of the stripe isn't 0.
+    fn wait_free<R: Wait>(&self, rt: &R, stripe: u32)
+        requires { stripe < stripes_of self.now }
+    {
+        let table = &self.table.shared;
+        let word = stripe_word(stripe);
+        for _ in 0..SPINS {
+            if table.peek(word) == 0 {
+                return;
+            }
+            hint::spin_loop();
+        }
+        self.waiting.enter(stripe);
+        let found = table.peek(word);
+        if found != 0 {
+            table.park(rt, word, (found % 4294967296) as u32);
+        }
+        self.waiting.leave(stripe);
+    }
+
+    /// Gives a stripe back that the pass writes. What it changed there is committed or taken back. Costs one atomic step,
+    /// takes no memory and wakes nobody: `wake` does.
+    pub fn unlock(&self, pass: &mut Pass, stripe: u32)
+        requires pass { IsPassOf self.now pass.old }
+        requires held { In stripe (writes_of (core_of pass.old)) }
+        requires rest { OfHeld pass.old.held stripe IsAtRest }
+        ensures pass { IsPassOf self.now pass.new }
+        ensures value { pass.new ≡ without_stripe stripe pass.old }
+    {
+        let at = place_of(&pass.held, stripe);
+        let below = written_among(&pass.held, at);
+        let above = written_among(&pass.held, pass.held.len()) - 1 - below;
+        let mark = pass.number as u64 + 1;
+        turn_by(&mut pass.seat, above);
+        let held = pass.held.remove(at);
+        self.put_in(&mut pass.seat, stripe, held.into_keep());
+        self.unlock_step(&mut pass.seat, mark, stripe);
+        turn_by(&mut pass.seat, below);
+    }
+
+    /// The fragment goes into its slot, which is at the front.
+    pub(crate) fn put_in(&self, seat: &mut Seat<Option<Keep>, View>, stripe: u32, keep: Keep)
+        requires row { seat.old.table_id ≡ self.now.table }
+        requires stripe { stripe < stripes_of self.now }
+        requires slot { seat.old.me.1 ≡ (stripe, None) ∷ rest seat.old.me.1 }
+        ensures { (seat.new.table_id ≡ seat.old.table_id) × (seat.new.id ≡ seat.old.id) × (seat.new.me ≡ (seat.old.me.0, (stripe, Some keep) ∷ rest seat.old.me.1)) }
+    {
+        match self
+            .table
+            .shared
+            .exchange(seat, stripe as usize, Some(keep))
+        {
+            None => {}
+            Some(_) => unreachable!(),
+        }
+    }
+
+    /// Wakes all that wait for the stripe. Where nobody waits it costs one load, and makes no system call.
+    pub fn wake(&self, stripe: u32)
+        requires { stripe < stripes_of self.now }
+    {
+        if self.waiting.has_some(stripe) {
+            self.table.shared.wake_all(stripe_word(stripe));
+        }
+    }
+}

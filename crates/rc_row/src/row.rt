@@ -1,0 +1,79 @@
+//! The row.
+
+ghost use Rattle.std.specs.Prelude.{◌≡◌, ◌<◌, ◌≤◌};
+ghost use Rattle.rc_row.specs.Law.{latch_word, stripe_word};
+ghost use Rattle.rc_row.specs.Passes.{stripes_of};
+
+use crate::keeping::Keeping;
+use crate::law::{Key, Law, View};
+use crate::waiting::Waiting;
+use atomic_table::Table;
+use rc_fragment::Keep;
+use std::alloc::Global;
+use std::marker::Model;
+
+/// So many words are 64 bytes.
+pub(crate) const WORDS_OF_A_LINE: usize = 8;
+
+/// The place of the commit word.
+pub(crate) const COMMIT_WORD: usize = 0;
+
+/// A row of lock stripes (PLDI 2012, lock placements with striped locks): each stripe has a word that says who has it,
+/// a latch, and a slot in which its fragment lies while nobody writes it; and a commit word counts the entries of the
+/// history. Threads lock, change, commit and unlock through their passes.
+///
+/// A stripe's word is its writer's number and one more, and 2^16 times how many readers are counted in. Words stand 64
+/// bytes apart, so that two stripes never share a cache line.
+///
+/// Contracts see which table it is and what that was told. It may be used by many threads at once.
+#[derive(Drop)]
+pub struct Row {
+    pub(crate) table: Table<Option<Keep>, View, Key, Law, Global>,
+    pub(crate) waiting: Waiting,
+    pub(crate) keeping: Keeping,
+    pub(crate) alloc: Global,
+}
+
+impl Model for Row {
+    ghost use Rattle.rc_row.specs.Passes.{RowSeen};
+
+    ghost Value = { RowSeen };
+
+    ghost use Rattle.rc_row.specs.RowInside.{IsWholeRow, row_seen};
+
+    ghost view = { row_seen };
+
+    ghost invariant = { IsWholeRow };
+}
+
+/// The place of a stripe's word.
+pub(crate) fn stripe_word(stripe: u32) -> usize
+    requires { stripe < 256 }
+    ensures { result ≡ stripe_word stripe }
+{
+    WORDS_OF_A_LINE * (stripe as usize + 1)
+}
+
+/// The place of a stripe's latch, where there are so many stripes.
+pub(crate) fn latch_word(stripes: usize, stripe: u32) -> usize
+    requires { (stripes ≤ 256) × (stripe < 256) }
+    ensures { result ≡ latch_word stripes stripe }
+{
+    WORDS_OF_A_LINE * (stripes + stripe as usize + 1)
+}
+
+impl Row {
+    /// How many stripes there are, over all classes.
+    pub fn stripes(&self) -> u32
+        ensures { result ≡ stripes_of self.now }
+    {
+        self.table.slot_count() as u32
+    }
+
+    /// What the passes of this row keep of their entries.
+    pub fn keeping(&self) -> Keeping
+        ensures { result ≡ self.now.keeping }
+    {
+        self.keeping
+    }
+}
