@@ -5,6 +5,8 @@
 #[cfg(test)]
 mod plan_tests;
 #[cfg(test)]
+mod row_tests;
+#[cfg(test)]
 mod sharing_tests;
 #[cfg(test)]
 mod stream_tests;
