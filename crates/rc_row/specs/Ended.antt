@@ -12,12 +12,14 @@ use Rattle.rc_rel.specs.History.{own_placed, replay}
 use Rattle.rc_core.specs.Good.{IsGoodHistory}
 use Rattle.rc_row.specs.declared.close.EndedPass.{EndedPass}
 use Rattle.rc_row.specs.Law.{kept_of}
+use Rattle.rc_row.specs.PassInside.{AreOwnKept}
 use Rattle.rc_row.specs.Passes.{PassSeen, core_of}
 
--- a pass's entries, as it kept them, and their count
+-- how many entries a pass committed, and the entries themselves where it kept them
 pub record IsEndedPass (own : List Placed) (kept : Option PartEntries) (e : EndedPass) : Type 0 where
   pub made : e.made ≡ length own
   pub entries : e.entries ≡ kept
+  pub own_entries : AreOwnKept kept own
 
 -- There is one good history of which the passes have their own entries, and whose rows the fragments have.
 pub record HasHistory (spec : Spec) (passes : List PassSeen) (fragments : List KeptRows) : Type 0 where

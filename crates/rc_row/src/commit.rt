@@ -110,11 +110,12 @@ impl Row {
         }
     }
 
-    /// The pass has seen what the note's pass had seen.
+    /// The pass has seen what the note's pass had seen. Takes no memory.
     pub fn learn(&self, pass: &mut Pass, note: Note)
         requires pass { IsPassOf self.now pass.old }
         requires note { note.table ≡ self.now.table }
-        ensures { pass.new ≡ with_standing (with_core pass.old.standing (learned (core_of pass.old) note.told)) pass.old }
+        ensures pass { IsPassOf self.now pass.new }
+        ensures value { pass.new ≡ with_standing (with_core pass.old.standing (learned (core_of pass.old) note.told)) pass.old }
     {
         let Note { told, seat } = note;
         self.learn_step(&mut pass.seat, seat);

@@ -162,10 +162,14 @@ impl Row {
         ensures memory { OnErr result (HasWaited pass.old pass.new) }
     {
         for _ in rt.forever() {
-            match self.try_share(pass, stripe)? {
-                None => return Ok(()),
-                Some(Found::Latch(_)) => self.wait_unlatched(stripe),
-                Some(_) => self.wait_unwritten(rt, stripe),
+            match self.try_share(pass, stripe) {
+                Ok(None) => return Ok(()),
+                Ok(Some(Found::Latch(_))) => self.wait_unlatched(stripe),
+                Ok(Some(_)) => self.wait_unwritten(rt, stripe),
+                Err(Memory) => {
+                    self.wake(stripe);
+                    return Err(Memory);
+                }
             }
         }
         unreachable!()
@@ -179,18 +183,30 @@ impl Row {
         self.wake(stripe);
         let table = &self.table.shared;
         let word = stripe_word(stripe);
-        for _ in 0..SPINS {
-            if table.peek(word) % 65536 == 0 {
+        for _ in rt.forever() {
+            if self.is_unwritten(word) {
                 return;
+            }
+            self.waiting.enter(stripe);
+            let found = table.peek(word);
+            if found % 65536 != 0 {
+                table.park(rt, word, (found % 4294967296) as u32);
+            }
+            self.waiting.leave(stripe);
+        }
+    }
+
+    /// Whether nobody writes the stripe with this word, now or within a while.
+    fn is_unwritten(&self, word: usize) -> bool
+        requires { word < self.now.table.words }
+    {
+        for _ in 0..SPINS {
+            if self.table.shared.peek(word) % 65536 == 0 {
+                return true;
             }
             hint::spin_loop();
         }
-        self.waiting.enter(stripe);
-        let found = table.peek(word);
-        if found % 65536 != 0 {
-            table.park(rt, word, (found % 4294967296) as u32);
-        }
-        self.waiting.leave(stripe);
+        false
     }
 
     /// Waits a while for a latch. Its owner has it for three plain moves, so nobody parks on a latch, and freeing it wakes

@@ -23,7 +23,7 @@ pub(crate) const COMMIT_WORD: usize = 0;
 /// history. Threads lock, change, commit and unlock through their passes.
 ///
 /// A stripe's word is its writer's number and one more, and 2^16 times how many readers are counted in. Words stand 64
-/// bytes apart, so that two stripes never share a cache line.
+/// bytes apart, so that no two of them share a cache line; slots lie side by side.
 ///
 /// Contracts see which table it is and what that was told. It may be used by many threads at once.
 #[derive(Drop)]

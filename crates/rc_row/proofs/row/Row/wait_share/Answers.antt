@@ -15,6 +15,6 @@ try_share-requires-clause-above g c = waited_above c.args.pass.now c.loop.pass c
 pub loop-preserved : goal.loop-preserved
 loop-preserved g c = (
   c.try_share.ensures.pass,
-  waited_more c.args.pass.now c.loop.pass c.try_share.new.pass c.loop.invariant.1 Shared c.args.stripe c.in-Some-2.field-0
-      (some_of c.in_ok-try_share.field-0 c.in-Some-2.field-0 (λ found. c.try_share.new.pass ≡ with_standing (turned_away Shared c.loop.pass.standing c.args.stripe found) c.loop.pass) c.in-Some-2.is c.in_ok-try_share.ensures.refused),
+  waited_more c.args.pass.now c.loop.pass c.try_share.new.pass c.loop.invariant.1 Shared c.args.stripe c.in-Ok-Some.field-0-0
+      (some_of c.in-Ok-Some.field-0 c.in-Ok-Some.field-0-0 (λ found. c.try_share.new.pass ≡ with_standing (turned_away Shared c.loop.pass.standing c.args.stripe found) c.loop.pass) c.in-Ok-Some.field-0-is c.in-Ok-Some.ensures.refused),
 )
