@@ -1,9 +1,10 @@
 -- Giving stripes back one after another.
+use Rattle.std.specs.Prelude.{All}
 use Rattle.std.proofs.Common.{◌≡◌, ℕ, suc, ◌<◌, ◌≤◌, ◌==◌, Bool, true, false, List, [], ◌∷◌, length, not, cond, sym, ap, ◌∙◌, subst, inl, inr, arith}
 use Rattle.std.proofs.lemmas.Bool.{eq-eqb}
-use Rattle.std.proofs.lemmas.List.Elements.{All-filter}
+use Rattle.std.proofs.lemmas.List.Elements.{All-contains, All-filter}
 use Rattle.rc_tuple.specs.RisingSet.{In}
-use Rattle.rc_tuple.specs.RisingSetLaws.{map_in}
+use Rattle.rc_tuple.specs.RisingSetLaws.{in_contains, map_in}
 use Rattle.rc_spec.specs.declared.lock.Mode.{Mode}
 use Rattle.rc_fragment.specs.Keep.{IsAtRest}
 use Rattle.rc_core.specs.declared.state.Hold.{Hold}
@@ -46,3 +47,7 @@ fewer_without (h ∷ held) p here (inr m) e = go (fewer_without held p here m e)
 
 pub fewer_left : (held now : List HeldRows) (p : ℕ) (mode : Mode) → now ≡ held_without held p → IsHeldSo held p mode → length now < length held
 fewer_left held now p mode e h = let few = fewer_without held p h.here h.among h.stripe_is in let same = ap (λ (hs : List HeldRows). length hs) e in omega arith
+
+-- a held stripe is one of the row's
+pub inside_so : (stripes : ℕ) (held : List HeldRows) (p : ℕ) (mode : Mode) → All (λ (h : HeldRows). h.stripe < stripes) held → IsHeldSo held p mode → p < stripes
+inside_so stripes held p mode inside so = subst (λ q. q < stripes) so.stripe_is (All-contains (λ (h : HeldRows). h.stripe < stripes) held so.here inside (in_contains so.here held so.among))

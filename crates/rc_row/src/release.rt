@@ -1,7 +1,7 @@
 //! Giving all back.
 
 ghost use Rattle.std.specs.Prelude.{◌≡◌, ◌<◌, [], IfNone, IfSome, length};
-ghost use Rattle.rc_row.specs.Passes.{AreAtRest, IsPassOf, idle, without_stripe};
+ghost use Rattle.rc_row.specs.Passes.{AreAtRest, IsPassOf, idle, stripes_of, without_stripe};
 ghost use Rattle.rc_row.specs.Released.{IsHeldSo};
 
 use crate::pass::Pass;
@@ -35,6 +35,23 @@ impl Row {
             Mode::Exclusive => self.unlock(pass, stripe),
             Mode::Shared => self.unshare(pass, stripe),
         }
+    }
+
+    /// Gives the stripe back that was taken last, and answers which it was, so that it can be woken; `None` where the pass
+    /// holds nothing. What it changed is committed or taken back. Costs what `unlock` or `unshare` does, and takes no memory.
+    pub fn release_last(&self, pass: &mut Pass) -> Option<u32>
+        requires pass { IsPassOf self.now pass.old }
+        requires rest { AreAtRest pass.old.held }
+        ensures pass { IsPassOf self.now pass.new }
+        ensures none { IfNone result ((pass.old.held ≡ []) × (pass.new ≡ pass.old)) }
+        ensures given { IfSome result (λ stripe. pass.new ≡ without_stripe stripe pass.old) }
+        ensures inside { IfSome result (λ stripe. stripe < stripes_of self.now) }
+        ensures rest { AreAtRest pass.new.held }
+        ensures fewer { IfSome result (λ _. length pass.new.held < length pass.old.held) }
+    {
+        let (stripe, mode) = pass.last()?;
+        self.release(pass, stripe, mode);
+        Some(stripe)
     }
 
     /// Gives all stripes back that the pass holds, the last first. What it changed is committed or taken back. Takes no
