@@ -1,0 +1,30 @@
+-- Why a call was refused. (PLDI 2012, well-locked query plans.)
+use Rattle.std.specs.Prelude.{◌≡◌, ℕ, ◌<◌, List, Some}
+use Rattle.std.specs.List.{flat_map}
+use Rattle.rc_tuple.specs.RisingSet.{In, gather}
+use Rattle.rc_spec.specs.declared.call.Call.{Call}
+use Rattle.rc_spec.specs.declared.lock.Found.{Found}
+use Rattle.rc_spec.specs.declared.lock.Mode.{Mode}
+use Rattle.rc_spec.specs.Fragments.{EdgeRow, edge_row_cmp}
+use Rattle.rc_plan.specs.Compiled.{plan_at}
+use Rattle.rc_plan.specs.Evaluation.{eval}
+use Rattle.rc_plan.specs.NamedStripes.{IsNamedBy}
+use Rattle.rc_core.specs.declared.state.Hold.{Hold}
+use Rattle.rc_row.specs.Passes.{PassSeen, RowSeen, compiled_of, core_of, spec_of}
+use Rattle.rc_row.specs.Standings.{KeepsOut}
+
+-- the rows of holds, rising
+abbrev pub rows_of : List Hold → List EdgeRow
+rows_of holds = gather edge_row_cmp (flat_map (λ h. h.rows) holds)
+
+-- The last refused step of the pass is of this call, asked for the stripe, and found this in the way. Evaluation of the call's plan on the rows that
+-- the pass keeps of that step names the stripe in the mode that was asked. So it is of a class that the plan locks, and the arguments' own where
+-- the arguments choose it.
+pub record IsBusy (row : RowSeen) (call : Call) (old new : PassSeen) (stripe : ℕ) (what : Found) : Type 0 where
+  pub mode : Mode
+  pub held : List Hold
+  pub risen : old.standing.refusals < new.standing.refusals
+  pub last : new.standing.last_refusal ≡ Some (record { stripe = stripe; mode = mode; found = what; held = held })
+  pub found : KeepsOut mode row.key.passes (core_of old).number what
+  pub named : In (stripe, mode) (eval (spec_of row) (plan_at (compiled_of row).plans call.op) call (rows_of held)).named
+  pub by_plan : IsNamedBy (spec_of row) call.args (plan_at (compiled_of row).plans call.op) (stripe, mode)

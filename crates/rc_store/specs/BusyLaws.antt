@@ -1,0 +1,58 @@
+-- A run of a plan that was refused gives the cause.
+use Rattle.std.specs.Prelude.{◌≡◌, ℕ, ◌^◌, Bool, List, Option, None, Some, false}
+use Rattle.std.proofs.Common.{sym, ap, subst, ◌∙◌, inl, inr, arith}
+use Rattle.std.proofs.lemmas.List.Folds.{flat_map-map}
+use Rattle.rc_tuple.specs.RisingSet.{In, gather}
+use Rattle.rc_spec.specs.declared.call.Call.{Call}
+use Rattle.rc_spec.specs.declared.lock.Found.{Found}
+use Rattle.rc_spec.specs.declared.lock.Mode.{Mode}
+use Rattle.rc_spec.specs.Calls.{Fits}
+use Rattle.rc_spec.specs.Fragments.{EdgeRow, edge_row_cmp}
+use Rattle.rc_fragment.specs.declared.held.Held.{Held}
+use Rattle.rc_fragment.specs.Holder.{HasRisen}
+use Rattle.rc_plan.specs.Compiled.{IsCompiled, plan_at}
+use Rattle.rc_plan.specs.Evaluation.{eval}
+use Rattle.rc_core.specs.declared.state.Hold.{Hold}
+use Rattle.rc_machine.specs.Machine.{HasRefusedCall, rows_taken}
+use Rattle.rc_row.specs.HeldRows.{HeldRows}
+use Rattle.rc_row.specs.Passes.{PassSeen, RowSeen, compiled_of, core_of, holds_taken, spec_of}
+use Rattle.rc_row.specs.Standings.{KeepsOut}
+use Rattle.rc_store.specs.declared.lender.Refused.{Refused}
+use Rattle.rc_store.specs.Busy.{IsBusy, rows_of}
+use Rattle.rc_store.specs.HeldStripes.{hold_taken}
+use Rattle.rc_store.specs.Lending.{IsOnTheWay, held_stripes, lending}
+use Rattle.rc_store.specs.LendingLaws.{all_taken-held}
+use Rattle.rc_store.specs.NamedLaws.{compiled_named_law}
+
+rows_of-taken : (held : List HeldRows) → rows_of (holds_taken held) ≡ rows_taken (held_stripes held)
+rows_of-taken held = ap rows_of (all_taken-held held) ∙ ap (gather edge_row_cmp) (flat_map-map (λ (h : Hold). h.rows) hold_taken (held_stripes held))
+
+none_risen : HasRisen 0 0 → ⊥
+none_risen (inl l) = omega (arith, l)
+none_risen (inr e) = let one : 1 ≡ 2 ^ 64 = e.1 in omega (arith, one)
+
+pub busy : (row : RowSeen) (call : Call) (begun now : PassSeen) (n m : ℕ) (waits : Bool) → IsCompiled (spec_of row) (compiled_of row).plans → Fits (spec_of row) call
+    → (refused : Option Refused) → IsOnTheWay waits row begun now refused
+    → (h : Held) → HasRefusedCall (compiled_of row) call (lending row begun None n) (lending row now refused m) h
+    → IsBusy row call begun now h.stripe h.found
+busy row call begun now n m waits ok fits None way h is = absurd (none_risen is.risen)
+busy row call begun now n m waits ok fits (Some at) way h is = record {
+  mode = is.mode;
+  held = holds_taken at.pass.value.held;
+  risen = way.told.1.risen;
+  last = way.told.1.last ∙ (λ i. Some (record { stripe = (is.last.0 i).stripe; mode = is.last.2 i; found = (is.last.0 i).found; held = holds_taken at.pass.value.held }));
+  found = subst (λ (z : Mode × Found). KeepsOut z.0 row.key.passes (core_of begun).number z.1) (λ i. (is.last.2 i, (is.last.0 i).found)) way.told.1.found;
+  named = named;
+  by_plan = compiled_named_law (compiled_of row) ok call fits (rows_of (holds_taken at.pass.value.held)) (h.stripe, is.mode) named;
+}
+  where
+    named : In (h.stripe, is.mode) (eval (spec_of row) (plan_at (compiled_of row).plans call.op) call (rows_of (holds_taken at.pass.value.held))).named
+    named = subst (λ (rows : List EdgeRow). In (h.stripe, is.mode) (eval (spec_of row) (plan_at (compiled_of row).plans call.op) call rows).named)
+        (ap rows_taken (sym is.last.3) ∙ sym (rows_of-taken at.pass.value.held))
+        is.named
+
+-- and so comes only where nothing waits
+pub none_waits : (row : RowSeen) (call : Call) (begun now : PassSeen) (n m : ℕ) (waits : Bool) (refused : Option Refused) → IsOnTheWay waits row begun now refused
+    → (h : Held) → HasRefusedCall (compiled_of row) call (lending row begun None n) (lending row now refused m) h → waits ≡ false
+none_waits row call begun now n m waits None way h is = absurd (none_risen is.risen)
+none_waits row call begun now n m waits (Some at) way h is = way.told.0

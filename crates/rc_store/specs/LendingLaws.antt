@@ -1,0 +1,316 @@
+-- What a holder of a pass tells, and what its calls leave of it.
+use Rattle.std.specs.Prelude.{◌≡◌, ℕ, suc, ◌<◌, ◌==◌, Bool, true, false, List, [], ◌∷◌, map, length, cond, max, pred, Option, None, Some, Result, Ok, Err, OnOk, OnErr, IfSome, All}
+use Rattle.std.proofs.Common.{refl, sym, ap, subst, ◌∙◌, inl, inr, arith}
+use Rattle.std.proofs.lemmas.List.{length-replicate}
+use Rattle.std.proofs.lemmas.List.Elements.{All-cons, All-contains, All-map, All-nil}
+use Rattle.std.proofs.lemmas.Simd.{map-map}
+use Rattle.rc_tuple.specs.RelationLaws.{satisfies_none}
+use Rattle.rc_tuple.specs.RisingSet.{In}
+use Rattle.rc_tuple.specs.RisingSetLaws.{in_contains, in_map, map_in}
+use Rattle.rc_tuple.specs.Tuple.{Pairs}
+use Rattle.rc_spec.specs.declared.lock.Found.{Found}
+use Rattle.rc_spec.specs.declared.lock.Mode.{Mode}
+use Rattle.rc_spec.specs.declared.lock.Mode.TheVariants.{Exclusive}
+use Rattle.rc_spec.specs.declared.spec.Spec.{Spec}
+use Rattle.rc_spec.specs.Fragments.{EdgeRow}
+use Rattle.rc_spec.specs.Stripes.{stripe_total}
+use Rattle.rc_fragment.specs.declared.held.Held.{Held}
+use Rattle.rc_fragment.specs.declared.shape.EdgeShape.{EdgeShape}
+use Rattle.rc_fragment.specs.Fragment.{HasAlone, HasColumns, HasSingle, edge_table}
+use Rattle.rc_fragment.specs.FragmentRows.{FragmentRows, changed, rolled_back, with_promise}
+use Rattle.rc_fragment.specs.Holder.{AreOfOneRelation, CanLower, CanRaise, HasRefused, HasRisen, HasRoom, HeldStripe, IsAbove as IsAboveHeld, IsHeld, IsHeldExclusive, IsLent, LentStripe, all_reverted, held_of, lent_reverted, with_change, with_change_at, with_room, with_room_at}
+use Rattle.rc_core.specs.declared.state.Hold.{Hold}
+use Rattle.rc_core.specs.ListLaws.{in_stripes, stripes_have, stripes_in_have}
+use Rattle.rc_core.specs.Passes.{IsAbove}
+use Rattle.rc_core.specs.State.{hold, stripes_in, writes_of}
+use Rattle.rc_row.specs.HeldRows.{HeldRows}
+use Rattle.rc_row.specs.Passes.{CanAddRow, CanSubRow, IsPassOf, OfHeld, PassSeen, RowSeen, core_of, holds_now, holds_taken, reverted, spec_of, stripes_of, with_fragment, with_held, with_standing}
+use Rattle.rc_row.specs.Standings.{HaveOneRelation, turned_away}
+use Rattle.rc_store.specs.declared.lender.Refused.{Refused}
+use Rattle.rc_store.specs.HeldStripes.{all_now, all_taken, hold_now, hold_taken}
+use Rattle.rc_store.specs.Lending.{IsLentBy, IsLentSo, IsOnTheWay, IsToldOf, Lent, count_told, held_stripe, held_stripes, lending, lent_stripe, lent_stripes}
+
+-- ---- what is held
+
+pub held_of-lending : (row : RowSeen) (pass : PassSeen) (refused : Option Refused) (n : ℕ) → held_of (lending row pass refused n) ≡ held_stripes pass.held
+held_of-lending row pass refused n = map-map (λ (l : LentStripe). l.held) lent_stripe pass.held
+
+-- the holds of a pass are those of what it holds
+pub all_taken-held : (held : List HeldRows) → holds_taken held ≡ all_taken (held_stripes held)
+all_taken-held held = sym (map-map hold_taken held_stripe held)
+
+pub all_now-held : (held : List HeldRows) → holds_now held ≡ all_now (held_stripes held)
+all_now-held held = sym (map-map hold_now held_stripe held)
+
+-- ---- soundness
+
+pub lent_table : (waits : Bool) (lent : Option Lent) (row : RowSeen) (pass : PassSeen) (refused : Option Refused) (n : ℕ) (spec : Spec) → IsLentSo waits lent row pass refused spec
+    → ((lending row pass refused n).table ≡ edge_table spec) × (length (lending row pass refused n).offered ≡ stripe_total spec)
+lent_table waits (Some lent) row pass refused n spec l = (ap edge_table (sym l.spec_is), length-replicate (stripe_total (spec_of row)) None ∙ ap stripe_total (sym l.spec_is))
+lent_table waits None row pass refused n spec l = absurd l
+
+-- holds that have one relation are, as held stripes, of it
+pub one_relation : (spec : Spec) (held : List HeldRows) (holds : List Hold) → holds_taken held ≡ holds → HaveOneRelation spec holds → AreOfOneRelation spec (held_stripes held)
+one_relation spec held holds agrees one = (
+  one.relation,
+  record {
+    relation = one.is_relation;
+    satisfies = one.satisfies;
+    few = one.few;
+    rows = λ h m.
+        let taken : In (hold_taken h) holds = subst (In (hold_taken h)) (sym (all_taken-held held) ∙ agrees) (map_in hold_taken h (held_stripes held) m) in
+        one.rows (hold_taken h) taken;
+  },
+)
+
+pub lent_rows : (waits : Bool) (lent : Option Lent) (row : RowSeen) (pass : PassSeen) (refused : Option Refused) (n : ℕ) (spec : Spec) → IsLentSo waits lent row pass refused spec
+    → AreOfOneRelation spec (held_of (lending row pass refused n))
+lent_rows waits (Some lent) row pass refused n spec l =
+    subst (AreOfOneRelation spec) (sym (held_of-lending row pass refused n))
+    (one_relation spec pass.held (core_of pass).held l.way.agrees (subst (λ s. HaveOneRelation s (core_of pass).held) (sym l.spec_is) l.way.one))
+lent_rows waits None row pass refused n spec l = absurd l
+
+-- ---- what is held, by the core
+
+module _ (row : RowSeen) (pass : PassSeen) (refused : Option Refused) (n : ℕ) where
+  -- a stripe held by a holder is one of the pass's holds
+  hold_there : holds_taken pass.held ≡ (core_of pass).held → (h : HeldStripe) → In h (held_of (lending row pass refused n)) → In (hold_taken h) (core_of pass).held
+  hold_there agrees h m =
+      subst (In (hold_taken h)) (sym (all_taken-held pass.held) ∙ agrees)
+      (map_in hold_taken h (held_stripes pass.held) (subst (In h) (held_of-lending row pass refused n) m))
+
+  pub held_there : (p : ℕ) → holds_taken pass.held ≡ (core_of pass).held → IsHeld (held_of (lending row pass refused n)) p → In p (stripes_in (core_of pass).held)
+  held_there p agrees is =
+      subst (λ q. In q (stripes_in (core_of pass).held)) is.2 (stripes_have (hold_taken is.0) (core_of pass).held (hold_there agrees is.0 is.1))
+
+  pub written_there : (p : ℕ) → holds_taken pass.held ≡ (core_of pass).held → IsHeldExclusive (held_of (lending row pass refused n)) p → In p (writes_of (core_of pass))
+  written_there p agrees is =
+      subst (λ q. In q (writes_of (core_of pass))) is.2
+      (stripes_in_have Exclusive (hold_taken is.0) (core_of pass).held (hold_there agrees is.0 is.1) is.3)
+
+  pub above_there : (p : ℕ) → holds_taken pass.held ≡ (core_of pass).held → IsAboveHeld (held_of (lending row pass refused n)) p → IsAbove (core_of pass) p
+  above_there p agrees above q m =
+      let w : (h : Hold) × In h (core_of pass).held × (q ≡ h.stripe) = in_stripes q (core_of pass).held m in
+      let taken : In w.0 (all_taken (held_stripes pass.held)) = subst (In w.0) (sym agrees ∙ all_taken-held pass.held) w.1 in
+      let v : (h : HeldStripe) × In h (held_stripes pass.held) × (w.0 ≡ hold_taken h) = in_map hold_taken w.0 (held_stripes pass.held) taken in
+      subst (λ (k : ℕ). k < p) (sym (w.2 ∙ ap (λ (h : Hold). h.stripe) v.2))
+      (above v.0 (subst (In v.0) (sym (held_of-lending row pass refused n)) v.1))
+
+  -- ---- changes that may be made
+
+  -- what holds of each fragment that is held
+  each_held : (P : HeldRows → Type 0) → ((h : HeldRows) → In h pass.held → P h) → All P pass.held
+  each_held P each = go pass.held each
+    where
+      go : (hs : List HeldRows) → ((h : HeldRows) → In h hs → P h) → All P hs
+      go [] each = All-nil P
+      go (h ∷ hs) each = All-cons P h hs (each h (inl refl)) (go hs (λ x m. each x (inr m)))
+
+  shape_there : IsPassOf row pass → (h : HeldRows) → In h pass.held → h.fragment.table ≡ edge_table (spec_of row)
+  shape_there of h m = All-contains (λ (h : HeldRows). h.fragment.table ≡ edge_table (spec_of row)) pass.held h of.shapes (in_contains h pass.held m)
+
+  lent_there : (h : HeldRows) → In h pass.held → In (held_stripe h) (held_of (lending row pass refused n))
+  lent_there h m = subst (In (held_stripe h)) (sym (held_of-lending row pass refused n)) (map_in held_stripe h pass.held m)
+
+  pub may_add : (p e : ℕ) (tuple : Pairs) → IsPassOf row pass → HasRoom (lending row pass refused n) p → CanRaise (lending row pass refused n) p e tuple
+      → OfHeld pass.held p (CanAddRow e tuple)
+  may_add p e tuple of room can =
+      each_held (λ (h : HeldRows). h.stripe ≡ p → CanAddRow e tuple h.fragment) (λ h m at.
+      let shape : h.fragment.table ≡ edge_table (spec_of row) = shape_there of h m in
+      record {
+        known = subst (λ (t : List EdgeShape). e < length t) (sym shape) can.known;
+        owned = room (lent_stripe h) (map_in lent_stripe h pass.held m) at;
+        small = can.small (held_stripe h) (lent_there h m) at;
+        columns = subst (λ (t : List EdgeShape). HasColumns t e tuple) (sym shape) can.columns;
+        alone = subst (λ (t : List EdgeShape). HasAlone t h.fragment.now e tuple) (sym shape) (can.alone (held_stripe h) (lent_there h m) at);
+        single = subst (λ (t : List EdgeShape). HasSingle t h.fragment.now e tuple) (sym shape) (can.single (held_stripe h) (lent_there h m) at);
+      })
+
+  pub may_sub : (p e : ℕ) (tuple : Pairs) → IsPassOf row pass → HasRoom (lending row pass refused n) p → CanLower (lending row pass refused n) p e tuple
+      → OfHeld pass.held p (CanSubRow e tuple)
+  may_sub p e tuple of room can =
+      each_held (λ (h : HeldRows). h.stripe ≡ p → CanSubRow e tuple h.fragment) (λ h m at. record {
+        known = subst (λ (t : List EdgeShape). e < length t) (sym (shape_there of h m)) can.known;
+        owned = room (lent_stripe h) (map_in lent_stripe h pass.held m) at;
+        there = can.there (held_stripe h) (lent_there h m) at;
+      })
+
+  -- the fragment of a held stripe is lent
+  pub lent_so : (p : ℕ) (f : FragmentRows) → IsPassOf row pass → OfHeld pass.held p (λ g. f ≡ g) → IsHeld (held_of (lending row pass refused n)) p
+      → IsLent (lending row pass refused n) p f
+  lent_so p f of same is = record {
+    table =
+        let w : (h : HeldRows) × In h pass.held × (is.0 ≡ held_stripe h) = in_map held_stripe is.0 pass.held (subst (In is.0) (held_of-lending row pass refused n) is.1) in
+        let at : w.0.stripe ≡ p = sym (ap (λ (h : HeldStripe). h.stripe) w.2) ∙ is.2 in
+        ap (λ (g : FragmentRows). g.table) (fragment_is w.0 w.1 at) ∙ shape_there of w.0 w.1;
+    now = λ g m e.
+        let w : (h : HeldRows) × In h pass.held × (g ≡ held_stripe h) = in_map held_stripe g pass.held (subst (In g) (held_of-lending row pass refused n) m) in
+        ap (λ (g : FragmentRows). g.now) (fragment_is w.0 w.1 (sym (ap (λ (h : HeldStripe). h.stripe) w.2) ∙ e)) ∙ sym (ap (λ (h : HeldStripe). h.now) w.2);
+    taken = λ g m e.
+        let w : (h : HeldRows) × In h pass.held × (g ≡ held_stripe h) = in_map held_stripe g pass.held (subst (In g) (held_of-lending row pass refused n) m) in
+        ap (λ (g : FragmentRows). g.taken) (fragment_is w.0 w.1 (sym (ap (λ (h : HeldStripe). h.stripe) w.2) ∙ e)) ∙ sym (ap (λ (h : HeldStripe). h.taken) w.2);
+  }
+    where
+      fragment_is : (h : HeldRows) → In h pass.held → h.stripe ≡ p → f ≡ h.fragment
+      fragment_is h m e = All-contains (λ (h : HeldRows). h.stripe ≡ p → f ≡ h.fragment) pass.held h same (in_contains h pass.held m) e
+
+  -- ---- what is told after a change
+
+  abbrev changed_so : (HeldRows → FragmentRows) → PassSeen
+  changed_so fragment = record pass { held = map (with_fragment fragment) pass.held }
+
+  lent_each : (fragment : HeldRows → FragmentRows) (g : LentStripe → LentStripe) → ((h : HeldRows) → lent_stripe (with_fragment fragment h) ≡ g (lent_stripe h))
+      → (hs : List HeldRows) → lent_stripes (map (with_fragment fragment) hs) ≡ map g (lent_stripes hs)
+  lent_each fragment g same [] = refl
+  lent_each fragment g same (h ∷ hs) = λ i. same h i ∷ lent_each fragment g same hs i
+
+  pub told_room : (p changes : ℕ) → lending row (with_held p (with_promise changes) pass) refused n ≡ with_room_at p changes (lending row pass refused n)
+  told_room p changes = ap (λ (ls : List LentStripe). record (lending row pass refused n) { lent = ls }) (lent_each fragment (with_room p changes) (λ h. one h (h.stripe == p)) pass.held)
+    where
+      fragment : HeldRows → FragmentRows
+      fragment h = cond (h.stripe == p) (with_promise changes h.fragment) h.fragment
+
+      one : (h : HeldRows) (b : Bool) → lent_stripe (with_fragment (λ h. cond b (with_promise changes h.fragment) h.fragment) h) ≡ record { held = held_stripe h; room = cond b (max h.fragment.room changes) h.fragment.room }
+      one h true = refl
+      one h false = refl
+
+  pub told_change : (p : ℕ) (change : List EdgeRow → List EdgeRow) → lending row (with_held p (changed change) pass) refused n ≡ with_change_at p change (lending row pass refused n)
+  told_change p change = ap (λ (ls : List LentStripe). record (lending row pass refused n) { lent = ls }) (lent_each fragment (with_change p change) (λ h. one h (h.stripe == p)) pass.held)
+    where
+      fragment : HeldRows → FragmentRows
+      fragment h = cond (h.stripe == p) (changed change h.fragment) h.fragment
+
+      one : (h : HeldRows) (b : Bool) → lent_stripe (with_fragment (λ h. cond b (changed change h.fragment) h.fragment) h)
+          ≡ record { held = cond b (record { stripe = h.stripe; mode = h.mode; now = change h.fragment.now; taken = h.fragment.taken }) (held_stripe h); room = cond b (pred h.fragment.room) h.fragment.room }
+      one h true = refl
+      one h false = refl
+
+  pub told_reverted : lending row (reverted pass) refused n ≡ all_reverted (lending row pass refused n)
+  told_reverted = ap (λ (ls : List LentStripe). record (lending row pass refused n) { lent = ls }) (lent_each (λ (h : HeldRows). rolled_back h.fragment) lent_reverted (λ h. refl) pass.held)
+
+  -- ---- what stays after a change
+
+  taken_each : (fragment : HeldRows → FragmentRows) → ((h : HeldRows) → (fragment h).taken ≡ h.fragment.taken) → (hs : List HeldRows) → holds_taken (map (with_fragment fragment) hs) ≡ holds_taken hs
+  taken_each fragment same [] = refl
+  taken_each fragment same (h ∷ hs) = λ i. hold h.stripe h.mode (same h i) ∷ taken_each fragment same hs i
+
+  pub still_of_row : (fragment : HeldRows → FragmentRows) → ((h : HeldRows) → (fragment h).table ≡ h.fragment.table) → IsPassOf row pass → IsPassOf row (changed_so fragment)
+  still_of_row fragment same of = record {
+    table = of.table;
+    inside = All-map (λ (h : HeldRows). h.stripe < stripes_of row) (with_fragment fragment) pass.held of.inside;
+    shapes = All-map (λ (h : HeldRows). h.fragment.table ≡ edge_table (spec_of row)) (with_fragment fragment) pass.held (each_held (λ (h : HeldRows). (fragment h).table ≡ edge_table (spec_of row)) (λ h m. same h ∙ shape_there of h m));
+    keeps = of.keeps;
+  }
+
+  pub still_lent : (fragment : HeldRows → FragmentRows) → ((h : HeldRows) → (fragment h).taken ≡ h.fragment.taken) → (waits : Bool) (lent : Option Lent) (spec : Spec)
+      → IsLentSo waits lent row pass refused spec → IsLentSo waits lent row (changed_so fragment) refused spec
+  still_lent fragment same waits None spec l = absurd l
+  still_lent fragment same waits (Some lent) spec l = record {
+    spec_is = l.spec_is;
+    row_is = l.row_is;
+    way = record {
+      ran = record { core = l.way.ran.core; table = l.way.ran.table; kept = l.way.ran.kept; refusals = l.way.ran.refusals };
+      agrees = taken_each fragment same pass.held ∙ l.way.agrees;
+      one = l.way.one;
+      told = told refused l.way.told;
+    };
+  }
+    where
+      told : (r : Option Refused) → IsToldOf waits row lent.begun pass r → IsToldOf waits row lent.begun (changed_so fragment) r
+      told None t = tt
+      told (Some at) t = (t.0, record { risen = t.1.risen; last = t.1.last; found = t.1.found })
+
+-- changes at one stripe that leave table and rows as taken
+pub table_at : (change : FragmentRows → FragmentRows) → ((f : FragmentRows) → (change f).table ≡ f.table) → (p : ℕ) (h : HeldRows) → (cond (h.stripe == p) (change h.fragment) h.fragment).table ≡ h.fragment.table
+table_at change same p h = go (h.stripe == p)
+  where
+    go : (b : Bool) → (cond b (change h.fragment) h.fragment).table ≡ h.fragment.table
+    go true = same h.fragment
+    go false = refl
+
+pub taken_at : (change : FragmentRows → FragmentRows) → ((f : FragmentRows) → (change f).taken ≡ f.taken) → (p : ℕ) (h : HeldRows) → (cond (h.stripe == p) (change h.fragment) h.fragment).taken ≡ h.fragment.taken
+taken_at change same p h = go (h.stripe == p)
+  where
+    go : (b : Bool) → (cond b (change h.fragment) h.fragment).taken ≡ h.fragment.taken
+    go true = same h.fragment
+    go false = refl
+
+-- ---- after a change of one stripe
+
+module _ (row : RowSeen) (pass : PassSeen) (change : FragmentRows → FragmentRows) (p : ℕ) where
+  pub at_of_row : ((f : FragmentRows) → (change f).table ≡ f.table) → IsPassOf row pass → IsPassOf row (with_held p change pass)
+  at_of_row same of = still_of_row row pass None 0 (λ h. cond (h.stripe == p) (change h.fragment) h.fragment) (table_at change same p) of
+
+  pub at_lent : ((f : FragmentRows) → (change f).taken ≡ f.taken) → (refused : Option Refused) (waits : Bool) (lent : Option Lent) (spec : Spec)
+      → IsLentSo waits lent row pass refused spec → IsLentSo waits lent row (with_held p change pass) refused spec
+  at_lent same refused waits lent spec l = still_lent row pass refused 0 (λ h. cond (h.stripe == p) (change h.fragment) h.fragment) (taken_at change same p) waits lent spec l
+
+  -- and where it may have failed, and left all as it was
+  pub may_of_row : {T E : Type 0} (result : Result T E) (new : PassSeen) → ((f : FragmentRows) → (change f).table ≡ f.table)
+      → OnOk result (new ≡ with_held p change pass) → OnErr result (new ≡ pass) → IsPassOf row pass → IsPassOf row new
+  may_of_row (Ok x) new same ok err of = subst (IsPassOf row) (sym ok) (at_of_row same of)
+  may_of_row (Err x) new same ok err of = subst (IsPassOf row) (sym err) of
+
+  pub may_lent : {T E : Type 0} (result : Result T E) (new : PassSeen) → ((f : FragmentRows) → (change f).taken ≡ f.taken)
+      → OnOk result (new ≡ with_held p change pass) → OnErr result (new ≡ pass) → (refused : Option Refused) (waits : Bool) (lent : Option Lent) (spec : Spec)
+      → IsLentSo waits lent row pass refused spec → IsLentSo waits lent row new refused spec
+  may_lent (Ok x) new same ok err refused waits lent spec l = subst (λ (q : PassSeen). IsLentSo waits lent row q refused spec) (sym ok) (at_lent same refused waits lent spec l)
+  may_lent (Err x) new same ok err refused waits lent spec l = subst (λ (q : PassSeen). IsLentSo waits lent row q refused spec) (sym err) l
+
+-- ---- a refused take
+
+module _ (row : RowSeen) (pass new : PassSeen) (refused : Option Refused) (n stripe : ℕ) (mode : Mode) (found : Found) where
+  risen_told : (r : Option Refused) (at : Refused) → new ≡ with_standing (turned_away mode pass.standing stripe found) pass → HasRisen (count_told r pass.standing) (count_told (Some at) new.standing)
+  risen_told r at e = go r (ap (λ (q : PassSeen). q.standing.refusals) e)
+    where
+      go : (r : Option Refused) → new.standing.refusals ≡ suc pass.standing.refusals → HasRisen (count_told r pass.standing) (suc new.standing.refusals)
+      go None e = inl (omega arith)
+      go (Some at) e = inl (omega (arith, e))
+
+  pub refused_so : (at : Refused) → at.answer ≡ record { stripe = stripe; found = found } → at.mode ≡ mode → at.pass.value ≡ new
+      → new ≡ with_standing (turned_away mode pass.standing stripe found) pass
+      → (h : Held) → at.answer ≡ h → HasRefused (lending row pass refused n) (lending row new (Some at) n) stripe mode h
+  refused_so at answer asked seen e h same = record {
+    risen = risen_told refused at e;
+    last = (
+      same,
+      ap (λ (x : Held). x.stripe) (sym same ∙ answer),
+      asked,
+      ap held_stripes (ap (λ (q : PassSeen). q.held) (seen ∙ e)) ∙ sym (held_of-lending row pass refused n),
+    );
+  }
+
+-- what holds of a value that is there
+pub some_of : {A : Type 0} (o : Option A) (x : A) (P : A → Type 0) → o ≡ Some x → IfSome o P → P x
+some_of o x P e h = subst (λ o. IfSome o P) e h
+
+-- ---- the start of a call
+
+-- a pass that holds nothing is on the way of a call that begins with it
+pub at_first : (waits : Bool) (row : RowSeen) (pass : PassSeen) → holds_taken pass.held ≡ (core_of pass).held → pass.held ≡ [] → IsOnTheWay waits row pass pass None
+at_first waits row pass agrees idle = record {
+  ran = record { core = refl; table = refl; kept = refl; refusals = omega arith };
+  agrees = agrees;
+  one = record {
+    relation = [];
+    is_relation = record { rising = tt; each = λ t m. absurd m };
+    satisfies = satisfies_none (spec_of row).deps;
+    few = omega arith;
+    rows = λ h m. absurd (subst (In h) (sym agrees ∙ ap holds_taken idle) m);
+  };
+  told = tt;
+}
+
+pub lent_first : (waits : Bool) (lent : Option Lent) (row : RowSeen) (pass : PassSeen) (spec : Spec) → lent ≡ Some (record { row = row; begun = pass }) → spec ≡ spec_of row
+    → holds_taken pass.held ≡ (core_of pass).held → pass.held ≡ [] → IsLentSo waits lent row pass None spec
+lent_first waits lent row pass spec e s agrees idle =
+    subst (λ (l : Option Lent). IsLentSo waits l row pass None spec) (sym e) (record { spec_is = s; row_is = refl; way = at_first waits row pass agrees idle })
+
+-- what is known of a pass at the end, whichever takes were refused
+pub untold : (waits : Bool) (row : RowSeen) (begun now : PassSeen) (refused : Option Refused) → IsOnTheWay waits row begun now refused → IsOnTheWay waits row begun now None
+untold waits row begun now refused way = record { ran = way.ran; agrees = way.agrees; one = way.one; told = tt }
+
+-- a holder at the end, of the row that was lent
+pub lent_last : (waits : Bool) (lent : Option Lent) (row other : RowSeen) (begun now : PassSeen) (refused : Option Refused) (spec : Spec)
+    → lent ≡ Some (record { row = row; begun = begun }) → IsLentSo waits lent other now refused spec → IsLentBy waits (record { row = row; begun = begun }) other now refused spec
+lent_last waits lent row other begun now refused spec e l = subst (λ (x : Option Lent). IsLentSo waits x other now refused spec) e l

@@ -1,0 +1,14 @@
+pub mod Busy
+pub mod BusyLaws
+pub mod CommitLaws
+pub mod HeldStripes
+pub mod Lending
+pub mod LendingLaws
+pub mod NamedLaws
+pub mod OfRowLaws
+pub mod Prepared
+pub mod RunLaws
+pub mod StepLaws
+pub mod Store
+pub mod StoreInside
+pub mod Taking

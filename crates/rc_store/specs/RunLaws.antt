@@ -1,0 +1,66 @@
+-- What a run of a plan over a lent row and pass leaves.
+use Rattle.std.specs.Prelude.{◌≡◌, ℕ, Bool, List, [], Option, None, Some, Result, Ok, Err, IfOk, false}
+use Rattle.std.proofs.Common.{refl, sym, subst}
+use Rattle.rc_spec.specs.declared.call.Call.{Call}
+use Rattle.rc_spec.specs.declared.call.Reply.{Reply}
+use Rattle.rc_spec.specs.declared.spec.Spec.{Spec}
+use Rattle.rc_spec.specs.Calls.{Fits}
+use Rattle.rc_fragment.specs.declared.held.Held.{Held}
+use Rattle.rc_fragment.specs.Holder.{HeldStripe}
+use Rattle.rc_plan.specs.Compiled.{IsCompiled, SpecWithPlans, plan_at}
+use Rattle.rc_machine.specs.Machine.{HasAnswered, HasRefusedCall, HasReplied}
+use Rattle.rc_row.specs.Passes.{IsPassOf, PassSeen, RowSeen, compiled_of, core_of, holds_taken, spec_of}
+use Rattle.rc_store.specs.declared.lender.Refused.{Refused}
+use Rattle.rc_store.specs.Busy.{IsBusy}
+use Rattle.rc_store.specs.BusyLaws.{busy, none_waits}
+use Rattle.rc_store.specs.Lending.{IsLentBy, IsLentSo, IsOnTheWay, Lent, held_stripes, lending}
+use Rattle.rc_store.specs.LendingLaws.{held_of-lending, lent_first, lent_last, untold}
+
+-- what holds of a value that there may be
+pub each_ok : {T E : Type 0} {P Q : T → Type 0} (r : Result T E) → ((x : T) → P x → Q x) → IfOk r P → IfOk r Q
+each_ok (Ok x) f h = f x h
+each_ok (Err e) f h = tt
+
+-- a run from a pass that holds nothing ends with a holder of what was lent
+pub lent_run : (waits : Bool) (lent : Option Lent) (row other : RowSeen) (begun now : PassSeen) (first last : Option Refused)
+    → lent ≡ Some (record { row = row; begun = begun }) → first ≡ None → holds_taken begun.held ≡ (core_of begun).held → begun.held ≡ []
+    → ((spec : Spec) → IsLentSo waits lent row begun first spec → IsLentSo waits lent other now last spec)
+    → IsLentBy waits (record { row = row; begun = begun }) other now last (spec_of row)
+lent_run waits lent row other begun now first last e none agrees idle sound =
+    lent_last waits lent row other begun now last (spec_of row) e
+    (sound (spec_of row) (subst (λ (r : Option Refused). IsLentSo waits lent row begun r (spec_of row)) (sym none) (lent_first waits lent row begun (spec_of row) e refl agrees idle)))
+
+module _ (waits : Bool) (row other : RowSeen) (begun now : PassSeen) (last : Option Refused) (l : IsLentBy waits (record { row = row; begun = begun }) other now last (spec_of row)) where
+  pub of_row_so : IsPassOf other now → IsPassOf row now
+  of_row_so of = subst (λ (r : RowSeen). IsPassOf r now) l.row_is of
+
+  told_way : IsOnTheWay waits row begun now last
+  told_way = subst (λ (r : RowSeen). IsOnTheWay waits r begun now last) l.row_is l.way
+
+  pub way_so : IsOnTheWay waits row begun now None
+  way_so = untold waits row begun now last told_way
+
+  module _ (compiled : SpecWithPlans) (same : compiled_of row ≡ compiled) (call : Call) where
+    pub replied_so : (n : ℕ) (reply : Reply) → HasAnswered compiled call (lending other now last n) reply
+        → HasReplied (spec_of row) (plan_at (compiled_of row).plans call.op) call (held_stripes now.held) reply
+    replied_so n reply is =
+        subst (λ (c : SpecWithPlans). HasReplied c.spec (plan_at c.plans call.op) call (held_stripes now.held) reply) (sym same)
+        (subst (λ (hs : List HeldStripe). HasReplied compiled.spec (plan_at compiled.plans call.op) call hs reply) (held_of-lending other now last n) is)
+
+    -- a refused run, of the row and from the pass that were lent
+    refused_run : (first : Option Refused) (n m : ℕ) → first ≡ None → (h : Held) → HasRefusedCall compiled call (lending row begun first n) (lending other now last m) h
+        → HasRefusedCall (compiled_of row) call (lending row begun None n) (lending row now last m) h
+    refused_run first n m none h is =
+        subst (λ (x : SpecWithPlans × Option Refused × RowSeen). HasRefusedCall x.0 call (lending row begun x.1 n) (lending x.2 now last m) h)
+        (λ i. (sym same i, none i, l.row_is i)) is
+
+    pub none_waits_so : (first : Option Refused) (n m : ℕ) → first ≡ None → (h : Held) → HasRefusedCall compiled call (lending row begun first n) (lending other now last m) h → waits ≡ false
+    none_waits_so first n m none h is = none_waits row call begun now n m waits last told_way h (refused_run first n m none h is)
+
+    pub busy_so : (first : Option Refused) (n m : ℕ) → IsCompiled compiled.spec compiled.plans → Fits compiled.spec call → first ≡ None
+        → (h : Held) → HasRefusedCall compiled call (lending row begun first n) (lending other now last m) h → IsBusy row call begun now h.stripe h.found
+    busy_so first n m ok fits none h is =
+        busy row call begun now n m waits
+        (subst (λ (c : SpecWithPlans). IsCompiled c.spec c.plans) (sym same) ok)
+        (subst (λ (c : SpecWithPlans). Fits c.spec call) (sym same) fits)
+        last told_way h (refused_run first n m none h is)

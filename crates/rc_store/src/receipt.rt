@@ -1,0 +1,40 @@
+//! What calls answer.
+
+use rc_spec::{Found, Reply};
+
+/// Where the entry of a call stands.
+#[derive(Drop, Debug)]
+pub struct Receipt {
+    /// Its place in the history, counted from 0.
+    pub place: u64,
+    /// Its number among the pass's own entries, counted from 0.
+    pub nth: u64,
+    /// The reply, where the store's passes keep no entries. Where they do, it stands in the pass's entry of that number.
+    pub reply: Option<Reply>,
+}
+
+/// Why a call that waits for nobody has no receipt. History, fragments and the pass's own entries are as before, and the
+/// pass holds nothing.
+#[derive(Clone, Copy, Debug, PartialEq, Eq)]
+pub enum TryFault {
+    /// Memory was wanted.
+    Memory,
+    /// Something stood in the way of a stripe that the call's plan names.
+    Busy {
+        /// The number of the stripe, over all classes.
+        stripe: u32,
+        /// What was found in the way.
+        found: Found,
+    },
+    /// The pass has made as many entries as the store lets it.
+    Spent,
+}
+
+/// Why a call that waits has no receipt. All is as before, and the pass holds nothing.
+#[derive(Clone, Copy, Debug, PartialEq, Eq)]
+pub enum CallFault {
+    /// Memory was wanted.
+    Memory,
+    /// The pass has made as many entries as the store lets it.
+    Spent,
+}

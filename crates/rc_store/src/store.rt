@@ -1,0 +1,89 @@
+//! The store.
+
+ghost use Rattle.std.specs.Prelude.{◌≡◌, ◌≤◌, ◌^◌, IfOk};
+ghost use Rattle.rc_core.specs.Passes.{learned};
+ghost use Rattle.rc_row.specs.Passes.{IsPassOf, compiled_of, core_of, new_passes, with_standing};
+ghost use Rattle.rc_row.specs.Standings.{with_core};
+
+use rc_plan::Compiled;
+use rc_row::{Keeping, Note, Pass, Row};
+use rc_tuple::Memory;
+use std::alloc::Global;
+use std::marker::Model;
+
+/// A relation that several threads share (PLDI 2012, concurrent relations): a row of lock stripes with the fragments, the
+/// specification with its plans, and how many entries each pass may make.
+#[derive(Drop)]
+pub struct Store {
+    pub(crate) row: Row,
+    pub(crate) compiled: Compiled,
+    pub(crate) limit: u64,
+    pub(crate) alloc: Global,
+}
+
+impl Model for Store {
+    ghost use Rattle.rc_store.specs.Store.{StoreSeen};
+
+    ghost Value = { StoreSeen };
+
+    ghost use Rattle.rc_store.specs.StoreInside.{IsWholeStore, store_seen};
+
+    ghost view = { store_seen };
+
+    ghost invariant = { IsWholeStore };
+}
+
+impl Store {
+    /// Makes a store with no tuple, and its passes by number, 1 to 255 of them, each of which may make so many entries and
+    /// keeps of them what is said. Only want of memory refuses it. Costs the stripes and, for each pass, room for a
+    /// fragment of each stripe.
+    pub fn build(
+        alloc: Global,
+        compiled: Compiled,
+        passes: u32,
+        limit: u64,
+        keeping: Keeping,
+    ) -> Result<(Store, Vec<Pass>), Memory>
+        requires passes { (1 ≤ passes) × (passes ≤ 255) }
+        requires limit { limit ≤ 2 ^ 48 }
+        ensures compiled { IfOk result (λ r. compiled_of r.0.row ≡ compiled) }
+        ensures limit { IfOk result (λ r. r.0.limit ≡ limit) }
+        ensures row { IfOk result (λ r. (r.0.row.key.passes ≡ passes) × (r.0.row.keeping ≡ keeping)) }
+        ensures passes { IfOk result (λ r. r.1.items ≡ new_passes r.0.row) }
+    {
+        let (row, dealt) = Row::build(alloc, &compiled, passes, keeping)?;
+        let store = Store {
+            row,
+            compiled,
+            limit,
+            alloc,
+        };
+        Ok((store, dealt))
+    }
+
+    /// The specification with its plans.
+    pub fn compiled(&self) -> &Compiled
+        ensures { result.now ≡ compiled_of self.now.row }
+    {
+        &self.compiled
+    }
+
+    /// Notes what the pass has seen of the history, for another pass to learn. Takes no memory.
+    pub fn note(&self, pass: &mut Pass) -> Note
+        requires { IsPassOf self.now.row pass.old }
+        ensures same { pass.new ≡ pass.old }
+        ensures note { result ≡ record { table = self.now.row.table; told = (core_of pass.old).seen } }
+    {
+        self.row.note(pass)
+    }
+
+    /// The pass has seen what the note's pass had seen, and what it had seen itself.
+    pub fn learn(&self, pass: &mut Pass, note: Note)
+        requires pass { IsPassOf self.now.row pass.old }
+        requires note { note.table ≡ self.now.row.table }
+        ensures pass { IsPassOf self.now.row pass.new }
+        ensures value { pass.new ≡ with_standing (with_core pass.old.standing (learned (core_of pass.old) note.told)) pass.old }
+    {
+        self.row.learn(pass, note);
+    }
+}
