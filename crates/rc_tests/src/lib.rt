@@ -9,4 +9,6 @@ mod row_tests;
 #[cfg(test)]
 mod sharing_tests;
 #[cfg(test)]
+mod store_tests;
+#[cfg(test)]
 mod stream_tests;

@@ -35,7 +35,7 @@ end
 ";
 
 /// The graph with its plans.
-fn compiled(alloc: Global) -> Result<Compiled, Fail> {
+pub(crate) fn compiled(alloc: Global) -> Result<Compiled, Fail> {
     let accepted = accept(alloc, read_spec_only(alloc, GRAPH)?)?;
     Ok(compile(alloc, accepted)?)
 }
