@@ -1,4 +1,5 @@
 pub mod Container
+pub mod Cow
 pub mod Fragment
 pub mod FragmentRows
 pub mod Holder

@@ -3,6 +3,7 @@
 
 mod changes;
 mod container;
+mod cow;
 mod edge_rows;
 mod fragment;
 mod held;
@@ -13,6 +14,7 @@ mod note;
 mod places;
 mod shape;
 
+pub use cow::CowFragment;
 pub use fragment::Fragment;
 pub use held::{Held, TakeStop};
 pub use holder::Holder;

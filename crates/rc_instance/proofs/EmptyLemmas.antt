@@ -18,24 +18,10 @@ use Rattle.rc_fragment.specs.Keep.{IsAtRest}
 use Rattle.rc_fragment.specs.declared.shape.EdgeShape.{EdgeShape}
 use Rattle.rc_instance.specs.Fragments.{IsEmptyFragment}
 use Rattle.rc_instance.specs.Instance.{offered_at, rows_of_fragments, stripes_of, table_of_fragments, IsEmpty, IsInstance, IsOfRelation}
+use Rattle.rc_instance.specs.InstanceLaws.{no_table}
 use Rattle.rc_instance.proofs.StripesOfLemmas.{instance_of, none_held, stripes_of-length, stripes_of-offered, stripes_of-rows, stripes_of-table, taken_of}
 
 -- ---- the table, also where there is no stripe
-
-no_edges : (edges : List Edge) → length edges ≡ 0 → edges ≡ []
-no_edges [] h = refl
-no_edges (e ∷ edges) h = absurd (omega (arith, h))
-
--- a specification without stripes has no edge
-pub no_table : (spec : Spec) → IsSealed spec → stripe_total spec ≡ 0 → edge_table spec ≡ []
-no_table spec sealed none = ap (map (shape_of spec)) (no_edges spec.edges (go (length spec.edges) refl))
-  where
-    go : (n : ℕ) → length spec.edges ≡ n → length spec.edges ≡ 0
-    go zero e = e
-    go (suc n) e =
-        let l : 0 < length spec.edges = omega (arith, e) in
-        let k : physical_stripe spec (class_of spec 0) [] < stripe_total spec = physical_stripe_below spec (class_of spec 0) [] sealed.accepted.placed (class_of_known spec 0 sealed.in_range (sealed.accepted.placed.p1 0 l)) in
-        absurd (omega (arith, k, none))
 
 pub empty_table : (spec : Spec) (fs : List FragmentRows) → IsSealed spec → length fs ≡ stripe_total spec → ((f : FragmentRows) → In f fs → IsEmptyFragment (edge_table spec) f) → table_of_fragments fs ≡ edge_table spec
 empty_table spec [] sealed l each = sym (no_table spec sealed (sym l))

@@ -8,11 +8,10 @@ use Rattle.rc_spec.specs.declared.lock.Mode.{Mode}
 use Rattle.rc_fragment.specs.FragmentRows.{FragmentRows}
 use Rattle.rc_fragment.specs.Holder.{IsHeld}
 use Rattle.rc_fragment.specs.Keep.{IsAtRest}
-use Rattle.rc_instance.specs.Fragments.{IsSettled}
-use Rattle.rc_instance.specs.Instance.{held_from, now_in, offered_at, rows_of_fragments, stripes_of, taken_in, AreReleased, HaveOneTable, IsInstance, IsMadeOf, Stripe}
+use Rattle.rc_instance.specs.Instance.{held_from, offered_at, rows_of_fragments, stripes_of, taken_in, AreReleased, IsInstance, Stripe}
 use Rattle.rc_instance.specs.InstanceLaws.{IsHeldFrom, in_held_from, as_held, held_from_in}
-use Rattle.rc_instance.proofs.AlikeLemmas.{alike_at, alike_in, alike_one_table, alike_table}
-use Rattle.rc_instance.proofs.StripesOfLemmas.{fragments_have_one_table, instance_of, none_held, now_of, room_of, stripes_of-length, stripes_of-now, stripes_of-offered, stripes_of-room, stripes_of-rows, stripes_of-table, taken_of}
+use Rattle.rc_instance.proofs.AlikeLemmas.{IsSettled, OfOneTable, alike_at, alike_in, alike_one_table, alike_table}
+use Rattle.rc_instance.proofs.StripesOfLemmas.{fragments_have_one_table, instance_of, none_held, now_in, now_of, room_of, stripes_of-length, stripes_of-now, stripes_of-offered, stripes_of-room, stripes_of-rows, stripes_of-table, taken_of}
 
 -- ---- settled fragments
 
@@ -29,25 +28,9 @@ module _ (old new : List FragmentRows) (a : AllZip IsSettled old new) where
   settled_offered : (ms : List (Option Mode)) (n : ℕ) → offered_at (stripes_of new ms) n ≡ now_in (slice_get old n)
   settled_offered ms n = stripes_of-offered new ms n ∙ alike_at IsSettled (λ f g. taken_of g ≡ now_in f) refl (λ f g r. ap (λ (z : FragmentRows). Some z.taken) r) old new a n
 
-  settled_instance : (ms : List (Option Mode)) → HaveOneTable old → IsInstance (stripes_of new ms)
+  settled_instance : (ms : List (Option Mode)) → OfOneTable old → IsInstance (stripes_of new ms)
   settled_instance ms one =
       instance_of new ms (alike_one_table IsSettled (λ f g r. ap (λ (z : FragmentRows). z.table) r) old new a one) (λ g m. let w = alike_in IsSettled old new a g m in settled_rests w.0 g w.2)
-
-  -- ---- made of fragments
-
-  pub made_instance : (n : ℕ) → HaveOneTable old → IsInstance (stripes_of new (replicate n None))
-  made_instance n = settled_instance (replicate n None)
-
-  pub made_of : (n : ℕ) → IsMadeOf old (stripes_of new (replicate n None))
-  made_of n =
-      let ms : List (Option Mode) = replicate n None in
-      record {
-        held = none_held 0 n new;
-        rows = stripes_of-rows new ms ∙ settled_rows old new a;
-        offered = settled_offered ms;
-        stripes = stripes_of-length new ms ∙ AllZip-long IsSettled old new a;
-        table = stripes_of-table new ms ∙ alike_table IsSettled (λ f g r. ap (λ (z : FragmentRows). z.table) r) old new a;
-      }
 
 -- ---- released
 

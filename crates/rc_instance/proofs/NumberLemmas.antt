@@ -12,7 +12,8 @@ use Rattle.rc_spec.specs.declared.lock.Mode.{Mode}
 use Rattle.rc_fragment.specs.FragmentRows.{FragmentRows, rolled_back, settled}
 use Rattle.rc_fragment.specs.Holder.{LentStripe}
 use Rattle.rc_fragment.specs.Keep.{IsAtRest}
-use Rattle.rc_instance.specs.Fragments.{IsSettled, each_at, with_at}
+use Rattle.rc_instance.specs.Fragments.{each_at, with_at}
+use Rattle.rc_instance.proofs.AlikeLemmas.{IsSettled}
 use Rattle.rc_instance.specs.Instance.{held_numbers, lent_part, lent_from, number_part, stripes_of, AreReleased, IsInstance, IsWholeInstance, Stripe}
 use Rattle.rc_instance.specs.InstanceLaws.{place_in}
 use Rattle.rc_instance.proofs.FreeLemmas.{released, released_instance}

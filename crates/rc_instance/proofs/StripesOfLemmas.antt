@@ -1,15 +1,17 @@
 -- Stripes that are put together from fragments and how they are held.
-use Rattle.std.specs.Prelude.{◌≡◌, ℕ, zero, suc, ◌<◌, List, [], ◌∷◌, ◌++◌, Option, None, Some, length}
+use Rattle.std.specs.Prelude.{◌≡◌, ℕ, zero, suc, ◌<◌, List, [], ◌∷◌, ◌++◌, Option, None, Some, length, map}
 use Rattle.std.specs.List.{slice_get}
-use Rattle.std.proofs.Common.{inl, inr, refl, sym, ap, ◌∙◌, arith, get_or, replicate}
+use Rattle.std.proofs.Common.{inl, inr, refl, sym, ap, subst, ◌∙◌, arith, get_or, replicate}
 use Rattle.std.proofs.Math.ListN.{set}
 use Rattle.std.proofs.lemmas.Option.{same_Some}
 use Rattle.rc_tuple.specs.RisingSet.{In}
+use Rattle.rc_tuple.specs.RisingSetLaws.{in_map}
 use Rattle.rc_spec.specs.Fragments.{EdgeRow}
 use Rattle.rc_spec.specs.declared.lock.Mode.{Mode}
 use Rattle.rc_fragment.specs.FragmentRows.{FragmentRows}
-use Rattle.rc_fragment.specs.Keep.{IsAtRest}
-use Rattle.rc_instance.specs.Instance.{held_from, now_in, offered_at, room_at, room_in, rows_of, rows_of_fragments, stripes_of, table_of, table_of_fragments, taken_in, HaveOneTable, IsInstance, Stripe}
+use Rattle.rc_fragment.specs.Keep.{IsAtRest, KeptRows, at_rest}
+use Rattle.rc_instance.specs.Instance.{held_from, HaveOneTable, kept_stripe, offered_at, room_at, room_in, rows_of, rows_of_fragments, stripes_of, table_of, table_of_fragments, taken_in, IsInstance, Stripe}
+use Rattle.rc_instance.proofs.AlikeLemmas.{OfOneTable}
 
 -- ---- what is seen of them
 
@@ -55,6 +57,10 @@ stripes_of-offered = stripes_of-at taken_in taken_of refl (λ s. refl)
 pub stripes_of-room : (fs : List FragmentRows) (ms : List (Option Mode)) (n : ℕ) → room_at (stripes_of fs ms) n ≡ room_of (slice_get fs n)
 stripes_of-room = stripes_of-at room_in room_of refl (λ s. refl)
 
+abbrev pub now_in : Option FragmentRows → Option (List EdgeRow)
+now_in None = None
+now_in (Some f) = Some f.now
+
 pub stripes_of-now : (fs : List FragmentRows) (ms : List (Option Mode)) (n : ℕ) → now_of (slice_get (stripes_of fs ms) n) ≡ now_in (slice_get fs n)
 stripes_of-now = stripes_of-at now_of now_in refl (λ s. refl)
 
@@ -75,13 +81,13 @@ stripe_of (x ∷ fs) [] f (inr i) = let w = stripe_of fs [] f i in (w.0, inr w.1
 stripe_of (x ∷ fs) (m ∷ ms) f (inl p) = (_, inl refl, sym p)
 stripe_of (x ∷ fs) (m ∷ ms) f (inr i) = let w = stripe_of fs ms f i in (w.0, inr w.1, w.2)
 
-pub fragments_have_one_table : (fs : List FragmentRows) (ms : List (Option Mode)) → IsInstance (stripes_of fs ms) → HaveOneTable fs
+pub fragments_have_one_table : (fs : List FragmentRows) (ms : List (Option Mode)) → IsInstance (stripes_of fs ms) → OfOneTable fs
 fragments_have_one_table fs ms i f m =
     let w : (s : Stripe) × In s (stripes_of fs ms) × (s.fragment ≡ f) = stripe_of fs ms f m in
     ap (λ (z : FragmentRows). z.table) (sym w.2) ∙ i.table w.0 w.1 ∙ stripes_of-table fs ms
 
 -- fragments with one table and no change pending may be held anyhow
-pub instance_of : (fs : List FragmentRows) (ms : List (Option Mode)) → HaveOneTable fs → ((f : FragmentRows) → In f fs → IsAtRest f) → IsInstance (stripes_of fs ms)
+pub instance_of : (fs : List FragmentRows) (ms : List (Option Mode)) → OfOneTable fs → ((f : FragmentRows) → In f fs → IsAtRest f) → IsInstance (stripes_of fs ms)
 instance_of fs ms one same = record {
   table = λ s i. one s.fragment (fragment_in fs ms s i) ∙ sym (stripes_of-table fs ms);
   free = λ s i none. same s.fragment (fragment_in fs ms s i);
@@ -93,6 +99,24 @@ pub none_held : (k n : ℕ) (fs : List FragmentRows) → held_from k (stripes_of
 none_held k n [] = refl
 none_held k zero (f ∷ fs) = none_held (suc k) zero fs
 none_held k (suc n) (f ∷ fs) = none_held (suc k) n fs
+
+-- ---- kept fragments
+
+pub stripes_of-kept : (ks : List KeptRows) (n : ℕ) → stripes_of (map at_rest ks) (replicate n None) ≡ map kept_stripe ks
+stripes_of-kept [] n = refl
+stripes_of-kept (k ∷ ks) zero = ap (λ z. kept_stripe k ∷ z) (stripes_of-kept ks zero)
+stripes_of-kept (k ∷ ks) (suc n) = ap (λ z. kept_stripe k ∷ z) (stripes_of-kept ks n)
+
+pub kept_one_table : (ks : List KeptRows) → HaveOneTable ks → OfOneTable (map at_rest ks)
+kept_one_table [] one f m = absurd m
+kept_one_table (k ∷ ks) one f m =
+    let w : (j : KeptRows) × In j (k ∷ ks) × (f ≡ at_rest j) = in_map at_rest f (k ∷ ks) m in
+    ap (λ (z : FragmentRows). z.table) w.2 ∙ one w.0 k w.1 (inl refl)
+
+pub kept_rest : (ks : List KeptRows) (f : FragmentRows) → In f (map at_rest ks) → IsAtRest f
+kept_rest ks f m =
+    let w : (j : KeptRows) × In j ks × (f ≡ at_rest j) = in_map at_rest f ks m in
+    subst IsAtRest (sym w.2) record { taken = refl; changes = refl }
 
 -- ---- one of them changes
 

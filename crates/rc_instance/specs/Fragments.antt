@@ -1,15 +1,11 @@
 -- What becomes of the fragments of an instance where several change at once.
 use Rattle.std.specs.Prelude.{◌≡◌, ℕ, zero, suc, List, [], ◌∷◌}
-use Rattle.rc_fragment.specs.FragmentRows.{FragmentRows, no_rows, settled}
+use Rattle.rc_fragment.specs.FragmentRows.{FragmentRows, no_rows}
 use Rattle.rc_fragment.specs.declared.shape.EdgeShape.{EdgeShape}
 
 -- a fragment with no row
 abbrev pub IsEmptyFragment : List EdgeShape → FragmentRows → Type 0
 IsEmptyFragment shapes f = f ≡ no_rows shapes
-
--- the same fragment, whose rows now count as taken
-abbrev pub IsSettled : FragmentRows → FragmentRows → Type 0
-IsSettled old new = new ≡ settled old
 
 -- the list with the element at a number changed, if there is one
 abbrev pub with_at : {A : Type 0} → (A → A) → ℕ → List A → List A

@@ -12,7 +12,7 @@ use Rattle.rc_spec.specs.declared.spec.Spec.{Spec}
 use Rattle.rc_fragment.specs.Fragment.{edge_table}
 use Rattle.rc_fragment.specs.FragmentRows.{FragmentRows}
 use Rattle.rc_fragment.specs.Holder.{HeldStripe, Holding, IsHeld, LentStripe}
-use Rattle.rc_fragment.specs.Keep.{IsAtRest}
+use Rattle.rc_fragment.specs.Keep.{IsAtRest, KeptRows, at_rest}
 use Rattle.rc_fragment.specs.declared.shape.EdgeShape.{EdgeShape}
 
 -- ---- what is seen of the stripes
@@ -119,21 +119,13 @@ table_of_fragments (f ∷ fs) = f.table
 abbrev pub rows_of_fragments : List FragmentRows → List EdgeRow
 rows_of_fragments fs = flat_map (λ f. f.now) fs
 
--- all fragments have one edge table
-abbrev pub HaveOneTable : List FragmentRows → Type 0
-HaveOneTable fs = (f : FragmentRows) → In f fs → f.table ≡ table_of_fragments fs
+-- all kept fragments have one edge table
+abbrev pub HaveOneTable : List KeptRows → Type 0
+HaveOneTable ks = (j k : KeptRows) → In j ks → In k ks → j.table ≡ k.table
 
-abbrev pub now_in : Option FragmentRows → Option (List EdgeRow)
-now_in None = None
-now_in (Some f) = Some f.now
-
--- the instance's stripes are these fragments: all are free, and each offers the rows that its fragment has now
-pub record IsMadeOf (fs : List FragmentRows) (ss : List Stripe) : Type 0 where
-  pub held : held_from 0 ss ≡ []
-  pub rows : rows_of ss ≡ rows_of_fragments fs
-  pub offered : (n : ℕ) → offered_at ss n ≡ now_in (slice_get fs n)
-  pub stripes : length ss ≡ length fs
-  pub table : table_of ss ≡ table_of_fragments fs
+-- a free stripe with this fragment
+abbrev pub kept_stripe : KeptRows → Stripe
+kept_stripe k = record { fragment = at_rest k; held = None }
 
 -- ---- stripes that are released
 

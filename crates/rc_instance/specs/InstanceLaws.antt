@@ -9,15 +9,20 @@ use Rattle.rc_tuple.specs.RisingSet.{In}
 use Rattle.rc_tuple.specs.RisingSetLaws.{in_append, append_in_left, append_in_right}
 use Rattle.rc_tuple.specs.Relation.{IsRelation, Satisfies}
 use Rattle.rc_tuple.specs.Tuple.{Pairs}
+use Rattle.rc_spec.specs.Acceptance.{IsSealed}
 use Rattle.rc_spec.specs.Calls.{all_columns}
 use Rattle.rc_spec.specs.Fragments.{fragment_of}
-use Rattle.rc_spec.specs.Stripes.{stripe_total}
+use Rattle.rc_spec.specs.Placement.{class_of}
+use Rattle.rc_spec.specs.PlacementLaws.{class_of_known, physical_stripe_below}
+use Rattle.rc_spec.specs.Stripes.{physical_stripe, stripe_total}
+use Rattle.rc_spec.specs.declared.items.Edge.{Edge}
 use Rattle.rc_spec.specs.declared.lock.Mode.{Mode}
 use Rattle.rc_spec.specs.declared.spec.Spec.{Spec}
-use Rattle.rc_fragment.specs.Fragment.{edge_table}
+use Rattle.rc_fragment.specs.Fragment.{edge_table, shape_of}
 use Rattle.rc_fragment.specs.FragmentRows.{FragmentRows}
+use Rattle.rc_fragment.specs.Keep.{KeptRows}
 use Rattle.rc_fragment.specs.Holder.{HeldStripe, LentStripe, AreOfRelation, AreOfOneRelation, IsHeld, held_of}
-use Rattle.rc_instance.specs.Instance.{held_part, held_from, holding, lent_part, lent_from, IsOfOneRelation, now_in, offered_at, table_of, table_of_fragments, taken_in, AreReleased, IsMadeOf, IsOfRelation, Stripe}
+use Rattle.rc_instance.specs.Instance.{held_part, held_from, holding, lent_part, lent_from, IsOfOneRelation, kept_stripe, offered_at, table_of, taken_in, AreReleased, IsOfRelation, Stripe}
 
 -- ---- held stripes
 
@@ -123,11 +128,27 @@ sound_rows ss spec o = (
 
 -- ---- new soundness
 
--- stripes made of fragments that are those of a relation are of it
+no_edges : (edges : List Edge) → length edges ≡ 0 → edges ≡ []
+no_edges [] h = refl
+no_edges (e ∷ edges) h = absurd (omega (arith, h))
+
+-- a specification without stripes has no edge
+pub no_table : (spec : Spec) → IsSealed spec → stripe_total spec ≡ 0 → edge_table spec ≡ []
+no_table spec sealed none = ap (map (shape_of spec)) (no_edges spec.edges (go (length spec.edges) refl))
+  where
+    go : (n : ℕ) → length spec.edges ≡ n → length spec.edges ≡ 0
+    go zero e = e
+    go (suc n) e =
+        let l : 0 < length spec.edges = omega (arith, e) in
+        let k : physical_stripe spec (class_of spec 0) [] < stripe_total spec = physical_stripe_below spec (class_of spec 0) [] sealed.accepted.placed (class_of_known spec 0 sealed.in_range (sealed.accepted.placed.p1 0 l)) in
+        absurd (omega (arith, k, none))
+
+-- free stripes with kept fragments that are those of a relation are of it
 abbrev pub MadeOfRelation : Type 0
-MadeOfRelation = (spec : Spec) (fs : List FragmentRows) (ss : List Stripe) → IsMadeOf fs ss → table_of_fragments fs ≡ edge_table spec → length fs ≡ stripe_total spec
+MadeOfRelation = (spec : Spec) (ks : List KeptRows) → IsSealed spec → length ks ≡ stripe_total spec
     → (r : List Pairs) → IsRelation (all_columns spec) r → Satisfies r spec.deps → length r < 2 ^ 63
-    → ((n : ℕ) (f : FragmentRows) → slice_get fs n ≡ Some f → f.now ≡ fragment_of spec r n) → IsOfRelation spec ss r
+    → ((n : ℕ) (k : KeptRows) → slice_get ks n ≡ Some k → (k.table ≡ edge_table spec) × (k.rows ≡ fragment_of spec r n))
+    → IsOfRelation spec (map kept_stripe ks) r
 
 -- released stripes are of a relation where each that was held had its fragment, and each other offered it
 abbrev pub ReleasedToRelation : Type 0
@@ -142,16 +163,26 @@ place_in [] n l = absurd (let f : n < 0 = l in omega (arith, f))
 place_in (x ∷ xs) zero l = (x, refl)
 place_in (x ∷ xs) (suc n) l = place_in xs n (let f : suc n < suc (length xs) = l in omega (arith, f))
 
+kept_offered : (ks : List KeptRows) (n : ℕ) (k : KeptRows) → slice_get ks n ≡ Some k → offered_at (map kept_stripe ks) n ≡ Some k.rows
+kept_offered [] n k e = cc
+kept_offered (j ∷ ks) zero k e = ap (λ (z : KeptRows). Some z.rows) (same_Some _ _ e)
+kept_offered (j ∷ ks) (suc n) k e = kept_offered ks n k e
+
+kept_table : (spec : Spec) (ks : List KeptRows) → IsSealed spec → length ks ≡ stripe_total spec → ((n : ℕ) (k : KeptRows) → slice_get ks n ≡ Some k → k.table ≡ edge_table spec)
+    → table_of (map kept_stripe ks) ≡ edge_table spec
+kept_table spec [] sealed l each = sym (no_table spec sealed (sym l))
+kept_table spec (k ∷ ks) sealed l each = each 0 k refl
+
 pub made_law : MadeOfRelation
-made_law spec fs ss made t l r i h few rows = record {
-  table = made.table ∙ t;
+made_law spec ks sealed l r i h few each = record {
+  table = kept_table spec ks sealed l (λ n k e. (each n k e).0);
   relation = i;
   satisfies = h;
   few = few;
-  stripes = made.stripes ∙ l;
-  rows = λ n k.
-      let p : (f : FragmentRows) × (slice_get fs n ≡ Some f) = place_in fs n (omega (arith, k, l)) in
-      made.offered n ∙ ap now_in p.1 ∙ ap Some (rows n p.0 p.1);
+  stripes = length-map ks kept_stripe ∙ l;
+  rows = λ n m.
+      let p : (k : KeptRows) × (slice_get ks n ≡ Some k) = place_in ks n (omega (arith, m, l)) in
+      kept_offered ks n p.0 p.1 ∙ ap Some (each n p.0 p.1).1;
 }
 
 -- a stripe is held or it is not

@@ -2,3 +2,4 @@ pub mod Fragments
 pub mod Instance
 pub mod InstanceLaws
 pub mod RelationLaws
+pub mod Room

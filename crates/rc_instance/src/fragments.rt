@@ -1,22 +1,24 @@
 //! All fragments of an instance at once.
 
 ghost use Rattle.std.specs.Prelude.{◌≡◌, ◌≤◌, None, IfOk, length};
-ghost use Rattle.std.specs.List.{AllZip};
 ghost use Rattle.rc_tuple.specs.RisingSet.{In};
 ghost use Rattle.rc_spec.specs.InRange.{AreBelow};
 ghost use Rattle.rc_spec.specs.Stripes.{stripe_total};
 ghost use Rattle.rc_fragment.specs.Fragment.{edge_table};
 ghost use Rattle.rc_fragment.specs.FragmentRows.{FragmentRows, rolled_back, settled};
-ghost use Rattle.rc_instance.specs.Fragments.{IsEmptyFragment, IsSettled, each_at};
+ghost use Rattle.rc_instance.specs.Fragments.{IsEmptyFragment, each_at};
 ghost use Rattle.rc_instance.specs.Instance.{table_of_fragments};
 
-use rc_fragment::Fragment;
+use rc_fragment::{CowFragment, Fragment, Keep};
 use rc_spec::{Accepted, Mode, stripe_total};
 use rc_tuple::Memory;
 use std::alloc::Global;
 
 /// A fragment with no row for each stripe of an accepted specification.
-pub(crate) fn empty_fragments(alloc: Global, accepted: &Accepted) -> Result<Vec<Fragment>, Memory>
+pub(crate) fn empty_fragments(
+    alloc: Global,
+    accepted: &Accepted,
+) -> Result<Vec<CowFragment>, Memory>
     ensures stripes { IfOk result (λ fragments. length fragments.items ≡ stripe_total accepted.now) }
     ensures few { IfOk result (λ fragments. length fragments.items ≤ 256) }
     ensures table { IfOk result (λ fragments. table_of_fragments fragments.items ≡ edge_table accepted.now) }
@@ -24,29 +26,14 @@ pub(crate) fn empty_fragments(alloc: Global, accepted: &Accepted) -> Result<Vec<
 {
     let mut fragments = Vec::new(alloc);
     for _ in 0..stripe_total(accepted.spec()) {
-        fragments.push(Fragment::empty(alloc, accepted)?)?;
+        let fragment = Fragment::empty(alloc, accepted)?;
+        fragments.push(CowFragment::alone_or_kept(Keep::of(fragment)))?;
     }
     Ok(fragments)
 }
 
-/// Makes the rows now of a fragment count as taken.
-fn settle(fragment: &mut Fragment)
-    ensures { IsSettled fragment.old fragment.new }
-{
-    fragment.settle();
-}
-
-/// Makes the rows now of all fragments count as taken.
-pub(crate) fn settle_all(fragments: &mut [Fragment])
-    ensures { AllZip IsSettled fragments.old fragments.new }
-{
-    for fragment in fragments.iter_mut() {
-        settle(fragment);
-    }
-}
-
 /// Makes the rows of these stripes' fragments count as taken. Costs their changes.
-pub(crate) fn settle_held(fragments: &mut [Fragment], stripes: &[u32])
+pub(crate) fn settle_held(fragments: &mut [CowFragment], stripes: &[u32])
     requires { AreBelow (length fragments.old) stripes.now }
     ensures { fragments.new ≡ each_at settled stripes.now fragments.old }
 {
@@ -57,7 +44,7 @@ pub(crate) fn settle_held(fragments: &mut [Fragment], stripes: &[u32])
 }
 
 /// Makes the rows of these stripes' fragments what they were as taken. Costs their changes.
-pub(crate) fn revert_held(fragments: &mut [Fragment], stripes: &[u32])
+pub(crate) fn revert_held(fragments: &mut [CowFragment], stripes: &[u32])
     requires { AreBelow (length fragments.old) stripes.now }
     ensures { fragments.new ≡ each_at rolled_back stripes.now fragments.old }
 {

@@ -1,18 +1,19 @@
 //! An instance: one fragment for each physical stripe.
 
-ghost use Rattle.std.specs.Prelude.{◌≡◌, ◌<◌, ◌≤◌, List, [], IfOk, IsOk, OnOk, length};
+ghost use Rattle.std.specs.Prelude.{◌≡◌, ◌<◌, ◌≤◌, List, [], IfOk, IsOk, OnOk, length, map};
 ghost use Rattle.rc_tuple.specs.Tuple.{Pairs};
 ghost use Rattle.rc_spec.specs.Fragments.{represented_by};
 ghost use Rattle.rc_spec.specs.Stripes.{stripe_total};
 ghost use Rattle.rc_spec.specs.declared.spec.Spec.{Spec};
 ghost use Rattle.rc_fragment.specs.Fragment.{edge_table};
 ghost use Rattle.rc_fragment.specs.Holder.{HasTaken, IsAbove, held_of};
-ghost use Rattle.rc_instance.specs.Instance.{AreReleased, HaveOneTable, IsEmpty, IsMadeOf, IsOfOneRelation, IsOfRelation, held_from, held_mode, holding, rows_of, table_of};
+ghost use Rattle.rc_instance.specs.Instance.{AreReleased, HaveOneTable, IsEmpty, IsOfOneRelation, IsOfRelation, held_from, held_mode, holding, kept_stripe, rows_of, table_of};
 
-use crate::fragments::{empty_fragments, free_held, revert_held, settle_all, settle_held};
+use crate::fragments::{empty_fragments, free_held, revert_held, settle_held};
 use crate::held_numbers::HeldNumbers;
 use crate::represent::joined_rows;
-use rc_fragment::{Fragment, Holder, TakeStop};
+use crate::room::{InstanceRoom, with_kept};
+use rc_fragment::{CowFragment, Fragment, Holder, Keep, TakeStop};
 use rc_spec::{Accepted, MAX_STRIPES, Mode};
 use rc_tuple::{Memory, Tuple, Tuples};
 use std::alloc::Global;
@@ -22,9 +23,10 @@ use std::marker::Model;
 /// of a decomposition, PLDI 2011.)
 #[derive(Drop, Debug)]
 pub struct Instance {
-    fragments: Vec<Fragment>,
+    fragments: Vec<CowFragment>,
     held: [Option<Mode>; MAX_STRIPES],
     numbers: HeldNumbers,
+    alloc: Global,
 }
 
 impl Model for Instance {
@@ -51,23 +53,27 @@ impl Instance {
             fragments: empty_fragments(alloc, accepted)?,
             held: [None; MAX_STRIPES],
             numbers: HeldNumbers::none(),
+            alloc,
         })
     }
 
-    /// The instance with these fragments, the first of which is that of stripe 0. Each stripe is free,
-    /// and its rows now count as taken. There are at most 256 fragments, as many as an accepted
-    /// specification has stripes at most: the instance keeps in itself how each is held, and so takes no
-    /// memory here. Costs the fragments' changes and their number.
-    pub fn from_fragments(mut fragments: Vec<Fragment>) -> Instance
-        requires few { length fragments.items ≤ 256 }
-        requires table { HaveOneTable fragments.items }
-        ensures { IsMadeOf fragments.items result }
+    /// The instance with these fragments, the first of which is that of stripe 0. Each stripe is free. A fragment that
+    /// others may have is copied before its first change. Takes no memory: the room has it. Costs the stripes.
+    pub fn from_kept(room: InstanceRoom, kept: Vec<Keep>) -> Instance
+        requires stripes { length kept.items ≤ room }
+        requires table { HaveOneTable kept.items }
+        ensures { result ≡ map kept_stripe kept.items }
     {
-        settle_all(&mut fragments);
-        Instance {
+        let InstanceRoom {
             fragments,
+            stripes: _,
+            alloc,
+        } = room;
+        Instance {
+            fragments: with_kept(fragments, kept),
             held: [None; MAX_STRIPES],
             numbers: HeldNumbers::none(),
+            alloc,
         }
     }
 
@@ -130,11 +136,11 @@ impl Holder for Instance {
 
     fn own(&mut self, stripe: u32, changes: u16) -> Result<(), Memory> {
         let fragment = &mut self.fragments[stripe as usize];
-        fragment.own(changes)
+        fragment.own(self.alloc, changes)
     }
 
     fn fragment(&self, stripe: u32) -> &Fragment {
-        &self.fragments[stripe as usize]
+        self.fragments[stripe as usize].fragment()
     }
 
     fn add_row(&mut self, stripe: u32, edge: u8, row: &Tuple) -> Result<(), Memory> {

@@ -7,7 +7,7 @@ pub fn instance_is_its_relation()
     ensures { InstanceIsItsRelation }
 {}
 
-/// An instance made of the fragments of a relation is of that relation, and so sound; and so is one that was released,
+/// An instance made of kept fragments of a relation is of that relation, and so sound; and so is one that was released,
 /// where the rows of each stripe that was held, and what each other offered, are the fragments of the relation.
 pub fn instances_become_sound()
     ensures made { MadeOfRelation }

@@ -8,7 +8,7 @@ ghost use Rattle.rc_fragment.specs.Fragment.{AreAllRows, edge_table};
 ghost use Rattle.rc_fragment.specs.FragmentRows.{FragmentRows};
 ghost use Rattle.rc_instance.specs.Instance.{rows_of_fragments};
 
-use rc_fragment::Fragment;
+use rc_fragment::CowFragment;
 use rc_join::join;
 use rc_spec::Spec;
 use rc_tuple::{ColSet, Memory, Tuple, Tuples, Vals};
@@ -17,7 +17,7 @@ use std::alloc::Global;
 /// The join of the rows of all edges over all fragments, begun with the one tuple without columns.
 pub(crate) fn joined_rows(
     alloc: Global,
-    fragments: &[Fragment],
+    fragments: &[CowFragment],
     spec: &Spec,
 ) -> Result<Tuples, Memory>
     requires range { IsInRange spec.now }
@@ -34,13 +34,13 @@ pub(crate) fn joined_rows(
 }
 
 /// The rows of an edge in all fragments, in no particular order.
-fn rows_of_edge(alloc: Global, fragments: &[Fragment], edge: u8) -> Result<Tuples, Memory>
+fn rows_of_edge(alloc: Global, fragments: &[CowFragment], edge: u8) -> Result<Tuples, Memory>
     requires { (f : FragmentRows) → In f fragments.now → edge < length f.table }
     ensures { IfOk result (λ rows. AreAllRows (rows_of_fragments fragments.now) edge rows) }
 {
     let mut rows = Vec::new(alloc);
     for fragment in fragments {
-        let mut more = fragment.rows(edge)?.into_vec();
+        let mut more = fragment.fragment().rows(edge)?.into_vec();
         rows.append(&mut more)?;
     }
     Ok(Tuples::from_vec(rows))

@@ -20,8 +20,9 @@ use Rattle.rc_fragment.specs.Fragment.{HasScanned, HasShape, IsThere, edge_table
 use Rattle.rc_fragment.specs.FragmentRows.{FragmentRows}
 use Rattle.rc_fragment.specs.Holder.{AreOffered, GoesOn, HasRoom, HeldStripe, HasTaken, Holding, IsAbove, IsHeld, IsHeldExclusive, LentStripe, changed_at, held_of, just_taken, offered_at, reverted, with_now, with_room, with_room_at}
 use Rattle.rc_fragment.specs.HoldingLaws.{held-taken}
+use Rattle.rc_fragment.specs.Keep.{KeptRows}
 use Rattle.rc_fragment.specs.declared.shape.EdgeShape.{EdgeShape}
-use Rattle.rc_instance.specs.Instance.{HaveOneTable, table_of_fragments}
+use Rattle.rc_instance.specs.Instance.{held_from, kept_stripe, table_of}
 use Rattle.rc_layers.specs.Open.{AreExclusive, AreFew, IsBeside, IsOfSpec, MayBeAdded}
 
 -- ---- shapes
@@ -175,10 +176,10 @@ moved old new ws vs e row a b m = subst (λ z. MayBeAdded z vs e row) a (subst (
 
 -- ---- fragments of one table
 
-pub one_table : (table : List EdgeShape) (fs : List FragmentRows) → ((f : FragmentRows) → In f fs → f.table ≡ table) → HaveOneTable fs
-one_table table [] each f m = absurd m
-one_table table (g ∷ fs) each f m = each f m ∙ sym (each g (inl refl))
+pub table_of_kept : (table : List EdgeShape) (ks : List KeptRows) → 0 < length ks → ((k : KeptRows) → In k ks → k.table ≡ table) → table_of (map kept_stripe ks) ≡ table
+table_of_kept table [] l each = absurd (let f : 0 < 0 = l in omega (arith, f))
+table_of_kept table (k ∷ ks) l each = each k (inl refl)
 
-pub table_is : (table : List EdgeShape) (fs : List FragmentRows) → 0 < length fs → ((f : FragmentRows) → In f fs → f.table ≡ table) → table_of_fragments fs ≡ table
-table_is table [] l each = absurd (let f : 0 < 0 = l in omega (arith, f))
-table_is table (g ∷ fs) l each = each g (inl refl)
+pub none_of_kept : (n : ℕ) (ks : List KeptRows) → held_from n (map kept_stripe ks) ≡ []
+none_of_kept n [] = refl
+none_of_kept n (k ∷ ks) = none_of_kept (suc n) ks

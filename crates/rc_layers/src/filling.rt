@@ -5,15 +5,15 @@ ghost use Rattle.std.specs.List.{AllByRecursion};
 ghost use Rattle.rc_tuple.specs.RisingSet.{In};
 ghost use Rattle.rc_spec.specs.Stripes.{stripe_total};
 ghost use Rattle.rc_fragment.specs.Fragment.{HasShape, edge_table};
-ghost use Rattle.rc_fragment.specs.FragmentRows.{FragmentRows};
+ghost use Rattle.rc_fragment.specs.Keep.{KeptRows};
 ghost use Rattle.rc_fragment.specs.Holder.{held_of, offered_at};
 ghost use Rattle.rc_instance.specs.Instance.{holding};
 ghost use Rattle.rc_layers.specs.Open.{AreExclusive, AreFew, IsBeside, IsOfSpec, MayBeAdded};
 
 use crate::rows::{fragment_of, has, same, shape_of, stripes_of};
 use crate::stop::Stop;
-use rc_fragment::{EdgeShape, Fragment, Holder, TakeStop};
-use rc_instance::Instance;
+use rc_fragment::{EdgeShape, Fragment, Holder, Keep, TakeStop};
+use rc_instance::{Instance, InstanceRoom};
 use rc_spec::{Accepted, EdgeKind, Mode, band_start, stripe_of};
 use rc_tuple::{Tuple, Tuples, Vals};
 use std::alloc::Global;
@@ -186,18 +186,20 @@ pub(crate) fn revert<H: Holder>(holder: &mut H, accepted: &Accepted)
 
 // ---- copies
 
-/// Copies of all fragments.
-fn copies(alloc: Global, instance: &Instance, accepted: &Accepted) -> Result<Vec<Fragment>, Stop>
+/// Copies of all fragments, as slots keep them.
+fn copies(alloc: Global, instance: &Instance, accepted: &Accepted) -> Result<Vec<Keep>, Stop>
     requires of { IsOfSpec accepted.now (holding instance.now) }
     requires open { AreExclusive (stripe_total accepted.now) (held_of (holding instance.now)) }
-    ensures table { IfOk result (λ fragments. (f : FragmentRows) → In f fragments.items → f.table ≡ edge_table accepted.now) }
-    ensures count { IfOk result (λ fragments. length fragments.items ≡ stripe_total accepted.now) }
+    ensures table { IfOk result (λ kept. (k : KeptRows) → In k kept.items → k.table ≡ edge_table accepted.now) }
+    ensures count { IfOk result (λ kept. length kept.items ≡ stripe_total accepted.now) }
 {
-    let mut fragments = Vec::new(alloc);
+    let mut kept = Vec::new(alloc);
     for stripe in 0..stripes_of(accepted) {
-        fragments.push(fragment_of(instance, accepted, stripe).copy(alloc)?)?;
+        let mut copy = fragment_of(instance, accepted, stripe).copy(alloc)?;
+        copy.settle();
+        kept.push(Keep::of(copy))?;
     }
-    Ok(fragments)
+    Ok(kept)
 }
 
 /// An instance made of copies of all fragments.
@@ -211,9 +213,10 @@ pub(crate) fn made_of_copies(
     ensures of { IfOk result (λ made. IsOfSpec accepted.now (holding made)) }
     ensures free { IfOk result (λ made. held_of (holding made) ≡ []) }
 {
-    let fragments = copies(alloc, instance, accepted)?;
-    if fragments.is_empty() || fragments.len() > 256 {
+    let kept = copies(alloc, instance, accepted)?;
+    if kept.is_empty() || kept.len() > 256 {
         return Err(Stop::Many);
     }
-    Ok(Instance::from_fragments(fragments))
+    let room = InstanceRoom::new(alloc, kept.len() as u32)?;
+    Ok(Instance::from_kept(room, kept))
 }

@@ -1,14 +1,12 @@
 -- What is seen of a fragment that a pass holds.
 use Rattle.std.specs.Prelude.{ℕ}
 use Rattle.rc_spec.specs.declared.lock.Mode.{Mode}
-use Rattle.rc_fragment.specs.FragmentRows.{FragmentRows}
 use Rattle.rc_fragment.specs.Keep.{KeptRows, at_rest}
+use Rattle.rc_row.specs.declared.held.HeldFragment.{HeldFragment}
 
 -- a held stripe, how it is held, and its fragment as it is
-pub record HeldRows : Type 0 where
-  pub stripe : ℕ
-  pub mode : Mode
-  pub fragment : FragmentRows
+abbrev pub HeldRows : Type 0
+HeldRows = HeldFragment
 
 -- a stripe just taken: no change is pending, and no room is promised
 abbrev pub just_held : ℕ → Mode → KeptRows → HeldRows

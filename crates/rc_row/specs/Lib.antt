@@ -3,7 +3,6 @@ pub mod Law
 pub mod Seats
 pub mod Told
 pub mod HeldRows
-pub mod HeldInside
 pub mod Passes
 pub mod PassInside
 pub mod NoteInside

@@ -129,7 +129,7 @@ fn settle_all(held: &mut Vec<HeldFragment>)
     ensures room { held.new.cap ≡ held.old.cap }
 {
     for i in 0..held.len() {
-        held[i].settle();
+        held[i].fragment.settle();
     }
 }
 

@@ -22,7 +22,7 @@ impl Pass {
         ensures { OfHeld self.now.held stripe (λ f. result.now ≡ f) }
     {
         let at = place_of(&self.held, stripe);
-        self.held[at].fragment()
+        self.held[at].fragment.fragment()
     }
 
     /// Makes room for so many changes of a stripe that the pass writes; it may be called again. Takes memory for the notes
@@ -77,7 +77,7 @@ fn own_at(
     ensures room { held.new.cap ≡ held.old.cap }
 {
     let at = place_of(held, stripe);
-    held[at].own(alloc, changes)
+    held[at].fragment.own(alloc, changes)
 }
 
 /// Adds a row to the fragment of a held stripe.
@@ -95,7 +95,7 @@ fn add_row_at(
     ensures room { held.new.cap ≡ held.old.cap }
 {
     let at = place_of(held, stripe);
-    held[at].add_row(edge, row)
+    held[at].fragment.add_row(edge, row)
 }
 
 /// Takes a row out of the fragment of a held stripe.
@@ -107,7 +107,7 @@ fn sub_row_at(held: &mut Vec<HeldFragment>, stripe: u32, edge: u8, row: &Tuple)
     ensures room { held.new.cap ≡ held.old.cap }
 {
     let at = place_of(held, stripe);
-    held[at].sub_row(edge, row);
+    held[at].fragment.sub_row(edge, row);
 }
 
 /// Makes the rows of all that is held what they were as taken.
@@ -116,6 +116,6 @@ fn revert_all(held: &mut Vec<HeldFragment>)
     ensures room { held.new.cap ≡ held.old.cap }
 {
     for i in 0..held.len() {
-        held[i].revert();
+        held[i].fragment.revert();
     }
 }

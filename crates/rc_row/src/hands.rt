@@ -29,7 +29,7 @@ pub(crate) fn place_of(held: &Vec<HeldFragment>, stripe: u32) -> usize
     ensures { IsHeldAt held.now.items stripe result }
 {
     for i in 0..held.len() {
-        if held[i].stripe() == stripe {
+        if held[i].stripe == stripe {
             return i;
         }
     }
@@ -43,7 +43,7 @@ pub(crate) fn written_among(held: &Vec<HeldFragment>, end: usize) -> usize
 {
     let mut count = 0;
     for i in 0..end {
-        match held[i].mode() {
+        match held[i].mode {
             Mode::Exclusive => count += 1,
             Mode::Shared => {}
         }

@@ -127,7 +127,7 @@ impl Row {
         let mark = pass.number as u64 + 1;
         turn_by(&mut pass.seat, above);
         let held = pass.held.remove(at);
-        self.put_in(&mut pass.seat, stripe, held.into_keep());
+        self.put_in(&mut pass.seat, stripe, held.fragment.into_keep());
         self.unlock_step(&mut pass.seat, mark, stripe);
         turn_by(&mut pass.seat, below);
     }

@@ -15,7 +15,7 @@ impl Pass {
         ensures some { IfSome result (λ last. IsHeldSo self.now.held last.0 last.1) }
     {
         let held = self.held.last()?;
-        Some((held.stripe(), held.mode()))
+        Some((held.stripe, held.mode))
     }
 }
 

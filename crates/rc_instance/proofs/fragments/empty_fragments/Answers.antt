@@ -7,7 +7,8 @@ use Rattle.rc_spec.specs.Acceptance.{IsSealed}
 use Rattle.rc_spec.specs.PlacementLaws.{placed_total}
 use Rattle.rc_spec.specs.Stripes.{stripe_total}
 use Rattle.rc_fragment.specs.Fragment.{edge_table}
-use Rattle.rc_fragment.specs.FragmentRows.{FragmentRows}
+use Rattle.rc_fragment.specs.FragmentRows.{FragmentRows, no_rows}
+use Rattle.rc_fragment.specs.Keep.{at_rest, kept_rows}
 use Rattle.rc_instance.specs.Fragments.{IsEmptyFragment}
 use Rattle.rc_instance.proofs.EmptyLemmas.{empty_table}
 use Rattle.rc_instance.proofs.fragments.empty_fragments.Goals as goal
@@ -20,9 +21,9 @@ stripe_total-end-requires c =
 pub loop-preserved : goal.loop-preserved
 loop-preserved c =
     let old : List FragmentRows = c.loop.fragments.items in
-    let f : FragmentRows = c.in_ok-empty.field-0 in
+    let f : FragmentRows = c.alone_or_kept.result in
     let pushed : c.push.new.self.items ≡ old ++ f ∷ [] = c.in_ok-push.ensures.items in
-    let e = c.in_ok-empty.ensures in
+    let e : f ≡ no_rows (edge_table c.args.accepted.now) = c.alone_or_kept.ensures ∙ ap at_rest (c.of.ensures ∙ ap kept_rows c.in_ok-fragment.ensures) in
     record {
       count = ap length pushed ∙ (let l : length (old ++ f ∷ []) ≡ length old + 1 = length-append old (f ∷ []) in omega (arith, l, c.loop.invariant.count));
       empty = λ z m. elim (in_append z old (f ∷ []) (subst (In z) pushed m)) [

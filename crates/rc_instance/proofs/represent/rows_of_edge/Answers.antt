@@ -1,4 +1,4 @@
-use Rattle.std.proofs.Common.{◌≡◌, ◌++◌, ℕ, refl, take, sym, ap, subst, ◌∙◌}
+use Rattle.std.proofs.Common.{◌≡◌, ◌<◌, ◌++◌, ℕ, length, refl, take, sym, ap, subst, ◌∙◌}
 use Rattle.std.specs.Prelude.{List}
 use Rattle.std.proofs.lemmas.Option.{slice_get_read}
 use Rattle.rc_tuple.specs.RisingSetLaws.{slice_get_in}
@@ -13,7 +13,7 @@ pub rows-requires : goal.rows-requires
 rows-requires c =
     let fs : List FragmentRows = c.args.fragments.now in
     let f : FragmentRows = c.fragment-item.result in
-    c.requires f (slice_get_in fs c.loop-fragment.fragment-index f (slice_get_read fs _ c.loop-fragment.fragment-index f refl c.loop-fragment-test.true c.fragment-item.is))
+    subst (λ (z : FragmentRows). c.args.edge < length z.table) (sym c.fragment.ensures) (c.requires f (slice_get_in fs c.loop-fragment.fragment-index f (slice_get_read fs _ c.loop-fragment.fragment-index f refl c.loop-fragment-test.true c.fragment-item.is)))
 
 pub loop-fragment-preserved : goal.loop-fragment-preserved
 loop-fragment-preserved c =
@@ -24,4 +24,5 @@ loop-fragment-preserved c =
     let more : List Pairs = c.in_ok-rows.field-0 in
     let items : c.append.new.self.items ≡ old ++ more = c.in_ok-append.ensures.items ∙ ap (λ z. old ++ z) c.into_vec-more.ensures in
     subst (λ z. AreAllRows z c.args.edge c.append.new.self.items) (sym (rows_more fs i f c.loop-fragment-test.true c.fragment-item.is))
-    (subst (AreAllRows (rows_of_fragments (take i fs) ++ f.now) c.args.edge) (sym items) (all_more (rows_of_fragments (take i fs)) f.now c.args.edge old more c.loop-fragment.invariant c.in_ok-rows.ensures))
+    (subst (AreAllRows (rows_of_fragments (take i fs) ++ f.now) c.args.edge) (sym items) (all_more (rows_of_fragments (take i fs)) f.now c.args.edge old more c.loop-fragment.invariant
+    (subst (λ (z : FragmentRows). AreAllRows z.now c.args.edge more) c.fragment.ensures c.in_ok-rows.ensures)))

@@ -1,5 +1,5 @@
 use Rattle.std.proofs.Common.{List, get_or, set, ap, ◌∙◌, arith}
-use Rattle.rc_fragment.specs.FragmentRows.{settled}
+use Rattle.rc_fragment.specs.FragmentRows.{FragmentRows, settled}
 use Rattle.rc_row.specs.HeldRows.{HeldRows}
 use Rattle.rc_row.proofs.ChangeLemmas.{here_with, all_more}
 use Rattle.rc_row.proofs.commit.settle_all.Goals as goal
@@ -13,7 +13,8 @@ loop-i-preserved c =
     let n = c.len-i-end.ensures in
     let m = c.args.held.now.ok.0 in
     let t = c.loop-i-test.true in (
-      ap (set c.loop-i.held.items i) c.settle.ensures ∙ ap (λ (hs : List HeldRows). set hs i (here_with settled x)) inv.0
+      ap (λ (f : FragmentRows). set c.loop-i.held.items i (record x { fragment = f })) c.settle.ensures
+          ∙ ap (λ (hs : List HeldRows). set hs i (here_with settled x)) inv.0
           ∙ all_more settled old i x x (omega arith) (c.index_mut.ensures.value ∙ ap (λ (hs : List HeldRows). get_or hs i x) inv.0),
       inv.1,
     )

@@ -1,7 +1,8 @@
 use Rattle.std.proofs.Common.{◌≡◌, set, ap, ◌∙◌}
 use Rattle.std.proofs.lemmas.Result.{IfOk-weaker}
-use Rattle.rc_fragment.specs.FragmentRows.{changed}
+use Rattle.rc_fragment.specs.FragmentRows.{FragmentRows, changed}
 use Rattle.rc_spec.specs.CountedRows.{raised}
+use Rattle.rc_row.specs.HeldRows.{HeldRows}
 use Rattle.rc_row.specs.Passes.{held_with}
 use Rattle.rc_row.proofs.TurnLemmas.{read_here}
 use Rattle.rc_row.proofs.ChangeLemmas.{here_with, changed_here}
@@ -15,7 +16,8 @@ returns-clause-ok c =
     let p = c.args.stripe in
     let change = changed (raised c.args.edge c.args.row.now) in
     let is : c.index_mut.result.now ≡ h.here = c.index_mut.ensures.value ∙ read_here held p at h c.index_mut.result.now in
-    IfOk-weaker c.add_row.result (λ _. c.add_row.new.self ≡ here_with change c.index_mut.result.now)
-    (λ _. set held at c.add_row.new.self ≡ held_with p change held)
-    (λ _ e. ap (set held at) (e ∙ ap (here_with change) is) ∙ changed_here held p at h c.requires.rising change)
+    let x = c.index_mut.result.now in
+    IfOk-weaker c.add_row.result (λ _. c.add_row.new.self ≡ change x.fragment)
+    (λ _. set held at (record x { fragment = c.add_row.new.self }) ≡ held_with p change held)
+    (λ _ e. ap (λ (f : FragmentRows). set held at (record x { fragment = f })) e ∙ ap (λ (y : HeldRows). set held at (here_with change y)) is ∙ changed_here held p at h c.requires.rising change)
     c.add_row.ensures.ok

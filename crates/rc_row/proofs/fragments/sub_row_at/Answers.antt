@@ -1,6 +1,7 @@
 use Rattle.std.proofs.Common.{◌≡◌, set, ap, ◌∙◌}
 use Rattle.rc_spec.specs.CountedRows.{lowered}
-use Rattle.rc_fragment.specs.FragmentRows.{changed}
+use Rattle.rc_fragment.specs.FragmentRows.{FragmentRows, changed}
+use Rattle.rc_row.specs.HeldRows.{HeldRows}
 use Rattle.rc_row.proofs.TurnLemmas.{read_here}
 use Rattle.rc_row.proofs.ChangeLemmas.{here_with, changed_here}
 use Rattle.rc_row.proofs.fragments.sub_row_at.Goals as goal
@@ -13,4 +14,5 @@ returns-clause-items c =
     let p = c.args.stripe in
     let change = changed (lowered c.args.edge c.args.row.now) in
     let is : c.index_mut.result.now ≡ h.here = c.index_mut.ensures.value ∙ read_here held p at h c.index_mut.result.now in
-    ap (set held at) (c.sub_row.ensures ∙ ap (here_with change) is) ∙ changed_here held p at h c.requires.rising change
+    let x = c.index_mut.result.now in
+    ap (λ (f : FragmentRows). set held at (record x { fragment = f })) c.sub_row.ensures ∙ ap (λ (y : HeldRows). set held at (here_with change y)) is ∙ changed_here held p at h c.requires.rising change

@@ -10,17 +10,17 @@ use Rattle.rc_row.proofs.hands.place_of.Goals as goal
 pub loop-i-init : goal.loop-i-init
 loop-i-init c = λ m. m
 
-pub returns-then-stripe : goal.returns-then-stripe
-returns-then-stripe c =
+pub returns-then-index-stripe : goal.returns-then-index-stripe
+returns-then-index-stripe c =
     let n = c.len-i-end.ensures in
     let lt = c.loop-i-test.true in
-    is_held_at c.args.held.now.items c.args.stripe c.loop-i.i c.index.result.now (omega arith) c.loop-i.invariant (sym c.stripe.ensures ∙ c.if-stripe.true) c.index.ensures
+    is_held_at c.args.held.now.items c.args.stripe c.loop-i.i c.index.result.now (omega arith) c.loop-i.invariant c.if-index-stripe.true c.index.ensures
 
 pub loop-i-preserved : goal.loop-i-preserved
 loop-i-preserved c =
     let n = c.len-i-end.ensures in
     let lt = c.loop-i-test.true in
-    not_yet c.args.held.now.items c.args.stripe c.loop-i.i c.index.result.now (omega arith) c.loop-i.invariant (λ e. c.if-stripe.false (c.stripe.ensures ∙ e)) c.index.ensures
+    not_yet c.args.held.now.items c.args.stripe c.loop-i.i c.index.result.now (omega arith) c.loop-i.invariant c.if-index-stripe.false c.index.ensures
 
 pub unreachable-requires : goal.unreachable-requires
 unreachable-requires c =

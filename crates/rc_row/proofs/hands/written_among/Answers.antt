@@ -1,4 +1,4 @@
-use Rattle.std.proofs.Common.{length, ap, sym, ◌∙◌, arith}
+use Rattle.std.proofs.Common.{length, ap, arith}
 use Rattle.rc_spec.specs.declared.lock.Mode.{Mode}
 use Rattle.rc_row.specs.PassInside.{hand_of}
 use Rattle.rc_row.proofs.TurnLemmas.{hands_more}
@@ -16,7 +16,7 @@ loop-i-preserved c =
     let lt = c.loop-i-test.true in
     let end = c.requires in
     let more = hands_more c.args.held.now.items c.loop-i.i c.index.result.now (omega arith) c.index.ensures in
-    elim c.match-mode.branch [
-      | in-Exclusive w ↦ (let a = w.count-is in let b = ap (λ (m : Mode). length (hand_of m c.index.result.now.stripe)) (sym c.mode.ensures ∙ w.in-Exclusive.is) in (omega arith, omega arith))
-      | in-Shared w ↦ (let a = w.count-is in let b = ap (λ (m : Mode). length (hand_of m c.index.result.now.stripe)) (sym c.mode.ensures ∙ w.in-Shared.is) in (omega arith, omega arith))
+    elim c.match-index.branch [
+      | in-Exclusive w ↦ (let a = w.count-is in let b = ap (λ (m : Mode). length (hand_of m c.index.result.now.stripe)) w.in-Exclusive.is in (omega arith, omega arith))
+      | in-Shared w ↦ (let a = w.count-is in let b = ap (λ (m : Mode). length (hand_of m c.index.result.now.stripe)) w.in-Shared.is in (omega arith, omega arith))
     ]

@@ -1,4 +1,6 @@
-use Rattle.std.proofs.Common.{◌<◌, length, arith}
+use Rattle.std.proofs.Common.{◌<◌, length, sym, subst, arith}
+use Rattle.rc_fragment.specs.Holder.{IsLent}
+use Rattle.rc_instance.specs.Instance.{holding}
 use Rattle.rc_instance.proofs.ChangeLemmas as change
 use Rattle.rc_instance.proofs.instance.InstanceHolder.fragment.Goals as goal
 
@@ -8,4 +10,4 @@ index-requires c =
     omega (arith, l, c.self.inside.fragments.ok)
 
 pub returns : goal.returns
-returns c = change.is_lent c.self.inside.fragments.items c.self.inside.held c.args.self.now c.self.view_is c.args.stripe c.index.result.now c.requires c.index.ensures c.self.invariant.stripes
+returns c = subst (IsLent (holding c.args.self.now) c.args.stripe) (sym c.fragment.ensures) (change.is_lent c.self.inside.fragments.items c.self.inside.held c.args.self.now c.self.view_is c.args.stripe c.index.result.now c.requires c.index.ensures c.self.invariant.stripes)

@@ -1,4 +1,4 @@
-use Rattle.std.proofs.Common.{◌≡◌, ◌-◌, List, length, Some, option_copied, sym, ap, ◌∙◌, subst}
+use Rattle.std.proofs.Common.{◌≡◌, ◌-◌, List, length, Some, option_copied, refl, sym, ap, ◌∙◌, subst}
 use Rattle.std.specs.List.{slice_get}
 use Rattle.rc_tuple.specs.RisingSet.{In}
 use Rattle.rc_tuple.specs.RisingSetLaws.{slice_get_in}
@@ -14,6 +14,6 @@ returns-clause-some c =
     record {
       here = here;
       among = subst (λ (hs : List HeldRows). In here hs) (c.deref.ensures.value ∙ ap (λ (s : PassSeen). s.held) c.self.view_is) (slice_get_in held (length held - 1) here (sym is));
-      stripe_is = sym c.stripe.ensures;
-      mode_is = sym c.mode.ensures;
+      stripe_is = refl;
+      mode_is = refl;
     }

@@ -1,0 +1,145 @@
+//! A fragment that is copied before the first change, where others may have it.
+
+ghost use Rattle.std.specs.Prelude.{◌≡◌, ◌<◌, ◌^◌, OnErr, OnOk, length};
+ghost use Rattle.rc_spec.specs.CountedRows.{count_at, lowered, raised};
+ghost use Rattle.rc_fragment.specs.Fragment.{HasAlone, HasColumns, HasSingle, IsThere};
+ghost use Rattle.rc_fragment.specs.FragmentRows.{changed, rolled_back, settled, with_promise};
+ghost use Rattle.rc_fragment.specs.Keep.{IsAtRest, at_rest, kept_rows};
+
+use crate::{Fragment, Keep};
+use rc_tuple::{Memory, Tuple};
+use std::alloc::Global;
+use std::marker::Model;
+
+/// Who has the fragment.
+#[derive(Drop, Debug)]
+enum Possession {
+    /// Its one owner, who may change it in place.
+    Alone(Fragment),
+    /// Others may have it too: it is read.
+    Kept(Keep),
+}
+
+/// A fragment to be read, and to be changed after `own`, which copies it where others may have it (copy on write, as std's
+/// `Cow`). Contracts see the fragment as it is.
+#[derive(Drop, Debug)]
+pub struct CowFragment {
+    possession: Possession,
+}
+
+impl Model for CowFragment {
+    ghost use Rattle.rc_fragment.specs.FragmentRows.{FragmentRows};
+
+    ghost Value = { FragmentRows };
+
+    ghost use Rattle.rc_fragment.specs.Cow.{cow_seen};
+
+    ghost view = { cow_seen };
+}
+
+impl CowFragment {
+    /// A kept fragment, for a reader. Takes no memory.
+    pub fn kept(keep: Keep) -> CowFragment
+        ensures { result ≡ at_rest keep }
+    {
+        CowFragment {
+            possession: Possession::Kept(keep),
+        }
+    }
+
+    /// A kept fragment, for a writer: where nobody else has it, no change will copy it. Takes no memory.
+    pub fn alone_or_kept(keep: Keep) -> CowFragment
+        ensures { result ≡ at_rest keep }
+    {
+        let possession = match keep.try_alone() {
+            Ok(fragment) => Possession::Alone(fragment),
+            Err(keep) => Possession::Kept(keep),
+        };
+        CowFragment { possession }
+    }
+
+    /// The fragment, for a reader.
+    pub fn fragment(&self) -> &Fragment
+        ensures { result.now ≡ self.now }
+    {
+        match &self.possession {
+            Possession::Alone(fragment) => fragment,
+            Possession::Kept(keep) => keep.fragment(),
+        }
+    }
+
+    /// Makes room for at least so many further changes in all, as `Fragment::own` does. Takes memory for the notes of the
+    /// changes, and for a copy of all rows where somebody else may have the fragment. Where memory is wanted nothing changes.
+    pub fn own(&mut self, alloc: Global, changes: u16) -> Result<(), Memory>
+        ensures ok { OnOk result (self.new ≡ with_promise changes self.old) }
+        ensures err { OnErr result (self.new ≡ self.old) }
+    {
+        if let Possession::Kept(keep) = &self.possession {
+            let copy = keep.fragment().copy(alloc)?;
+            self.possession = Possession::Alone(copy);
+        }
+        match &mut self.possession {
+            Possession::Alone(fragment) => fragment.own(changes),
+            Possession::Kept(_) => unreachable!(),
+        }
+    }
+
+    /// Does on the fragment what `Fragment::add_row` does.
+    pub fn add_row(&mut self, edge: u8, row: &Tuple) -> Result<(), Memory>
+        requires known { edge < length self.old.table }
+        requires owned { 0 < self.old.room }
+        requires room { count_at edge row.now self.old.now < 2 ^ 63 }
+        requires columns { HasColumns self.old.table edge row.now }
+        requires alone { HasAlone self.old.table self.old.now edge row.now }
+        requires single { HasSingle self.old.table self.old.now edge row.now }
+        ensures ok { OnOk result (self.new ≡ changed (raised edge row.now) self.old) }
+        ensures err { OnErr result (self.new ≡ self.old) }
+    {
+        match &mut self.possession {
+            Possession::Alone(fragment) => fragment.add_row(edge, row),
+            Possession::Kept(_) => unreachable!(),
+        }
+    }
+
+    /// Does on the fragment what `Fragment::sub_row` does.
+    pub fn sub_row(&mut self, edge: u8, row: &Tuple)
+        requires known { edge < length self.old.table }
+        requires owned { 0 < self.old.room }
+        requires there { IsThere self.old.now edge row.now }
+        ensures { self.new ≡ changed (lowered edge row.now) self.old }
+    {
+        match &mut self.possession {
+            Possession::Alone(fragment) => fragment.sub_row(edge, row),
+            Possession::Kept(_) => unreachable!(),
+        }
+    }
+
+    /// Makes the rows what they were as taken. Costs the changes.
+    pub fn revert(&mut self)
+        ensures { self.new ≡ rolled_back self.old }
+    {
+        if let Possession::Alone(fragment) = &mut self.possession {
+            fragment.revert();
+        }
+    }
+
+    /// Makes the rows now count as taken. Costs the changes.
+    pub fn settle(&mut self)
+        ensures { self.new ≡ settled self.old }
+    {
+        if let Possession::Alone(fragment) = &mut self.possession {
+            fragment.settle();
+        }
+    }
+
+    /// The fragment as a slot keeps it, where no change is pending. Takes no memory.
+    pub fn into_keep(self) -> Keep
+        requires { IsAtRest self }
+        ensures { result ≡ kept_rows self }
+    {
+        match self.possession {
+            Possession::Alone(fragment) => Keep::of(fragment),
+            Possession::Kept(keep) => keep,
+        }
+    }
+}
