@@ -123,3 +123,10 @@ merged_own parts journal by merged = record {
   own = lists_of (own_placed journal) parts 0 (λ i part at. let z : 0 + i ≡ i = omega arith in part_own parts journal by merged i part at ∙ ap (own_placed journal) (sym z));
   passes = passes_known parts journal by merged;
 }
+
+pub own_parts : (history : List Entry) (parts : List PartEntries) → ((pass : ℕ) (part : PartEntries) → slice_get parts pass ≡ Some part → part.list ≡ own_placed history pass)
+    → ((e : Entry) → In e history → e.pass < length parts) → ArePartsOf parts history
+own_parts history parts own known = record {
+  own = lists_of (own_placed history) parts 0 (λ i part at. let z : i ≡ 0 + i = omega arith in own i part at ∙ ap (own_placed history) z);
+  passes = λ k d h. known (get_or history k d) (get_or_in history k d h);
+}

@@ -6,5 +6,5 @@ mod laws;
 mod part;
 
 pub use journal::{Journal, Room, merge};
-pub use laws::{merged_parts_are_own, own_places_are_numbers};
+pub use laws::{merged_parts_are_own, own_parts_are_of_history, own_places_are_numbers};
 pub use part::Part;

@@ -4,3 +4,4 @@ pub mod Over
 pub mod KnownDeps
 pub mod HistoryLaws
 pub mod OwnLaws
+pub mod SharesLaws

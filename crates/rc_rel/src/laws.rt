@@ -1,5 +1,6 @@
 ghost use Rattle.rc_rel.specs.HistoryLaws.{StatesSatisfy, StatesAreRelations};
 ghost use Rattle.rc_rel.specs.OwnLaws.{NumberedGoesOn, OwnAreFew, OwnEntriesAreTheHistory, OwnEntriesStand, PlacedAreOwn, ReplaysAreFew};
+ghost use Rattle.rc_rel.specs.SharesLaws.{SharesAddUp};
 
 /// Every state of a history satisfies the dependencies of its specification.
 pub fn states_satisfy()
@@ -35,4 +36,9 @@ pub fn own_entries_are_the_history()
 pub fn histories_are_few()
     ensures own { OwnAreFew }
     ensures replay { ReplaysAreFew }
+{}
+
+/// The own entries of some passes are together as many as those of a history that has no other pass.
+pub fn shares_add_up()
+    ensures { SharesAddUp }
 {}

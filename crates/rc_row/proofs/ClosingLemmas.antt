@@ -1,5 +1,5 @@
 -- A closed row has one history.
-use Rattle.std.proofs.Common.{◌≡◌, ℕ, zero, suc, ◌+◌, ◌<◌, ◌||◌, List, [], ◌∷◌, ◌++◌, length, map, drop, take, get_or, Some, None, sym, refl, ap, ◌∙◌, subst, inl, inr, arith, length-append}
+use Rattle.std.proofs.Common.{◌≡◌, ℕ, zero, suc, ◌+◌, ◌*◌, ◌<◌, ◌≤◌, ◌^◌, ◌||◌, List, [], ◌∷◌, ◌++◌, length, map, drop, take, get_or, Some, None, sym, refl, ap, ◌∙◌, subst, inl, inr, arith, length-append}
 use Rattle.std.specs.Prelude.{All}
 use Rattle.std.specs.List.{slice_get, range_with_len, remove}
 use Rattle.std.proofs.lemmas.Bool.{cases_eq, false≢true, eq-eqb}
@@ -22,6 +22,7 @@ use Rattle.rc_core.specs.declared.state.Keeper.TheVariants.{Home, Writer}
 use Rattle.rc_core.specs.declared.state.PassState.{PassState}
 use Rattle.rc_core.specs.State.{stripe_at, is_at, is_writer, stripes_in, held_in}
 use Rattle.rc_core.specs.Good.{IsGoodHistory, IsGoodKeeper}
+use Rattle.rc_core.specs.SizeLaws.{few_tuples, history_law}
 use Rattle.atomic_table.specs.Table.{State, Final, Seen}
 use Rattle.rc_row.specs.declared.close.EndedPass.{EndedPass}
 use Rattle.rc_row.specs.declared.law.Key.{Key}
@@ -108,6 +109,8 @@ pub record AreClosed (spec : Spec) (passes : List PassSeen) (slots : List Slot) 
   pub history : List Entry
   pub good : IsGoodHistory spec (length passes) history
   pub own : (k : ℕ) (pass : PassSeen) → slice_get passes k ≡ Some pass → (core_of pass).own ≡ own_placed history k
+  pub short : length history ≤ 255 * 2 ^ 48
+  pub small : length (replay spec history) < 2 ^ 60
   pub rows : (p : ℕ) → p < length slots → get_elem? slots p ≡ some (Some (kept_of spec (fragment_of spec (replay spec history) p)))
 
 -- the pass at the place k is that of the number a + k
@@ -177,6 +180,8 @@ module _ (key : Key) (id : ℕ) (passes : List PassSeen) (s : State Slot View) (
     history = kept.core.history;
     good = subst (λ n. IsGoodHistory (spec_by key) n kept.core.history) same_many kept.good.history;
     own = λ k pass e. (kept.good.passes k (core_of pass) (is_core k pass e)).own;
+    short = history_law (spec_by key) kept.core kept.good;
+    small = few_tuples (spec_by key) kept.core kept.good;
     rows = λ p lt. homes p (Some (kept_of (spec_by key) (fragment_of (spec_by key) (replay (spec_by key) kept.core.history) p))) (closed_home p (let w = kept.shows.slots in omega (arith, wide)));
   }
 
@@ -201,6 +206,8 @@ module _ (a : Inside) (row : RowSeen) (is : row_seen a ≡ row) (whole : IsWhole
     history = closed_slots.history;
     good = closed_slots.good;
     own = closed_slots.own;
+    short = closed_slots.short;
+    small = closed_slots.small;
     count = wide ∙ count ∙ whole.slots;
     rows = λ p lt. (let inside : p < length slots = omega (arith, wide) in items p (kept_of (spec_by a.table.shared.key) (fragment_of (spec_by a.table.shared.key) (replay (spec_by a.table.shared.key) closed_slots.history) p)) inside (closed_slots.rows p inside));
   })

@@ -1,5 +1,5 @@
 -- What the end of a row gives.
-use Rattle.std.specs.Prelude.{◌≡◌, ℕ, ◌<◌, List, Option, Some, length}
+use Rattle.std.specs.Prelude.{◌≡◌, ℕ, ◌*◌, ◌<◌, ◌≤◌, ◌^◌, List, Option, Some, length}
 use Rattle.std.specs.List.{slice_get}
 use Rattle.rc_spec.specs.Fragments.{fragment_of}
 use Rattle.rc_spec.specs.Stripes.{stripe_total}
@@ -21,11 +21,13 @@ pub record IsEndedPass (own : List Placed) (kept : Option PartEntries) (e : Ende
   pub entries : e.entries ≡ kept
   pub own_entries : AreOwnKept kept own
 
--- There is one good history of which the passes have their own entries, and whose rows the fragments have.
+-- There is one good history of which the passes have their own entries, and whose rows the fragments have. It is short, and leaves few tuples.
 pub record HasHistory (spec : Spec) (passes : List PassSeen) (fragments : List KeptRows) : Type 0 where
   pub history : List Entry
   pub good : IsGoodHistory spec (length passes) history
   pub own : (k : ℕ) (pass : PassSeen) → slice_get passes k ≡ Some pass → (core_of pass).own ≡ own_placed history k
+  pub short : length history ≤ 255 * 2 ^ 48
+  pub small : length (replay spec history) < 2 ^ 60
   pub count : length fragments ≡ stripe_total spec
   pub rows : (p : ℕ) → p < length fragments → slice_get fragments p ≡ Some (kept_of spec (fragment_of spec (replay spec history) p))
 
