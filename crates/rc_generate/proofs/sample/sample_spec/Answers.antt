@@ -1,0 +1,41 @@
+use Rattle.std.proofs.Common.{◌≡◌, sym, subst}
+use Rattle.rc_spec.specs.declared.spec.Spec.{Spec}
+use Rattle.rc_spec.specs.Acceptance.{IsAccepted}
+use Rattle.rc_spec.specs.InRange.{IsInRange, HasColumnAndNode}
+use Rattle.rc_spec.specs.Names.{IsWellNamed}
+use Rattle.rc_generate.specs.Sample.{sample_graph}
+use Rattle.rc_generate.specs.SampleLaws.{sample_is_in_range, sample_is_well_named, sample_has_column_and_node}
+use Rattle.rc_generate.specs.SampleAcceptance.{sample_is_accepted}
+use Rattle.rc_generate.proofs.sample.sample_spec.Goals as goal
+
+same_spec : (c : goal.In_ok-ops)
+    → (let s : Spec = record {
+      columns = c.in_ok-columns.field-0;
+      deps = c.in_ok-deps.field-0;
+      nodes = c.in_ok-nodes.field-0;
+      edges = c.in_ok-edges.field-0;
+      classes = c.in_ok-classes.field-0;
+      places = c.in_ok-places.field-0;
+      ops = c.in_ok-ops.field-0;
+    } in sample_graph ≡ s)
+same_spec c i = record {
+  columns = (sym c.in_ok-columns.ensures) i;
+  deps = (sym c.in_ok-deps.ensures) i;
+  nodes = (sym c.in_ok-nodes.ensures) i;
+  edges = (sym c.in_ok-edges.ensures) i;
+  classes = (sym c.in_ok-classes.ensures) i;
+  places = (sym c.in_ok-places.ensures) i;
+  ops = (sym c.in_ok-ops.ensures) i;
+}
+
+pub returns-clause-range : goal.returns-clause-range
+returns-clause-range c = subst IsInRange (same_spec c) sample_is_in_range
+
+pub returns-clause-named : goal.returns-clause-named
+returns-clause-named c = subst IsWellNamed (same_spec c) sample_is_well_named
+
+pub returns-clause-populated : goal.returns-clause-populated
+returns-clause-populated c = subst HasColumnAndNode (same_spec c) sample_has_column_and_node
+
+pub returns-clause-accepted : goal.returns-clause-accepted
+returns-clause-accepted c = subst IsAccepted (same_spec c) sample_is_accepted

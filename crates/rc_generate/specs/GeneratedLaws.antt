@@ -1,0 +1,116 @@
+-- Laws of the generated workload: its calls fit the sample, it keeps the limits, and every run is as if one thread had made its calls in order.
+use Rattle.std.proofs.Common.{◌≡◌, ℕ, ◌+◌, ◌*◌, ◌/◌, ◌%◌, ◌^◌, ◌<◌, ◌≤◌, Bool, true, false, cond, nat_le, List, [], ◌∷◌, length, refl, sym, ◌∙◌, subst, arith}
+use Rattle.std.specs.List.{AllByRecursion, range_with_len, zip}
+use Rattle.std.proofs.lemmas.List.{append-nil, length-map}
+use Rattle.std.proofs.lemmas.List.FromFn.{length-map-range_with_len}
+use Rattle.rc_tuple.specs.RisingSetLaws.{in_map, in_each, each_in}
+use Rattle.rc_tuple.specs.ColSet.{IsColSet}
+use Rattle.rc_tuple.specs.ColSetLaws.{rising_range, in_range_bounds}
+use Rattle.rc_tuple.specs.Tuple.{IsTuple}
+use Rattle.rc_tuple.specs.TupleLaws.{IsTuple-zip}
+use Rattle.rc_spec.specs.declared.call.Call.{Call}
+use Rattle.rc_spec.specs.Calls.{Fits}
+use Rattle.rc_rel.specs.declared.entry.Entry.{Entry}
+use Rattle.rc_rel.specs.History.{steps_of, replay}
+use Rattle.rc_work.specs.declared.work.Turn.{Turn}
+use Rattle.rc_work.specs.Fitting.{RoundsFit, HasThreads}
+use Rattle.rc_work.specs.Limits.{KeepsLimits}
+use Rattle.rc_work.specs.Runs.{Runs}
+use Rattle.rc_shards.specs.Shards.{shard_of, IsAsOneThread}
+use Rattle.rc_shards.specs.Summary.{rows_in, counted, summary, one_thread_summary}
+use Rattle.rc_shards.specs.SummaryLaws.{summaries_are_one_threads, length_as_one_thread, rows_are_few}
+use Rattle.rc_generate.specs.Sample.{sample_graph}
+use Rattle.rc_generate.specs.SampleLaws.{sample_is_sharded}
+use Rattle.rc_generate.specs.SharedRuns.{TurnsKeepShards}
+use Rattle.rc_generate.specs.SharedRunsLaws.{shared_runs_are_as_one_thread}
+use Rattle.rc_generate.specs.Generated.{next_number, number_at, insert_call, remove_call, query_call, call_of_kind, call_by, turn_at, generated_turns, generated_calls, generated}
+
+-- ---- the calls fit, and each is of its thread's shard
+
+first_columns : (n : ℕ) → n ≤ 32 → IsColSet (range_with_len 0 n)
+first_columns n h = record { rising = rising_range 0 n; below = λ c m. omega (arith, h, (in_range_bounds 0 n c m).1) }
+
+tuple_of_first : (n : ℕ) (values : List ℕ) → n ≤ 32 → length values ≡ length (range_with_len 0 n) → AllByRecursion (λ v. v < 2 ^ 64) values → IsTuple (zip (range_with_len 0 n) values)
+tuple_of_first n values h e small = IsTuple-zip (range_with_len 0 n) values e (first_columns n h) (each_in (λ (v : ℕ). v < 2 ^ 64) values small)
+
+-- a call that fits the sample, and is of this thread's shard
+record IsRight (thread : ℕ) (call : Call) : Type 0 where
+  pub fits : Fits sample_graph call
+  pub shard : shard_of 0 (λ v. v % 4) call.args ≡ thread
+
+right_of_kind : (kind src dst weight thread : ℕ) → src < 2 ^ 64 → dst < 2 ^ 64 → weight < 2 ^ 64 → src % 4 ≡ thread → IsRight thread (call_of_kind kind src dst weight)
+right_of_kind kind src dst weight thread h k l e = go (nat_le kind 3) (nat_le kind 5)
+  where
+    go : (a b : Bool) → IsRight thread (cond a (insert_call src dst weight) (cond b (query_call src) (remove_call src dst)))
+    go true b = record { fits = (_, record { known = refl; tuple = tuple_of_first 3 (src ∷ dst ∷ weight ∷ []) (omega arith) refl (h, (k, (l, tt))); columns = refl }); shard = e }
+    go false true = record { fits = (_, record { known = refl; tuple = tuple_of_first 1 (src ∷ []) (omega arith) refl (h, tt); columns = refl }); shard = e }
+    go false false = record { fits = (_, record { known = refl; tuple = tuple_of_first 2 (src ∷ dst ∷ []) (omega arith) refl (h, (k, tt)); columns = refl }); shard = e }
+
+right_by : (place x : ℕ) → IsRight (place % 4) (call_by (place % 4) x)
+right_by place x =
+    let a = x / 2 ^ 24 in
+    let b = x / 2 ^ 19 in
+    let c = x / 2 ^ 9 in
+    let src : 4 * (a % 16) + place % 4 < 2 ^ 64 = omega arith in
+    let dst : b % 32 < 2 ^ 64 = omega arith in
+    let weight : c % 1024 < 2 ^ 64 = omega arith in
+    let shard : (4 * (a % 16) + place % 4) % 4 ≡ place % 4 = omega arith in
+    right_of_kind (x / 2 ^ 28) (4 * (a % 16) + place % 4) (b % 32) (c % 1024) (place % 4) src dst weight shard
+
+-- what holds of the turn at each place holds of each turn
+each_turn : (P : Turn → Type 0) (seed calls : ℕ) → ((place : ℕ) → P (turn_at seed place)) → AllByRecursion P (generated_turns seed calls)
+each_turn P seed calls h = in_each P (generated_turns seed calls)
+    (λ t m. let at = in_map (turn_at seed) t (range_with_len 0 calls) m in subst P (sym at.2) (h at.0))
+
+pub generated_fits : (seed calls : ℕ) → RoundsFit sample_graph (generated seed calls).rounds
+generated_fits seed calls = (each_turn (λ (t : Turn). Fits sample_graph t.call) seed calls (λ place. (right_by place (next_number (number_at seed place))).fits), tt)
+
+pub generated_keeps_shards : (seed calls : ℕ) → TurnsKeepShards 0 (λ v. v % 4) (generated seed calls).rounds
+generated_keeps_shards seed calls = (
+  each_turn (λ (t : Turn). shard_of 0 (λ v. v % 4) t.call.args ≡ t.thread) seed calls (λ place. (right_by place (next_number (number_at seed place))).shard),
+  tt,
+)
+
+-- ---- its limits
+
+pub generated_has_threads : (seed calls : ℕ) → HasThreads (generated seed calls)
+generated_has_threads seed calls = (each_turn (λ (t : Turn). t.thread < 4) seed calls (λ place. omega arith), tt)
+
+pub generated_keeps_limits : (seed calls : ℕ) → calls ≤ 20000 → KeepsLimits (generated seed calls)
+generated_keeps_limits seed calls few =
+    let count : length (generated_turns seed calls) ≡ calls = length-map-range_with_len (turn_at seed) 0 calls in
+    record { some_thread = omega arith; few_threads = omega arith; few_rounds = omega arith; few_calls = omega (arith, count, few) }
+
+-- ---- its runs
+
+-- every run of the generated workload is as if one thread had made its calls in order
+abbrev pub GeneratedAsOneThread : Type 0
+GeneratedAsOneThread = (seed calls : ℕ) (history : List Entry) → Runs sample_graph (generated seed calls) history → IsAsOneThread sample_graph (generated_calls seed calls) history
+
+pub generated_as_one_thread : GeneratedAsOneThread
+generated_as_one_thread seed calls history run =
+    subst (λ (cs : List Call). IsAsOneThread sample_graph cs history) (append-nil (generated_calls seed calls))
+    (shared_runs_are_as_one_thread sample_graph 0 (λ v. v % 4) (generated seed calls) history sample_is_sharded (generated_keeps_shards seed calls) (generated_fits seed calls) run)
+
+-- so its summary is the same in every run: that of one thread that makes the calls in order
+abbrev pub GeneratedSummaryIsOneThreads : Type 0
+GeneratedSummaryIsOneThreads = (seed calls : ℕ) (history : List Entry) → Runs sample_graph (generated seed calls) history
+    → summary history (replay sample_graph history) ≡ one_thread_summary sample_graph (generated_calls seed calls)
+
+pub generated_summary_is_one_threads : GeneratedSummaryIsOneThreads
+generated_summary_is_one_threads seed calls history run =
+    summaries_are_one_threads sample_graph (generated_calls seed calls) history (generated_as_one_thread seed calls history run)
+
+-- it has as many steps as calls, and the replies list few rows, so that its summary can be counted
+abbrev pub GeneratedRunsAreSmall : Type 0
+GeneratedRunsAreSmall = (seed calls : ℕ) (history : List Entry) → Runs sample_graph (generated seed calls) history
+    → (length (steps_of history) ≡ calls) × (counted rows_in (steps_of history) ≤ 256 * calls)
+
+pub generated_runs_are_small : GeneratedRunsAreSmall
+generated_runs_are_small seed calls history run =
+    let steps : length (steps_of history) ≡ length (generated_calls seed calls) =
+    length_as_one_thread sample_graph (generated_calls seed calls) history (generated_as_one_thread seed calls history run) in
+    let turns : length (generated_calls seed calls) ≡ length (generated_turns seed calls) = length-map (generated_turns seed calls) (λ (t : Turn). t.call) in
+    let places : length (generated_turns seed calls) ≡ calls = length-map-range_with_len (turn_at seed) 0 calls in
+    let rows : counted rows_in (steps_of history) ≤ 256 * length (steps_of history) = rows_are_few sample_graph history run.legal in
+    (steps ∙ turns ∙ places, omega (arith, steps, turns, places, rows))

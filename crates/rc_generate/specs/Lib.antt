@@ -1,0 +1,11 @@
+pub mod Sample
+pub mod SampleText
+pub mod Generated
+pub mod SharedRuns
+pub mod SharedRunsLaws
+pub mod SampleLaws
+pub mod SampleAcceptance
+pub mod GeneratedLaws
+pub mod SummaryText
+pub mod GeneratedExample
+pub mod UnkeyedExample

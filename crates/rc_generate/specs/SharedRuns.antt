@@ -1,0 +1,14 @@
+-- Workloads whose threads make calls of their own shards.
+use Rattle.std.specs.Prelude.{◌≡◌, ℕ, List, map}
+use Rattle.std.specs.List.{flat_map, AllByRecursion}
+use Rattle.rc_spec.specs.declared.call.Call.{Call}
+use Rattle.rc_work.specs.declared.work.Turn.{Turn}
+use Rattle.rc_shards.specs.Shards.{shard_of}
+
+-- all calls of some rounds, in written order
+abbrev pub all_calls : List (List Turn) → List Call
+all_calls rounds = flat_map (map (λ t. t.call)) rounds
+
+-- each turn's call is of the shard with its thread's number
+abbrev pub TurnsKeepShards : ℕ → (ℕ → ℕ) → List (List Turn) → Type 0
+TurnsKeepShards key share rounds = AllByRecursion (AllByRecursion (λ t. shard_of key share t.call.args ≡ t.thread)) rounds

@@ -1,0 +1,58 @@
+-- Runs of workloads whose threads make calls of their own shards: each is as if one thread had made all calls in written order.
+use Rattle.std.proofs.Common.{◌≡◌, ℕ, ◌==◌, Bool, true, false, cond, List, [], ◌∷◌, ◌++◌, map, refl, sym, ap, ◌∙◌}
+use Rattle.std.specs.List.{filter, flat_map, AllByRecursion}
+use Rattle.std.proofs.lemmas.List.Elements.{filter-append}
+use Rattle.rc_spec.specs.declared.call.Call.{Call}
+use Rattle.rc_spec.specs.declared.spec.Spec.{Spec}
+use Rattle.rc_rel.specs.declared.entry.Entry.{Entry}
+use Rattle.rc_work.specs.declared.work.Turn.{Turn}
+use Rattle.rc_work.specs.declared.work.Work.{Work}
+use Rattle.rc_work.specs.Fitting.{TurnsFit, RoundsFit}
+use Rattle.rc_work.specs.Runs.{thread_calls, Runs}
+use Rattle.rc_work.specs.RunsLaws.{runs_make_calls}
+use Rattle.rc_shards.specs.Shards.{IsSharded, shard_of, calls_in, CallsFit, IsAsOneThread}
+use Rattle.rc_shards.specs.ShardLaws.{shards_are_as_one_thread}
+use Rattle.rc_generate.specs.SharedRuns.{all_calls, TurnsKeepShards}
+
+round_calls : (key : ℕ) (share : ℕ → ℕ) (thread : ℕ) (round : List Turn) → AllByRecursion (λ t. shard_of key share t.call.args ≡ t.thread) round
+    → thread_calls thread round ≡ calls_in key share thread (map (λ t. t.call) round)
+round_calls key share thread [] h = refl
+round_calls key share thread (t ∷ round) h =
+    go (t.thread == thread) ∙ ap (λ l. cond (t.thread == thread) (t.call ∷ l) l) (round_calls key share thread round h.1)
+    ∙ ap (λ n. cond (n == thread) (t.call ∷ calls_in key share thread (map (λ x. x.call) round)) (calls_in key share thread (map (λ x. x.call) round))) (sym h.0)
+  where
+    go : (b : Bool) → map (λ (x : Turn). x.call) (cond b (t ∷ filter (λ x. x.thread == thread) round) (filter (λ x. x.thread == thread) round))
+        ≡ cond b (t.call ∷ thread_calls thread round) (thread_calls thread round)
+    go true = refl
+    go false = refl
+
+-- each thread's calls over all rounds are those of its shard
+rounds_calls : (key : ℕ) (share : ℕ → ℕ) (thread : ℕ) (rounds : List (List Turn)) → TurnsKeepShards key share rounds
+    → flat_map (thread_calls thread) rounds ≡ calls_in key share thread (all_calls rounds)
+rounds_calls key share thread [] h = refl
+rounds_calls key share thread (round ∷ rounds) h =
+    ap (λ l. l ++ flat_map (thread_calls thread) rounds) (round_calls key share thread round h.0)
+    ∙ ap (λ l. calls_in key share thread (map (λ t. t.call) round) ++ l) (rounds_calls key share thread rounds h.1)
+    ∙ sym (filter-append (λ (c : Call). shard_of key share c.args == thread) (map (λ (t : Turn). t.call) round) (all_calls rounds))
+
+fit_append : (spec : Spec) (xs ys : List Call) → CallsFit spec xs → CallsFit spec ys → CallsFit spec (xs ++ ys)
+fit_append spec [] ys h k = k
+fit_append spec (x ∷ xs) ys h k = (h.0, fit_append spec xs ys h.1 k)
+
+turns_fit : (spec : Spec) (round : List Turn) → TurnsFit spec round → CallsFit spec (map (λ t. t.call) round)
+turns_fit spec [] h = tt
+turns_fit spec (t ∷ round) h = (h.0, turns_fit spec round h.1)
+
+calls_fit : (spec : Spec) (rounds : List (List Turn)) → RoundsFit spec rounds → CallsFit spec (all_calls rounds)
+calls_fit spec [] h = tt
+calls_fit spec (round ∷ rounds) h = fit_append spec (map (λ t. t.call) round) (all_calls rounds) (turns_fit spec round h.0) (calls_fit spec rounds h.1)
+
+-- every run of such a workload is as if one thread had made all calls in written order
+abbrev pub SharedRunsAreAsOneThread : Type 0
+SharedRunsAreAsOneThread = (spec : Spec) (key : ℕ) (share : ℕ → ℕ) (work : Work) (history : List Entry) → IsSharded spec key → TurnsKeepShards key share work.rounds
+    → RoundsFit spec work.rounds → Runs spec work history → IsAsOneThread spec (all_calls work.rounds) history
+
+pub shared_runs_are_as_one_thread : SharedRunsAreAsOneThread
+shared_runs_are_as_one_thread spec key share work history is keep fit run =
+    shards_are_as_one_thread spec key share (all_calls work.rounds) history is (calls_fit spec work.rounds fit) run.legal
+    (λ thread. runs_make_calls spec work history thread run ∙ rounds_calls key share thread work.rounds keep)
