@@ -12,14 +12,16 @@ use Rattle.rc_plan.specs.NamedStripes.{IsNamedBy}
 use Rattle.rc_core.specs.declared.state.Hold.{Hold}
 use Rattle.rc_row.specs.Passes.{PassSeen, RowSeen, compiled_of, core_of, spec_of}
 use Rattle.rc_row.specs.Standings.{KeepsOut}
+use Rattle.rc_store.specs.declared.receipt.TryFault.{TryFault}
+use Rattle.rc_store.specs.declared.receipt.TryFault.TheVariants.{Busy, Memory, Spent}
 
 -- the rows of holds, rising
 abbrev pub rows_of : List Hold → List EdgeRow
 rows_of holds = gather edge_row_cmp (flat_map (λ h. h.rows) holds)
 
--- The last refused step of the pass is of this call, asked for the stripe, and found this in the way. Evaluation of the call's plan on the rows that
--- the pass keeps of that step names the stripe in the mode that was asked. So it is of a class that the plan locks, and the arguments' own where
--- the arguments choose it.
+-- The last refused step of the pass is of this call, asked for the stripe, and found this in the way. Evaluation of the
+-- call's plan on the rows that the pass keeps of that step names the stripe in the mode that was asked. So it is of a
+-- class that the plan locks, and the arguments' own where the arguments choose it.
 pub record IsBusy (row : RowSeen) (call : Call) (old new : PassSeen) (stripe : ℕ) (what : Found) : Type 0 where
   pub mode : Mode
   pub held : List Hold
@@ -28,3 +30,9 @@ pub record IsBusy (row : RowSeen) (call : Call) (old new : PassSeen) (stripe : �
   pub found : KeepsOut mode row.key.passes (core_of old).number what
   pub named : In (stripe, mode) (eval (spec_of row) (plan_at (compiled_of row).plans call.op) call (rows_of held)).named
   pub by_plan : IsNamedBy (spec_of row) call.args (plan_at (compiled_of row).plans call.op) (stripe, mode)
+
+-- Memory may be wanted at any time. That a pass is spent is found before anything else is done. Something is in the way only for that cause.
+abbrev pub HasCause : RowSeen → Call → PassSeen → PassSeen → TryFault → Type 0
+HasCause row call old new Memory = Unit {0}
+HasCause row call old new (Busy stripe found) = IsBusy row call old new stripe found
+HasCause row call old new Spent = new ≡ old

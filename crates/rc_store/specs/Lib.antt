@@ -1,5 +1,8 @@
 pub mod Busy
 pub mod BusyLaws
+pub mod Closed
+pub mod ClosedInside
+pub mod ClosedLaws
 pub mod CommitLaws
 pub mod HeldStripes
 pub mod Lending
@@ -8,6 +11,9 @@ pub mod NamedLaws
 pub mod OfRowLaws
 pub mod Prepared
 pub mod RunLaws
+pub mod Runs
+pub mod Running
+pub mod RunningInside
 pub mod StepLaws
 pub mod Store
 pub mod StoreInside

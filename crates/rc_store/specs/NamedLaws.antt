@@ -1,4 +1,5 @@
--- The stripes that evaluation of an operation's own plan names are those that the plan locks. (PLDI 2012, well-locked query plans.)
+-- The stripes that evaluation of an operation's own plan names are those that the plan locks. (PLDI 2012, well-locked
+-- query plans.)
 use Rattle.std.specs.Prelude.{List}
 use Rattle.rc_tuple.specs.RisingSet.{In}
 use Rattle.rc_spec.specs.declared.call.Call.{Call}
@@ -12,9 +13,9 @@ use Rattle.rc_plan.specs.NamedStripesLaws.{named_law}
 use Rattle.rc_plan.specs.StripeLocks.{StripeLock}
 use Rattle.rc_plan.specs.Turns.{HasAcceptedPlan, with_plan}
 
--- Over an accepted specification with its plans: each stripe that evaluation of a call's own plan names, on any rows, is of a class that the plan
--- locks, in that Lock's mode. It is the arguments' stripe where the Lock takes those of the bindings and the arguments have the columns that choose
--- one.
+-- Over an accepted specification with its plans: each stripe that evaluation of a call's own plan names, on any rows,
+-- is of a class that the plan locks, in that Lock's mode. It is the arguments' stripe where the Lock takes those of the
+-- bindings and the arguments have the columns that choose one.
 abbrev pub CompiledStripesAreLocked : Type 0
 CompiledStripesAreLocked = (c : SpecWithPlans) → IsCompiled c.spec c.plans → (call : Call) → Fits c.spec call
     → (rows : List EdgeRow) (lock : StripeLock) → In lock (eval c.spec (plan_at c.plans call.op) call rows).named

@@ -9,7 +9,8 @@ use Rattle.rc_row.specs.Passes.{HasSpare, IsMoreRoom, PassSeen, RowSeen, compile
 use Rattle.rc_row.specs.Standings.{HaveOneRelation}
 use Rattle.rc_store.specs.Lending.{held_stripes}
 
--- The pass holds what the call's plan names, changed as the plan changes it, where evaluation gives the reply; and there is room for its entry.
+-- The pass holds what the call's plan names, changed as the plan changes it, where evaluation gives the reply; and
+-- there is room for its entry.
 pub record IsReady (row : RowSeen) (call : Call) (pass : PassSeen) (reply : Reply) : Type 0 where
   pub fits : Fits (spec_of row) call
   pub few : length (core_of pass).own < 2 ^ 48

@@ -1,5 +1,5 @@
 -- What a run of a plan over a lent row and pass leaves.
-use Rattle.std.specs.Prelude.{◌≡◌, ℕ, Bool, List, [], Option, None, Some, Result, Ok, Err, IfOk, false}
+use Rattle.std.specs.Prelude.{◌≡◌, ℕ, Bool, List, [], Option, None, Some, Result, Ok, Err, IfOk, IfErr, false}
 use Rattle.std.proofs.Common.{refl, sym, subst}
 use Rattle.rc_spec.specs.declared.call.Call.{Call}
 use Rattle.rc_spec.specs.declared.call.Reply.{Reply}
@@ -8,6 +8,8 @@ use Rattle.rc_spec.specs.Calls.{Fits}
 use Rattle.rc_fragment.specs.declared.held.Held.{Held}
 use Rattle.rc_fragment.specs.Holder.{HeldStripe}
 use Rattle.rc_plan.specs.Compiled.{IsCompiled, SpecWithPlans, plan_at}
+use Rattle.rc_machine.specs.declared.stop.Stop.{Stop}
+use Rattle.rc_machine.specs.declared.stop.Stop.TheVariants as stop
 use Rattle.rc_machine.specs.Machine.{HasAnswered, HasRefusedCall, HasReplied}
 use Rattle.rc_row.specs.Passes.{IsPassOf, PassSeen, RowSeen, compiled_of, core_of, holds_taken, spec_of}
 use Rattle.rc_store.specs.declared.lender.Refused.{Refused}
@@ -15,6 +17,7 @@ use Rattle.rc_store.specs.Busy.{IsBusy}
 use Rattle.rc_store.specs.BusyLaws.{busy, none_waits}
 use Rattle.rc_store.specs.Lending.{IsLentBy, IsLentSo, IsOnTheWay, Lent, held_stripes, lending}
 use Rattle.rc_store.specs.LendingLaws.{held_of-lending, lent_first, lent_last, untold}
+use Rattle.rc_store.specs.Runs.{IsStoppedFor}
 
 -- what holds of a value that there may be
 pub each_ok : {T E : Type 0} {P Q : T → Type 0} (r : Result T E) → ((x : T) → P x → Q x) → IfOk r P → IfOk r Q
@@ -64,3 +67,10 @@ module _ (waits : Bool) (row other : RowSeen) (begun now : PassSeen) (last : Opt
         (subst (λ (c : SpecWithPlans). IsCompiled c.spec c.plans) (sym same) ok)
         (subst (λ (c : SpecWithPlans). Fits c.spec call) (sym same) fits)
         last told_way h (refused_run first n m none h is)
+
+-- a run that was refused only for causes stopped for a cause
+pub stopped_so : (waits : Bool) (row : RowSeen) (call : Call) (begun now : PassSeen) (answer : Result Reply Stop)
+    → ((h : Held) → answer ≡ Err (stop.Held h) → (waits ≡ false) × IsBusy row call begun now h.stripe h.found) → IfErr answer (IsStoppedFor waits row call begun now)
+stopped_so waits row call begun now (Ok reply) busy = tt
+stopped_so waits row call begun now (Err stop.Memory) busy = tt
+stopped_so waits row call begun now (Err (stop.Held h)) busy = busy h refl

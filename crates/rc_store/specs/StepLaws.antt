@@ -1,5 +1,5 @@
 -- What the steps of a call make of a pass.
-use Rattle.std.specs.Prelude.{◌≡◌, ℕ, suc, ◌*◌, ◌<◌, ◌≤◌, ◌^◌, Bool, List, [], ◌∷◌, ◌++◌, length, None, All}
+use Rattle.std.specs.Prelude.{◌≡◌, ℕ, ◌<◌, ◌≤◌, ◌^◌, Bool, List, [], ◌∷◌, ◌++◌, length, None, All}
 use Rattle.std.proofs.Common.{refl, sym, ap, subst, ◌∙◌}
 use Rattle.std.proofs.lemmas.List.Elements.{All-cons, All-map, All-nil}
 use Rattle.rc_spec.specs.declared.call.Call.{Call}
@@ -8,6 +8,8 @@ use Rattle.rc_spec.specs.declared.call.Reply.{Reply}
 use Rattle.rc_spec.specs.Calls.{Fits}
 use Rattle.rc_fragment.specs.Holder.{AreOfOneRelation}
 use Rattle.rc_plan.specs.Compiled.{plan_at}
+use Rattle.rc_machine.specs.declared.stop.Stop.{Stop}
+use Rattle.rc_machine.specs.declared.stop.Stop.TheVariants.{Held, Memory}
 use Rattle.rc_machine.specs.Machine.{HasReplied}
 use Rattle.rc_rel.specs.declared.entry.Entry.{Entry}
 use Rattle.rc_rel.specs.History.{placed}
@@ -17,7 +19,7 @@ use Rattle.rc_fragment.specs.Keep.{IsAtRest}
 use Rattle.rc_core.specs.declared.state.PassState.{PassState}
 use Rattle.rc_row.specs.declared.law.Standing.{Standing}
 use Rattle.rc_row.specs.HeldRows.{HeldRows}
-use Rattle.rc_row.specs.Passes.{AreAtRest, HasReserved, HasSpare, IsMoreRoom, IsPassOf, PassSeen, RowSeen, all_with, compiled_of, core_of, holds_now, holds_taken, idle, next_entry, reverted, spec_of, with_commit, with_entry, with_fragment}
+use Rattle.rc_row.specs.Passes.{AreAtRest, HasReserved, HasSpare, IsMoreRoom, IsPassOf, PassSeen, RowSeen, all_with, compiled_of, core_of, holds_now, holds_taken, idle, next_entry, reverted, spec_of, with_entry, with_fragment}
 use Rattle.rc_row.specs.Standings.{KeepsOut}
 use Rattle.rc_store.specs.Busy.{IsBusy}
 use Rattle.rc_store.specs.CommitLaws.{may_commit, now_committed}
@@ -25,7 +27,8 @@ use Rattle.rc_store.specs.HeldStripes.{all_taken}
 use Rattle.rc_store.specs.Lending.{IsOnTheWay, held_stripes}
 use Rattle.rc_store.specs.LendingLaws.{all_now-held, all_taken-held, one_relation, still_of_row}
 use Rattle.rc_store.specs.Prepared.{IsPrepared, IsReady}
-use Rattle.rc_store.specs.Store.{HasMade, IsAsBefore, IsReplyFor, StoreSeen}
+use Rattle.rc_store.specs.Runs.{IsStoppedFor}
+use Rattle.rc_store.specs.Store.{HasMade, IsAsBefore, IsFinished, StoreSeen}
 use Rattle.rc_store.specs.declared.receipt.Receipt.{Receipt}
 
 -- ---- giving back
@@ -79,7 +82,7 @@ module _ (waits : Bool) (row : RowSeen) (old reserved ran new : PassSeen) (room 
     refusals = subst (λ n. old.standing.refusals ≤ n) (sym (ap (λ (q : PassSeen). q.standing.refusals) e)) ran_refusals;
   }
 
-  pub busy_before : (call : Call) (stripe : ℕ) (what : Found) → new ≡ idle ran → IsBusy row call reserved ran stripe what → IsBusy row call old new stripe what
+  busy_before : (call : Call) (stripe : ℕ) (what : Found) → new ≡ idle ran → IsBusy row call reserved ran stripe what → IsBusy row call old new stripe what
   busy_before call stripe what e b = record {
     mode = b.mode;
     held = b.held;
@@ -89,6 +92,10 @@ module _ (waits : Bool) (row : RowSeen) (old reserved ran new : PassSeen) (room 
     named = b.named;
     by_plan = b.by_plan;
   }
+
+  pub cause_before : (call : Call) (s : Stop) → new ≡ idle ran → IsStoppedFor waits row call reserved ran s → IsStoppedFor waits row call old new s
+  cause_before call Memory e cause = tt
+  cause_before call (Held h) e cause = (cause.0, busy_before call h.stripe h.found e cause.1)
 
   -- and one that answered
   pub prepared_so : (call : Call) (reply : Reply) → Fits (spec_of row) call → length (core_of old).own < 2 ^ 48 → HasSpare reserved.kept
@@ -130,30 +137,40 @@ module _ (store : StoreSeen) (call : Call) (old mid new : PassSeen) (reply : Rep
   same_entry = ap (λ (u : PassState). next_entry u call reply) prepared.core
 
   -- a commit of what was prepared is a call that was made
-  pub made_so : (receipt : Receipt) → new ≡ idle (with_commit (compiled_of store.row) receipt.place (next_entry (core_of mid) call reply) mid)
-      → receipt.nth ≡ length (core_of mid).own → (core_of mid).seen ≤ receipt.place → receipt.place < 255 * 2 ^ 48 → IsReplyFor store.row.keeping reply receipt.reply
-      → HasMade store call old new receipt
-  made_so receipt e nth seen small given = record {
-    reply = reply;
+  pub made_so : (receipt : Receipt) → IsFinished store.row call mid new reply receipt → HasMade store call reply old new receipt
+  made_so receipt f = record {
     at_commit = core_of mid;
+    was = prepared.core;
     allowed = subst (MayCommit (compiled_of store.row) (core_of mid)) same_entry (may_be_committed store.row call mid reply prepared.ready);
     one = prepared.ready.one;
-    nth = nth ∙ ap (λ (u : PassState). length u.own) prepared.core;
-    seen = subst (λ (u : PassState). u.seen ≤ receipt.place) prepared.core seen;
-    small = small;
-    given = given;
     core =
-        ap core_of e
-        ∙ (λ i. record (prepared.core i) {
+        ap core_of f.is
+        ∙ (λ i. record (committed (compiled_of store.row) (core_of mid) receipt.place (same_entry i)) {
           held = [];
-          own = (prepared.core i).own ++ placed receipt.place (same_entry i) ∷ [];
-          seen = suc receipt.place;
-          wish = sym (ap (λ (q : PassSeen). (core_of q).wish) e) i;
+          wish = sym (ap (λ (q : PassSeen). (core_of q).wish) f.is) i;
         });
-    table = ap (λ (q : PassSeen). q.table) e ∙ prepared.table;
-    held = ap (λ (q : PassSeen). q.held) e;
+    own = ap (λ (q : PassSeen). (core_of q).own) f.is ∙ (λ i. (prepared.core i).own ++ placed receipt.place (same_entry i) ∷ []);
+    nth = f.nth ∙ ap (λ (u : PassState). length u.own) prepared.core;
+    seen = subst (λ (u : PassState). u.seen ≤ receipt.place) prepared.core f.seen;
+    small = f.small;
+    given = f.given;
+    table = ap (λ (q : PassSeen). q.table) f.is ∙ prepared.table;
+    held = ap (λ (q : PassSeen). q.held) f.is;
     kept = mid.kept;
     more = prepared.more;
-    keeps = ap (λ (q : PassSeen). q.kept) e ∙ ap (λ (x : Entry). with_entry mid.kept (placed receipt.place x)) same_entry;
+    keeps = ap (λ (q : PassSeen). q.kept) f.is ∙ ap (λ (x : Entry). with_entry mid.kept (placed receipt.place x)) same_entry;
+    refusals = subst (λ n. old.standing.refusals ≤ n) (sym (ap (λ (q : PassSeen). q.standing.refusals) f.is)) prepared.refusals;
+  }
+
+  -- and what was prepared and is taken back is as before
+  pub undone_so : old.held ≡ [] → (core_of old).held ≡ [] → new ≡ idle mid → IsAsBefore old new
+  undone_so free idle_core e = record {
+    core =
+        ap core_of e
+        ∙ ap (λ (u : PassState). record u { held = [] }) prepared.core
+        ∙ (λ i. record (core_of old) { held = sym idle_core i; wish = sym (ap (λ q. (core_of q).wish) e) i });
+    table = ap (λ (q : PassSeen). q.table) e ∙ prepared.table;
+    held = ap (λ (q : PassSeen). q.held) e ∙ sym free;
+    kept = subst (IsMoreRoom old.kept) (sym (ap (λ (q : PassSeen). q.kept) e)) prepared.more;
     refusals = subst (λ n. old.standing.refusals ≤ n) (sym (ap (λ (q : PassSeen). q.standing.refusals) e)) prepared.refusals;
   }

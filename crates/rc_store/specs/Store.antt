@@ -1,12 +1,13 @@
--- What contracts see of a store, and what its calls make of a pass. (PLDI 2012, serializable transactions over striped locks.)
-use Rattle.std.specs.Prelude.{◌≡◌, ℕ, suc, ◌*◌, ◌<◌, ◌≤◌, ◌^◌, [], ◌∷◌, ◌++◌, length, Option, Some, None}
+-- What contracts see of a store, and what its calls make of a pass. (PLDI 2012, serializable transactions over striped
+-- locks.)
+use Rattle.std.specs.Prelude.{◌≡◌, ℕ, ◌*◌, ◌<◌, ◌≤◌, ◌^◌, [], ◌∷◌, ◌++◌, length, Option, Some, None}
 use Rattle.rc_spec.specs.declared.call.Call.{Call}
 use Rattle.rc_spec.specs.declared.call.Reply.{Reply}
 use Rattle.rc_spec.specs.Calls.{Fits}
 use Rattle.rc_rel.specs.History.{placed}
 use Rattle.rc_journal.specs.PartEntries.{PartEntries}
 use Rattle.rc_core.specs.declared.state.PassState.{PassState}
-use Rattle.rc_core.specs.Passes.{MayCommit}
+use Rattle.rc_core.specs.Passes.{MayCommit, committed}
 use Rattle.rc_row.specs.declared.keeping.Keeping.{Keeping}
 use Rattle.rc_row.specs.declared.keeping.Keeping.TheVariants.{Counts, Entries}
 use Rattle.rc_row.specs.Passes.{IsMoreRoom, IsPassOf, PassSeen, RowSeen, compiled_of, core_of, idle, next_entry, spec_of, with_commit, with_entry}
@@ -29,8 +30,8 @@ pub record MayCall (store : StoreSeen) (pass : PassSeen) (call : Call) : Type 0 
 
 -- ---- after a call without a receipt
 
--- What the pass holds, and its own entries and what it has seen of the history, are as before. It may want something else, refused steps may have been
--- added, and the room for its entries isn't smaller.
+-- What the pass holds, and its own entries and what it has seen of the history, are as before. It may want something
+-- else, refused steps may have been added, and the room for its entries isn't smaller.
 pub record IsAsBefore (old new : PassSeen) : Type 0 where
   pub core : core_of new ≡ record (core_of old) { wish = (core_of new).wish }
   pub table : new.table ≡ old.table
@@ -45,24 +46,26 @@ abbrev pub IsReplyFor : Keeping → Reply → Option Reply → Type 0
 IsReplyFor Entries reply given = given ≡ None
 IsReplyFor Counts reply given = given ≡ Some reply
 
--- The pass has one entry more, its own next, of the call with this reply, at the receipt's place, which is no earlier than what the pass had seen. It
--- has seen it, and holds nothing. At its commit it held stripes with the rows of one relation, and the commit was allowed: so evaluation of the call's
--- plan on these rows gives the reply, and it held exactly the stripes that evaluation names, each in the mode in which it is named.
-pub record HasMade (store : StoreSeen) (call : Call) (old new : PassSeen) (receipt : Receipt) : Type 0 where
-  pub reply : Reply
+-- The pass has one entry more, its own next, of the call with this reply, at the receipt's place, which is no earlier
+-- than what the pass had seen. At its commit it was as before but for the stripes that it held, with the rows of one
+-- relation, and what it wanted. The core allowed the commit: so evaluation of the call's plan on these rows gives the
+-- reply, and it held exactly the stripes that evaluation names, each in the mode in which it is named. Since then only
+-- those were given back.
+pub record HasMade (store : StoreSeen) (call : Call) (reply : Reply) (old new : PassSeen)
+    (receipt : Receipt) : Type 0 where
   pub at_commit : PassState
+  pub was : at_commit ≡ record (core_of old) { held = at_commit.held; wish = at_commit.wish }
   pub allowed : MayCommit (compiled_of store.row) at_commit (next_entry (core_of old) call reply)
   pub one : HaveOneRelation (spec_of store.row) at_commit.held
+  pub core : core_of new ≡ record (committed (compiled_of store.row) at_commit receipt.place (next_entry (core_of old) call reply)) {
+    held = [];
+    wish = (core_of new).wish;
+  }
+  pub own : (core_of new).own ≡ (core_of old).own ++ placed receipt.place (next_entry (core_of old) call reply) ∷ []
   pub nth : receipt.nth ≡ length (core_of old).own
   pub seen : (core_of old).seen ≤ receipt.place
   pub small : receipt.place < 255 * 2 ^ 48
   pub given : IsReplyFor store.row.keeping reply receipt.reply
-  pub core : core_of new ≡ record (core_of old) {
-    held = [];
-    own = (core_of old).own ++ placed receipt.place (next_entry (core_of old) call reply) ∷ [];
-    seen = suc receipt.place;
-    wish = (core_of new).wish;
-  }
   pub table : new.table ≡ old.table
   pub held : new.held ≡ []
   pub kept : Option PartEntries
@@ -71,7 +74,8 @@ pub record HasMade (store : StoreSeen) (call : Call) (old new : PassSeen) (recei
   pub refusals : old.standing.refusals ≤ new.standing.refusals
 
 -- the one entry of the call was committed with the reply, and all was given back
-pub record IsFinished (row : RowSeen) (call : Call) (old new : PassSeen) (reply : Reply) (receipt : Receipt) : Type 0 where
+pub record IsFinished (row : RowSeen) (call : Call) (old new : PassSeen) (reply : Reply)
+    (receipt : Receipt) : Type 0 where
   pub is : new ≡ idle (with_commit (compiled_of row) receipt.place (next_entry (core_of old) call reply) old)
   pub nth : receipt.nth ≡ length (core_of old).own
   pub seen : (core_of old).seen ≤ receipt.place

@@ -1,81 +1,109 @@
 //! Calls.
 
-ghost use Rattle.std.specs.Prelude.{◌≡◌, ◌↔◌, ℕ, Err, IfErr, IfOk, IsTrue, length};
-ghost use Rattle.rc_spec.specs.declared.lock.Found.{Found};
+ghost use Rattle.std.specs.Prelude.{◌≡◌, ◌<◌, ◌↔◌, Err, IfErr, IfOk, IsTrue, length};
+ghost use Rattle.rc_spec.specs.declared.call.Reply.{Reply};
 ghost use Rattle.rc_row.specs.Passes.{IsPassOf, core_of};
-ghost use Rattle.rc_store.specs.Busy.{IsBusy};
+ghost use Rattle.rc_store.specs.Busy.{HasCause};
+ghost use Rattle.rc_store.specs.Runs.{IsStoppedFor};
 ghost use Rattle.rc_store.specs.Store.{HasMade, IsAsBefore, MayCall};
 ghost use Rattle.rc_store.specs.declared.receipt.TryFault.TheVariants as fault;
 ghost use Rattle.rc_store.specs.declared.receipt.CallFault.TheVariants as waited;
 
+use crate::gate::{Gate, OpenGate, Point};
 use crate::receipt::{CallFault, Receipt, TryFault};
 use crate::store::Store;
-use crate::taking::{AtOnce, Patiently};
+use crate::taking::{AtOnce, Patiently, Takes};
+use crate::wakes::{Wakes, Waking};
 use rc_fragment::Held;
 use rc_machine::Stop;
 use rc_row::Pass;
 use rc_spec::Call;
-use rc_tuple::Memory;
 use std::sync::Wait;
 
-impl Store {
+impl<W: Wakes> Store<W> {
     /// Makes a call, and waits for nobody. Its plan takes exactly the stripes that it names, each in its mode; the call is
     /// committed as one entry of the history while they are held; then they are given back. (PLDI 2012, serializable
     /// transactions by two-phase locks.)
     ///
-    /// `Spent` comes exactly where the pass has made as many entries as the store lets it, and first. `Busy` comes
-    /// only where the last refused step of the pass is of this call and found what is said, on a stripe that the plan names. After any
-    /// fault all is as before, and nothing is held. Costs what the plan costs, a few atomic steps a stripe, and where entries are
-    /// kept a copy of the call.
+    /// `Spent` comes exactly where the pass has made as many entries as the store lets it, and first. `Busy` comes only
+    /// where the last refused step of the pass is of this call and found what is said, on a stripe that the plan names.
+    /// After any fault the pass holds nothing, and its entries and what it has seen are as before. Costs what the plan
+    /// costs, a few atomic steps a stripe, and where entries are kept a copy of the call.
     pub fn try_call(&self, pass: &mut Pass, call: &Call) -> Result<Receipt, TryFault>
         requires { MayCall self.now pass.old call.now }
         ensures pass { IsPassOf self.now.row pass.new }
-        ensures made { IfOk result (HasMade self.now call.now pass.old pass.new) }
+        ensures made { IfOk result (λ receipt.
+            (reply : Reply) × HasMade self.now call.now reply pass.old pass.new receipt) }
         ensures before { IfErr result (λ _. IsAsBefore pass.old pass.new) }
         ensures spent { result ≡ Err fault.Spent ↔ length (core_of pass.old).own ≡ self.now.limit }
-        ensures busy { (stripe : ℕ) (found : Found) → result ≡ Err (fault.Busy stripe found) → IsBusy self.now.row call.now pass.old pass.new stripe found }
+        ensures cause { IfErr result (HasCause self.now.row call.now pass.old pass.new) }
     {
-        pass.held_agrees();
         if self.is_spent(pass) {
             return Err(TryFault::Spent);
         }
-        match self.prepare(pass, call, &AtOnce) {
-            Ok(reply) => match self.finish(pass, call, reply) {
-                Ok(receipt) => Ok(receipt),
-                Err(Memory) => Err(TryFault::Memory),
-            },
+        let taking = AtOnce { wakes: &self.wakes };
+        match self.make(pass, call, &taking, &OpenGate) {
+            Ok(receipt) => Ok(receipt),
             Err(Stop::Memory) => Err(TryFault::Memory),
             Err(Stop::Held(Held { stripe, found })) => Err(TryFault::Busy { stripe, found }),
         }
     }
 
-    /// Makes a call as `try_call` does, and waits where something is in the way. If it returns, it answers as said; nothing
-    /// is promised of when.
-    pub fn call<R: Wait>(&self, rt: &R, pass: &mut Pass, call: &Call) -> Result<Receipt, CallFault>
-        requires { MayCall self.now pass.old call.now }
-        ensures pass { IsPassOf self.now.row pass.new }
-        ensures made { IfOk result (HasMade self.now call.now pass.old pass.new) }
-        ensures before { IfErr result (λ _. IsAsBefore pass.old pass.new) }
-        ensures spent { result ≡ Err waited.Spent ↔ length (core_of pass.old).own ≡ self.now.limit }
-    {
-        pass.held_agrees();
-        if self.is_spent(pass) {
-            return Err(CallFault::Spent);
-        }
-        match self.prepare(pass, call, &Patiently { rt }) {
-            Ok(reply) => match self.finish(pass, call, reply) {
-                Ok(receipt) => Ok(receipt),
-                Err(Memory) => Err(CallFault::Memory),
-            },
-            Err(Stop::Memory) => Err(CallFault::Memory),
-            Err(Stop::Held(_)) => unreachable!(),
-        }
-    }
-
     /// Whether the pass has made as many entries as the store lets it.
-    fn is_spent(&self, pass: &Pass) -> bool
+    pub(crate) fn is_spent(&self, pass: &Pass) -> bool
         ensures { IsTrue result ↔ length (core_of pass.now).own ≡ self.now.limit }
     {
         pass.made() == self.limit
+    }
+
+    /// Makes a call for a pass that isn't spent. It takes stripes as said, and tells the gate of its points.
+    fn make<T: Takes, G: Gate>(
+        &self,
+        pass: &mut Pass,
+        call: &Call,
+        taking: &T,
+        gate: &G,
+    ) -> Result<Receipt, Stop>
+        requires may { MayCall self.now pass.old call.now }
+        requires left { length (core_of pass.old).own < self.now.limit }
+        ensures pass { IsPassOf self.now.row pass.new }
+        ensures made { IfOk result (λ receipt.
+            (reply : Reply) × HasMade self.now call.now reply pass.old pass.new receipt) }
+        ensures before { IfErr result (λ _. IsAsBefore pass.old pass.new) }
+        ensures cause { IfErr result (IsStoppedFor T.waits self.now.row call.now pass.old pass.new) }
+    {
+        pass.held_agrees();
+        gate.at(pass.number(), Point::BeforeLocks);
+        let reply = self.prepare(pass, call, taking)?;
+        Ok(self.finish(pass, call, reply, gate)?)
+    }
+}
+
+impl Store<Waking> {
+    /// Makes a call as `try_call` does, and waits where something is in the way. If it returns, it answers as said; nothing
+    /// is promised of when. The gate is told of each point that it reaches.
+    pub fn call<R: Wait, G: Gate>(
+        &self,
+        rt: &R,
+        pass: &mut Pass,
+        call: &Call,
+        gate: &G,
+    ) -> Result<Receipt, CallFault>
+        requires { MayCall self.now pass.old call.now }
+        ensures pass { IsPassOf self.now.row pass.new }
+        ensures made { IfOk result (λ receipt.
+            (reply : Reply) × HasMade self.now call.now reply pass.old pass.new receipt) }
+        ensures before { IfErr result (λ _. IsAsBefore pass.old pass.new) }
+        ensures spent { result ≡ Err waited.Spent ↔ length (core_of pass.old).own ≡ self.now.limit }
+        ensures first { result ≡ Err waited.Spent → pass.new ≡ pass.old }
+    {
+        if self.is_spent(pass) {
+            return Err(CallFault::Spent);
+        }
+        match self.make(pass, call, &Patiently { rt }, gate) {
+            Ok(receipt) => Ok(receipt),
+            Err(Stop::Memory) => Err(CallFault::Memory),
+            Err(Stop::Held(_)) => unreachable!(),
+        }
     }
 }

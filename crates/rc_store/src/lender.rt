@@ -57,9 +57,11 @@ impl<'a, L: Lends, T: Takes> Holder for Lender<'a, L, T> {
 
     ghost use Rattle.rc_store.specs.LendingLaws.{lent_rows, lent_table};
 
-    ghost sound_table = { λ l spec s. lent_table T.waits L.lent l.row.now l.pass.now l.refused.now l.pass.ghost_name spec s };
+    ghost sound_table = { λ l spec s.
+        lent_table T.waits L.lent l.row.now l.pass.now l.refused.now l.pass.ghost_name spec s };
 
-    ghost sound_rows = { λ l spec s. lent_rows T.waits L.lent l.row.now l.pass.now l.refused.now l.pass.ghost_name spec s };
+    ghost sound_rows = { λ l spec s.
+        lent_rows T.waits L.lent l.row.now l.pass.now l.refused.now l.pass.ghost_name spec s };
 
     fn take(&mut self, stripe: u32, mode: Mode) -> Result<(), TakeStop> {
         self.pass.held_agrees();

@@ -3,13 +3,23 @@
 #![tactic(auto)]
 
 mod calls;
+mod close;
+mod closed;
 mod finish;
+mod gate;
 mod lender;
 mod receipt;
 mod run;
+mod running;
 mod steps;
 mod store;
 mod taking;
+mod wakes;
 
-pub use receipt::{CallFault, Receipt, TryFault};
+pub use close::StoreBack;
+pub use closed::Closed;
+pub use gate::{Gate, OpenGate, Point};
+pub use receipt::{BeginBack, CallFault, Receipt, TryFault};
+pub use running::Running;
 pub use store::Store;
+pub use wakes::{Quiet, Wakes, Waking};

@@ -1,5 +1,6 @@
 //! What calls answer.
 
+use rc_row::Pass;
 use rc_spec::{Found, Reply};
 
 /// Where the entry of a call stands.
@@ -9,7 +10,8 @@ pub struct Receipt {
     pub place: u64,
     /// Its number among the pass's own entries, counted from 0.
     pub nth: u64,
-    /// The reply, where the store's passes keep no entries. Where they do, it stands in the pass's entry of that number.
+    /// The reply, where the store's passes keep no entries. Where they do, it stands in the pass's entry of that
+    /// number.
     pub reply: Option<Reply>,
 }
 
@@ -30,7 +32,16 @@ pub enum TryFault {
     Spent,
 }
 
-/// Why a call that waits has no receipt. All is as before, and the pass holds nothing.
+/// A pass whose call was not begun, and why. It holds nothing; its entries and what it has seen are as before.
+#[derive(Drop)]
+pub struct BeginBack {
+    /// The pass.
+    pub pass: Pass,
+    /// The cause.
+    pub fault: TryFault,
+}
+
+/// Why a call that waits has no receipt. The pass holds nothing; its entries and what it has seen are as before.
 #[derive(Clone, Copy, Debug, PartialEq, Eq)]
 pub enum CallFault {
     /// Memory was wanted.

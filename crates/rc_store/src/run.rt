@@ -1,14 +1,9 @@
 //! The run of a call's plan over a row and a pass.
 
-ghost use Rattle.std.specs.Prelude.{◌≡◌, [], Err, IfOk, None, Some, false};
+ghost use Rattle.std.specs.Prelude.{◌≡◌, [], None, Some};
 ghost use Rattle.rc_spec.specs.Calls.{Fits};
-ghost use Rattle.rc_fragment.specs.declared.held.Held.{Held};
-ghost use Rattle.rc_plan.specs.Compiled.{plan_at};
-ghost use Rattle.rc_machine.specs.Machine.{HasReplied};
-ghost use Rattle.rc_machine.specs.declared.stop.Stop.TheVariants as stop;
-ghost use Rattle.rc_row.specs.Passes.{IsPassOf, compiled_of, spec_of};
-ghost use Rattle.rc_store.specs.Busy.{IsBusy};
-ghost use Rattle.rc_store.specs.Lending.{IsOnTheWay, held_stripes};
+ghost use Rattle.rc_row.specs.Passes.{IsPassOf, compiled_of};
+ghost use Rattle.rc_store.specs.Runs.{HasRunPlan};
 
 use crate::lender::{Lender, Lends, Refused};
 use crate::taking::Takes;
@@ -19,9 +14,9 @@ use rc_spec::{Call, Reply};
 use std::alloc::Global;
 use std::marker::{Brand, PhantomData};
 
-/// Runs the call's plan up to its commit, for a pass that holds nothing. Where it answers, the pass holds exactly what the
-/// plan names, changed as the plan changes it. After a stop it may hold some stripes, with changes; a stripe is refused only
-/// where nothing waits.
+/// Runs the call's plan up to its commit, for a pass that holds nothing. Where it answers, the pass holds exactly what
+/// the plan names, changed as the plan changes it. After a stop it may hold some stripes, with changes; a stripe is
+/// refused only where nothing waits.
 pub(crate) fn run_call<T: Takes>(
     alloc: Global,
     row: &Row,
@@ -34,11 +29,7 @@ pub(crate) fn run_call<T: Takes>(
     requires pass { IsPassOf row.now pass.old }
     requires idle { pass.old.held ≡ [] }
     requires fits { Fits compiled.now.spec call.now }
-    ensures pass { IsPassOf row.now pass.new }
-    ensures way { IsOnTheWay T.waits row.now pass.old pass.new None }
-    ensures answered { IfOk result (HasReplied (spec_of row.now) (plan_at (compiled_of row.now).plans call.now.op) call.now (held_stripes pass.new.held)) }
-    ensures waits { (h : Held) → result ≡ Err (stop.Held h) → T.waits ≡ false }
-    ensures busy { (h : Held) → result ≡ Err (stop.Held h) → IsBusy row.now call.now pass.old pass.new h.stripe h.found }
+    ensures { HasRunPlan T.waits row.now call.now pass.old pass.new result }
 {
     let mut refused = None;
     run_lent::<Brand, T>(alloc, row, compiled, call, pass, taking, &mut refused)
@@ -60,11 +51,7 @@ fn run_lent<L: Lends, T: Takes>(
     requires idle { pass.old.held ≡ [] }
     requires none { refused.old ≡ None }
     requires fits { Fits compiled.now.spec call.now }
-    ensures pass { IsPassOf row.now pass.new }
-    ensures way { IsOnTheWay T.waits row.now pass.old pass.new None }
-    ensures answered { IfOk result (HasReplied (spec_of row.now) (plan_at (compiled_of row.now).plans call.now.op) call.now (held_stripes pass.new.held)) }
-    ensures waits { (h : Held) → result ≡ Err (stop.Held h) → T.waits ≡ false }
-    ensures busy { (h : Held) → result ≡ Err (stop.Held h) → IsBusy row.now call.now pass.old pass.new h.stripe h.found }
+    ensures { HasRunPlan T.waits row.now call.now pass.old pass.new result }
 {
     let mut lender = Lender::<L, T> {
         row,
@@ -97,11 +84,7 @@ fn run_holder<L: Lends, T: Takes>(
     requires none { lender.old.refused.now ≡ None }
     requires fits { Fits compiled.now.spec call.now }
     ensures same_reference { lender.new.pass.ghost_name ≡ lender.old.pass.ghost_name }
-    ensures pass { IsPassOf lender.old.row.now lender.new.pass.now }
-    ensures way { IsOnTheWay T.waits lender.old.row.now lender.old.pass.now lender.new.pass.now None }
-    ensures answered { IfOk result (HasReplied (spec_of lender.old.row.now) (plan_at (compiled_of lender.old.row.now).plans call.now.op) call.now (held_stripes lender.new.pass.now.held)) }
-    ensures waits { (h : Held) → result ≡ Err (stop.Held h) → T.waits ≡ false }
-    ensures busy { (h : Held) → result ≡ Err (stop.Held h) → IsBusy lender.old.row.now call.now lender.old.pass.now lender.new.pass.now h.stripe h.found }
+    ensures run { HasRunPlan T.waits lender.old.row.now call.now lender.old.pass.now lender.new.pass.now result }
 {
     lender.pass.held_agrees();
     let _ = compiled.accepted();

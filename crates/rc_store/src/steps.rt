@@ -1,24 +1,25 @@
 //! The steps of a call.
 
-ghost use Rattle.std.specs.Prelude.{◌≡◌, ◌*◌, ◌<◌, ◌≤◌, ◌^◌, Err, IfErr, IfOk, None, length, false};
+ghost use Rattle.std.specs.Prelude.{◌≡◌, ◌<◌, IfErr, IfOk, IsSome, None, length};
 ghost use Rattle.rc_spec.specs.declared.call.Call.{Call};
 ghost use Rattle.rc_spec.specs.declared.call.Reply.{Reply};
-ghost use Rattle.rc_fragment.specs.declared.held.Held.{Held};
-ghost use Rattle.rc_machine.specs.declared.stop.Stop.TheVariants as stop;
-ghost use Rattle.rc_row.specs.Passes.{AreAtRest, IsPassOf, compiled_of, core_of, idle, next_entry, with_commit};
-ghost use Rattle.rc_store.specs.Busy.{IsBusy};
+ghost use Rattle.rc_row.specs.Passes.{AreAtRest, IsPassOf, core_of, idle, next_entry};
 ghost use Rattle.rc_store.specs.Prepared.{IsPrepared, IsReady};
-ghost use Rattle.rc_store.specs.Store.{IsAsBefore, MayCall};
+ghost use Rattle.rc_store.specs.Runs.{IsStoppedFor};
+ghost use Rattle.rc_store.specs.Store.{IsAsBefore, IsFinished, MayCall};
 
+use crate::gate::{Gate, Point};
+use crate::receipt::Receipt;
 use crate::run::run_call;
 use crate::store::Store;
 use crate::taking::Takes;
+use crate::wakes::Wakes;
 use rc_machine::Stop;
 use rc_rel::Entry;
 use rc_row::Pass;
 use rc_spec::{Call, Reply};
 
-impl Store {
+impl<W: Wakes> Store<W> {
     /// Makes room for the call's entry and runs its plan up to the commit. After a stop the pass holds nothing, and all is as
     /// before.
     pub(crate) fn prepare<T: Takes>(
@@ -32,8 +33,7 @@ impl Store {
         ensures pass { IsPassOf self.now.row pass.new }
         ensures ok { IfOk result (IsPrepared self.now.row call.now pass.old pass.new) }
         ensures err { IfErr result (λ _. IsAsBefore pass.old pass.new) }
-        ensures waits { (h : Held) → result ≡ Err (stop.Held h) → T.waits ≡ false }
-        ensures busy { (h : Held) → result ≡ Err (stop.Held h) → IsBusy self.now.row call.now pass.old pass.new h.stripe h.found }
+        ensures cause { IfErr result (IsStoppedFor T.waits self.now.row call.now pass.old pass.new) }
     {
         pass.held_agrees();
         pass.reserve()?;
@@ -57,37 +57,62 @@ impl Store {
         self.release_all(pass);
     }
 
-    /// Commits a call that is ready, where the pass keeps no entries, and gives all back that the pass holds.
-    pub(crate) fn commit_counted(&self, pass: &mut Pass, call: &Call, reply: &Reply) -> u64
+    /// Commits a call that is ready, where the pass keeps no entries, gives all back that the pass holds, and hands the
+    /// reply out.
+    pub(crate) fn commit_counted<G: Gate>(
+        &self,
+        pass: &mut Pass,
+        call: &Call,
+        reply: Reply,
+        gate: &G,
+    ) -> Receipt
         requires pass { IsPassOf self.now.row pass.old }
-        requires ready { IsReady self.now.row call.now pass.old reply.now }
+        requires ready { IsReady self.now.row call.now pass.old reply }
         requires counts { pass.old.kept ≡ None }
         ensures pass { IsPassOf self.now.row pass.new }
-        ensures value { pass.new ≡ idle (with_commit (compiled_of self.now.row) result (next_entry (core_of pass.old) call.now reply.now) pass.old) }
-        ensures seen { (core_of pass.old).seen ≤ result }
-        ensures small { result < 255 * 2 ^ 48 }
+        ensures finished { IsFinished self.now.row call.now pass.old pass.new reply result }
     {
-        let place = self.row.commit_call(pass, call, reply);
+        let number = pass.number();
+        let nth = pass.made();
+        gate.at(number, Point::BeforeCommit);
+        let place = self.row.commit_call(pass, call, &reply);
+        gate.at(number, Point::AfterCommit);
         self.release_all(pass);
-        place
+        gate.at(number, Point::Answered);
+        Receipt {
+            place,
+            nth,
+            reply: Some(reply),
+        }
     }
 
-    /// Commits the entry of a call that is ready, and gives all back that the pass holds.
-    pub(crate) fn commit_entry(&self, pass: &mut Pass, entry: Entry) -> u64
+    /// Commits the entry of a call that is ready, where the pass keeps its entries, and gives all back that the pass holds.
+    pub(crate) fn commit_entry<G: Gate>(&self, pass: &mut Pass, entry: Entry, gate: &G) -> Receipt
         requires pass { IsPassOf self.now.row pass.old }
-        requires ready { (call : Call) × (reply : Reply) × (entry ≡ next_entry (core_of pass.old) call reply) × IsReady self.now.row call pass.old reply }
+        requires ready { (call : Call) × (reply : Reply)
+            × (entry ≡ next_entry (core_of pass.old) call reply)
+            × IsReady self.now.row call pass.old reply }
+        requires kept { IsSome pass.old.kept }
         ensures pass { IsPassOf self.now.row pass.new }
-        ensures value { pass.new ≡ idle (with_commit (compiled_of self.now.row) result entry pass.old) }
-        ensures seen { (core_of pass.old).seen ≤ result }
-        ensures small { result < 255 * 2 ^ 48 }
+        ensures finished { (call : Call) (reply : Reply)
+            → entry ≡ next_entry (core_of pass.old) call reply
+            → IsFinished self.now.row call pass.old pass.new reply result }
     {
+        let number = pass.number();
+        let nth = pass.made();
+        gate.at(number, Point::BeforeCommit);
         let place = self.row.commit(pass, entry);
+        gate.at(number, Point::AfterCommit);
         self.release_all(pass);
-        place
+        gate.at(number, Point::Answered);
+        Receipt {
+            place,
+            nth,
+            reply: None,
+        }
     }
 
-    /// Gives all back that the pass holds, the last first, and wakes those who wait for it. Where nobody waits, waking
-    /// costs one load a stripe.
+    /// Gives all back that the pass holds, the last first, and wakes those who wait for it.
     fn release_all(&self, pass: &mut Pass)
         requires pass { IsPassOf self.now.row pass.old }
         requires rest { AreAtRest pass.old.held }
@@ -95,7 +120,7 @@ impl Store {
         ensures value { pass.new ≡ idle pass.old }
     {
         while let Some(stripe) = self.row.release_last(pass) {
-            self.row.wake(stripe);
+            self.wakes.wake(&self.row, stripe);
         }
         pass.held_agrees();
     }

@@ -5,6 +5,7 @@ ghost use Rattle.rc_core.specs.Passes.{learned};
 ghost use Rattle.rc_row.specs.Passes.{IsPassOf, compiled_of, core_of, new_passes, with_standing};
 ghost use Rattle.rc_row.specs.Standings.{with_core};
 
+use crate::wakes::Wakes;
 use rc_plan::Compiled;
 use rc_row::{Keeping, Note, Pass, Row};
 use rc_tuple::Memory;
@@ -12,16 +13,17 @@ use std::alloc::Global;
 use std::marker::Model;
 
 /// A relation that several threads share (PLDI 2012, concurrent relations): a row of lock stripes with the fragments, the
-/// specification with its plans, and how many entries each pass may make.
+/// specification with its plans, how many entries each pass may make, and who wakes those that wait.
 #[derive(Drop)]
-pub struct Store {
+pub struct Store<W> {
     pub(crate) row: Row,
     pub(crate) compiled: Compiled,
     pub(crate) limit: u64,
     pub(crate) alloc: Global,
+    pub(crate) wakes: W,
 }
 
-impl Model for Store {
+impl<W> Model for Store<W> {
     ghost use Rattle.rc_store.specs.Store.{StoreSeen};
 
     ghost Value = { StoreSeen };
@@ -33,7 +35,7 @@ impl Model for Store {
     ghost invariant = { IsWholeStore };
 }
 
-impl Store {
+impl<W: Wakes> Store<W> {
     /// Makes a store with no tuple, and its passes by number, 1 to 255 of them, each of which may make so many entries and
     /// keeps of them what is said. Only want of memory refuses it. Costs the stripes and, for each pass, room for a
     /// fragment of each stripe.
@@ -43,7 +45,8 @@ impl Store {
         passes: u32,
         limit: u64,
         keeping: Keeping,
-    ) -> Result<(Store, Vec<Pass>), Memory>
+        wakes: W,
+    ) -> Result<(Store<W>, Vec<Pass>), Memory>
         requires passes { (1 ≤ passes) × (passes ≤ 255) }
         requires limit { limit ≤ 2 ^ 48 }
         ensures compiled { IfOk result (λ r. compiled_of r.0.row ≡ compiled) }
@@ -57,6 +60,7 @@ impl Store {
             compiled,
             limit,
             alloc,
+            wakes,
         };
         Ok((store, dealt))
     }
@@ -82,7 +86,8 @@ impl Store {
         requires pass { IsPassOf self.now.row pass.old }
         requires note { note.table ≡ self.now.row.table }
         ensures pass { IsPassOf self.now.row pass.new }
-        ensures value { pass.new ≡ with_standing (with_core pass.old.standing (learned (core_of pass.old) note.told)) pass.old }
+        ensures value { pass.new ≡ with_standing
+            (with_core pass.old.standing (learned (core_of pass.old) note.told)) pass.old }
     {
         self.row.learn(pass, note);
     }

@@ -8,6 +8,7 @@ ghost use Rattle.rc_row.specs.Passes.{IsPassOf, core_of, spec_of, stripes_of, wi
 ghost use Rattle.rc_row.specs.Standings.{HaveOneRelation, KeepsOut, turned_away, without_wish};
 ghost use Rattle.rc_store.specs.Taking.{HasTakenStripe, HasWaitedIf};
 
+use crate::wakes::Wakes;
 use rc_row::{Pass, Row};
 use rc_spec::{Found, Mode};
 use rc_tuple::Memory;
@@ -34,14 +35,19 @@ pub(crate) trait Takes {
         ensures taken { IfOk result (λ o. IfNone o (HasTakenStripe waits row.now mode stripe pass.old pass.new)) }
         ensures one { IfOk result (λ o. IfNone o (HaveOneRelation (spec_of row.now) (core_of pass.new).held)) }
         ensures found { IfOk result (λ o. IfSome o (KeepsOut mode row.now.key.passes (core_of pass.old).number)) }
-        ensures refused { IfOk result (λ o. IfSome o (λ found. (waits ≡ false) × (pass.new ≡ with_standing (turned_away mode pass.old.standing stripe found) pass.old))) }
+        ensures refused { IfOk result (λ o. IfSome o (λ found. (waits ≡ false)
+            × (pass.new ≡ with_standing (turned_away mode pass.old.standing stripe found) pass.old))) }
         ensures memory { OnErr result (HasWaitedIf waits pass.old pass.new) };
 }
 
 /// Waits for nobody.
-pub(crate) struct AtOnce;
+#[derive(Drop)]
+pub(crate) struct AtOnce<'a, W> {
+    /// Wakes those that it may have sent to sleep.
+    pub(crate) wakes: &'a W,
+}
 
-impl Takes for AtOnce {
+impl<'a, W: Wakes> Takes for AtOnce<'a, W> {
     ghost waits = { false };
 
     fn take(
@@ -53,32 +59,39 @@ impl Takes for AtOnce {
     ) -> Result<Option<Found>, Memory> {
         match mode {
             Mode::Exclusive => Ok(row.try_lock(pass, stripe)),
-            Mode::Shared => share(row, pass, stripe),
+            Mode::Shared => share(self.wakes, row, pass, stripe),
         }
     }
 }
 
-/// Shares the stripe, or answers what was in the way. A pass that doesn't share it was counted in for a moment, which may have
-/// sent a waiting writer to sleep: so the stripe is woken then.
-fn share(row: &Row, pass: &mut Pass, stripe: u32) -> Result<Option<Found>, Memory>
+/// Shares the stripe, or answers what was in the way. A pass that doesn't share it was counted in for a moment, which may
+/// have sent a waiting writer to sleep: so the stripe is woken then.
+fn share<W: Wakes>(
+    wakes: &W,
+    row: &Row,
+    pass: &mut Pass,
+    stripe: u32,
+) -> Result<Option<Found>, Memory>
     requires pass { IsPassOf row.now pass.old }
     requires stripe { stripe < stripes_of row.now }
     requires above { IsAbove (core_of pass.old) stripe }
     ensures pass { IsPassOf row.now pass.new }
-    ensures taken { IfOk result (λ o. IfNone o ((rows : List EdgeRow) × (pass.new ≡ with_taken (spec_of row.now) Shared stripe rows pass.old))) }
+    ensures taken { IfOk result (λ o. IfNone o ((rows : List EdgeRow)
+        × (pass.new ≡ with_taken (spec_of row.now) Shared stripe rows pass.old))) }
     ensures one { IfOk result (λ o. IfNone o (HaveOneRelation (spec_of row.now) (core_of pass.new).held)) }
     ensures found { IfOk result (λ o. IfSome o (KeepsOut Shared row.now.key.passes (core_of pass.old).number)) }
-    ensures refused { IfOk result (λ o. IfSome o (λ found. pass.new ≡ with_standing (turned_away Shared pass.old.standing stripe found) pass.old)) }
+    ensures refused { IfOk result (λ o. IfSome o (λ found.
+        pass.new ≡ with_standing (turned_away Shared pass.old.standing stripe found) pass.old)) }
     ensures memory { OnErr result (pass.new ≡ with_standing (without_wish pass.old.standing) pass.old) }
 {
     match row.try_share(pass, stripe) {
         Ok(None) => Ok(None),
         Ok(Some(found)) => {
-            row.wake(stripe);
+            wakes.wake(row, stripe);
             Ok(Some(found))
         }
         Err(Memory) => {
-            row.wake(stripe);
+            wakes.wake(row, stripe);
             Err(Memory)
         }
     }

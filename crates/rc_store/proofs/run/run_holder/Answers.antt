@@ -1,31 +1,40 @@
 use Rattle.rc_row.specs.Passes.{spec_of}
 use Rattle.rc_store.specs.Lending.{IsLentBy}
-use Rattle.rc_store.specs.RunLaws.{busy_so, each_ok, lent_run, none_waits_so, of_row_so, replied_so, way_so}
+use Rattle.rc_store.specs.RunLaws.{busy_so, each_ok, lent_run, none_waits_so, of_row_so, replied_so, stopped_so, way_so}
 use Rattle.rc_store.proofs.run.run_holder.Given as given
 use Rattle.rc_store.proofs.run.run_holder.Goals as goal
 
 lent : (g : given.Over) (c : goal.After-run_plan g)
-    → IsLentBy g.T.Takes.waits (record { row = c.args.lender.now.row.now; begun = c.args.lender.now.pass.now }) c.run_plan.new.holder.row.now c.run_plan.new.holder.pass.now c.run_plan.new.holder.refused.now (spec_of c.args.lender.now.row.now)
+    → IsLentBy g.T.Takes.waits
+    (record { row = c.args.lender.now.row.now; begun = c.args.lender.now.pass.now }) c.run_plan.new.holder.row.now
+    c.run_plan.new.holder.pass.now c.run_plan.new.holder.refused.now (spec_of c.args.lender.now.row.now)
 lent g c =
-    lent_run g.T.Takes.waits g.L.Lends.lent c.args.lender.now.row.now c.run_plan.new.holder.row.now c.args.lender.now.pass.now c.run_plan.new.holder.pass.now
-    c.args.lender.now.refused.now c.run_plan.new.holder.refused.now c.requires.lent c.requires.none c.held_agrees.ensures c.requires.idle c.run_plan.ensures.sound
+    lent_run g.T.Takes.waits g.L.Lends.lent c.args.lender.now.row.now c.run_plan.new.holder.row.now
+    c.args.lender.now.pass.now c.run_plan.new.holder.pass.now
+    c.args.lender.now.refused.now c.run_plan.new.holder.refused.now c.requires.lent c.requires.none
+    c.held_agrees.ensures c.requires.idle c.run_plan.ensures.sound
 
-pub returns-clause-pass : goal.returns-clause-pass
-returns-clause-pass g c = of_row_so _ _ _ _ _ _ (lent g c) c.run_plan.new.holder.of_row
-
-pub returns-clause-way : goal.returns-clause-way
-returns-clause-way g c = way_so _ _ _ _ _ _ (lent g c)
-
-pub returns-clause-answered : goal.returns-clause-answered
-returns-clause-answered g c =
-    each_ok c.run_plan.result (replied_so _ _ _ _ _ _ (lent g c) c.args.compiled.now c.requires.compiled c.args.call.now c.run_plan.new.holder.pass.ghost_name) c.run_plan.ensures.answered
-
-pub returns-clause-busy : goal.returns-clause-busy
-returns-clause-busy g c h e =
-    busy_so _ _ _ _ _ _ (lent g c) c.args.compiled.now c.requires.compiled c.args.call.now c.args.lender.now.refused.now c.args.lender.now.pass.ghost_name c.run_plan.new.holder.pass.ghost_name
-    (record { sealed = c.accepted.ensures.sealed; planned = c.accepted.ensures.planned }) c.requires.fits c.requires.none h (c.run_plan.ensures.refused h e)
-
-pub returns-clause-waits : goal.returns-clause-waits
-returns-clause-waits g c h e =
-    none_waits_so _ _ _ _ _ _ (lent g c) c.args.compiled.now c.requires.compiled c.args.call.now c.args.lender.now.refused.now c.args.lender.now.pass.ghost_name c.run_plan.new.holder.pass.ghost_name
-    c.requires.none h (c.run_plan.ensures.refused h e)
+pub returns-clause-run : goal.returns-clause-run
+returns-clause-run g c = record {
+  of_row = of_row_so _ _ _ _ _ _ (lent g c) c.run_plan.new.holder.of_row;
+  way = way_so _ _ _ _ _ _ (lent g c);
+  answered =
+      each_ok c.run_plan.result
+      (replied_so _ _ _ _ _ _
+      (lent g c) c.args.compiled.now c.requires.compiled c.args.call.now c.run_plan.new.holder.pass.ghost_name)
+      c.run_plan.ensures.answered;
+  stopped =
+      stopped_so g.T.Takes.waits c.args.lender.now.row.now c.args.call.now c.args.lender.now.pass.now
+      c.run_plan.new.holder.pass.now c.run_plan.result
+      (λ h e. (
+        none_waits_so _ _ _ _ _ _ (lent g c) c.args.compiled.now c.requires.compiled c.args.call.now
+            c.args.lender.now.refused.now
+            c.args.lender.now.pass.ghost_name c.run_plan.new.holder.pass.ghost_name c.requires.none h
+            (c.run_plan.ensures.refused h e),
+        busy_so _ _ _ _ _ _ (lent g c) c.args.compiled.now c.requires.compiled c.args.call.now
+            c.args.lender.now.refused.now
+            c.args.lender.now.pass.ghost_name c.run_plan.new.holder.pass.ghost_name
+            (record { sealed = c.accepted.ensures.sealed; planned = c.accepted.ensures.planned }) c.requires.fits
+            c.requires.none h (c.run_plan.ensures.refused h e),
+      ));
+}

@@ -7,13 +7,28 @@ use Rattle.rc_store.specs.LendingLaws.{may_lent, may_of_row, told_room, written_
 use Rattle.rc_store.proofs.lender.LenderHolder.own.Goals as goal
 
 pub own-requires : goal.own-requires
-own-requires g c = written_there c.args.self.now.row.now c.args.self.now.pass.now c.args.self.now.refused.now c.args.self.now.pass.ghost_name c.args.stripe c.held_agrees.ensures c.requires
+own-requires g c =
+    let lender = c.args.self.now in
+    written_there lender.row.now lender.pass.now lender.refused.now lender.pass.ghost_name c.args.stripe
+    c.held_agrees.ensures c.requires
 
 pub invariant_of-self : goal.invariant_of-self
-invariant_of-self g c = record { of_row = may_of_row c.args.self.now.row.now c.args.self.now.pass.now (with_promise c.args.changes) c.args.stripe c.own.result c.own.new.self (λ f. refl) c.own.ensures.ok c.own.ensures.err c.args.self.now.of_row }
+invariant_of-self g c =
+    let lender = c.args.self.now in
+    record {
+      of_row = may_of_row lender.row.now lender.pass.now
+          (with_promise c.args.changes) c.args.stripe c.own.result c.own.new.self
+          (λ f. refl) c.own.ensures.ok c.own.ensures.err lender.of_row;
+    }
 
 pub returns-clause-ok : goal.returns-clause-ok
-returns-clause-ok g c = on_ok_weaker c.own.result (λ e. ap (λ (pass : PassSeen). lending c.args.self.now.row.now pass c.args.self.now.refused.now c.args.self.now.pass.ghost_name) e ∙ told_room c.args.self.now.row.now c.args.self.now.pass.now c.args.self.now.refused.now c.args.self.now.pass.ghost_name c.args.stripe c.args.changes) c.own.ensures.ok
+returns-clause-ok g c =
+    let lender = c.args.self.now in
+    on_ok_weaker c.own.result
+    (λ e. ap (λ (pass : PassSeen). lending lender.row.now pass lender.refused.now lender.pass.ghost_name) e ∙ told_room lender.row.now lender.pass.now lender.refused.now lender.pass.ghost_name c.args.stripe c.args.changes) c.own.ensures.ok
 
 pub returns-clause-sound : goal.returns-clause-sound
-returns-clause-sound g c spec = may_lent c.args.self.now.row.now c.args.self.now.pass.now (with_promise c.args.changes) c.args.stripe c.own.result c.own.new.self (λ f. refl) c.own.ensures.ok c.own.ensures.err c.args.self.now.refused.now g.T.Takes.waits g.L.Lends.lent spec
+returns-clause-sound g c spec =
+    let lender = c.args.self.now in
+    may_lent lender.row.now lender.pass.now (with_promise c.args.changes) c.args.stripe c.own.result c.own.new.self
+    (λ f. refl) c.own.ensures.ok c.own.ensures.err lender.refused.now g.T.Takes.waits g.L.Lends.lent spec

@@ -7,18 +7,37 @@ use Rattle.rc_store.specs.LendingLaws.{at_lent, at_of_row, may_sub, told_change,
 use Rattle.rc_store.proofs.lender.LenderHolder.sub_row.Goals as goal
 
 pub sub_row-requires-clause-held : goal.sub_row-requires-clause-held
-sub_row-requires-clause-held g c = written_there c.args.self.now.row.now c.args.self.now.pass.now c.args.self.now.refused.now c.args.self.now.pass.ghost_name c.args.stripe c.held_agrees.ensures c.requires.exclusive
+sub_row-requires-clause-held g c =
+    let lender = c.args.self.now in
+    written_there lender.row.now lender.pass.now lender.refused.now lender.pass.ghost_name c.args.stripe
+    c.held_agrees.ensures c.requires.exclusive
 
 pub sub_row-requires-clause-can : goal.sub_row-requires-clause-can
-sub_row-requires-clause-can g c = may_sub c.args.self.now.row.now c.args.self.now.pass.now c.args.self.now.refused.now c.args.self.now.pass.ghost_name c.args.stripe c.args.edge c.args.row.now c.args.self.now.of_row c.requires.owned c.requires.can
+sub_row-requires-clause-can g c =
+    let lender = c.args.self.now in
+    may_sub lender.row.now lender.pass.now lender.refused.now lender.pass.ghost_name c.args.stripe c.args.edge
+    c.args.row.now lender.of_row c.requires.owned c.requires.can
 
 pub invariant_of-self : goal.invariant_of-self
-invariant_of-self g c = record { of_row = subst (IsPassOf c.args.self.now.row.now) (sym c.sub_row.ensures) (at_of_row c.args.self.now.row.now c.args.self.now.pass.now (changed (lowered c.args.edge c.args.row.now)) c.args.stripe (λ f. refl) c.args.self.now.of_row) }
+invariant_of-self g c =
+    let lender = c.args.self.now in
+    record {
+      of_row = subst (IsPassOf lender.row.now) (sym c.sub_row.ensures)
+          (at_of_row lender.row.now lender.pass.now (changed (lowered c.args.edge c.args.row.now)) c.args.stripe
+          (λ f. refl) lender.of_row);
+    }
 
 pub returns-clause-value : goal.returns-clause-value
-returns-clause-value g c = ap (λ (pass : PassSeen). lending c.args.self.now.row.now pass c.args.self.now.refused.now c.args.self.now.pass.ghost_name) c.sub_row.ensures ∙ told_change c.args.self.now.row.now c.args.self.now.pass.now c.args.self.now.refused.now c.args.self.now.pass.ghost_name c.args.stripe (lowered c.args.edge c.args.row.now)
+returns-clause-value g c =
+    let lender = c.args.self.now in
+    ap (λ (pass : PassSeen). lending lender.row.now pass lender.refused.now lender.pass.ghost_name) c.sub_row.ensures
+    ∙ told_change lender.row.now lender.pass.now lender.refused.now lender.pass.ghost_name c.args.stripe
+    (lowered c.args.edge c.args.row.now)
 
 pub returns-clause-sound : goal.returns-clause-sound
 returns-clause-sound g c spec l =
-    subst (λ (pass : PassSeen). IsLentSo g.T.Takes.waits g.L.Lends.lent c.args.self.now.row.now pass c.args.self.now.refused.now spec) (sym c.sub_row.ensures)
-    (at_lent c.args.self.now.row.now c.args.self.now.pass.now (changed (lowered c.args.edge c.args.row.now)) c.args.stripe (λ f. refl) c.args.self.now.refused.now g.T.Takes.waits g.L.Lends.lent spec l)
+    let lender = c.args.self.now in
+    subst (λ (pass : PassSeen). IsLentSo g.T.Takes.waits g.L.Lends.lent lender.row.now pass lender.refused.now spec)
+    (sym c.sub_row.ensures)
+    (at_lent lender.row.now lender.pass.now (changed (lowered c.args.edge c.args.row.now)) c.args.stripe
+    (λ f. refl) lender.refused.now g.T.Takes.waits g.L.Lends.lent spec l)

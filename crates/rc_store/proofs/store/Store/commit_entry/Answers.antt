@@ -8,17 +8,22 @@ use Rattle.rc_store.specs.Store.{StoreSeen}
 use Rattle.rc_store.proofs.store.Store.commit_entry.Goals as goal
 
 pub commit-place-requires-clause-allowed : goal.commit-place-requires-clause-allowed
-commit-place-requires-clause-allowed c =
-    subst (λ (x : Entry). MayCommit (compiled_of c.self.inside.row) (core_of c.args.pass.now) x) (sym c.requires.ready.2)
+commit-place-requires-clause-allowed g c =
+    subst (λ (x : Entry). MayCommit (compiled_of c.self.inside.row) (core_of c.args.pass.now) x)
+    (sym c.requires.ready.2)
     (may_be_committed c.self.inside.row c.requires.ready.0 c.args.pass.now c.requires.ready.1
-    (subst (λ (r : RowSeen). IsReady r c.requires.ready.0 c.args.pass.now c.requires.ready.1) (sym (ap (λ (s : StoreSeen). s.row) c.self.view_is)) c.requires.ready.3))
+    (subst (λ (r : RowSeen). IsReady r c.requires.ready.0 c.args.pass.now c.requires.ready.1)
+    (sym (ap (λ (s : StoreSeen). s.row) c.self.view_is)) c.requires.ready.3))
 
 pub commit-place-requires-clause-left : goal.commit-place-requires-clause-left
-commit-place-requires-clause-left c =
-    subst (λ (x : Entry). holds_now c.args.pass.now.held ≡ (committed (compiled_of c.self.inside.row) (core_of c.args.pass.now) 0 x).held) (sym c.requires.ready.2)
+commit-place-requires-clause-left g c =
+    subst
+    (λ (x : Entry). holds_now c.args.pass.now.held ≡ (committed (compiled_of c.self.inside.row) (core_of c.args.pass.now) 0 x).held) (sym c.requires.ready.2)
     (is_as_committed c.self.inside.row c.requires.ready.0 c.args.pass.now c.requires.ready.1
-    (subst (λ (r : RowSeen). IsReady r c.requires.ready.0 c.args.pass.now c.requires.ready.1) (sym (ap (λ (s : StoreSeen). s.row) c.self.view_is)) c.requires.ready.3))
+    (subst (λ (r : RowSeen). IsReady r c.requires.ready.0 c.args.pass.now c.requires.ready.1)
+    (sym (ap (λ (s : StoreSeen). s.row) c.self.view_is)) c.requires.ready.3))
 
 pub release_all-requires-clause-rest : goal.release_all-requires-clause-rest
-release_all-requires-clause-rest c =
-    settled_at_rest c.args.pass.now.held c.commit-place.new.pass.held (ap (λ (q : PassSeen). q.held) c.commit-place.ensures.value)
+release_all-requires-clause-rest g c =
+    settled_at_rest c.args.pass.now.held c.commit-place.new.pass.held
+    (ap (λ (q : PassSeen). q.held) c.commit-place.ensures.value)

@@ -1,0 +1,14 @@
+use Rattle.std.proofs.Common.{subst}
+use Rattle.rc_store.specs.Running.{RunningSeen}
+use Rattle.rc_store.specs.StepLaws.{made_so}
+use Rattle.rc_store.specs.Store.{IsFinished}
+use Rattle.rc_store.proofs.running.Running.commit.Goals as goal
+
+pub returns-clause-made : goal.returns-clause-made
+returns-clause-made g c =
+    made_so c.args.store.now c.args.self.call c.args.self.begun c.args.self.pass c.commit_prepared-receipt.new.pass
+    c.args.self.reply c.requires.prepared
+    c.commit_prepared-receipt.result
+    (subst (λ (r : RunningSeen). IsFinished c.args.store.now.row r.call r.pass c.commit_prepared-receipt.new.pass
+    r.reply c.commit_prepared-receipt.result) c.self.view_is
+    (c.commit_prepared-receipt.ensures.finished c.self.inside.step.value c.self.invariant))

@@ -1,0 +1,26 @@
+-- What the run of a call's plan leaves, and how a call may stop.
+use Rattle.std.specs.Prelude.{◌≡◌, Bool, false, None, Result, IfOk, IfErr}
+use Rattle.rc_spec.specs.declared.call.Call.{Call}
+use Rattle.rc_spec.specs.declared.call.Reply.{Reply}
+use Rattle.rc_plan.specs.Compiled.{plan_at}
+use Rattle.rc_machine.specs.declared.stop.Stop.{Stop}
+use Rattle.rc_machine.specs.declared.stop.Stop.TheVariants.{Held, Memory}
+use Rattle.rc_machine.specs.Machine.{HasReplied}
+use Rattle.rc_row.specs.Passes.{IsPassOf, PassSeen, RowSeen, compiled_of, spec_of}
+use Rattle.rc_store.specs.Busy.{IsBusy}
+use Rattle.rc_store.specs.Lending.{IsOnTheWay, held_stripes}
+
+-- Memory may be wanted at any time. A stripe is refused only where nothing waits, and for a cause.
+abbrev pub IsStoppedFor : Bool → RowSeen → Call → PassSeen → PassSeen → Stop → Type 0
+IsStoppedFor waits row call old new Memory = Unit {0}
+IsStoppedFor waits row call old new (Held h) = (waits ≡ false) × IsBusy row call old new h.stripe h.found
+
+-- The plan of the call ran for a pass that held nothing, up to its commit. Where it answers, the pass holds exactly
+-- what the plan names, changed as the plan changes it. Where it stops, it may hold some stripes, with changes.
+pub record HasRunPlan (waits : Bool) (row : RowSeen) (call : Call) (begun now : PassSeen)
+    (answer : Result Reply Stop) : Type 0 where
+  pub of_row : IsPassOf row now
+  pub way : IsOnTheWay waits row begun now None
+  pub answered : IfOk answer
+      (HasReplied (spec_of row) (plan_at (compiled_of row).plans call.op) call (held_stripes now.held))
+  pub stopped : IfErr answer (IsStoppedFor waits row call begun now)
