@@ -1,5 +1,5 @@
 -- Passes that hold nothing.
-use Rattle.std.specs.Prelude.{◌≡◌, ◌<◌, ◌≤◌, [], length}
+use Rattle.std.specs.Prelude.{◌≡◌, ◌<◌, ℕ, ◌≤◌, List, [], length, All}
 use Rattle.rc_row.specs.Passes.{IsPassOf, PassSeen, RowSeen, core_of, stripes_of}
 use Rattle.rc_store.specs.Store.{StoreSeen}
 
@@ -14,3 +14,7 @@ pub record IsFreeOfStore (store : StoreSeen) (pass : PassSeen) : Type 0 where
   pub of : IsPassOf store.row pass
   pub idle : pass.held ≡ []
   pub few : length (core_of pass).own ≤ store.limit
+
+-- the passes have no more entries than so many each
+abbrev pub AreFew : ℕ → List PassSeen → Type 0
+AreFew limit passes = All (λ pass. length (core_of pass).own ≤ limit) passes

@@ -7,6 +7,10 @@ mod plan_tests;
 #[cfg(test)]
 mod row_tests;
 #[cfg(test)]
+mod running_tests;
+#[cfg(test)]
+mod shared_tests;
+#[cfg(test)]
 mod sharing_tests;
 #[cfg(test)]
 mod store_tests;
