@@ -71,8 +71,8 @@ fn generated_round(alloc: Global, seed: u32, calls: u32) -> Result<Round, Memory
 }
 
 /// Generates a workload on the sample: so many calls in one round, for four threads in turn. The seed of a linear
-/// congruential generator determines them. Threads have different sources, so that each call has the same reply whatever
-/// the schedule. Takes memory for each call.
+/// congruential generator determines them. Threads have different sources, so that a run has the same steps and the same
+/// summary whatever the schedule (`generated_runs_are_as_one_thread`). Takes memory for each call.
 pub fn generate(alloc: Global, seed: u32, calls: u32) -> Result<Work, Memory>
     requires few { calls ≤ 20000 }
     ensures value { IfOk result (λ work. work ≡ generated seed calls) }

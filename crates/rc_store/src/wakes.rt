@@ -6,7 +6,8 @@ ghost use Rattle.rc_row.specs.Passes.{stripes_of};
 use rc_row::Row;
 
 /// Wakes those that wait for a stripe that a call has given back. A store has it as its type parameter, so that one on
-/// which no call waits is built without anything that parks or wakes.
+/// which no call waits is built without anything that parks or wakes. Others may implement it: calls that wait for nobody
+/// do so where `wake` waits for nobody, as in `Waking` and `Quiet`.
 pub trait Wakes: Drop {
     /// Wakes those that may wait for the stripe.
     fn wake(&self, row: &Row, stripe: u32)
