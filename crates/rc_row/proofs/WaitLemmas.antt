@@ -5,10 +5,11 @@ use Rattle.rc_spec.specs.declared.lock.Mode.{Mode}
 use Rattle.rc_core.specs.Passes.{IsAbove}
 use Rattle.rc_row.specs.declared.law.Standing.{Standing}
 use Rattle.rc_row.specs.Passes.{HasWaited, PassSeen, core_of, with_standing}
-use Rattle.rc_row.specs.Standings.{turned_away, wish_after}
+use Rattle.rc_row.specs.Standings.{KeepsRefusals, turned_away, wish_after}
+use Rattle.rc_row.specs.StandingsLaws.{one_refusal_more, refusals_first}
 
 pub waited_first : (old : PassSeen) → HasWaited old old
-waited_first old = record { wish = (core_of old).wish; is = refl; refusals = omega arith }
+waited_first old = record { wish = (core_of old).wish; is = refl; refusals = refusals_first old.standing }
 
 -- the pass with this wish, and the refused steps of that standing
 abbrev pub wishing : Option ℕ → PassSeen → Standing → PassSeen
@@ -25,5 +26,5 @@ module _ (old mid new : PassSeen) (h : HasWaited old mid) where
       record {
         wish = wish_after found p;
         is = e ∙ (λ i. wishing (wish_after found p) (h.is i) (sym t i));
-        refusals = let a = h.refusals in let b = ap (λ (s : Standing). s.refusals) t in omega arith;
+        refusals = subst (KeepsRefusals old.standing) (sym t) (one_refusal_more mode old.standing mid.standing p found h.refusals);
       }

@@ -1,4 +1,5 @@
 pub mod Standings
+pub mod StandingsLaws
 pub mod Law
 pub mod Seats
 pub mod Told

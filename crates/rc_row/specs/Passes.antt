@@ -27,7 +27,7 @@ use Rattle.rc_row.specs.declared.keeping.Keeping.{Keeping}
 use Rattle.rc_row.specs.declared.keeping.Keeping.TheVariants.{Entries, Counts}
 use Rattle.rc_row.specs.HeldRows.{HeldRows, just_held}
 use Rattle.rc_row.specs.Law.{compiled_by, spec_by, stripes_by, kept_of}
-use Rattle.rc_row.specs.Standings.{start, with_core}
+use Rattle.rc_row.specs.Standings.{KeepsRefusals, start, with_core}
 
 -- ---- what is seen
 
@@ -182,7 +182,7 @@ pub record HasReserved (old new : PassSeen) : Type 0 where
 pub record HasWaited (old new : PassSeen) : Type 0 where
   pub wish : Option ℕ
   pub is : new ≡ with_standing (record { core = record (core_of old) { wish = wish }; refusals = new.standing.refusals; last_refusal = new.standing.last_refusal }) old
-  pub refusals : old.standing.refusals ≤ new.standing.refusals
+  pub refusals : KeepsRefusals old.standing new.standing
 
 -- ---- changes of a fragment
 

@@ -23,6 +23,11 @@ start k = record { core = fresh k; refusals = 0; last_refusal = None }
 abbrev pub with_core : Standing → PassState → Standing
 with_core s u = record s { core = u }
 
+-- refused steps may have been added; where none was, the last is the same
+abbrev pub KeepsRefusals : Standing → Standing → Type 0
+KeepsRefusals old new =
+    (old.refusals ≤ new.refusals) × (new.refusals ≡ old.refusals → new.last_refusal ≡ old.last_refusal)
+
 -- the pass after one more refused step, which asked for the stripe p in the mode, found this, and left it these holds
 abbrev pub refused : Mode → Standing → ℕ → Found → PassState → List Hold → Standing
 refused mode s p found u held = record {

@@ -2,6 +2,7 @@
 use Rattle.std.specs.Prelude.{◌≡◌, ℕ, ◌<◌, List, [], Option, Some, None, IfSome, length, map}
 use Rattle.std.specs.List.{range_with_len, slice_get}
 use Rattle.rc_tuple.specs.RisingSet.{In}
+use Rattle.rc_spec.specs.declared.spec.Spec.{Spec}
 use Rattle.rc_plan.specs.Compiled.{SpecWithPlans}
 use Rattle.rc_rel.specs.declared.entry.Entry.{Entry}
 use Rattle.rc_rel.specs.History.{own, own_placed, replay}
@@ -14,22 +15,27 @@ use Rattle.rc_row.specs.declared.keeping.Keeping.TheVariants.{Counts, Entries}
 use Rattle.rc_row.specs.Passes.{PassSeen, compiled_of, core_of, spec_of}
 use Rattle.rc_store.specs.Store.{StoreSeen}
 
--- the specification with its plans, the fragments of all stripes, the entries by place where they were kept, and how many each pass committed
+-- the specification with its plans, the fragments of all stripes, the entries by place where they were kept, and how many
+-- each pass committed
 pub record ClosedSeen : Type 0 where
   pub compiled : SpecWithPlans
   pub instance : List Stripe
   pub journal : Option (List Entry)
   pub made : List ℕ
 
--- There is one good history of so many passes. The journal is this history, where there is one, and the fragments are those of the relation that
--- it leaves.
+-- A good history of so many passes leaves these fragments: they are those of its relation, and none is held.
+pub record Leaves (spec : Spec) (passes : ℕ) (history : List Entry) (instance : List Stripe) : Type 0 where
+  pub good : IsGoodHistory spec passes history
+  pub relation : IsOfRelation spec instance (replay spec history)
+  pub free : held_from 0 instance ≡ []
+
+-- There is one good history of so many passes, which leaves the fragments. The journal, where there is one, is this
+-- history.
 pub record HasOneHistory (closed : ClosedSeen) : Type 0 where
   pub history : List Entry
-  pub good : IsGoodHistory closed.compiled.spec (length closed.made) history
+  pub leaves : Leaves closed.compiled.spec (length closed.made) history closed.instance
   pub journal : IfSome closed.journal (λ journal. journal ≡ history)
   pub made : closed.made ≡ map (λ pass. length (own history pass)) (range_with_len 0 (length closed.made))
-  pub relation : IsOfRelation closed.compiled.spec closed.instance (replay closed.compiled.spec history)
-  pub free : held_from 0 closed.instance ≡ []
 
 -- what is there exactly where passes keep their entries
 abbrev pub where_kept : {A : Type 0} → Keeping → A → Option A
@@ -44,12 +50,10 @@ made_by passes = map (λ pass. length (core_of pass).own) passes
 pub record HasClosed (store : StoreSeen) (passes : List PassSeen) (closed : ClosedSeen) : Type 0 where
   pub compiled : closed.compiled ≡ compiled_of store.row
   pub history : List Entry
-  pub good : IsGoodHistory (spec_of store.row) (length passes) history
+  pub leaves : Leaves (spec_of store.row) (length passes) history closed.instance
   pub own : (k : ℕ) (pass : PassSeen) → slice_get passes k ≡ Some pass → (core_of pass).own ≡ own_placed history k
   pub journal : closed.journal ≡ where_kept store.row.keeping history
   pub made : closed.made ≡ made_by passes
-  pub relation : IsOfRelation (spec_of store.row) closed.instance (replay (spec_of store.row) history)
-  pub free : held_from 0 closed.instance ≡ []
 
 -- ended passes kept the entries of a history, each its own
 pub record AreKeptOf (history : List Entry) (ended : List EndedPass) : Type 0 where

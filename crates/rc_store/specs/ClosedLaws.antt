@@ -18,7 +18,6 @@ use Rattle.rc_rel.specs.History.{own, own_placed, replay}
 use Rattle.rc_rel.specs.HistoryLaws.{replay_in_states, states_are_relations, states_satisfy}
 use Rattle.rc_rel.specs.OwnLaws.{placed_own}
 use Rattle.rc_rel.specs.SharesLaws.{shares_add_up}
-use Rattle.rc_core.specs.Good.{IsGoodHistory}
 use Rattle.rc_journal.specs.ByPassLaws.{own_parts}
 use Rattle.rc_journal.specs.Merge.{AreNumbersBelow, ArePartsOf, places_of}
 use Rattle.rc_journal.specs.MergeLaws.{places_are_numbers}
@@ -32,7 +31,7 @@ use Rattle.rc_row.specs.Ended.{AreEnded, HasHistory, IsEndedPass}
 use Rattle.rc_row.specs.Law.{kept_of}
 use Rattle.rc_row.specs.PassInside.{AreOwnKept}
 use Rattle.rc_row.specs.Passes.{IsPassOf, KeepsAs, PassSeen, RowSeen, compiled_of, core_of, spec_of}
-use Rattle.rc_store.specs.Closed.{AreKeptOf, ClosedSeen, HasClosed, HasOneHistory, made_by, where_kept}
+use Rattle.rc_store.specs.Closed.{AreKeptOf, ClosedSeen, HasClosed, HasOneHistory, Leaves, made_by, where_kept}
 use Rattle.rc_store.specs.Store.{StoreSeen}
 
 -- ---- how long the history is
@@ -175,13 +174,15 @@ module _ (store : StoreSeen) (passes : List PassSeen) (fragments : List KeptRows
   has_closed closed compiled instance journal made = record {
     compiled = compiled;
     history = h.history;
-    good = h.good;
+    leaves = record {
+      good = h.good;
+      relation = subst (λ (ss : List Stripe). IsOfRelation (spec_of store.row) ss (replay (spec_of store.row) h.history)) (sym instance)
+          (kept_relation (spec_of store.row) passes fragments sealed h);
+      free = ap (held_from 0) instance ∙ none_held 0 fragments;
+    };
     own = h.own;
     journal = journal;
     made = made;
-    relation = subst (λ (ss : List Stripe). IsOfRelation (spec_of store.row) ss (replay (spec_of store.row) h.history)) (sym instance)
-        (kept_relation (spec_of store.row) passes fragments sealed h);
-    free = ap (held_from 0) instance ∙ none_held 0 fragments;
   }
 
 kept_is : (keeping : Keeping) (history : List Entry) → IfSome (where_kept keeping history) (λ journal. journal ≡ history)
@@ -205,12 +206,10 @@ one_history store passes closed h =
     let many : length closed.made ≡ length passes = ap (λ (l : List ℕ). length l) h.made ∙ length-map passes (λ (pass : PassSeen). length (core_of pass).own) in
     let same : spec_of store.row ≡ closed.compiled.spec = ap (λ c. c.spec) (sym h.compiled) in record {
       history = h.history;
-      good = subst (λ (x : Spec × ℕ). IsGoodHistory x.0 x.1 h.history) (λ i. (same i, sym many i)) h.good;
+      leaves = subst (λ (x : Spec × ℕ). Leaves x.0 x.1 h.history closed.instance) (λ i. (same i, sym many i)) h.leaves;
       journal = subst (λ (o : Option (List Entry)). IfSome o (λ journal. journal ≡ h.history)) (sym h.journal) (kept_is store.row.keeping h.history);
       made = h.made
           ∙ made_by_number (λ k. length (own h.history k)) passes 0
           (λ k pass e. ap (λ (l : List Placed). length l) (h.own k pass e) ∙ own_length h.history k ∙ ap (λ n. length (own h.history n)) (let z : k ≡ 0 + k = omega arith in z))
           ∙ ap (λ n. map (λ k. length (own h.history k)) (range_with_len 0 n)) (sym many);
-      relation = subst (λ (spec : Spec). IsOfRelation spec closed.instance (replay spec h.history)) same h.relation;
-      free = h.free;
     }

@@ -6,7 +6,7 @@ use Rattle.rc_fragment.specs.Holder.{HeldStripe, Holding, LentStripe, RefusedTak
 use Rattle.rc_row.specs.declared.law.Standing.{Standing}
 use Rattle.rc_row.specs.HeldRows.{HeldRows}
 use Rattle.rc_row.specs.Passes.{PassSeen, RowSeen, core_of, holds_taken, spec_of, stripes_of}
-use Rattle.rc_row.specs.Standings.{HaveOneRelation, KeepsOut}
+use Rattle.rc_row.specs.Standings.{HaveOneRelation, KeepsOut, KeepsRefusals}
 use Rattle.rc_store.specs.declared.lender.Refused.{Refused}
 
 -- ---- what is lent
@@ -57,7 +57,7 @@ pub record HasRun (begun now : PassSeen) : Type 0 where
   pub core : core_of now ≡ record (core_of begun) { held = (core_of now).held; wish = (core_of now).wish }
   pub table : now.table ≡ begun.table
   pub kept : now.kept ≡ begun.kept
-  pub refusals : begun.standing.refusals ≤ now.standing.refusals
+  pub refusals : KeepsRefusals begun.standing now.standing
 
 -- The pass's last refused step is of this call. It found what is told in the way, and the pass held what is told.
 pub record IsRefusedAt (row : RowSeen) (begun now : PassSeen) (at : Refused) : Type 0 where

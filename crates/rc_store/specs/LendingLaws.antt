@@ -26,6 +26,7 @@ use Rattle.rc_core.specs.State.{hold, stripes_in, writes_of}
 use Rattle.rc_row.specs.HeldRows.{HeldRows}
 use Rattle.rc_row.specs.Passes.{CanAddRow, CanSubRow, IsPassOf, OfHeld, PassSeen, RowSeen, core_of, holds_now, holds_taken, reverted, spec_of, stripes_of, with_fragment, with_held, with_standing}
 use Rattle.rc_row.specs.Standings.{HaveOneRelation, turned_away}
+use Rattle.rc_row.specs.StandingsLaws.{refusals_first}
 use Rattle.rc_store.specs.declared.lender.Refused.{Refused}
 use Rattle.rc_store.specs.HeldStripes.{all_now, all_taken, hold_now, hold_taken}
 use Rattle.rc_store.specs.Lending.{IsLentBy, IsLentSo, IsOnTheWay, IsToldOf, Lent, count_told, held_stripe, held_stripes, lending, lent_stripe, lent_stripes}
@@ -289,7 +290,7 @@ some_of o x P e h = subst (λ o. IfSome o P) e h
 -- a pass that holds nothing is on the way of a call that begins with it
 pub at_first : (waits : Bool) (row : RowSeen) (pass : PassSeen) → holds_taken pass.held ≡ (core_of pass).held → pass.held ≡ [] → IsOnTheWay waits row pass pass None
 at_first waits row pass agrees idle = record {
-  ran = record { core = refl; table = refl; kept = refl; refusals = omega arith };
+  ran = record { core = refl; table = refl; kept = refl; refusals = refusals_first pass.standing };
   agrees = agrees;
   one = record {
     relation = [];

@@ -6,7 +6,7 @@ use Rattle.rc_spec.specs.Calls.{Fits}
 use Rattle.rc_plan.specs.Compiled.{plan_at}
 use Rattle.rc_machine.specs.Machine.{HasReplied}
 use Rattle.rc_row.specs.Passes.{HasSpare, IsMoreRoom, PassSeen, RowSeen, compiled_of, core_of, holds_taken, spec_of}
-use Rattle.rc_row.specs.Standings.{HaveOneRelation}
+use Rattle.rc_row.specs.Standings.{HaveOneRelation, KeepsRefusals}
 use Rattle.rc_store.specs.Lending.{held_stripes}
 
 -- The pass holds what the call's plan names, changed as the plan changes it, where evaluation gives the reply; and
@@ -24,5 +24,5 @@ pub record IsPrepared (row : RowSeen) (call : Call) (old new : PassSeen) (reply 
   pub core : core_of new ≡ record (core_of old) { held = (core_of new).held; wish = (core_of new).wish }
   pub table : new.table ≡ old.table
   pub more : IsMoreRoom old.kept new.kept
-  pub refusals : old.standing.refusals ≤ new.standing.refusals
+  pub refusals : KeepsRefusals old.standing new.standing
   pub ready : IsReady row call new reply

@@ -1,6 +1,7 @@
 -- What the steps of a call make of a pass.
-use Rattle.std.specs.Prelude.{◌≡◌, ℕ, ◌<◌, ◌≤◌, ◌^◌, Bool, List, [], ◌∷◌, ◌++◌, length, None, All}
-use Rattle.std.proofs.Common.{refl, sym, ap, subst, ◌∙◌}
+use Rattle.std.specs.Prelude.{◌≡◌, ℕ, ◌+◌, ◌<◌, ◌≤◌, ◌^◌, Bool, List, [], ◌∷◌, ◌++◌, length, None, All}
+use Rattle.std.proofs.Common.{refl, sym, ap, subst, ◌∙◌, arith}
+use Rattle.std.proofs.lemmas.List.{length-append}
 use Rattle.std.proofs.lemmas.List.Elements.{All-cons, All-map, All-nil}
 use Rattle.rc_spec.specs.declared.call.Call.{Call}
 use Rattle.rc_spec.specs.declared.lock.Found.{Found}
@@ -12,6 +13,7 @@ use Rattle.rc_machine.specs.declared.stop.Stop.{Stop}
 use Rattle.rc_machine.specs.declared.stop.Stop.TheVariants.{Held, Memory}
 use Rattle.rc_machine.specs.Machine.{HasReplied}
 use Rattle.rc_rel.specs.declared.entry.Entry.{Entry}
+use Rattle.rc_rel.specs.declared.entry.Placed.{Placed}
 use Rattle.rc_rel.specs.History.{placed}
 use Rattle.rc_core.specs.Passes.{MayCommit, committed}
 use Rattle.rc_fragment.specs.FragmentRows.{FragmentRows, rolled_back, settled}
@@ -20,7 +22,7 @@ use Rattle.rc_core.specs.declared.state.PassState.{PassState}
 use Rattle.rc_row.specs.declared.law.Standing.{Standing}
 use Rattle.rc_row.specs.HeldRows.{HeldRows}
 use Rattle.rc_row.specs.Passes.{AreAtRest, HasReserved, HasSpare, IsMoreRoom, IsPassOf, PassSeen, RowSeen, all_with, compiled_of, core_of, holds_now, holds_taken, idle, next_entry, reverted, spec_of, with_entry, with_fragment}
-use Rattle.rc_row.specs.Standings.{KeepsOut}
+use Rattle.rc_row.specs.Standings.{KeepsOut, KeepsRefusals}
 use Rattle.rc_store.specs.Busy.{IsBusy}
 use Rattle.rc_store.specs.CommitLaws.{may_commit, now_committed}
 use Rattle.rc_store.specs.HeldStripes.{all_taken}
@@ -28,7 +30,7 @@ use Rattle.rc_store.specs.Lending.{IsOnTheWay, held_stripes}
 use Rattle.rc_store.specs.LendingLaws.{all_now-held, all_taken-held, one_relation, still_of_row}
 use Rattle.rc_store.specs.Prepared.{IsPrepared, IsReady}
 use Rattle.rc_store.specs.Runs.{IsStoppedFor}
-use Rattle.rc_store.specs.Store.{HasMade, IsAsBefore, IsFinished, StoreSeen}
+use Rattle.rc_store.specs.Store.{HasMade, IsAsBefore, IsFinished, IsFree, StoreSeen}
 use Rattle.rc_store.specs.declared.receipt.Receipt.{Receipt}
 
 -- ---- giving back
@@ -67,8 +69,8 @@ module _ (waits : Bool) (row : RowSeen) (old reserved ran new : PassSeen) (room 
   ran_kept : ran.kept ≡ room.kept
   ran_kept = way.ran.kept ∙ ap (λ (q : PassSeen). q.kept) room.is
 
-  ran_refusals : old.standing.refusals ≤ ran.standing.refusals
-  ran_refusals = subst (λ (s : Standing). s.refusals ≤ ran.standing.refusals) (ap (λ (q : PassSeen). q.standing) room.is) way.ran.refusals
+  ran_refusals : KeepsRefusals old.standing ran.standing
+  ran_refusals = subst (λ (s : Standing). KeepsRefusals s ran.standing) (ap (λ (q : PassSeen). q.standing) room.is) way.ran.refusals
 
   pub as_before : new ≡ idle ran → old.held ≡ [] → holds_taken old.held ≡ (core_of old).held → IsAsBefore old new
   as_before e free agrees = record {
@@ -79,7 +81,7 @@ module _ (waits : Bool) (row : RowSeen) (old reserved ran new : PassSeen) (room 
     table = ap (λ (q : PassSeen). q.table) e ∙ way.ran.table ∙ ap (λ (q : PassSeen). q.table) room.is;
     held = ap (λ (q : PassSeen). q.held) e ∙ sym free;
     kept = subst (IsMoreRoom old.kept) (sym ran_kept ∙ sym (ap (λ (q : PassSeen). q.kept) e)) room.more;
-    refusals = subst (λ n. old.standing.refusals ≤ n) (sym (ap (λ (q : PassSeen). q.standing.refusals) e)) ran_refusals;
+    refusals = subst (KeepsRefusals old.standing) (sym (ap (λ (q : PassSeen). q.standing) e)) ran_refusals;
   }
 
   busy_before : (call : Call) (stripe : ℕ) (what : Found) → new ≡ idle ran → IsBusy row call reserved ran stripe what → IsBusy row call old new stripe what
@@ -114,6 +116,24 @@ module _ (waits : Bool) (row : RowSeen) (old reserved ran new : PassSeen) (room 
       replied = replied;
     };
   }
+
+-- ---- what is free
+
+-- a pass that is as before is as free
+pub free_before : (store : StoreSeen) (old new : PassSeen) → IsFree store old → IsPassOf store.row new → IsAsBefore old new → IsFree store new
+free_before store old new free of before = record {
+  of_row = of;
+  idle = before.held ∙ free.idle;
+  few = subst (λ (u : PassState). length u.own ≤ store.limit) (sym before.core) free.few;
+}
+
+-- one that had fewer entries than the limit is free after a call
+pub free_made : (store : StoreSeen) (call : Call) (reply : Reply) (old new : PassSeen) (receipt : Receipt) → length (core_of old).own < store.limit
+    → IsPassOf store.row new → HasMade store call reply old new receipt → IsFree store new
+free_made store call reply old new receipt left of made =
+    let entry : Placed = placed receipt.place (next_entry (core_of old) call reply) in
+    let one_more : length (core_of new).own ≡ length (core_of old).own + 1 = ap (λ (l : List Placed). length l) made.own ∙ length-append (core_of old).own (entry ∷ []) in
+    record { of_row = of; idle = made.held; few = omega (arith, left, one_more) }
 
 -- ---- the commit
 
@@ -159,7 +179,7 @@ module _ (store : StoreSeen) (call : Call) (old mid new : PassSeen) (reply : Rep
     kept = mid.kept;
     more = prepared.more;
     keeps = ap (λ (q : PassSeen). q.kept) f.is ∙ ap (λ (x : Entry). with_entry mid.kept (placed receipt.place x)) same_entry;
-    refusals = subst (λ n. old.standing.refusals ≤ n) (sym (ap (λ (q : PassSeen). q.standing.refusals) f.is)) prepared.refusals;
+    refusals = subst (KeepsRefusals old.standing) (sym (ap (λ (q : PassSeen). q.standing) f.is)) prepared.refusals;
   }
 
   -- and what was prepared and is taken back is as before
@@ -172,5 +192,5 @@ module _ (store : StoreSeen) (call : Call) (old mid new : PassSeen) (reply : Rep
     table = ap (λ (q : PassSeen). q.table) e ∙ prepared.table;
     held = ap (λ (q : PassSeen). q.held) e ∙ sym free;
     kept = subst (IsMoreRoom old.kept) (sym (ap (λ (q : PassSeen). q.kept) e)) prepared.more;
-    refusals = subst (λ n. old.standing.refusals ≤ n) (sym (ap (λ (q : PassSeen). q.standing.refusals) e)) prepared.refusals;
+    refusals = subst (KeepsRefusals old.standing) (sym (ap (λ (q : PassSeen). q.standing) e)) prepared.refusals;
   }

@@ -11,7 +11,7 @@ use Rattle.rc_core.specs.Passes.{MayCommit, committed}
 use Rattle.rc_row.specs.declared.keeping.Keeping.{Keeping}
 use Rattle.rc_row.specs.declared.keeping.Keeping.TheVariants.{Counts, Entries}
 use Rattle.rc_row.specs.Passes.{IsMoreRoom, IsPassOf, PassSeen, RowSeen, compiled_of, core_of, idle, next_entry, spec_of, with_commit, with_entry}
-use Rattle.rc_row.specs.Standings.{HaveOneRelation}
+use Rattle.rc_row.specs.Standings.{HaveOneRelation, KeepsRefusals}
 use Rattle.rc_store.specs.declared.receipt.Receipt.{Receipt}
 
 -- a store: its row, and how many entries a pass may make
@@ -21,11 +21,15 @@ pub record StoreSeen : Type 0 where
 
 -- ---- which calls may be made
 
--- a pass of the store that holds nothing, with no more entries than the limit, and a call that fits
-pub record MayCall (store : StoreSeen) (pass : PassSeen) (call : Call) : Type 0 where
+-- a pass of the store that holds nothing, with no more entries than the limit
+pub record IsFree (store : StoreSeen) (pass : PassSeen) : Type 0 where
   pub of_row : IsPassOf store.row pass
   pub idle : pass.held ≡ []
   pub few : length (core_of pass).own ≤ store.limit
+
+-- such a pass, and a call that fits
+pub record MayCall (store : StoreSeen) (pass : PassSeen) (call : Call) : Type 0 where
+  pub free : IsFree store pass
   pub fits : Fits (spec_of store.row) call
 
 -- ---- after a call without a receipt
@@ -37,7 +41,7 @@ pub record IsAsBefore (old new : PassSeen) : Type 0 where
   pub table : new.table ≡ old.table
   pub held : new.held ≡ old.held
   pub kept : IsMoreRoom old.kept new.kept
-  pub refusals : old.standing.refusals ≤ new.standing.refusals
+  pub refusals : KeepsRefusals old.standing new.standing
 
 -- ---- after a call with a receipt
 
@@ -71,7 +75,11 @@ pub record HasMade (store : StoreSeen) (call : Call) (reply : Reply) (old new : 
   pub kept : Option PartEntries
   pub more : IsMoreRoom old.kept kept
   pub keeps : new.kept ≡ with_entry kept (placed receipt.place (next_entry (core_of old) call reply))
-  pub refusals : old.standing.refusals ≤ new.standing.refusals
+  pub refusals : KeepsRefusals old.standing new.standing
+
+-- it was made with some reply
+abbrev pub HasReceipt : StoreSeen → Call → PassSeen → PassSeen → Receipt → Type 0
+HasReceipt store call old new receipt = (reply : Reply) × HasMade store call reply old new receipt
 
 -- the one entry of the call was committed with the reply, and all was given back
 pub record IsFinished (row : RowSeen) (call : Call) (old new : PassSeen) (reply : Reply)

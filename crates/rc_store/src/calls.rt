@@ -1,11 +1,10 @@
 //! Calls.
 
 ghost use Rattle.std.specs.Prelude.{◌≡◌, ◌<◌, ◌↔◌, Err, IfErr, IfOk, IsTrue, length};
-ghost use Rattle.rc_spec.specs.declared.call.Reply.{Reply};
-ghost use Rattle.rc_row.specs.Passes.{IsPassOf, core_of};
+ghost use Rattle.rc_row.specs.Passes.{core_of};
 ghost use Rattle.rc_store.specs.Busy.{HasCause};
 ghost use Rattle.rc_store.specs.Runs.{IsStoppedFor};
-ghost use Rattle.rc_store.specs.Store.{HasMade, IsAsBefore, MayCall};
+ghost use Rattle.rc_store.specs.Store.{HasReceipt, IsAsBefore, IsFree, MayCall};
 ghost use Rattle.rc_store.specs.declared.receipt.TryFault.TheVariants as fault;
 ghost use Rattle.rc_store.specs.declared.receipt.CallFault.TheVariants as waited;
 
@@ -31,9 +30,8 @@ impl<W: Wakes> Store<W> {
     /// costs, a few atomic steps a stripe, and where entries are kept a copy of the call.
     pub fn try_call(&self, pass: &mut Pass, call: &Call) -> Result<Receipt, TryFault>
         requires { MayCall self.now pass.old call.now }
-        ensures pass { IsPassOf self.now.row pass.new }
-        ensures made { IfOk result (λ receipt.
-            (reply : Reply) × HasMade self.now call.now reply pass.old pass.new receipt) }
+        ensures free { IsFree self.now pass.new }
+        ensures made { IfOk result (HasReceipt self.now call.now pass.old pass.new) }
         ensures before { IfErr result (λ _. IsAsBefore pass.old pass.new) }
         ensures spent { result ≡ Err fault.Spent ↔ length (core_of pass.old).own ≡ self.now.limit }
         ensures cause { IfErr result (HasCause self.now.row call.now pass.old pass.new) }
@@ -66,9 +64,8 @@ impl<W: Wakes> Store<W> {
     ) -> Result<Receipt, Stop>
         requires may { MayCall self.now pass.old call.now }
         requires left { length (core_of pass.old).own < self.now.limit }
-        ensures pass { IsPassOf self.now.row pass.new }
-        ensures made { IfOk result (λ receipt.
-            (reply : Reply) × HasMade self.now call.now reply pass.old pass.new receipt) }
+        ensures free { IsFree self.now pass.new }
+        ensures made { IfOk result (HasReceipt self.now call.now pass.old pass.new) }
         ensures before { IfErr result (λ _. IsAsBefore pass.old pass.new) }
         ensures cause { IfErr result (IsStoppedFor T.waits self.now.row call.now pass.old pass.new) }
     {
@@ -90,9 +87,8 @@ impl Store<Waking> {
         gate: &G,
     ) -> Result<Receipt, CallFault>
         requires { MayCall self.now pass.old call.now }
-        ensures pass { IsPassOf self.now.row pass.new }
-        ensures made { IfOk result (λ receipt.
-            (reply : Reply) × HasMade self.now call.now reply pass.old pass.new receipt) }
+        ensures free { IsFree self.now pass.new }
+        ensures made { IfOk result (HasReceipt self.now call.now pass.old pass.new) }
         ensures before { IfErr result (λ _. IsAsBefore pass.old pass.new) }
         ensures spent { result ≡ Err waited.Spent ↔ length (core_of pass.old).own ≡ self.now.limit }
         ensures first { result ≡ Err waited.Spent → pass.new ≡ pass.old }

@@ -1,11 +1,15 @@
 //! What a closed store leaves.
 
-ghost use Rattle.std.specs.Prelude.{◌≡◌, option_copied};
+ghost use Rattle.std.specs.Prelude.{◌≡◌, List, IfOk, option_copied};
+ghost use Rattle.rc_tuple.specs.Tuple.{Pairs};
+ghost use Rattle.rc_instance.specs.Instance.{IsOfRelation};
 ghost use Rattle.rc_store.specs.Closed.{HasOneHistory};
 
 use rc_instance::Instance;
 use rc_journal::Journal;
 use rc_plan::Compiled;
+use rc_tuple::{Memory, Tuples};
+use std::alloc::Global;
 use std::marker::Model;
 
 /// What a store leaves that was closed: the relation with its history. `Store::close` alone makes it.
@@ -59,6 +63,16 @@ impl Closed {
         ensures { result.now ≡ self.now.made }
     {
         &self.made
+    }
+
+    /// The rows of the relation that the history leaves, rising. Costs as much as the fragments have rows, and for each edge a
+    /// hash of them.
+    pub fn rows(&self, alloc: Global) -> Result<Tuples, Memory>
+        ensures { IfOk result (λ rows. (r : List Pairs)
+            → IsOfRelation self.now.compiled.spec self.now.instance r → rows ≡ r) }
+    {
+        self.has_one_history();
+        self.instance.represents(alloc, self.compiled.accepted())
     }
 
     /// A law, in the form of a call that does nothing: there is a legal history of which these are the entries, where they

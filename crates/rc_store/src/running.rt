@@ -7,7 +7,7 @@ ghost use Rattle.rc_store.specs.Prepared.{IsPrepared, IsReady};
 ghost use Rattle.rc_store.specs.Running.{HasBegun, IsFaultOf, IsHandedBack, IsRunningOn};
 ghost use Rattle.rc_store.specs.RunningInside.{IsOfStep};
 ghost use Rattle.rc_store.specs.Runs.{IsStoppedFor};
-ghost use Rattle.rc_store.specs.Store.{HasMade, IsAsBefore, IsFinished, MayCall};
+ghost use Rattle.rc_store.specs.Store.{HasMade, IsAsBefore, IsFinished, IsFree, MayCall};
 ghost use Rattle.rc_store.specs.declared.receipt.TryFault.TheVariants as fault;
 
 use crate::finish::entry_of_step;
@@ -72,8 +72,8 @@ impl Running {
 
     /// Commits the call, gives all back, and hands out the pass with the receipt. It takes no memory and isn't refused.
     pub fn commit<W: Wakes>(self, store: &Store<W>) -> (Pass, Receipt)
-        requires { IsRunningOn store.now.row self }
-        ensures pass { IsPassOf store.now.row result.0 }
+        requires { IsRunningOn store.now self }
+        ensures free { IsFree store.now result.0 }
         ensures made { HasMade store.now self.call self.reply self.begun result.0 result.1 }
     {
         let Running {
@@ -89,8 +89,8 @@ impl Running {
     /// Takes back what the call changed, gives all back, and hands out the pass. It holds nothing, and its entries and what it
     /// has seen are as before. Takes no memory.
     pub fn cancel<W: Wakes>(self, store: &Store<W>) -> Pass
-        requires { IsRunningOn store.now.row self }
-        ensures pass { IsPassOf store.now.row result }
+        requires { IsRunningOn store.now self }
+        ensures free { IsFree store.now result }
         ensures before { IsAsBefore self.begun result }
     {
         let Running {
@@ -110,8 +110,8 @@ impl<W: Wakes> Store<W> {
     /// does up to the commit, and a copy of the call.
     pub fn begin(&self, pass: Pass, call: &Call) -> Result<Running, BeginBack>
         requires { MayCall self.now pass call.now }
-        ensures begun { IfOk result (HasBegun self.now.row call.now pass) }
-        ensures back { IfErr result (IsHandedBack self.now.row call.now pass) }
+        ensures begun { IfOk result (HasBegun self.now call.now pass) }
+        ensures back { IfErr result (IsHandedBack self.now call.now pass) }
         ensures spent { IsFaultOf fault.Spent result ↔ length (core_of pass).own ≡ self.now.limit }
     {
         let mut pass = pass;

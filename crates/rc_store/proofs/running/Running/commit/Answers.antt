@@ -1,6 +1,6 @@
 use Rattle.std.proofs.Common.{subst}
 use Rattle.rc_store.specs.Running.{RunningSeen}
-use Rattle.rc_store.specs.StepLaws.{made_so}
+use Rattle.rc_store.specs.StepLaws.{free_made, made_so}
 use Rattle.rc_store.specs.Store.{IsFinished}
 use Rattle.rc_store.proofs.running.Running.commit.Goals as goal
 
@@ -12,3 +12,9 @@ returns-clause-made g c =
     (subst (λ (r : RunningSeen). IsFinished c.args.store.now.row r.call r.pass c.commit_prepared-receipt.new.pass
     r.reply c.commit_prepared-receipt.result) c.self.view_is
     (c.commit_prepared-receipt.ensures.finished c.self.inside.step.value c.self.invariant))
+
+pub returns-clause-free : goal.returns-clause-free
+returns-clause-free g c =
+    free_made c.args.store.now c.args.self.call c.args.self.reply c.args.self.begun c.commit_prepared-receipt.new.pass
+    c.commit_prepared-receipt.result c.requires.left c.commit_prepared-receipt.ensures.pass
+    (returns-clause-made g c)

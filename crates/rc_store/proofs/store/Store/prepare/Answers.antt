@@ -9,7 +9,7 @@ pub returns-in-Err-clause-err : goal.returns-in-Err-clause-err
 returns-in-Err-clause-err g c =
     as_before g.T.Takes.waits c.self.inside.row c.args.pass.now c.reserve.new.self c.run_call-answer.new.pass
     c.give_back.new.pass c.reserve.ensures.same
-    c.run_call-answer.ensures.way c.give_back.ensures.value c.requires.may.idle c.held_agrees.ensures
+    c.run_call-answer.ensures.way c.give_back.ensures.value c.requires.may.free.idle c.held_agrees.ensures
 
 pub returns-in-Err-clause-cause : goal.returns-in-Err-clause-cause
 returns-in-Err-clause-cause g c =
