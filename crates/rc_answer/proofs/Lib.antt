@@ -1,3 +1,4 @@
 pub mod AnswerLemmas
 pub mod PlanLemmas
 pub mod WriteLemmas
+pub mod RanLemmas

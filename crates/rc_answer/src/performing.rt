@@ -1,18 +1,22 @@
 //! Answers a text: reads it, tests its rules, plans its operations, makes its calls, and writes what the command asks or
 //! a refusal.
 
-ghost use Rattle.std.specs.Prelude.{◌≡◌, ◌≤◌, ◌^◌, length, IsErrOf};
+ghost use Rattle.std.specs.Prelude.{◌≡◌, ◌≤◌, ◌^◌, ◌↔◌, length, IfOk, IfSome, IsErrOf, IsSome, OnErr, OnOk};
+ghost use Rattle.rc_io.specs.Bytes.{Adds, AddsPrefix};
 ghost use Rattle.rc_io.specs.Counts.{Rose};
 ghost use Rattle.rc_reader.specs.Grammar.{spec_of};
+ghost use Rattle.rc_rel.specs.History.{AllFit};
 ghost use Rattle.rc_work.specs.Fitting.{RoundsFit, HasThreads};
 ghost use Rattle.rc_work.specs.Limits.{KeepsLimits};
 ghost use Rattle.rc_answer.specs.Answers.{Answers, AnswersAlone, IsReport};
+ghost use Rattle.rc_answer.specs.Ran.{HasRunText, IsRunOf, done_in, entries_in, run_text, status_in};
 ghost use Rattle.rc_answer.specs.Writes.{Writes};
 ghost use Rattle.rc_answer.specs.Asked.{IsAskedText};
 ghost use Rattle.rc_command.specs.declared.command.Command.TheVariants as commands;
 
+use crate::outcome::{Outcome, Ran, with_run, without_run};
 use crate::planning::{write_planned, write_plans};
-use crate::refusing::{refuse, refuse_spec};
+use crate::refusing::{refuse, refuse_run, refuse_run_of, refuse_spec};
 use crate::status::{Status, Stop};
 use crate::writing::{write_accepted, write_report};
 use rc_command::Command;
@@ -22,35 +26,83 @@ use rc_place::accept;
 use rc_reader::{read_spec, read_spec_only};
 use rc_runner::run_work;
 use rc_spec::Accepted;
+use rc_store::Gate;
+use rc_tuple::Memory;
 use rc_work::{Report, Work, read_work};
 use std::alloc::Global;
+use std::sync::Wait;
+use std::thread::Threads;
 
-/// Makes the calls of a workload by the plans of their operations, and writes the plans and the report.
-fn perform<K: Sink>(
+/// Plans the operations of an accepted specification, and makes the calls of a workload by them, on a store of its own.
+fn make_run<R: Threads + Wait + Sync, G: Gate + Sync>(
+    rt: &R,
+    alloc: Global,
+    accepted: Accepted,
+    work: &Work,
+    gate: &G,
+) -> Result<Ran, Memory>
+    requires fit { RoundsFit accepted work.now.rounds }
+    requires threads { HasThreads work.now }
+    requires limits { KeepsLimits work.now }
+    ensures run { IfOk result (IsRunOf accepted work.now) }
+    ensures fit { IfOk result (λ ran.
+        AllFit ran.closed.compiled.spec (entries_in ran.closed.journal)) }
+{
+    let compiled = compile(alloc, accepted)?;
+    let _ = compiled.accepted();
+    let closed = run_work(rt, alloc, compiled, work, gate)?;
+    let last = closed.rows(alloc)?;
+    Ok(Ran { closed, last })
+}
+
+/// Writes the plans, and the report of a run.
+fn write_run<K: Sink>(alloc: Global, sink: &mut K, ran: &Ran, work: &Work) -> Result<(), Stop>
+    requires kept { IsSome ran.now.closed.journal }
+    requires fit { AllFit ran.now.closed.compiled.spec (entries_in ran.now.closed.journal) }
+    ensures ok { OnOk result (Adds (K.held sink.old) (run_text work.now.ranks ran.now)
+        (K.held sink.new)) }
+    ensures prefix { OnErr result (AddsPrefix (K.held sink.old) (run_text work.now.ranks ran.now)
+        (K.held sink.new)) }
+    ensures failed { IsErrOf result Stop.Sink → Rose (K.faults sink.old) (K.faults sink.new) }
+    ensures count { K.faults sink.old ≤ K.faults sink.new }
+{
+    let compiled = ran.closed.compiled();
+    let Some(journal) = ran.closed.journal() else {
+        unreachable!()
+    };
+    write_plans(alloc, sink, compiled)?;
+    let printed = Report {
+        spec: compiled.accepted().spec(),
+        ranks: &work.ranks,
+        entries: journal.entries(),
+        rows: ran.last.list(),
+    };
+    write_report(alloc, sink, &printed)
+}
+
+/// Makes the calls of a workload, and writes the plans and the report.
+fn perform<R: Threads + Wait + Sync, K: Sink, G: Gate + Sync>(
+    rt: &R,
     alloc: Global,
     sink: &mut K,
     accepted: Accepted,
     work: &Work,
-) -> Result<Status, Stop>
+    gate: &G,
+) -> Result<Ran, Stop>
     requires fit { RoundsFit accepted work.now.rounds }
     requires threads { HasThreads work.now }
     requires limits { KeepsLimits work.now }
-    ensures written { Writes (IsReport accepted work.now) (K.held sink.old) (K.held sink.new) result }
+    ensures run { IfOk result (IsRunOf accepted work.now) }
+    ensures text { IfOk result (λ ran.
+        Adds (K.held sink.old) (run_text work.now.ranks ran) (K.held sink.new)) }
+    ensures written { Writes (IsReport accepted work.now) (K.held sink.old) (K.held sink.new)
+        (done_in result) }
     ensures failed { IsErrOf result Stop.Sink → Rose (K.faults sink.old) (K.faults sink.new) }
     ensures count { K.faults sink.old ≤ K.faults sink.new }
 {
-    let compiled = compile(alloc, accepted)?;
-    let ran = run_work(alloc, &compiled, work)?;
-    let rows = ran.rows(alloc, compiled.accepted())?;
-    write_plans(alloc, sink, &compiled)?;
-    let printed = Report {
-        spec: compiled.accepted().spec(),
-        ranks: &work.ranks,
-        entries: &ran.journal,
-        rows: rows.list(),
-    };
-    write_report(alloc, sink, &printed)?;
-    Ok(Status::Done)
+    let ran = make_run(rt, alloc, accepted, work, gate)?;
+    write_run(alloc, sink, &ran, work)?;
+    Ok(ran)
 }
 
 /// What is to be written of a specification that stands alone, where it is accepted.
@@ -102,47 +154,65 @@ fn answer_alone<K: Sink>(
 }
 
 /// Answers a specification and the workload behind it: makes the calls where all rules are kept.
-fn run<K: Sink>(alloc: Global, text: &[u8], sink: &mut K) -> Result<Status, Stop>
+fn run<R: Threads + Wait + Sync, K: Sink, G: Gate + Sync>(
+    rt: &R,
+    alloc: Global,
+    text: &[u8],
+    sink: &mut K,
+    gate: &G,
+) -> Result<Outcome, Stop>
     requires { length text.now ≤ 2 ^ 24 }
-    ensures written { Writes (Answers commands.Run text.now) (K.held sink.old) (K.held sink.new) result }
+    ensures written { Writes (Answers commands.Run text.now) (K.held sink.old) (K.held sink.new)
+        (status_in result) }
+    ensures has_ran { IfOk result (λ outcome. IsSome outcome.ran ↔ outcome.status ≡ Status.Done) }
+    ensures ran { IfOk result (λ outcome.
+        IfSome outcome.ran (HasRunText text.now (K.held sink.old) (K.held sink.new))) }
     ensures failed { IsErrOf result Stop.Sink → Rose (K.faults sink.old) (K.faults sink.new) }
     ensures count { K.faults sink.old ≤ K.faults sink.new }
 {
     let (spec, rest) = match read_spec(alloc, text) {
         Ok(read) => read,
-        Err(refusal) => return refuse(alloc, sink, refusal),
+        Err(refusal) => return refuse_run(alloc, sink, refusal),
     };
     let accepted = match accept(alloc, spec) {
         Ok(accepted) => accepted,
-        Err(fault) => return refuse_spec(alloc, sink, fault),
+        Err(fault) => return refuse_run_of(alloc, sink, fault),
     };
     let work = match read_work(alloc, text, rest, accepted.spec()) {
         Ok(work) => work,
-        Err(refusal) => return refuse(alloc, sink, refusal),
+        Err(refusal) => return refuse_run(alloc, sink, refusal),
     };
-    perform(alloc, sink, accepted, &work)
+    with_run(perform(rt, alloc, sink, accepted, &work, gate))
 }
 
 /// Answers a text of at most 2^24 bytes as the command asks, and writes the answer line by line: what the command asks of
-/// a text that keeps its rules, else the refusal of the first broken one. Costs the text's length and, for `run`, what the
-/// plans of its calls cost.
+/// a text that keeps its rules, else the refusal of the first broken one. `run` makes the calls of its workload by threads
+/// that run beside each other, and hands out what they left; the gate is told of each point that a call reaches. Costs the
+/// text's length and, for `run`, what the plans of its calls cost.
 ///
 /// `Err` where memory is wanted, with nothing or a first part of the answer written, and where a write fails, with a first
 /// part written.
-pub fn answer<K: Sink>(
+pub fn answer<R: Threads + Wait + Sync, K: Sink, G: Gate + Sync>(
+    rt: &R,
     alloc: Global,
     command: Command,
     text: &[u8],
     sink: &mut K,
-) -> Result<Status, Stop>
+    gate: &G,
+) -> Result<Outcome, Stop>
     requires { length text.now ≤ 2 ^ 24 }
-    ensures written { Writes (Answers command text.now) (K.held sink.old) (K.held sink.new) result }
+    ensures written { Writes (Answers command text.now) (K.held sink.old) (K.held sink.new)
+        (status_in result) }
+    ensures has_ran { IfOk result (λ outcome.
+        IsSome outcome.ran ↔ (command ≡ commands.Run) × (outcome.status ≡ Status.Done)) }
+    ensures ran { IfOk result (λ outcome.
+        IfSome outcome.ran (HasRunText text.now (K.held sink.old) (K.held sink.new))) }
     ensures failed { IsErrOf result Stop.Sink → Rose (K.faults sink.old) (K.faults sink.new) }
     ensures count { K.faults sink.old ≤ K.faults sink.new }
 {
     match command {
-        Command::Check => answer_alone(alloc, Asked::Acceptance, text, sink),
-        Command::Plan => answer_alone(alloc, Asked::Plans, text, sink),
-        Command::Run => run(alloc, text, sink),
+        Command::Check => without_run(answer_alone(alloc, Asked::Acceptance, text, sink)),
+        Command::Plan => without_run(answer_alone(alloc, Asked::Plans, text, sink)),
+        Command::Run => run(rt, alloc, text, sink, gate),
     }
 }

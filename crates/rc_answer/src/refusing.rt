@@ -5,9 +5,11 @@ ghost use Rattle.rc_io.specs.Counts.{Rose};
 ghost use Rattle.rc_spec.specs.Acceptance.{IsItemOf};
 ghost use Rattle.rc_place.specs.Fault.{IfHandedBack};
 ghost use Rattle.rc_answer.specs.Answers.{refusal_line, IsSizeRefusal};
+ghost use Rattle.rc_answer.specs.Ran.{LeavesNone, status_in};
 ghost use Rattle.rc_answer.specs.Writes.{Writes};
 ghost use Rattle.rc_answer.specs.Refusals.{WritesRefusal, WritesRuleRefusal};
 
+use crate::outcome::Outcome;
 use crate::status::{Status, Stop};
 use crate::writing::write_line;
 use rc_io::{Sink, write_all};
@@ -32,6 +34,7 @@ pub(crate) fn refuse<K: Sink>(
     refusal: ReadRefusal,
 ) -> Result<Status, Stop>
     ensures written { WritesRefusal (K.held sink.old) (K.held sink.new) refusal result }
+    ensures refused { IfOk result (λ status. status ≡ Status.Refused) }
     ensures failed { IsErrOf result Stop.Sink → Rose (K.faults sink.old) (K.faults sink.new) }
     ensures count { K.faults sink.old ≤ K.faults sink.new }
 {
@@ -53,6 +56,7 @@ pub(crate) fn refuse_spec<K: Sink>(
 ) -> Result<Status, Stop>
     requires { IfHandedBack (λ spec refusal. IsItemOf spec refusal.item) fault }
     ensures written { WritesRuleRefusal (K.held sink.old) (K.held sink.new) fault result }
+    ensures refused { IfOk result (λ status. status ≡ Status.Refused) }
     ensures failed { IsErrOf result Stop.Sink → Rose (K.faults sink.old) (K.faults sink.new) }
     ensures count { K.faults sink.old ≤ K.faults sink.new }
 {
@@ -63,6 +67,41 @@ pub(crate) fn refuse_spec<K: Sink>(
             write_line(sink, line)?;
             Ok(Status::Refused)
         }
+    }
+}
+
+/// Writes the refusal of a text of which no run is made.
+pub(crate) fn refuse_run<K: Sink>(
+    alloc: Global,
+    sink: &mut K,
+    refusal: ReadRefusal,
+) -> Result<Outcome, Stop>
+    ensures written { WritesRefusal (K.held sink.old) (K.held sink.new) refusal (status_in result) }
+    ensures none { IfOk result LeavesNone }
+    ensures failed { IsErrOf result Stop.Sink → Rose (K.faults sink.old) (K.faults sink.new) }
+    ensures count { K.faults sink.old ≤ K.faults sink.new }
+{
+    match refuse(alloc, sink, refusal) {
+        Ok(_) => Ok(Outcome::without_run(Status::Refused)),
+        Err(stop) => Err(stop),
+    }
+}
+
+/// Writes the refusal of a specification that isn't accepted, so that no run is made.
+pub(crate) fn refuse_run_of<K: Sink>(
+    alloc: Global,
+    sink: &mut K,
+    fault: AcceptFault,
+) -> Result<Outcome, Stop>
+    requires { IfHandedBack (λ spec refusal. IsItemOf spec refusal.item) fault }
+    ensures written { WritesRuleRefusal (K.held sink.old) (K.held sink.new) fault (status_in result) }
+    ensures none { IfOk result LeavesNone }
+    ensures failed { IsErrOf result Stop.Sink → Rose (K.faults sink.old) (K.faults sink.new) }
+    ensures count { K.faults sink.old ≤ K.faults sink.new }
+{
+    match refuse_spec(alloc, sink, fault) {
+        Ok(_) => Ok(Outcome::without_run(Status::Refused)),
+        Err(stop) => Err(stop),
     }
 }
 

@@ -26,13 +26,20 @@ use rc_text::push_bytes;
 use rc_tuple::Memory;
 use std::alloc::Global;
 use std::process::ExitCode;
+use std::sync::Wait;
+use std::thread::Threads;
 use std::{env, fs, io};
 
 /// The lowest libraries, of which a case asks one.
 struct Basics;
 
 impl Subject for Basics {
-    fn answer(&self, alloc: Global, case: &Case) -> Result<End, Memory> {
+    fn answer<R: Threads + Wait + Sync>(
+        &self,
+        _rt: &R,
+        alloc: Global,
+        case: &Case,
+    ) -> Result<End, Memory> {
         let mut text = Vec::new(alloc);
         match answer_form(case, &mut text) {
             Ok(()) => Ok(End::new(0, text)),
@@ -52,7 +59,7 @@ fn main(rt: HostRuntime) -> io::Result<ExitCode> {
     let mut script = Script::new(alloc);
     for file in &files {
         let text = fs::read_to_string(&rt, file.as_str())?;
-        print!(rt; "{}", script.run_file(alloc, &Basics, file, &text)?)?;
+        print!(rt; "{}", script.run_file(&rt, alloc, &Basics, file, &text)?)?;
     }
     println!(rt; "{} ran, {} failed", script.ran(), script.failed())?;
     Ok(ExitCode::from(if script.failed() == 0 { 0 } else { 1 }))

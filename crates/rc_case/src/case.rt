@@ -1,9 +1,12 @@
 //! A case: what a program is given, and how it is to end.
 
 ghost use Rattle.std.specs.Prelude.{◌≡◌, ◌↔◌, IsTrue};
+ghost use Rattle.std.specs.Thread.{IsSync};
 
 use rc_tuple::Memory;
 use std::alloc::{AllocError, Global};
+use std::sync::Wait;
+use std::thread::Threads;
 
 /// The streams of a case, which are a source of its input and a sink.
 #[derive(Debug, Drop)]
@@ -40,8 +43,15 @@ pub struct Case {
 
 /// What cases are run on.
 pub trait Subject {
-    /// How it ends on the case's words, input and streams. It has no use for what the case wants.
-    fn answer(&self, alloc: Global, case: &Case) -> Result<End, Memory>;
+    /// How it ends on the case's words, input and streams. It has no use for what the case wants. By the leave of `rt` it may
+    /// make threads, and wait.
+    fn answer<R: Threads + Wait + Sync>(
+        &self,
+        rt: &R,
+        alloc: Global,
+        case: &Case,
+    ) -> Result<End, Memory>
+        requires { IsSync R.row };
 }
 
 impl Streams {

@@ -4,6 +4,8 @@ use crate::settings::set;
 use crate::texts::{Named, change, fill, push_bytes, push_line, text_of};
 use crate::{Case, End, LineFault, Subject};
 use std::alloc::{AllocError, Global};
+use std::sync::Wait;
+use std::thread::Threads;
 
 /// Where lines of text go.
 #[derive(Clone, Copy, Debug, PartialEq, Eq)]
@@ -50,8 +52,9 @@ impl Script {
 
     /// Does what the lines of a file say, and gives a line for each case that ran and for each line that was not done.
     /// A line's fault has the file's name and the line's number.
-    pub fn run_file<S: Subject>(
+    pub fn run_file<R: Threads + Wait + Sync, S: Subject>(
         &mut self,
+        rt: &R,
         alloc: Global,
         subject: &S,
         file: &str,
@@ -61,7 +64,7 @@ impl Script {
         let mut number = 0u64;
         for line in text.lines() {
             number = number.saturating_add(1);
-            let done = self.line(alloc, subject, line);
+            let done = self.line(rt, alloc, subject, line);
             self.push_said(alloc, &mut said, file, number, done)?;
         }
         let ended = self.end();
@@ -92,8 +95,9 @@ impl Script {
     }
 
     /// Does what a line says, and gives what is to be printed.
-    fn line<S: Subject>(
+    fn line<R: Threads + Wait + Sync, S: Subject>(
         &mut self,
+        rt: &R,
         alloc: Global,
         subject: &S,
         line: &str,
@@ -102,7 +106,7 @@ impl Script {
             return Ok(None);
         }
         if line == "run" {
-            return self.run(alloc, subject).map(Some);
+            return self.run(rt, alloc, subject).map(Some);
         }
         match line.strip_prefix('|') {
             Some(text) => push_line(self.buffer()?, text)?,
@@ -196,11 +200,16 @@ impl Script {
     }
 
     /// Runs the case, and says how it ended.
-    fn run<S: Subject>(&mut self, alloc: Global, subject: &S) -> Result<String, LineFault> {
+    fn run<R: Threads + Wait + Sync, S: Subject>(
+        &mut self,
+        rt: &R,
+        alloc: Global,
+        subject: &S,
+    ) -> Result<String, LineFault> {
         let Some(case) = self.case.take() else {
             return Err(LineFault::NoCase);
         };
-        let end = subject.answer(alloc, &case)?;
+        let end = subject.answer(rt, alloc, &case)?;
         self.ran = self.ran.saturating_add(1);
         if end.is(&case.wanted) {
             return Ok(format!(in alloc; "{}: ok", case.name)?);

@@ -356,20 +356,23 @@ def seats_call(number, _):
 
 
 def generated_work(call_of, seed, count):
-    """A workload of four threads, with 64 calls a round: half inserts, a quarter each queries and removes."""
+    """A workload of four threads: half inserts, a quarter each queries and removes. The 64 calls of a round are of one thread,
+    so that it has one history."""
     lines, number = ["work 4"], seed
     for place in range(count):
         if place % 64 == 0:
             lines.append("round")
         number = next_number(number)
-        insert, query, remove = call_of(number, place % 4)
+        thread = place // 64 % 4
+        insert, query, remove = call_of(number, thread)
         which = number >> 28
-        lines.append("%d %s" % (place % 4, insert if which < 4 else query if which < 6 else remove))
+        lines.append("%d %s" % (thread, insert if which < 4 else query if which < 6 else remove))
     return lines + ["end"]
 
 
 def any_work(spec, seed, count):
-    """A workload of three threads that makes every operation of a specification, over four values."""
+    """A workload of three threads that makes every operation of a specification, over four values. The 32 calls of a round
+    are of one thread, so that it has one history."""
     ops, texts, number = list(spec.ops), ["", "a", "a b", "b"], seed
     lines = ["work 3"]
     for place in range(count):
@@ -377,7 +380,7 @@ def any_work(spec, seed, count):
             lines.append("round")
         number = next_number(number)
         op = ops[(number >> 20) % len(ops)]
-        words = ["%d" % (place % 3), op]
+        words = ["%d" % (place // 32 % 3), op]
         kind, pattern, _ = spec.ops[op]
         for column in spec.columns if kind == "insert" else pattern:
             number = next_number(number)

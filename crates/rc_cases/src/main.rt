@@ -3,10 +3,13 @@
 
 use rc_case::{Case, End, Script, Subject};
 use rc_io::{MemSink, MemSource, read_all};
+use rc_store::OpenGate;
 use rc_top::relc;
 use rc_tuple::Memory;
 use std::alloc::Global;
 use std::process::ExitCode;
+use std::sync::Wait;
+use std::thread::Threads;
 use std::{env, fs, io};
 
 /// The most bytes that an answer may have.
@@ -19,14 +22,20 @@ const ALL: u64 = 1 << 25;
 struct TopCall;
 
 impl Subject for TopCall {
-    fn answer(&self, alloc: Global, case: &Case) -> Result<End, Memory> {
+    fn answer<R: Threads + Wait + Sync>(
+        &self,
+        rt: &R,
+        alloc: Global,
+        case: &Case,
+    ) -> Result<End, Memory> {
         let streams = &case.streams;
         let piece = streams.piece.max(1);
         let mut source = MemSource::new(case.input.clone()?, piece, streams.failed_reads.clone()?);
         let mut sink = MemSink::new(alloc, ROOM, piece, streams.failed_writes.clone()?)?;
-        let status = relc(alloc, &case.words, &mut source, &mut sink);
+        let words = &case.words;
+        let outcome = relc(rt, alloc, words, &mut source, &mut sink, &OpenGate);
         Ok(End {
-            status: status.code(),
+            status: outcome.status.code(),
             left: left_in(alloc, &mut source),
             text: sink.bytes().to_vec(alloc)?,
         })
@@ -48,7 +57,7 @@ fn main(rt: HostRuntime) -> io::Result<ExitCode> {
     let mut script = Script::new(alloc);
     for file in &files {
         let text = fs::read_to_string(&rt, file.as_str())?;
-        print!(rt; "{}", script.run_file(alloc, &TopCall, file, &text)?)?;
+        print!(rt; "{}", script.run_file(&rt, alloc, &TopCall, file, &text)?)?;
     }
     println!(rt; "{} ran, {} failed", script.ran(), script.failed())?;
     Ok(ExitCode::from(if script.failed() == 0 { 0 } else { 1 }))

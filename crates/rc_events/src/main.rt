@@ -16,6 +16,8 @@ use rc_case::{Case, End, Script, Subject};
 use rc_tuple::Memory;
 use std::alloc::Global;
 use std::process::ExitCode;
+use std::sync::Wait;
+use std::thread::Threads;
 use std::{env, fs, io};
 
 /// The status of a case whose words and input have no answer.
@@ -25,7 +27,12 @@ const NO_ANSWER: u8 = 2;
 struct Core;
 
 impl Subject for Core {
-    fn answer(&self, alloc: Global, case: &Case) -> Result<End, Memory> {
+    fn answer<R: Threads + Wait + Sync>(
+        &self,
+        _rt: &R,
+        alloc: Global,
+        case: &Case,
+    ) -> Result<End, Memory> {
         let mut text = Vec::new(alloc);
         match answer(alloc, &case.words, &case.input, &mut text) {
             Ok(()) => Ok(End::new(0, text)),
@@ -48,7 +55,7 @@ fn main(rt: HostRuntime) -> io::Result<ExitCode> {
     let mut script = Script::new(alloc);
     for file in &files {
         let text = fs::read_to_string(&rt, file.as_str())?;
-        print!(rt; "{}", script.run_file(alloc, &Core, file, &text)?)?;
+        print!(rt; "{}", script.run_file(&rt, alloc, &Core, file, &text)?)?;
     }
     println!(rt; "{} ran, {} failed", script.ran(), script.failed())?;
     Ok(ExitCode::from(if script.failed() == 0 { 0 } else { 1 }))

@@ -1,5 +1,5 @@
 //! Runs cases of the libraries over accepted specifications: plans and the rules of plans, routes, calls on an instance and on
-//! the plain relation, and changes of an instance. What each answers to a text is compared with what the case says.
+//! the plain relation, calls that are stopped, and changes of an instance. What each answers to a text is compared with what the case says.
 #![tactic(auto)]
 
 mod accepted;
@@ -14,6 +14,8 @@ mod routes;
 mod rows;
 mod session;
 mod stop;
+mod stopping;
+mod stops;
 mod writing;
 
 use crate::forms::fill;
@@ -22,6 +24,8 @@ use rc_case::{Case, End, Script, Subject};
 use rc_tuple::Memory;
 use std::alloc::Global;
 use std::process::ExitCode;
+use std::sync::Wait;
+use std::thread::Threads;
 use std::{env, fs, io};
 
 /// The status of a case whose words and input have no answer.
@@ -31,7 +35,12 @@ const NO_ANSWER: u8 = 2;
 struct Layers;
 
 impl Subject for Layers {
-    fn answer(&self, alloc: Global, case: &Case) -> Result<End, Memory> {
+    fn answer<R: Threads + Wait + Sync>(
+        &self,
+        _rt: &R,
+        alloc: Global,
+        case: &Case,
+    ) -> Result<End, Memory> {
         let mut text = Vec::new(alloc);
         match fill(alloc, &case.words, &case.input, &mut text) {
             Ok(()) => Ok(End::new(0, text)),
@@ -54,7 +63,7 @@ fn main(rt: HostRuntime) -> io::Result<ExitCode> {
     let mut script = Script::new(alloc);
     for file in &files {
         let text = fs::read_to_string(&rt, file.as_str())?;
-        print!(rt; "{}", script.run_file(alloc, &Layers, file, &text)?)?;
+        print!(rt; "{}", script.run_file(&rt, alloc, &Layers, file, &text)?)?;
     }
     println!(rt; "{} ran, {} failed", script.ran(), script.failed())?;
     Ok(ExitCode::from(if script.failed() == 0 { 0 } else { 1 }))

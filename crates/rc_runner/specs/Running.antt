@@ -1,22 +1,42 @@
--- What holds of a run while its calls are made.
-use Rattle.std.specs.Prelude.{◌≡◌, ℕ, ◌<◌, ◌≤◌, List, [], get_or, length}
+-- Passes of a store that make the calls of a workload. (PLDI 2012, serializable transactions of threads that run beside
+-- each other.)
+use Rattle.std.specs.Prelude.{◌≡◌, ℕ, ◌+◌, ◌≤◌, List, [], Option, Some, All, map, length}
+use Rattle.std.specs.List.{range_with_len}
 use Rattle.rc_spec.specs.declared.spec.Spec.{Spec}
 use Rattle.rc_rel.specs.declared.entry.Entry.{Entry}
-use Rattle.rc_rel.specs.History.{own, replay}
-use Rattle.rc_instance.specs.Instance.{IsOfRelation, Stripe, held_from}
-use Rattle.rc_runner.specs.declared.running.Ran.{Ran}
+use Rattle.rc_row.specs.Passes.{PassSeen, core_of}
+use Rattle.rc_store.specs.Closed.{ClosedSeen, Leaves}
+use Rattle.rc_store.specs.Store.{IsFree, StoreSeen}
+use Rattle.rc_rounds.specs.Rounds.{Stand}
+use Rattle.rc_work.specs.declared.work.Work.{Work}
+use Rattle.rc_work.specs.Runs.{HasSingleSteps, Runs}
 
--- each thread has as many entries as are counted for it
-abbrev pub AreCounts : List Entry → List ℕ → Type 0
-AreCounts history counts = (thread : ℕ) → thread < length counts → get_or counts thread 0 ≡ length (own history thread)
+-- ---- passes
 
--- Once these entries are made no stripe is held, the instance is of the relation after them, and that has at most one tuple for each.
-pub record IsAfter (spec : Spec) (history : List Entry) (stripes : List Stripe) : Type 0 where
-  pub free : held_from 0 stripes ≡ []
-  pub relation : IsOfRelation spec stripes (replay spec history)
-  pub few : length (replay spec history) ≤ length history
+abbrev pub number_of : PassSeen → ℕ
+number_of pass = (core_of pass).number
 
--- the instance and the counts are those after the journal
-pub record IsUpToDate (spec : Spec) (ran : Ran) : Type 0 where
-  pub instance : IsAfter spec ran.journal.items ran.instance
-  pub counts : AreCounts ran.journal.items ran.counts.items
+abbrev pub numbers_of : List PassSeen → List ℕ
+numbers_of passes = map number_of passes
+
+-- what a pass shows
+abbrev pub stand_of : PassSeen → Stand
+stand_of pass = record { own = (core_of pass).own; seen = (core_of pass).seen }
+
+abbrev pub stands_of : List PassSeen → List Stand
+stands_of passes = map stand_of passes
+
+-- a free pass that may make so many calls more
+pub record MayMake (store : StoreSeen) (calls : ℕ) (pass : PassSeen) : Type 0 where
+  pub free : IsFree store pass
+  pub left : length (core_of pass).own + calls ≤ store.limit
+
+-- ---- the end
+
+-- A closed store whose one history is a run of the workload, and is its journal.
+pub record HasRun (work : Work) (closed : ClosedSeen) : Type 0 where
+  pub history : List Entry
+  pub journal : closed.journal ≡ Some history
+  pub leaves : Leaves closed.compiled.spec work.threads history closed.instance
+  pub runs : Runs closed.compiled.spec work history
+  pub single : HasSingleSteps history

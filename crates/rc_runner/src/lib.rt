@@ -1,6 +1,9 @@
-//! Runs workloads: makes their calls by the plans of their operations, on one instance.
+//! Makes the calls of a workload on a shared store: each thread's by a pass of its own, round by round, and those of a round
+//! by threads that run beside each other.
 #![tactic(auto)]
 
+mod calling;
 mod running;
+mod telling;
 
-pub use running::{Ran, run_work};
+pub use running::run_work;

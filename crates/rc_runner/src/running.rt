@@ -1,148 +1,90 @@
-//! Makes the calls of a workload by their plans, round by round, in the order of its text.
+//! A workload, run on a store of its own.
 
-ghost use Rattle.std.specs.Prelude.{◌≡◌, ◌+◌, ◌<◌, ◌^◌, ◌++◌, List, [], ◌∷◌, length, IfOk, OnOk};
-ghost use Rattle.std.specs.List.{AllByRecursion};
-ghost use Rattle.rc_tuple.specs.Tuple.{Pairs};
-ghost use Rattle.rc_spec.specs.Calls.{Fits};
-ghost use Rattle.rc_spec.specs.Fragments.{represented_by};
-ghost use Rattle.rc_spec.specs.Plain.{plain};
-ghost use Rattle.rc_fragment.specs.Fragment.{edge_table};
-ghost use Rattle.rc_instance.specs.Instance.{IsOfOneRelation, IsOfRelation, held_from, rows_of, table_of};
-ghost use Rattle.rc_rel.specs.History.{AllFit};
-ghost use Rattle.rc_work.specs.Fitting.{TurnsFit, RoundsFit, HasThreads};
+ghost use Rattle.std.specs.Prelude.{◌≡◌, ◌≤◌, [], All, IfOk, OnOk, length, sum_by};
+ghost use Rattle.std.specs.List.{range_with_len};
+ghost use Rattle.rc_row.specs.Passes.{AreIdlePasses, core_of, spec_of};
+ghost use Rattle.rc_rounds.specs.Rounds.{HaveMade};
+ghost use Rattle.rc_store.specs.Closed.{HasClosed};
+ghost use Rattle.rc_store.specs.Store.{IsFree};
+ghost use Rattle.rc_work.specs.Fitting.{HasThreads, RoundsFit};
 ghost use Rattle.rc_work.specs.Limits.{KeepsLimits};
-ghost use Rattle.rc_work.specs.Runs.{Runs, HasSingleSteps};
-ghost use Rattle.rc_runner.specs.InTurn.{made_entry, in_turn};
-ghost use Rattle.rc_runner.specs.Running.{IsAfter, IsUpToDate};
+ghost use Rattle.rc_runner.specs.Running.{HasRun, numbers_of, stands_of};
 
-use rc_instance::Instance;
-use rc_machine::{Stop, run_plan};
+use crate::calling::make_round;
+use crate::telling::tell;
 use rc_plan::Compiled;
-use rc_rel::{Entry, Step, Steps};
-use rc_spec::{Accepted, Call, Reply};
-use rc_tuple::{Memory, Tuples};
-use rc_work::{Turn, Work};
+use rc_row::{Keeping, Pass};
+use rc_store::{Closed, Gate, Store, Waking};
+use rc_tuple::Memory;
+use rc_work::{Round, Work};
 use std::alloc::Global;
+use std::sync::Wait;
+use std::thread::Threads;
 
-/// A journal, and the instance on which its calls are made.
-#[derive(Drop)]
-pub struct Ran {
-    /// The entries in the order in which they were made.
-    pub journal: Vec<Entry>,
-    /// The instance after the last entry.
-    pub instance: Instance,
-    /// How many entries each thread has, by its number.
-    counts: Vec<u64>,
-}
+/// How many calls a pass may make: more than any workload has.
+const MOST_CALLS: u64 = 1 << 48;
 
-impl Ran {
-    /// The tuples that the instance represents, rising.
-    pub fn rows(&self, alloc: Global, accepted: &Accepted) -> Result<Tuples, Memory>
-        requires { table_of self.now.instance ≡ edge_table accepted.now }
-        ensures rows { IfOk result (λ rows. rows ≡ represented_by accepted.now (rows_of self.now.instance)) }
-        ensures relation { IfOk result (λ rows. (r : List Pairs) → held_from 0 self.now.instance ≡ [] → IsOfRelation accepted.now self.now.instance r → rows ≡ r) }
-    {
-        self.instance.represents(alloc, accepted)
-    }
-}
-
-/// Makes a call by its plan, and frees the stripes that it took. Where memory is wanted they stay held.
-fn make_call(
-    alloc: Global,
-    compiled: &Compiled,
-    call: &Call,
-    instance: &mut Instance,
-) -> Result<Reply, Memory>
-    requires fits { Fits compiled.now.spec call.now }
-    requires sound { IsOfOneRelation instance.old compiled.now.spec }
-    requires free { held_from 0 instance.old ≡ [] }
-    ensures reply { IfOk result (λ reply. (r : List Pairs) → IsOfRelation compiled.now.spec instance.old r → reply ≡ (plain compiled.now.spec r call.now).reply) }
-    ensures relation { OnOk result ((r : List Pairs) → length r + 1 < 2 ^ 63 → IsOfRelation compiled.now.spec instance.old r
-        → IsOfRelation compiled.now.spec instance.new (plain compiled.now.spec r call.now).relation) }
-    ensures free { OnOk result (held_from 0 instance.new ≡ []) }
-{
-    let reply = match run_plan(alloc, compiled, call, instance) {
-        Ok(reply) => reply,
-        Err(Stop::Memory) => return Err(Memory),
-        Err(Stop::Held(_)) => unreachable!(),
-    };
-    instance.release_all();
-    Ok(reply)
-}
-
-/// Makes the call of a turn, and enters it.
-fn make_turn(alloc: Global, compiled: &Compiled, turn: &Turn, ran: &mut Ran) -> Result<(), Memory>
-    requires fits { Fits compiled.now.spec turn.now.call }
-    requires known { turn.now.thread < length ran.old.counts.items }
-    requires few { length ran.old.journal.items + 1 < 2 ^ 63 }
-    requires ready { IsUpToDate compiled.now.spec ran.old }
-    ensures entered { OnOk result (ran.new.journal.items ≡ ran.old.journal.items ++ made_entry compiled.now.spec ran.old.journal.items turn.now ∷ []) }
-    ensures threads { OnOk result (length ran.new.counts.items ≡ length ran.old.counts.items) }
-    ensures ready { OnOk result (IsUpToDate compiled.now.spec ran.new) }
-{
-    let call = turn.call.copy()?;
-    let reply = make_call(alloc, compiled, &turn.call, &mut ran.instance)?;
-    let mut steps = Steps::new(alloc);
-    steps.push(Step { call, reply })?;
-    let nth = ran.counts[turn.thread as usize];
-    ran.journal.push(Entry {
-        pass: turn.thread,
-        nth,
-        steps,
-    })?;
-    ran.counts[turn.thread as usize] = nth + 1;
-    Ok(())
-}
-
-/// Makes the turns of a round.
-fn make_round(
-    alloc: Global,
-    compiled: &Compiled,
-    turns: &[Turn],
-    ran: &mut Ran,
+/// Makes the calls of some rounds, one round after another. After each, all passes learn what any has seen, so that what
+/// they commit next stands behind it.
+fn run_rounds<R: Threads + Wait + Sync, G: Gate + Sync>(
+    rt: &R,
+    store: &Store<Waking>,
+    passes: &mut [Pass],
+    rounds: &[Round],
+    gate: &G,
 ) -> Result<(), Memory>
-    requires fit { TurnsFit compiled.now.spec turns.now }
-    requires known { AllByRecursion (λ t. t.thread < length ran.old.counts.items) turns.now }
-    requires few { length ran.old.journal.items + length turns.now < 2 ^ 63 }
-    requires ready { IsUpToDate compiled.now.spec ran.old }
-    ensures entered { OnOk result (ran.new.journal.items ≡ in_turn compiled.now.spec ran.old.journal.items turns.now) }
-    ensures count { OnOk result (length ran.new.journal.items ≡ length ran.old.journal.items + length turns.now) }
-    ensures threads { OnOk result (length ran.new.counts.items ≡ length ran.old.counts.items) }
-    ensures ready { OnOk result (IsUpToDate compiled.now.spec ran.new) }
+    requires free { All (IsFree store.now) passes.old }
+    requires numbers { numbers_of passes.old ≡ range_with_len 0 (length passes.old) }
+    requires none { All (λ pass. (core_of pass).own ≡ []) passes.old }
+    requires few { sum_by length rounds.now ≤ store.now.limit }
+    requires fit { RoundsFit (spec_of store.now.row) rounds.now }
+    ensures free { All (IsFree store.now) passes.new }
+    ensures numbers { numbers_of passes.new ≡ numbers_of passes.old }
+    ensures made { OnOk result (HaveMade rounds.now (stands_of passes.new)) }
 {
-    for turn in turns {
-        make_turn(alloc, compiled, turn, ran)?;
+    for round in rounds {
+        make_round(rt, store, passes, round.list(), gate)?;
+        tell(store, passes);
     }
     Ok(())
 }
 
-/// Nothing made yet, by so many threads: the instance has no tuple.
-fn nothing_made(alloc: Global, compiled: &Compiled, threads: u32) -> Result<Ran, Memory>
-    ensures journal { IfOk result (λ ran. ran.journal.items ≡ []) }
-    ensures threads { IfOk result (λ ran. length ran.counts.items ≡ threads) }
-    ensures ready { IfOk result (IsUpToDate compiled.now.spec) }
+/// Ends a store whose passes are free.
+fn close(store: Store<Waking>, passes: Vec<Pass>) -> Result<Closed, Memory>
+    requires { AreIdlePasses store.row passes.items }
+    ensures { IfOk result (HasClosed store passes.items) }
 {
-    Ok(Ran {
-        journal: Vec::new(alloc),
-        instance: Instance::empty(alloc, compiled.accepted())?,
-        counts: vec![in alloc; 0; threads as usize]?,
-    })
+    match store.close(passes) {
+        Ok(closed) => Ok(closed),
+        Err(_) => Err(Memory),
+    }
 }
 
-/// Makes all calls of a workload, one round after another: the journal is a run of the workload, and the
-/// instance is of the relation of its replay.
-pub fn run_work(alloc: Global, compiled: &Compiled, work: &Work) -> Result<Ran, Memory>
-    requires fit { RoundsFit compiled.now.spec work.now.rounds }
+/// Makes all calls of a workload on a store of its own, and closes it: pass k makes the calls of thread k, in order; the
+/// threads of a round run beside each other, and each round after the one before. The journal is a run of the workload, and
+/// the instance is of the relation that it leaves. The gate is told of each point that a call reaches. Only want of memory
+/// refuses it. (PLDI 2012, serializable transactions.)
+pub fn run_work<R: Threads + Wait + Sync, G: Gate + Sync>(
+    rt: &R,
+    alloc: Global,
+    compiled: Compiled,
+    work: &Work,
+    gate: &G,
+) -> Result<Closed, Memory>
+    requires fit { RoundsFit compiled.spec work.now.rounds }
     requires threads { HasThreads work.now }
     requires limits { KeepsLimits work.now }
-    ensures runs { IfOk result (λ ran. Runs compiled.now.spec work.now ran.journal.items) }
-    ensures single { IfOk result (λ ran. HasSingleSteps ran.journal.items) }
-    ensures fit { IfOk result (λ ran. AllFit compiled.now.spec ran.journal.items) }
-    ensures after { IfOk result (λ ran. IsAfter compiled.now.spec ran.journal.items ran.instance) }
+    ensures compiled { IfOk result (λ closed. closed.compiled ≡ compiled) }
+    ensures run { IfOk result (HasRun work.now) }
 {
-    let mut ran = nothing_made(alloc, compiled, work.threads)?;
-    for round in work.rounds.list() {
-        make_round(alloc, compiled, round.list(), &mut ran)?;
-    }
-    Ok(ran)
+    let (store, mut passes) = Store::build(
+        alloc,
+        compiled,
+        work.threads,
+        MOST_CALLS,
+        Keeping::Entries,
+        Waking,
+    )?;
+    run_rounds(rt, &store, &mut passes, work.rounds.list(), gate)?;
+    close(store, passes)
 }

@@ -3,5 +3,5 @@
 
 mod top;
 
-pub use rc_answer::Status;
+pub use rc_answer::{Outcome, Ran, Status};
 pub use top::relc;

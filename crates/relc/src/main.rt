@@ -2,6 +2,7 @@
 #![tactic(auto)]
 
 use rc_io::{StdSink, StdSource};
+use rc_store::OpenGate;
 use rc_top::{Status, relc};
 use std::alloc::Global;
 use std::process::ExitCode;
@@ -19,8 +20,8 @@ fn main(rt: HostRuntime) -> ExitCode {
     };
     let mut source = StdSource::new(rt.reader());
     let mut sink = StdSink::new(io::writer(&rt));
-    let status = relc(alloc, &words, &mut source, &mut sink);
-    ExitCode::from(status.code())
+    let outcome = relc(&rt, alloc, &words, &mut source, &mut sink, &OpenGate);
+    ExitCode::from(outcome.status.code())
 }
 
 /// The words of the command line, the program's name first.

@@ -1,35 +1,42 @@
-use Rattle.std.proofs.Common.{◌≡◌, ◌≤◌, List, [], ap, sym, subst, ◌∙◌, length}
-use Rattle.std.proofs.lemmas.List.{drop_all}
-use Rattle.rc_rel.specs.History.{AllFit}
-use Rattle.rc_work.specs.declared.work.Turn.{Turn}
-use Rattle.rc_work.specs.Runs.{Runs, HasSingleSteps}
-use Rattle.rc_runner.specs.InTurn.{in_rounds}
-use Rattle.rc_runner.proofs.InTurnLemmas.{fit_in_turn, runs_in_turn, single_in_turn}
+use Rattle.std.proofs.Common.{◌≡◌, ◌∙◌, ap, drop, length, subst, sym, arith}
+use Rattle.std.specs.List.{range_with_len}
+use Rattle.rc_rounds.specs.Rounds.{HaveMade}
+use Rattle.rc_runner.specs.Running.{stands_of}
+use Rattle.rc_runner.specs.RunningLaws.{all_of_them, idle_at_end, new_are_free, new_count, new_have_none, new_numbers, run_at_end}
 use Rattle.rc_runner.proofs.running.run_work.Goals as goal
 
-pub returns-clause-runs : goal.returns-clause-runs
-returns-clause-runs c =
-    let spec = c.args.compiled.now.spec in
-    let work = c.args.work.now in
-    let past : length work.rounds ≤ c.loop-round.round-index = subst (λ (rounds : List (List Turn)). length rounds ≤ c.loop-round.round-index) c.list-round-items.ensures c.loop-round-test.false in
-    let made : c.loop-round.ran.journal.items ≡ in_rounds spec [] work.rounds =
-    ap (in_rounds spec c.loop-round.ran.journal.items) (sym (drop_all c.loop-round.round-index work.rounds past)) ∙ c.loop-round.invariant.entered in
-    subst (Runs spec work) (sym made) (runs_in_turn spec work c.requires.threads)
+pub run_rounds-requires-clause-free : goal.run_rounds-requires-clause-free
+run_rounds-requires-clause-free g c κs within =
+    new_are_free c.in_ok-store.store c.deref_mut.result.now (c.deref_mut.ensures.value ∙ c.in_ok-store.ensures.passes)
 
-pub returns-clause-single : goal.returns-clause-single
-returns-clause-single c =
-    let spec = c.args.compiled.now.spec in
-    let work = c.args.work.now in
-    let past : length work.rounds ≤ c.loop-round.round-index = subst (λ (rounds : List (List Turn)). length rounds ≤ c.loop-round.round-index) c.list-round-items.ensures c.loop-round-test.false in
-    let made : c.loop-round.ran.journal.items ≡ in_rounds spec [] work.rounds =
-    ap (in_rounds spec c.loop-round.ran.journal.items) (sym (drop_all c.loop-round.round-index work.rounds past)) ∙ c.loop-round.invariant.entered in
-    subst HasSingleSteps (sym made) (single_in_turn spec work c.requires.threads)
+pub run_rounds-requires-clause-numbers : goal.run_rounds-requires-clause-numbers
+run_rounds-requires-clause-numbers g c κs within =
+    let new = c.deref_mut.ensures.value ∙ c.in_ok-store.ensures.passes in
+    new_numbers c.in_ok-store.store c.deref_mut.result.now new
+    ∙ ap (range_with_len 0) (sym (new_count c.in_ok-store.store c.deref_mut.result.now new))
 
-pub returns-clause-fit : goal.returns-clause-fit
-returns-clause-fit c =
-    let spec = c.args.compiled.now.spec in
-    let work = c.args.work.now in
-    let past : length work.rounds ≤ c.loop-round.round-index = subst (λ (rounds : List (List Turn)). length rounds ≤ c.loop-round.round-index) c.list-round-items.ensures c.loop-round-test.false in
-    let made : c.loop-round.ran.journal.items ≡ in_rounds spec [] work.rounds =
-    ap (in_rounds spec c.loop-round.ran.journal.items) (sym (drop_all c.loop-round.round-index work.rounds past)) ∙ c.loop-round.invariant.entered in
-    subst (AllFit spec) (sym made) (fit_in_turn spec work.rounds c.requires.fit)
+pub run_rounds-requires-clause-none : goal.run_rounds-requires-clause-none
+run_rounds-requires-clause-none g c κs within =
+    new_have_none c.in_ok-store.store c.deref_mut.result.now (c.deref_mut.ensures.value ∙ c.in_ok-store.ensures.passes)
+
+pub close-requires : goal.close-requires
+close-requires g c =
+    let first = c.deref_mut.result.now in
+    let last = c.run_rounds.new.passes in
+    let len = c.deref_mut.ensures.len in
+    let count : length first ≡ c.in_ok-store.passes.len = omega (arith, len) in
+    idle_at_end c.in_ok-store.store first last _ (c.deref_mut.ensures.value ∙ c.in_ok-store.ensures.passes) c.run_rounds.ensures.numbers
+    (all_of_them c.in_ok-store.passes.len first last (drop (length last) c.in_ok-store.passes.items) count c.run_rounds.ensures.numbers)
+    c.run_rounds.ensures.free
+
+pub returns-clause-run : goal.returns-clause-run
+returns-clause-run g c =
+    let first = c.deref_mut.result.now in
+    let last = c.run_rounds.new.passes in
+    let len = c.deref_mut.ensures.len in
+    let count : length first ≡ c.in_ok-store.passes.len = omega (arith, len) in
+    run_at_end c.in_ok-store.store first last _ (c.deref_mut.ensures.value ∙ c.in_ok-store.ensures.passes) c.run_rounds.ensures.numbers
+    (all_of_them c.in_ok-store.passes.len first last (drop (length last) c.in_ok-store.passes.items) count c.run_rounds.ensures.numbers)
+    c.args.work.now c.close.result c.in_ok-store.ensures.row.1 c.in_ok-store.ensures.row.0
+    c.requires.limits.some_thread c.requires.threads
+    (subst (λ rounds. HaveMade rounds (stands_of last)) c.list.ensures c.in_ok-run_rounds.ensures.made) c.close.ensures

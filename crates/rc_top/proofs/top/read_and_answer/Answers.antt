@@ -1,26 +1,50 @@
-use Rattle.std.proofs.Common.{arith, ◌≤◌, ◌^◌, ℕ, List, length, sym, subst}
+use Rattle.std.proofs.Common.{arith, ap, ◌∙◌, ◌≡◌, ◌≤◌, ◌^◌, ◌↔◌, ℕ, List, Some, length, sym, subst}
+use Rattle.std.specs.Prelude.{IfSome, IsSome}
 use Rattle.rc_answer.specs.Answers.{Answers}
+use Rattle.rc_answer.specs.Ran.{HasRunText, IsOneHistory, status_in}
 use Rattle.rc_answer.specs.Writes.{Writes}
 use Rattle.rc_top.specs.Answer.{IsAnswer}
 use Rattle.rc_top.specs.Ends.{Ends, status_of}
+use Rattle.rc_answer.specs.declared.outcome.Outcome.{Outcome}
+use Rattle.rc_answer.specs.declared.outcome.Ran.{Ran}
 use Rattle.rc_answer.specs.declared.status.Status.{Status}
+use Rattle.rc_answer.specs.declared.status.Status.TheVariants.{Done}
+use Rattle.rc_command.specs.declared.command.Command.TheVariants.{Run}
+use Rattle.rc_io.specs.Bytes.{Takes}
 use Rattle.rc_io.specs.Faults.{IsCountTaken}
 use Rattle.rc_io.specs.declared.source.ReadFault.{ReadFault}
 use Rattle.rc_top.proofs.EndLemmas.{read_ends, long_ends}
+use Rattle.rc_top.proofs.RanLemmas.{history_left, left_exactly, none_left, run_left, size_not_done}
 use Rattle.rc_top.proofs.top.read_and_answer.Goals as goal
 
--- src/top.rt:85:1
 pub returns-in-Ok-clause-answers : goal.returns-in-Ok-clause-answers
 returns-in-Ok-clause-answers g c = λ input told.
     let within : length c.in-Ok.text.items ≤ 2 ^ 24 = omega (arith, c.in-Ok.ensures.within, c.deref.ensures.len) in
-    let ended : Ends (IsAnswer c.args.command input) (g.K.Sink.held c.args.sink.now) (g.K.Sink.held c.answer.new.sink) (status_of c.answer.result) =
+    let ended : Ends (IsAnswer c.args.command input) (g.K.Sink.held c.args.sink.now) (g.K.Sink.held c.answer.new.sink) (status_of (status_in c.answer.result)) =
     read_ends c.args.command input c.in-Ok.text.items (g.S.Source.left c.args.source.now) (g.S.Source.left c.read_all.new.source)
-    (g.K.Sink.held c.args.sink.now) (g.K.Sink.held c.answer.new.sink) c.answer.result
+    (g.K.Sink.held c.args.sink.now) (g.K.Sink.held c.answer.new.sink) (status_in c.answer.result)
     told c.in-Ok.ensures.all.0 c.in-Ok.ensures.all.1 within
-    (subst (λ (read : List ℕ). Writes (Answers c.args.command read) (g.K.Sink.held c.args.sink.now) (g.K.Sink.held c.answer.new.sink) c.answer.result) c.deref.ensures.value c.answer.ensures.written) in
-    subst (λ (status : Status). Ends (IsAnswer c.args.command input) (g.K.Sink.held c.args.sink.now) (g.K.Sink.held c.answer.new.sink) status) (sym c.status_of.ensures) ended
+    (subst (λ (read : List ℕ). Writes (Answers c.args.command read) (g.K.Sink.held c.args.sink.now) (g.K.Sink.held c.answer.new.sink) (status_in c.answer.result)) c.deref.ensures.value c.answer.ensures.written) in
+    subst (λ (status : Status). Ends (IsAnswer c.args.command input) (g.K.Sink.held c.args.sink.now) (g.K.Sink.held c.answer.new.sink) status) (sym c.outcome_of.ensures.status) ended
 
--- src/top.rt:85:1
+pub returns-in-Ok-clause-has_ran : goal.returns-in-Ok-clause-has_ran
+returns-in-Ok-clause-has_ran g c =
+    subst (λ (o : Outcome). IsSome o.ran ↔ (c.args.command ≡ Run) × (o.status ≡ Done)) (λ i. record { status = sym c.outcome_of.ensures.status i; ran = sym c.outcome_of.ensures.ran i })
+    (left_exactly c.args.command c.answer.result c.answer.ensures.has_ran)
+
+pub returns-in-Ok-clause-history : goal.returns-in-Ok-clause-history
+returns-in-Ok-clause-history g c =
+    subst (λ o. IfSome o IsOneHistory) (sym c.outcome_of.ensures.ran)
+    (history_left c.deref.result.now (g.K.Sink.held c.args.sink.now) (g.K.Sink.held c.answer.new.sink) c.answer.result c.answer.ensures.ran)
+
+pub returns-in-Ok-clause-report : goal.returns-in-Ok-clause-report
+returns-in-Ok-clause-report g c = λ input told.
+    let old = g.K.Sink.held c.args.sink.now in
+    let new = g.K.Sink.held c.answer.new.sink in
+    subst (λ o. IfSome o (HasRunText input old new)) (sym c.outcome_of.ensures.ran)
+    (run_left c.deref.result.now old new c.answer.result c.answer.ensures.ran input (g.S.Source.left c.args.source.now) (g.S.Source.left c.read_all.new.source)
+    told (subst (λ (bytes : List ℕ). Takes (g.S.Source.left c.args.source.now) bytes (g.S.Source.left c.read_all.new.source)) (sym c.deref.ensures.value) c.in-Ok.ensures.all.0) c.in-Ok.ensures.all.1)
+
 pub returns-in-Err-TooLong-clause-answers : goal.returns-in-Err-TooLong-clause-answers
 returns-in-Err-TooLong-clause-answers g c = λ input told.
     let (bytes, beyond, taken) = c.in-Err-TooLong.ensures.taken in
@@ -28,4 +52,11 @@ returns-in-Err-TooLong-clause-answers g c = λ input told.
     long_ends c.args.command input bytes (g.S.Source.left c.args.source.now) (g.S.Source.left c.read_all.new.source)
     (g.K.Sink.held c.args.sink.now) (g.K.Sink.held c.refuse_size.new.sink) c.refuse_size.result
     told taken (subst (λ (fault : ReadFault). IsCountTaken fault (2 ^ 24) (length bytes)) c.in-Err-TooLong.field-0-is beyond) c.refuse_size.ensures.written in
-    subst (λ (status : Status). Ends (IsAnswer c.args.command input) (g.K.Sink.held c.args.sink.now) (g.K.Sink.held c.refuse_size.new.sink) status) (sym c.status_of-in-Err-TooLong.ensures) ended
+    subst (λ (status : Status). Ends (IsAnswer c.args.command input) (g.K.Sink.held c.args.sink.now) (g.K.Sink.held c.refuse_size.new.sink) status)
+    (sym (ap (λ (o : Outcome). o.status) c.without_run.ensures ∙ c.status_of.ensures)) ended
+
+pub returns-in-Err-TooLong-clause-has_ran : goal.returns-in-Err-TooLong-clause-has_ran
+returns-in-Err-TooLong-clause-has_ran g c =
+    none_left c.without_run.result.ran c.without_run.result.status (ap (λ (o : Outcome). o.ran) c.without_run.ensures)
+    (λ e. size_not_done (g.K.Sink.held c.args.sink.now) (g.K.Sink.held c.refuse_size.new.sink) c.refuse_size.result c.refuse_size.ensures.written
+    (sym (ap (λ (o : Outcome). o.status) c.without_run.ensures ∙ c.status_of.ensures) ∙ e))

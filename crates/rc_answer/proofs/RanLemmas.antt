@@ -1,0 +1,135 @@
+-- What is written of a run.
+use Rattle.std.proofs.Common.{◌≡◌, ◌∙◌, ◌↔◌, ◌<◌, ◌++◌, ℕ, List, Option, Result, Ok, Err, ap, inr, length, refl, subst, sym}
+use Rattle.std.specs.Prelude.{IfOk, IfSome, IsSome}
+use Rattle.std.specs.Result.{IsErr, OnErr}
+use Rattle.rc_text.specs.Lines.{printed_lines}
+use Rattle.rc_io.specs.BytesLaws.{adds_prefix_longer, adds_prefix_more}
+use Rattle.rc_io.specs.Bytes.{Adds, AddsPrefix}
+use Rattle.rc_tuple.specs.Tuple.{Pairs}
+use Rattle.rc_spec.specs.declared.spec.Spec.{Spec}
+use Rattle.rc_spec.specs.Placement.{op_at}
+use Rattle.rc_plan.specs.Compiled.{ArePlansOf, SpecWithPlans, plan_at}
+use Rattle.rc_query.specs.Planned.{IsPlanned}
+use Rattle.rc_instance.specs.Instance.{IsOfRelation}
+use Rattle.rc_rel.specs.declared.entry.Entry.{Entry}
+use Rattle.rc_rel.specs.History.{AllFit, replay}
+use Rattle.rc_store.specs.Closed.{ClosedSeen}
+use Rattle.rc_spec.specs.Acceptance.{IsAccepted}
+use Rattle.rc_reader.specs.Grammar.{Reading, spec_reading}
+use Rattle.rc_reader.specs.Answers.{IsRead, rest_place}
+use Rattle.rc_reader.specs.declared.reading.Rest.{Rest}
+use Rattle.rc_work.specs.Ranking.{work_reading}
+use Rattle.rc_answer.proofs.AnswerLemmas.{read_place}
+use Rattle.rc_runner.specs.Running.{HasRun}
+use Rattle.rc_work.specs.declared.work.Work.{Work}
+use Rattle.rc_work.specs.Report.{report}
+use Rattle.rc_work.specs.Runs.{Runs}
+use Rattle.rc_answer.specs.declared.outcome.Outcome.{Outcome}
+use Rattle.rc_answer.specs.declared.outcome.Ran.{Ran}
+use Rattle.rc_answer.specs.declared.status.Status.TheVariants.{Done}
+use Rattle.rc_answer.specs.declared.status.Stop.{Stop}
+use Rattle.rc_answer.specs.declared.status.Stop.TheVariants.{Memory, Sink}
+use Rattle.rc_answer.specs.Answers.{IsReport}
+use Rattle.rc_answer.specs.Plans.{ArePlanned, plans_text}
+use Rattle.rc_answer.specs.Ran.{HasRunText, IsReadAs, IsRunOf, done_in, entries_in, outcome_in, run_text, status_in}
+use Rattle.rc_answer.specs.RanLaws.{is_report}
+use Rattle.rc_answer.specs.Writes.{Writes, WritesWhole}
+
+-- ---- the run
+
+module _ (accepted : Spec) (made : SpecWithPlans) (work : Work) (closed : ClosedSeen) (last : List Pairs) (h : HasRun work closed) where
+  -- a store that ran the workload by the planned plans, with the rows that it leaves
+  pub run_of : made.spec ≡ accepted → ArePlanned accepted made.plans → closed.compiled ≡ made
+      → ((r : List Pairs) → IsOfRelation closed.compiled.spec closed.instance r → last ≡ r) → IsRunOf accepted work (record { closed = closed; last = last })
+  run_of same planned is rows =
+      let of : closed.compiled.spec ≡ accepted = ap (λ (c : SpecWithPlans). c.spec) is ∙ same in
+      record {
+        of_spec = of;
+        planned = subst (λ (c : SpecWithPlans). ArePlanned accepted c.plans) (sym is) planned;
+        history = h.history;
+        journal = h.journal;
+        runs = subst (λ (s : Spec). Runs s work h.history) of h.runs;
+        single = h.single;
+        last = rows (replay closed.compiled.spec h.history) h.leaves.relation ∙ ap (λ (s : Spec). replay s h.history) of;
+      }
+
+  pub run_fits : AllFit closed.compiled.spec (entries_in closed.journal)
+  run_fits = subst (λ (o : Option (List Entry)). AllFit closed.compiled.spec (entries_in o)) (sym h.journal) h.leaves.good.fit
+
+-- the planned plans are as many as the operations
+pub are_planned : (accepted : Spec) (made : SpecWithPlans) → made.spec ≡ accepted → ArePlansOf made.spec made.plans
+    → ((op : ℕ) → op < length accepted.ops → IsPlanned accepted (op_at accepted op) (plan_at made.plans op)) → ArePlanned accepted made.plans
+are_planned accepted made same plans each = record { count = plans.count ∙ ap (λ (s : Spec). length s.ops) same; each = each }
+
+-- ---- its text
+
+pub on_err_both : {X E : Type 0} {P Q : Type 0} (r : Result X E) → (P → Q) → OnErr r P → OnErr r Q
+on_err_both (Ok x) f h = tt
+on_err_both (Err e) f h = f h
+
+module _ (made here : SpecWithPlans) (is : here ≡ made) (journal : Option (List Entry)) (ranks : List (List ℕ)) (rows : List Pairs) (old : Option (List ℕ)) where
+  abbrev whole : List ℕ
+  whole = plans_text made.spec made.plans ++ printed_lines (report made.spec ranks (entries_in journal) rows)
+
+  -- a part of the plans is a part of the text
+  pub plans_part : (new : Option (List ℕ)) → AddsPrefix old (plans_text here.spec here.plans) new → AddsPrefix old whole new
+  plans_part new part =
+      adds_prefix_longer old new (plans_text made.spec made.plans) (printed_lines (report made.spec ranks (entries_in journal) rows))
+      (subst (λ (c : SpecWithPlans). AddsPrefix old (plans_text c.spec c.plans) new) is part)
+
+  -- and so are the plans with a part of the report
+  pub report_part : (mid new : Option (List ℕ)) (spec : Spec) (entries : List Entry) (given : List Pairs) → spec ≡ here.spec → entries ≡ entries_in journal → given ≡ rows
+      → Adds old (plans_text here.spec here.plans) mid → AddsPrefix mid (printed_lines (report spec ranks entries given)) new → AddsPrefix old whole new
+  report_part mid new spec entries given of all same first part =
+      let of_made : spec ≡ made.spec = of ∙ ap (λ (c : SpecWithPlans). c.spec) is in
+      adds_prefix_more old mid new (plans_text made.spec made.plans) (printed_lines (report made.spec ranks (entries_in journal) rows))
+      (subst (λ (c : SpecWithPlans). Adds old (plans_text c.spec c.plans) mid) is first)
+      (subst (λ (l : List ℕ). AddsPrefix mid l new) (λ i. printed_lines (report (of_made i) ranks (all i) (same i))) part)
+
+module _ (spec : Spec) (work : Work) (ran : Ran) (old new : Option (List ℕ)) (run : IsRunOf spec work ran) where
+  -- the whole text
+  pub run_written : Adds old (run_text work.ranks ran) new → WritesWhole (IsReport spec work) old new Done
+  run_written adds = (run_text work.ranks ran, is_report spec work ran run, adds)
+
+  -- a part of it
+  pub run_begun : (r : Result Ran Stop) → IsErr r → AddsPrefix old (run_text work.ranks ran) new → Writes (IsReport spec work) old new (done_in r)
+  run_begun (Ok other) e part = cc
+  run_begun (Err Memory) e part = inr (run_text work.ranks ran, Done, is_report spec work ran run, part)
+  run_begun (Err Sink) e part = (run_text work.ranks ran, Done, is_report spec work ran run, part)
+
+-- ---- outcomes
+
+module _ (r : Result Ran Stop) (o : Result Outcome Stop) (is : o ≡ outcome_in r) where
+  pub done_status : done_in r ≡ status_in o
+  done_status = go r ∙ ap status_in (sym is)
+    where
+      go : (r : Result Ran Stop) → done_in r ≡ status_in (outcome_in r)
+      go (Ok ran) = refl
+      go (Err stop) = refl
+
+  pub done_has_ran : IfOk o (λ x. IsSome x.ran ↔ (x.status ≡ Done))
+  done_has_ran = subst (λ (x : Result Outcome Stop). IfOk x (λ x. IsSome x.ran ↔ (x.status ≡ Done))) (sym is) (go r)
+    where
+      go : (r : Result Ran Stop) → IfOk (outcome_in r) (λ x. IsSome x.ran ↔ (x.status ≡ Done))
+      go (Ok ran) = (λ s. refl, λ e. refl)
+      go (Err stop) = tt
+
+-- an input that was read as a specification and a workload
+pub read_as : (input : List ℕ) (reading : Reading) (spec : Spec) (rest : Rest) (work : Work) → spec_reading input ≡ Ok reading → IsRead input spec rest reading → IsAccepted spec
+    → work_reading spec (rest_place input rest) ≡ Ok work → IsReadAs input spec work
+read_as input reading spec rest work read is accepted made = record {
+  reading = reading;
+  read = read;
+  of_spec = is.value;
+  accepted = accepted;
+  work_read = ap (work_reading spec) (read_place input reading spec rest is) ∙ made;
+}
+
+module _ (input : List ℕ) (spec : Spec) (work : Work) (old new : Option (List ℕ)) (read : IsReadAs input spec work) where
+  pub done_ran : (r : Result Ran Stop) (o : Result Outcome Stop) → o ≡ outcome_in r → IfOk r (IsRunOf spec work) → IfOk r (λ ran. Adds old (run_text work.ranks ran) new)
+      → IfOk o (λ x. IfSome x.ran (HasRunText input old new))
+  done_ran r o is run written = subst (λ (x : Result Outcome Stop). IfOk x (λ x. IfSome x.ran (HasRunText input old new))) (sym is) (go r run written)
+    where
+      go : (r : Result Ran Stop) → IfOk r (IsRunOf spec work) → IfOk r (λ ran. Adds old (run_text work.ranks ran) new) → IfOk (outcome_in r) (λ x. IfSome x.ran (HasRunText input old new))
+      go (Ok ran) run written = record { spec = spec; work = work; read = read; run = run; written = written }
+      go (Err stop) run written = tt

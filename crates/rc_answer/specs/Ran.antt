@@ -1,0 +1,108 @@
+-- What a run leaves, and what is written of it. (PLDI 2012, serializable transactions: the calls of all threads are one
+-- history.)
+use Rattle.std.specs.Prelude.{◌≡◌, ℕ, List, [], ◌++◌, Option, Some, None, Result, Ok, Err}
+use Rattle.rc_tuple.specs.Relation.{Satisfies}
+use Rattle.rc_tuple.specs.RisingSet.{In}
+use Rattle.rc_tuple.specs.Tuple.{Pairs}
+use Rattle.rc_text.specs.Lines.{printed_lines}
+use Rattle.rc_io.specs.Bytes.{Adds}
+use Rattle.rc_spec.specs.declared.spec.Spec.{Spec}
+use Rattle.rc_spec.specs.Acceptance.{IsAccepted}
+use Rattle.rc_rel.specs.declared.entry.Entry.{Entry}
+use Rattle.rc_rel.specs.History.{IsLegal, IsNumbered, replay, states}
+use Rattle.rc_reader.specs.Grammar.{Reading, spec_reading}
+use Rattle.rc_work.specs.declared.work.Work.{Work}
+use Rattle.rc_work.specs.Ranking.{work_reading}
+use Rattle.rc_work.specs.Report.{report}
+use Rattle.rc_work.specs.Runs.{HasSingleSteps, Runs}
+use Rattle.rc_answer.specs.declared.outcome.Outcome.{Outcome}
+use Rattle.rc_answer.specs.declared.outcome.Ran.{Ran}
+use Rattle.rc_answer.specs.declared.status.Status.{Status}
+use Rattle.rc_answer.specs.declared.status.Status.TheVariants.{Done, Refused}
+use Rattle.rc_answer.specs.declared.status.Stop.{Stop}
+use Rattle.rc_answer.specs.Answers.{place_after}
+use Rattle.rc_answer.specs.Plans.{ArePlanned, plans_text}
+
+-- ---- the text of a run
+
+-- the entries that a closed store kept
+abbrev pub entries_in : Option (List Entry) → List Entry
+entries_in None = []
+entries_in (Some entries) = entries
+
+-- the plans, and then the report of the journal and of the rows
+abbrev pub run_text : List (List ℕ) → Ran → List ℕ
+run_text texts ran =
+    plans_text ran.closed.compiled.spec ran.closed.compiled.plans
+    ++ printed_lines (report ran.closed.compiled.spec texts (entries_in ran.closed.journal) ran.last)
+
+-- ---- what a run is
+
+-- A run of the workload on the specification, whose operations have their planned plans: the closed store has it as its
+-- journal, and the rows are those that it leaves.
+pub record IsRunOf (spec : Spec) (work : Work) (ran : Ran) : Type 0 where
+  pub of_spec : ran.closed.compiled.spec ≡ spec
+  pub planned : ArePlanned spec ran.closed.compiled.plans
+  pub history : List Entry
+  pub journal : ran.closed.journal ≡ Some history
+  pub runs : Runs spec work history
+  pub single : HasSingleSteps history
+  pub last : ran.last ≡ replay spec history
+
+-- an input is read as an accepted specification, and a workload behind it
+pub record IsReadAs (input : List ℕ) (spec : Spec) (work : Work) : Type 0 where
+  pub reading : Reading
+  pub read : spec_reading input ≡ Ok reading
+  pub of_spec : reading.spec ≡ spec
+  pub accepted : IsAccepted spec
+  pub work_read : work_reading spec (place_after input reading) ≡ Ok work
+
+-- a run of what was read was made, and its text was written
+pub record HasRunText (input : List ℕ) (old new : Option (List ℕ)) (ran : Ran) : Type 0 where
+  pub spec : Spec
+  pub work : Work
+  pub read : IsReadAs input spec work
+  pub run : IsRunOf spec work ran
+  pub written : Adds old (run_text work.ranks ran) new
+
+-- What is so of a run, whatever was read: the specification is accepted and its plans are the planned ones; the journal
+-- is one legal history in which each pass numbers its entries, each of one call; every state of it satisfies the
+-- dependencies; and the rows are those of the last.
+pub record IsOneHistory (ran : Ran) : Type 0 where
+  pub accepted : IsAccepted ran.closed.compiled.spec
+  pub planned : ArePlanned ran.closed.compiled.spec ran.closed.compiled.plans
+  pub history : List Entry
+  pub journal : ran.closed.journal ≡ Some history
+  pub legal : IsLegal ran.closed.compiled.spec history
+  pub numbered : IsNumbered history
+  pub single : HasSingleSteps history
+  pub satisfy : (r : List Pairs) → In r (states ran.closed.compiled.spec history)
+      → Satisfies r ran.closed.compiled.spec.deps
+  pub last : ran.last ≡ replay ran.closed.compiled.spec history
+
+-- ---- outcomes
+
+-- the status of an outcome, where there is one
+abbrev pub status_in : Result Outcome Stop → Result Status Stop
+status_in (Ok outcome) = Ok outcome.status
+status_in (Err stop) = Err stop
+
+-- a refused command leaves no run
+pub record LeavesNone (outcome : Outcome) : Type 0 where
+  pub none : outcome.ran ≡ None
+  pub refused : outcome.status ≡ Refused
+
+-- the run of an outcome, where there is one
+abbrev pub ran_in : Result Outcome Stop → Option Ran
+ran_in (Ok outcome) = outcome.ran
+ran_in (Err stop) = None
+
+-- the outcome of a run that was written
+abbrev pub outcome_in : Result Ran Stop → Result Outcome Stop
+outcome_in (Ok ran) = Ok (record { status = Done; ran = Some ran })
+outcome_in (Err stop) = Err stop
+
+-- its status
+abbrev pub done_in : Result Ran Stop → Result Status Stop
+done_in (Ok ran) = Ok Done
+done_in (Err stop) = Err stop

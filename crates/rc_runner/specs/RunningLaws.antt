@@ -1,0 +1,235 @@
+-- Laws of passes that make the calls of a workload.
+use Rattle.std.proofs.Common.{◌≡◌, ℕ, zero, suc, ◌+◌, ◌<◌, ◌≤◌, ◌==◌, ◌^◌, List, [], ◌∷◌, ◌++◌, All, Some, map, filter, length, min, take, get_or, sum_by, sym, refl, ap, ◌∙◌, subst, arith}
+use Rattle.std.specs.Prelude.{IfOk, Result, Ok, Err}
+use Rattle.std.specs.List.{flat_map, range_with_len, slice_get}
+use Rattle.std.proofs.Math.Seq.{take-append_seam}
+use Rattle.std.proofs.lemmas.List.{length-append, length-map, length-take, map-id}
+use Rattle.std.proofs.lemmas.List.Elements.{All-append, All-cons, All-from_get_or, All-get_or, All-head, All-nil, All-same, All-tail, All-weaker}
+use Rattle.std.proofs.lemmas.List.FromFn.{length-range_with_len}
+use Rattle.std.proofs.lemmas.List.Sums.{count_by-le-length, length-filter, sum_by-cons, sum_by_more_le}
+use Rattle.std.proofs.lemmas.Simd.{map-map}
+use Rattle.std.proofs.lemmas.Option.{get_or_from_slice_get, slice_get_within}
+use Rattle.rc_spec.specs.declared.call.Call.{Call}
+use Rattle.rc_spec.specs.declared.call.Reply.{Reply}
+use Rattle.rc_spec.specs.declared.spec.Spec.{Spec}
+use Rattle.rc_rel.specs.declared.entry.Entry.{Entry}
+use Rattle.rc_rel.specs.declared.entry.Placed.{Placed}
+use Rattle.rc_rel.specs.History.{calls_of, own_placed, placed, steps_of}
+use Rattle.rc_core.specs.declared.state.PassState.{PassState}
+use Rattle.rc_fragment.specs.Fragment.{edge_table}
+use Rattle.rc_plan.specs.Compiled.{SpecWithPlans}
+use Rattle.rc_row.specs.declared.keeping.Keeping.{Keeping}
+use Rattle.rc_row.specs.declared.keeping.Keeping.TheVariants.{Counts, Entries}
+use Rattle.rc_row.specs.HeldRows.{HeldRows}
+use Rattle.rc_row.specs.Passes.{AreIdlePasses, IsPassOf, KeepsAs, PassSeen, RowSeen, core_of, new_pass, new_passes, next_entry, none_kept, spec_of, stripes_of}
+use Rattle.rc_store.specs.declared.receipt.Receipt.{Receipt}
+use Rattle.rc_store.specs.Closed.{ClosedSeen, HasClosed, Leaves, where_kept}
+use Rattle.rc_store.specs.Store.{HasMade, IsAsBefore, IsFree, StoreSeen}
+use Rattle.rc_work.specs.declared.work.Turn.{Turn}
+use Rattle.rc_work.specs.declared.work.Work.{Work}
+use Rattle.rc_work.specs.Fitting.{HasThreads}
+use Rattle.rc_work.specs.Runs.{Runs, thread_calls}
+use Rattle.rc_rounds.specs.Rounds.{AreSingle, EachHasMade, HasCalled, HasGrown, HasMade as HasMadeRounds, HaveMade, IsClosed, MadeBy, Stand, entries_of}
+use Rattle.rc_rounds.specs.CloseLaws.{rounds_run}
+use Rattle.rc_runner.specs.Running.{HasRun, MayMake, number_of, numbers_of, stand_of, stands_of}
+
+-- ---- a call
+
+module _ (store : StoreSeen) (call : Call) (reply : Reply) (old new : PassSeen) (receipt : Receipt) (m : HasMade store call reply old new receipt) where
+  pub called_so : HasCalled call (stand_of old) (stand_of new)
+  called_so = record {
+    entry = placed receipt.place (next_entry (core_of old) call reply);
+    own = m.own;
+    single = refl;
+    made = refl;
+    after = m.seen;
+    before = subst (λ (u : PassState). receipt.place < u.seen) (sym m.core) (omega arith);
+  }
+
+  pub called_number : number_of new ≡ number_of old
+  called_number = ap (λ (u : PassState). u.number) m.core ∙ ap (λ (u : PassState). u.number) m.was
+
+pub before_number : (old new : PassSeen) → IsAsBefore old new → number_of new ≡ number_of old
+before_number old new b = ap (λ (u : PassState). u.number) b.core
+
+-- ---- how many entries a pass has
+
+few_thread_calls : (thread : ℕ) (round : List Turn) → length (thread_calls thread round) ≤ length round
+few_thread_calls thread round =
+    let is : Turn → _ = λ t. t.thread == thread in
+    let mapped : length (thread_calls thread round) ≡ length (filter is round) = length-map (filter is round) (λ (t : Turn). t.call) in
+    let counted = length-filter is round in
+    let few = count_by-le-length is round in
+    omega (arith, mapped, counted, few)
+
+-- entries of one step each make as many calls as they are
+as_many_calls : (xs : List Placed) → AreSingle xs → length (calls_of (entries_of xs)) ≡ length xs
+as_many_calls [] single = refl
+as_many_calls (x ∷ xs) single =
+    let first : length x.entry.steps ≡ 1 = All-head (λ (y : Placed). length y.entry.steps ≡ 1) x xs single in
+    let rest : length (calls_of (entries_of xs)) ≡ length xs = as_many_calls xs (All-tail (λ (y : Placed). length y.entry.steps ≡ 1) x xs single) in
+    let all : length (calls_of (entries_of (x ∷ xs))) ≡ length (steps_of (entries_of (x ∷ xs))) = length-map (steps_of (entries_of (x ∷ xs))) (λ s. s.call) in
+    let less : length (calls_of (entries_of xs)) ≡ length (steps_of (entries_of xs)) = length-map (steps_of (entries_of xs)) (λ s. s.call) in
+    let both : length (steps_of (entries_of (x ∷ xs))) ≡ length x.entry.steps + length (steps_of (entries_of xs)) = length-append x.entry.steps (steps_of (entries_of xs)) in
+    omega (arith, first, rest, all, less, both)
+
+-- what a pass has grown by is at most the turns
+pub grown_few : (thread : ℕ) (round : List Turn) (s t : Stand) → HasGrown (thread_calls thread round) s t → length t.own ≤ length s.own + length round
+grown_few thread round s t g =
+    let long : length t.own ≡ length s.own + length g.more = ap (λ (l : List Placed). length l) g.own ∙ length-append s.own g.more in
+    let many : length g.more ≡ length (thread_calls thread round) = sym (as_many_calls g.more g.single) ∙ ap (λ (l : List Call). length l) g.made in
+    let few : length (thread_calls thread round) ≤ length round = few_thread_calls thread round in
+    omega (arith, long, many, few)
+
+All-left : {A : Type 0} (P : A → Type 0) (xs ys : List A) → All P (xs ++ ys) → All P xs
+All-left P [] ys h = All-nil P
+All-left P (x ∷ xs) ys h = All-cons P x xs (All-head P x (xs ++ ys) h) (All-left P xs ys (All-tail P x (xs ++ ys) h))
+
+All-right : {A : Type 0} (P : A → Type 0) (xs ys : List A) → All P (xs ++ ys) → All P ys
+All-right P [] ys h = h
+All-right P (x ∷ xs) ys h = All-right P xs ys (All-tail P x (xs ++ ys) h)
+
+made_few : (thread : ℕ) (rounds : List (List Turn)) (marks : List ℕ) (own : List Placed) → MadeBy thread rounds marks own → AreSingle own
+    → length own ≤ sum_by length rounds
+made_few thread [] [] own made single = let none : length own ≡ 0 = ap (λ (l : List Placed). length l) made in omega (arith, none)
+made_few thread [] (c ∷ marks) own made single = absurd made
+made_few thread (round ∷ rounds) [] own made single = absurd made
+made_few thread (round ∷ rounds) (c ∷ marks) own (front, back, e, calls, before, from, later) single =
+    let one : Placed → Type 0 = λ x. length x.entry.steps ≡ 1 in
+    let both : AreSingle (front ++ back) = subst AreSingle e single in
+    let long : length own ≡ length front + length back = ap (λ (l : List Placed). length l) e ∙ length-append front back in
+    let many : length front ≡ length (thread_calls thread round) = sym (as_many_calls front (All-left one front back both)) ∙ ap (λ (l : List Call). length l) calls in
+    let few : length (thread_calls thread round) ≤ length round = few_thread_calls thread round in
+    let rest : length back ≤ sum_by length rounds = made_few thread rounds marks back later (All-right one front back both) in
+    let sum : sum_by length (round ∷ rounds) ≡ length round + sum_by length rounds = sum_by-cons length round rounds in
+    omega (arith, long, many, few, rest, sum)
+
+each_made_few : (thread : ℕ) (rounds : List (List Turn)) (marks : List ℕ) (stands : List Stand) → EachHasMade rounds marks thread stands
+    → All (λ (s : Stand). length s.own ≤ sum_by length rounds) stands
+each_made_few thread rounds marks [] made = All-nil (λ (s : Stand). length s.own ≤ sum_by length rounds)
+each_made_few thread rounds marks (s ∷ stands) made =
+    All-cons (λ (s : Stand). length s.own ≤ sum_by length rounds) s stands (made_few thread rounds marks s.own made.0.made made.0.single)
+    (each_made_few (suc thread) rounds marks stands made.1)
+
+-- ---- what passes may make
+
+module _ (store : StoreSeen) where
+  -- each pass that has made some rounds may make the calls of the next
+  may_next : (n m : ℕ) (passes : List PassSeen) → n + m ≤ store.limit → All (IsFree store) passes → All (λ (s : Stand). length s.own ≤ n) (stands_of passes) → All (MayMake store m) passes
+  may_next n m [] small free few = All-nil (MayMake store m)
+  may_next n m (p ∷ passes) small free few =
+      let l : length (core_of p).own ≤ n = All-head (λ (s : Stand). length s.own ≤ n) (stand_of p) (stands_of passes) few in
+      All-cons (MayMake store m) p passes (record { free = All-head (IsFree store) p passes free; left = omega (arith, l, small) })
+      (may_next n m passes small (All-tail (IsFree store) p passes free) (All-tail (λ (s : Stand). length s.own ≤ n) (stand_of p) (stands_of passes) few))
+
+  pub may_make_round : (rounds : List (List Turn)) (i : ℕ) (round : List Turn) (passes : List PassSeen) → i < length rounds → round ≡ get_or rounds i round
+      → sum_by length rounds ≤ store.limit → All (IsFree store) passes → HaveMade (take i rounds) (stands_of passes) → All (MayMake store (length round)) passes
+  may_make_round rounds i round passes l is small free made =
+      let within : sum_by length (take i rounds) + length (get_or rounds i round) ≤ sum_by length rounds = sum_by_more_le length rounds i round l in
+      let same : length round ≡ length (get_or rounds i round) = ap length is in
+      may_next (sum_by length (take i rounds)) (length round) passes (omega (arith, within, same, small)) free
+      (each_made_few 0 (take i rounds) made.0 (stands_of passes) made.1)
+
+-- a pass within a round may make one call more
+pub may_one : (store : StoreSeen) (thread i : ℕ) (round : List Turn) (first now : PassSeen) → MayMake store (length round) first → i < length round → IsFree store now
+    → HasGrown (thread_calls thread (take i round)) (stand_of first) (stand_of now) → MayMake store 1 now
+may_one store thread i round first now may l free grown =
+    let few : length (core_of now).own ≤ length (core_of first).own + length (take i round) = grown_few thread (take i round) (stand_of first) (stand_of now) grown in
+    let taken : length (take i round) ≡ min i (length round) = length-take i round in
+    let left : length (core_of first).own + length round ≤ store.limit = may.left in
+    record { free = free; left = omega (arith, few, taken, left, l) }
+
+-- ---- the end
+
+-- passes that are free, by number
+pub idle_passes : (store : StoreSeen) (passes : List PassSeen) → numbers_of passes ≡ range_with_len 0 store.row.key.passes → All (IsFree store) passes → AreIdlePasses store.row passes
+idle_passes store passes numbers free = record {
+  numbers = numbers;
+  idle = All-weaker (IsFree store) (λ (p : PassSeen). IsPassOf store.row p × (p.held ≡ [])) (λ p f. (f.of_row, f.idle)) passes free;
+}
+
+own_of_stand : (passes : List PassSeen) (k : ℕ) (s : Stand) → slice_get (stands_of passes) k ≡ Some s → (p : PassSeen) × (slice_get passes k ≡ Some p) × (s ≡ stand_of p)
+own_of_stand [] k s e = cc
+own_of_stand (p ∷ passes) zero s e = (p, refl, cc)
+own_of_stand (p ∷ passes) (suc k) s e = own_of_stand passes k s e
+
+-- what a closed store leaves is what its passes made
+closed_so : (store : StoreSeen) (passes : List PassSeen) (closed : ClosedSeen) (h : HasClosed store passes closed) → IsClosed (spec_of store.row) (stands_of passes) h.history
+closed_so store passes closed h = record {
+  legal = h.leaves.good.legal;
+  numbered = h.leaves.good.numbered;
+  own = λ k s e. let p = own_of_stand passes k s e in ap (λ (t : Stand). t.own) p.2 ∙ h.own k p.0 p.1;
+  passes = λ e m. let l = (h.leaves.good.entries e m).pass in let n = length-map passes stand_of in omega (arith, l, n);
+}
+
+-- a store that kept its entries, whose passes made all rounds of a workload, has run it
+pub has_run : (store : StoreSeen) (passes : List PassSeen) (work : Work) (closed : ClosedSeen) → HasClosed store passes closed → store.row.keeping ≡ Entries → length passes ≡ work.threads
+    → 1 ≤ work.threads → HasThreads work → HaveMade work.rounds (stands_of passes) → HasRun work closed
+has_run store passes work closed h keeps count some turns made =
+    let same : spec_of store.row ≡ closed.compiled.spec = ap (λ (c : SpecWithPlans). c.spec) (sym h.compiled) in
+    let many : length (stands_of passes) ≡ work.threads = length-map passes stand_of ∙ count in
+    let run = rounds_run (spec_of store.row) work h.history (stands_of passes) some turns many made (closed_so store passes closed h) in
+    record {
+      history = h.history;
+      journal = h.journal ∙ ap (λ k. where_kept k h.history) keeps;
+      leaves = subst (λ (x : Spec × ℕ). Leaves x.0 x.1 h.history closed.instance) (λ i. (same i, count i)) h.leaves;
+      runs = subst (λ (spec : Spec). Runs spec work h.history) same run.0;
+      single = run.1;
+    }
+
+-- ---- new passes
+
+kept_so : (keeping : Keeping) → KeepsAs keeping (none_kept keeping)
+kept_so Entries = tt
+kept_so Counts = tt
+
+pub new_free : (store : StoreSeen) (k : ℕ) → IsFree store (new_pass store.row k)
+new_free store k = record {
+  of_row = record {
+    table = refl;
+    inside = All-nil (λ (h : HeldRows). h.stripe < stripes_of store.row);
+    shapes = All-nil (λ (h : HeldRows). h.fragment.table ≡ edge_table (spec_of store.row));
+    keeps = kept_so store.row.keeping;
+  };
+  idle = refl;
+  few = omega arith;
+}
+
+each_new : (P : PassSeen → Type 0) (row : RowSeen) → ((k : ℕ) → P (new_pass row k)) → (numbers : List ℕ) → All P (map (new_pass row) numbers)
+each_new P row h [] = All-nil P
+each_new P row h (k ∷ numbers) = All-cons P (new_pass row k) (map (new_pass row) numbers) (h k) (each_new P row h numbers)
+
+module _ (store : StoreSeen) (passes : List PassSeen) (new : passes ≡ new_passes store.row) where
+  pub new_are_free : All (IsFree store) passes
+  new_are_free = subst (All (IsFree store)) (sym new) (each_new (IsFree store) store.row (new_free store) (range_with_len 0 store.row.key.passes))
+
+  pub new_have_none : All (λ (p : PassSeen). (core_of p).own ≡ []) passes
+  new_have_none = subst (All (λ (p : PassSeen). (core_of p).own ≡ [])) (sym new) (each_new (λ (p : PassSeen). (core_of p).own ≡ []) store.row (λ k. refl) (range_with_len 0 store.row.key.passes))
+
+  pub new_numbers : numbers_of passes ≡ range_with_len 0 store.row.key.passes
+  new_numbers = ap numbers_of new ∙ map-map number_of (new_pass store.row) (range_with_len 0 store.row.key.passes) ∙ map-id (range_with_len 0 store.row.key.passes)
+
+  pub new_count : length passes ≡ store.row.key.passes
+  new_count = sym (length-map passes number_of) ∙ ap (λ (l : List ℕ). length l) new_numbers ∙ length-range_with_len 0 store.row.key.passes
+
+-- the passes once they ran, of whose memory nothing else is left
+pub all_of_them : (n : ℕ) (first last others : List PassSeen) → length first ≡ n → numbers_of last ≡ numbers_of first → take n (last ++ others) ≡ last
+all_of_them n first last others count same =
+    let long : length last ≡ n = sym (length-map last number_of) ∙ ap (λ (l : List ℕ). length l) same ∙ length-map first number_of ∙ count in
+    ap (λ k. take k (last ++ others)) (sym long) ∙ take-append_seam last others
+
+module _ (store : StoreSeen) (first last given : List PassSeen) (new : first ≡ new_passes store.row) (same : numbers_of last ≡ numbers_of first) (whole : given ≡ last) where
+  last_numbers : numbers_of last ≡ range_with_len 0 store.row.key.passes
+  last_numbers = same ∙ new_numbers store first new
+
+  -- the passes once they ran are still those of the row, by number
+  pub idle_at_end : All (IsFree store) last → AreIdlePasses store.row given
+  idle_at_end free = subst (AreIdlePasses store.row) (sym whole) (idle_passes store last last_numbers free)
+
+  -- and the store that they leave has run the workload
+  pub run_at_end : {E : Type 0} (work : Work) (r : Result ClosedSeen E) → store.row.keeping ≡ Entries → store.row.key.passes ≡ work.threads → 1 ≤ work.threads → HasThreads work
+      → HaveMade work.rounds (stands_of last) → IfOk r (HasClosed store given) → IfOk r (HasRun work)
+  run_at_end work (Err e) keeps threads some turns made h = tt
+  run_at_end work (Ok closed) keeps threads some turns made h =
+      let count : length last ≡ work.threads = sym (length-map last number_of) ∙ ap (λ (l : List ℕ). length l) last_numbers ∙ length-range_with_len 0 store.row.key.passes ∙ threads in
+      has_run store last work closed (subst (λ (ps : List PassSeen). HasClosed store ps closed) whole h) keeps count some turns made

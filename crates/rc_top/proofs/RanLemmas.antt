@@ -1,0 +1,66 @@
+-- What the end of a command leaves of a run.
+use Rattle.std.proofs.Common.{◌≡◌, ◌∙◌, ◌↔◌, ℕ, List, Option, Some, None, Result, Ok, Err, ap, subst, sym}
+use Rattle.std.specs.Prelude.{IfOk, IfSome, IsSome}
+use Rattle.rc_io.specs.Bytes.{Takes, IsEmpty}
+use Rattle.rc_io.specs.BytesLaws.{takes_all}
+use Rattle.rc_answer.specs.declared.outcome.Outcome.{Outcome}
+use Rattle.rc_answer.specs.declared.outcome.Ran.{Ran}
+use Rattle.rc_answer.specs.declared.status.Status.{Status}
+use Rattle.rc_answer.specs.declared.status.Status.TheVariants.{Done, OutOfMemory, Refused, SinkFailed}
+use Rattle.rc_answer.specs.declared.status.Stop.{Stop}
+use Rattle.rc_answer.specs.declared.status.Stop.TheVariants.{Memory, Sink}
+use Rattle.rc_answer.specs.Answers.{IsSizeRefusal}
+use Rattle.rc_answer.specs.Ran.{HasRunText, IsOneHistory, ran_in, status_in}
+use Rattle.rc_answer.specs.RanLaws.{is_one_history}
+use Rattle.rc_answer.specs.Writes.{Writes}
+use Rattle.rc_command.specs.declared.command.Command.{Command}
+use Rattle.rc_command.specs.declared.command.Command.TheVariants.{Run}
+use Rattle.rc_top.specs.Ends.{status_of}
+
+-- what holds of each run that there may be
+each_some : {A : Type 0} (P Q : A → Type 0) (o : Option A) → ((x : A) → P x → Q x) → IfSome o P → IfSome o Q
+each_some P Q None f h = tt
+each_some P Q (Some x) f h = f x h
+
+module _ (bytes : List ℕ) (old new : Option (List ℕ)) (r : Result Outcome Stop) (written : IfOk r (λ o. IfSome o.ran (HasRunText bytes old new))) where
+  ran_of_bytes : IfSome (ran_in r) (HasRunText bytes old new)
+  ran_of_bytes = go r written
+    where
+      go : (r : Result Outcome Stop) → IfOk r (λ o. IfSome o.ran (HasRunText bytes old new)) → IfSome (ran_in r) (HasRunText bytes old new)
+      go (Ok o) h = h
+      go (Err e) h = tt
+
+  -- it is of one history
+  pub history_left : IfSome (ran_in r) IsOneHistory
+  history_left = each_some (HasRunText bytes old new) IsOneHistory (ran_in r) (is_one_history bytes old new) ran_of_bytes
+
+  -- and, where the source told its bytes, of these
+  pub run_left : (input : List ℕ) (told left : Option (List ℕ)) → told ≡ Some input → Takes told bytes left → IsEmpty left → IfSome (ran_in r) (HasRunText input old new)
+  run_left input told left is_told taken empty =
+      subst (λ (b : List ℕ). IfSome (ran_in r) (HasRunText b old new)) (takes_all input bytes left (sym is_told ∙ taken) empty).0 ran_of_bytes
+
+-- a run is left exactly where the command is done that makes one
+pub left_exactly : (command : Command) (r : Result Outcome Stop) → IfOk r (λ o. IsSome o.ran ↔ (command ≡ Run) × (o.status ≡ Done))
+    → IsSome (ran_in r) ↔ (command ≡ Run) × (status_of (status_in r) ≡ Done)
+left_exactly command (Ok o) h = h
+left_exactly command (Err Memory) h = (λ s. cc, λ e. cc)
+left_exactly command (Err Sink) h = (λ s. cc, λ e. cc)
+
+-- no run is left of a command that isn't done
+pub none_left : (ran : Option Ran) (status : Status) {C : Type 0} → ran ≡ None → (status ≡ Done → ⊥) → IsSome ran ↔ C × (status ≡ Done)
+none_left ran status none other = (λ s. let t : IsSome {T = Ran} None = subst IsSome none s in cc, λ e. absurd (other e.1))
+
+pub size_not_done : (old new : Option (List ℕ)) (r : Result Status Stop) → Writes IsSizeRefusal old new r → status_of r ≡ Done → ⊥
+size_not_done old new (Ok status) (text, is, adds) e = let f : Refused ≡ Done = sym is.1 ∙ e in cc
+size_not_done old new (Err Memory) h e = cc
+size_not_done old new (Err Sink) h e = cc
+
+-- so it is for the words that name the command
+pub left_by_words : {X D : Type 0} (named : Option Command) (command : Command) → named ≡ Some command → X ↔ (command ≡ Run) × D → X ↔ (named ≡ Some Run) × D
+left_by_words named command is h = (
+  λ x. (is ∙ ap Some (h.0 x).0, (h.0 x).1),
+  λ e. h.1 (some_same (sym is ∙ e.0), e.1),
+)
+  where
+    some_same : Some command ≡ Some Run → command ≡ Run
+    some_same e = cc
