@@ -2,8 +2,8 @@
 use Rattle.std.proofs.Common.{◌≡◌, ◌<◌, ◌≤◌, ℕ, suc, List, [], ◌∷◌, All, map, length, get_or, sym, refl, ap, ◌∙◌, subst, arith}
 use Rattle.std.proofs.lemmas.List.Elements.{All-from_get_or, All-get_or, All-nil}
 use Rattle.rc_row.specs.Passes.{AreIdlePasses, IsPassOf, PassSeen, core_of}
-use Rattle.rc_store.specs.Store.{StoreSeen}
-use Rattle.rc_tests.specs.Free.{AreFew, IsFreeOfStore}
+use Rattle.rc_store.specs.Store.{IsFree, StoreSeen}
+use Rattle.rc_tests.specs.Free.{AreFew}
 
 -- lists whose elements have the same of something
 same_map : {X Y : Type 0} (f : X → Y) (xs ys : List X) → length ys ≡ length xs → ((i : ℕ) (d : X) → i < length xs → f (get_or ys i d) ≡ f (get_or xs i d)) → map f ys ≡ map f xs
@@ -17,18 +17,18 @@ same_map f (x ∷ xs) (y ∷ ys) l h =
 
 module _ (store : StoreSeen) (olds : List PassSeen) (idle : AreIdlePasses store.row olds) (few : AreFew store.limit olds) where
   -- each pass is free
-  pub each_free : (i : ℕ) (pass : PassSeen) → i < length olds → pass ≡ get_or olds i pass → IsFreeOfStore store pass
+  pub each_free : (i : ℕ) (pass : PassSeen) → i < length olds → pass ≡ get_or olds i pass → IsFree store pass
   each_free i pass l e =
       let w : IsPassOf store.row (get_or olds i pass) × ((get_or olds i pass).held ≡ []) = All-get_or (λ (p : PassSeen). IsPassOf store.row p × (p.held ≡ [])) olds i pass l idle.idle in
       let n : length (core_of (get_or olds i pass)).own ≤ store.limit = All-get_or (λ (p : PassSeen). length (core_of p).own ≤ store.limit) olds i pass l few in
-      subst (IsFreeOfStore store) (sym e) record { of = w.0; idle = w.1; few = n }
+      subst (IsFree store) (sym e) record { of_row = w.0; idle = w.1; few = n }
 
   -- and so are those that it has become, where each kept its number
   pub still_idle : (news : List PassSeen) → length news ≡ length olds
-      → ((i : ℕ) (d : PassSeen) → i < length olds → IsFreeOfStore store (get_or news i d) × ((core_of (get_or news i d)).number ≡ (core_of (get_or olds i d)).number))
+      → ((i : ℕ) (d : PassSeen) → i < length olds → IsFree store (get_or news i d) × ((core_of (get_or news i d)).number ≡ (core_of (get_or olds i d)).number))
       → AreIdlePasses store.row news
   still_idle [] l each = record { numbers = same_map (λ (p : PassSeen). (core_of p).number) olds [] l (λ i d m. (each i d m).1) ∙ idle.numbers; idle = All-nil (λ (p : PassSeen). IsPassOf store.row p × (p.held ≡ [])) }
   still_idle (p ∷ ps) l each = record {
     numbers = same_map (λ (q : PassSeen). (core_of q).number) olds (p ∷ ps) l (λ i d m. (each i d m).1) ∙ idle.numbers;
-    idle = All-from_get_or (λ (q : PassSeen). IsPassOf store.row q × (q.held ≡ [])) (p ∷ ps) p (λ i m. let w = (each i p (omega (arith, m, l))).0 in (w.of, w.idle));
+    idle = All-from_get_or (λ (q : PassSeen). IsPassOf store.row q × (q.held ≡ [])) (p ∷ ps) p (λ i m. let w = (each i p (omega (arith, m, l))).0 in (w.of_row, w.idle));
   }

@@ -1,19 +1,12 @@
 -- Passes that hold nothing.
 use Rattle.std.specs.Prelude.{◌≡◌, ◌<◌, ℕ, ◌≤◌, List, [], length, All}
 use Rattle.rc_row.specs.Passes.{IsPassOf, PassSeen, RowSeen, core_of, stripes_of}
-use Rattle.rc_store.specs.Store.{StoreSeen}
 
 -- a pass of the row, which has a stripe, that holds nothing
 pub record IsFreePass (row : RowSeen) (pass : PassSeen) : Type 0 where
   pub of : IsPassOf row pass
   pub idle : (pass.held ≡ []) × ((core_of pass).held ≡ [])
   pub some : 0 < stripes_of row
-
--- a pass of the store that holds nothing, with no more entries than the limit
-pub record IsFreeOfStore (store : StoreSeen) (pass : PassSeen) : Type 0 where
-  pub of : IsPassOf store.row pass
-  pub idle : pass.held ≡ []
-  pub few : length (core_of pass).own ≤ store.limit
 
 -- the passes have no more entries than so many each
 abbrev pub AreFew : ℕ → List PassSeen → Type 0

@@ -3,9 +3,15 @@
 #![tactic(auto)]
 
 #[cfg(test)]
+mod gate_tests;
+#[cfg(test)]
+mod graph;
+#[cfg(test)]
 mod plan_tests;
 #[cfg(test)]
 mod row_tests;
+#[cfg(test)]
+mod run_tests;
 #[cfg(test)]
 mod running_tests;
 #[cfg(test)]
@@ -16,3 +22,5 @@ mod sharing_tests;
 mod store_tests;
 #[cfg(test)]
 mod stream_tests;
+#[cfg(test)]
+mod trial;

@@ -1,13 +1,10 @@
 //! A row of locks, by passes of one thread and of two.
 
-ghost use Rattle.std.specs.Prelude.{◌≡◌, ◌<◌, ◌≤◌, IfOk};
-ghost use Rattle.rc_row.specs.Passes.{core_of, new_passes, stripes_of};
+ghost use Rattle.std.specs.Prelude.{◌≡◌, ◌<◌, ◌≤◌, [], IfOk, vec_capacity};
+ghost use Rattle.rc_row.specs.Passes.{AreIdlePasses, core_of, new_passes, stripes_of};
 ghost use Rattle.rc_tests.specs.Free.{IsFreePass};
 
-use rc_mutate::compile;
-use rc_place::accept;
-use rc_plan::Compiled;
-use rc_reader::read_spec_only;
+use crate::graph::compiled;
 use rc_row::{Keeping, Pass, Row};
 use rc_spec::Found;
 use rc_tuple::Memory;
@@ -16,34 +13,31 @@ use std::sync::Wait;
 use std::test::Fail;
 use std::thread::{Threads, join};
 
-/// The edges of a graph, on one class of locks.
-const GRAPH: &[u8] = b"relc 1
-col src num
-col dst num
-fd src -> dst
-node root
-node u src
-node w src dst
-edge e1 root u hash src
-edge e2 u w singleton dst
-lock k1 8 src
-place e1 k1
-place e2 k1
-op ins insert src
-op find query src -> dst
-end
-";
+/// What three passes try on a new row.
+trait Trial {
+    /// Whether it goes as it should.
+    fn goes_well(&self, row: &Row, one: Pass, two: Pass, three: Pass) -> bool
+        requires one { IsFreePass row.now one }
+        requires two { IsFreePass row.now two }
+        requires three { IsFreePass row.now three };
+}
 
-/// The graph with its plans.
-pub(crate) fn compiled(alloc: Global) -> Result<Compiled, Fail> {
-    let accepted = accept(alloc, read_spec_only(alloc, GRAPH)?)?;
-    Ok(compile(alloc, accepted)?)
+/// Whether the trial goes as it should.
+fn goes_well<T: Trial>(alloc: Global, trial: &T) -> Result<bool, Fail> {
+    let (row, mut passes) = row(alloc, 3)?;
+    let one = passes.remove(0);
+    let two = passes.remove(0);
+    let three = passes.remove(0);
+    passes.destroy_empty();
+    Ok(trial.goes_well(&row, one, two, three))
 }
 
 /// A row of the graph, and its passes.
 fn row(alloc: Global, passes: u32) -> Result<(Row, Vec<Pass>), Fail>
     requires { (1 ≤ passes) × (passes ≤ 255) }
-    ensures { IfOk result (λ r. (r.0.key.passes ≡ passes) × (r.1.items ≡ new_passes r.0) × (0 < stripes_of r.0)) }
+    ensures count { IfOk result (λ r. r.0.key.passes ≡ passes) }
+    ensures passes { IfOk result (λ r. r.1.items ≡ new_passes r.0) }
+    ensures some { IfOk result (λ r. 0 < stripes_of r.0) }
 {
     let compiled = compiled(alloc)?;
     let (row, passes) = Row::build(alloc, &compiled, passes, Keeping::Entries)?;
@@ -84,8 +78,10 @@ fn found_beside_two(
     two: &mut Pass,
     writer: &mut Pass,
 ) -> Result<Option<Found>, Memory>
-    requires { IsFreePass row.now one.old × IsFreePass row.now two.old × IsFreePass row.now writer.old }
-    ensures { IsFreePass row.now one.new × IsFreePass row.now two.new × IsFreePass row.now writer.new }
+    requires readers { IsFreePass row.now one.old × IsFreePass row.now two.old }
+    requires writer { IsFreePass row.now writer.old }
+    ensures readers { IsFreePass row.now one.new × IsFreePass row.now two.new }
+    ensures writer { IsFreePass row.now writer.new }
 {
     if row.try_share(one, 0)?.is_some() {
         return Ok(None);
@@ -112,15 +108,21 @@ fn found_beside_one(
     Ok(found)
 }
 
+/// Two readers, and a writer that comes by.
+#[derive(Drop)]
+struct TwoReaders;
+
+impl Trial for TwoReaders {
+    fn goes_well(&self, row: &Row, mut one: Pass, mut two: Pass, mut three: Pass) -> bool {
+        let beside = found_beside_two(row, &mut one, &mut two, &mut three);
+        let after = writer_finds(row, &mut three);
+        beside == Ok(Some(Found::Readers(2))) && after == None
+    }
+}
+
 #[test]
 fn readers_stand_beside_each_other(rt: HostRuntime) -> Result<(), Fail> {
-    let (row, mut passes) = row(rt.alloc(), 3)?;
-    let mut one = passes.remove(0);
-    let mut two = passes.remove(0);
-    let mut three = passes.remove(0);
-    let found = found_beside_two(&row, &mut one, &mut two, &mut three)?;
-    assert!(rt; found == Some(Found::Readers(2)));
-    assert!(rt; writer_finds(&row, &mut three) == None);
+    assert!(rt; goes_well(rt.alloc(), &TwoReaders)?);
     Ok(())
 }
 
@@ -142,15 +144,22 @@ fn found_beside_writer(
     Ok((by_reader?, by_writer))
 }
 
+/// A writer, and a reader and a writer that come by.
+#[derive(Drop)]
+struct OneWriter;
+
+impl Trial for OneWriter {
+    fn goes_well(&self, row: &Row, mut one: Pass, mut two: Pass, _three: Pass) -> bool {
+        let beside = found_beside_writer(row, &mut one, &mut two);
+        let after = reader_finds(row, &mut two);
+        let writer = Some(Found::Pass(0));
+        beside == Ok((writer, writer)) && after == Ok(None)
+    }
+}
+
 #[test]
 fn a_writer_stands_alone(rt: HostRuntime) -> Result<(), Fail> {
-    let (row, mut passes) = row(rt.alloc(), 2)?;
-    let mut one = passes.remove(0);
-    let mut two = passes.remove(0);
-    let (by_reader, by_writer) = found_beside_writer(&row, &mut one, &mut two)?;
-    assert!(rt; by_reader == Some(Found::Pass(0)));
-    assert!(rt; by_writer == Some(Found::Pass(0)));
-    assert!(rt; reader_finds(&row, &mut two)? == None);
+    assert!(rt; goes_well(rt.alloc(), &OneWriter)?);
     Ok(())
 }
 
@@ -183,23 +192,39 @@ fn share_often<R: Wait>(rt: &R, row: &Row, pass: &mut Pass, times: u32) -> Resul
 
 /// How many fragments a row leaves whose two passes lock and share its first stripe from two threads.
 fn contend<R: Threads + Wait + Sync>(rt: &R, alloc: Global, times: u32) -> Result<usize, Fail> {
-    let (row, mut passes) = row(alloc, 2)?;
-    let mut back = Vec::with_capacity(alloc, 2)?;
-    let one = passes.remove(0);
-    let two = passes.remove(0);
-    passes.destroy_empty();
-    let shared = &row;
-    let (one, two) = join(
-        rt,
-        move || writes(rt, shared, one, times),
-        move || reads(rt, shared, two, times),
-    );
-    back.push_reserved(one);
-    back.push_reserved(two);
-    match row.close(back) {
+    let room = Vec::with_capacity(alloc, 2)?;
+    let (row, passes) = row(alloc, 2)?;
+    let passes = contended(rt, &row, passes, room, times);
+    match row.close(passes) {
         Ok(ended) => Ok(ended.fragments.len()),
         Err(_) => Err(Fail::new("no memory")),
     }
+}
+
+/// The two passes, in room for them, once they have done so.
+fn contended<R: Threads + Wait + Sync>(
+    rt: &R,
+    row: &Row,
+    mut passes: Vec<Pass>,
+    mut room: Vec<Pass>,
+    times: u32,
+) -> Vec<Pass>
+    requires passes { (passes.items ≡ new_passes row.now) × (row.now.key.passes ≡ 2) }
+    requires room { (room.items ≡ []) × (2 ≤ vec_capacity room) }
+    requires some { 0 < stripes_of row.now }
+    ensures { AreIdlePasses row.now result.items }
+{
+    let one = passes.remove(0);
+    let two = passes.remove(0);
+    passes.destroy_empty();
+    let (one, two) = join(
+        rt,
+        move || writes(rt, row, one, times),
+        move || reads(rt, row, two, times),
+    );
+    room.push_reserved(one);
+    room.push_reserved(two);
+    room
 }
 
 /// The pass, once it has locked the first stripe so many times.
@@ -225,30 +250,44 @@ fn reads<R: Wait>(rt: &R, row: &Row, mut pass: Pass, times: u32) -> Pass
 #[test]
 fn threads_take_turns(rt: HostRuntime) -> Result<(), Fail> {
     let fragments = contend(&rt, rt.alloc(), 1000)?;
-    assert_eq!(&rt; fragments, 8);
+    assert_eq!(&rt; fragments, 12);
     Ok(())
+}
+
+/// A note of a pass, and another that learns it.
+#[derive(Drop)]
+struct Noted;
+
+impl Trial for Noted {
+    fn goes_well(&self, row: &Row, mut one: Pass, mut two: Pass, _three: Pass) -> bool {
+        let note = row.note(&mut one);
+        let is_told = note.told() == one.seen();
+        row.learn(&mut two, note);
+        is_told && two.seen() == 0
+    }
 }
 
 #[test]
 fn notes_tell_what_was_seen(rt: HostRuntime) -> Result<(), Fail> {
-    let (row, mut passes) = row(rt.alloc(), 2)?;
-    let mut one = passes.remove(0);
-    let mut two = passes.remove(0);
-    let note = row.note(&mut one);
-    assert_eq!(&rt; note.told(), one.seen());
-    row.learn(&mut two, note);
-    assert_eq!(&rt; two.seen(), 0);
+    assert!(rt; goes_well(rt.alloc(), &Noted)?);
     Ok(())
+}
+
+/// A writer that is dropped.
+#[derive(Drop)]
+struct DroppedWriter;
+
+impl Trial for DroppedWriter {
+    fn goes_well(&self, row: &Row, mut one: Pass, mut two: Pass, _three: Pass) -> bool {
+        let is_locked = row.try_lock(&mut one, 0) == None;
+        drop(one);
+        is_locked && writer_finds(row, &mut two) == Some(Found::Pass(0))
+    }
 }
 
 #[test]
 fn a_dropped_pass_keeps_its_stripe(rt: HostRuntime) -> Result<(), Fail> {
-    let (row, mut passes) = row(rt.alloc(), 2)?;
-    let mut one = passes.remove(0);
-    let mut two = passes.remove(0);
-    assert!(rt; row.try_lock(&mut one, 0) == None);
-    drop(one);
-    assert!(rt; writer_finds(&row, &mut two) == Some(Found::Pass(0)));
+    assert!(rt; goes_well(rt.alloc(), &DroppedWriter)?);
     Ok(())
 }
 
