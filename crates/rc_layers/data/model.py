@@ -30,6 +30,7 @@ OPERATIONS = {
         "ins": ("insert", ["src", "dst"], []),
         "del": ("remove", ["src", "dst"], []),
         "succ": ("query", ["src"], ["dst", "weight"]),
+        "find": ("query", ["src", "dst"], ["weight"]),
     },
     "scheduler": {
         "spawn": ("insert", ["ns", "pid"], []),
@@ -198,4 +199,5 @@ def main():
     print_case("answers 256 rows", "plain", "graph", 1, many_rows(), wanted)
 
 
-main()
+if __name__ == "__main__":
+    main()

@@ -1,2 +1,3 @@
 mod OpenLemmas
 mod RelationLemmas
+mod StopLemmas

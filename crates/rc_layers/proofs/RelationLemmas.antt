@@ -1,9 +1,9 @@
 -- What calls, takes and a release do to an instance that is of a relation.
 use Rattle.std.specs.Prelude.{◌≡◌, ℕ, zero, suc, ◌+◌, ◌<◌, ◌^◌, List, [], ◌∷◌, None, Option, Some, get_or, length}
 use Rattle.std.proofs.Common.{inl, inr, refl, sym, ap, subst, arith, ◌∙◌}
-use Rattle.std.proofs.lemmas.Option.{slice_get_within}
+use Rattle.std.proofs.lemmas.Option.{same_Some, slice_get_within}
 use Rattle.rc_tuple.specs.RisingSet.{In}
-use Rattle.rc_tuple.specs.RisingSetLaws.{in_each}
+use Rattle.rc_tuple.specs.RisingSetLaws.{in_each, in_map}
 use Rattle.rc_tuple.specs.Relation.{IsRelation}
 use Rattle.rc_tuple.specs.Tuple.{Pairs, cols_of}
 use Rattle.rc_spec.specs.Calls.{Fits}
@@ -17,8 +17,9 @@ use Rattle.rc_spec.specs.declared.call.Reply.{Reply}
 use Rattle.rc_spec.specs.declared.lock.Mode.{Mode}
 use Rattle.rc_spec.specs.declared.spec.Spec.{Spec}
 use Rattle.rc_fragment.specs.Fragment.{edge_table}
-use Rattle.rc_fragment.specs.Holder.{AreOffered, GoesOn, HasTaken, HeldStripe, Holding, IsAbove, IsHeld, held_of, offered_at}
-use Rattle.rc_instance.specs.Instance.{AreReleased, IsEmpty, IsOfRelation, Stripe, held_from, holding, offered_at as instance_offers, table_of}
+use Rattle.rc_fragment.specs.Holder.{AreOffered, GoesOn, HasTaken, HeldStripe, Holding, IsAbove, IsHeld, all_reverted, held_of, offered_at, reverted}
+use Rattle.rc_fragment.specs.HoldingLaws.{held-reverted}
+use Rattle.rc_instance.specs.Instance.{AreReleased, IsEmpty, IsOfRelation, Stripe, held_from, holding, offered_at as instance_offers, table_of, taken_in}
 use Rattle.rc_instance.specs.InstanceLaws.{IsHeldFrom, held_of-holding, in_held_from, offered-length, released_law}
 use Rattle.rc_plan.specs.Compiled.{SpecWithPlans, plan_at}
 use Rattle.rc_machine.specs.Machine.{AreTakenAsOffered, HasAnswered, HasServed}
@@ -26,7 +27,7 @@ use Rattle.rc_machine.specs.Offers.{OffersAll}
 use Rattle.rc_machine.specs.OffersLaws.{others_after, still_offers, taken_of_relation}
 use Rattle.rc_rel.specs.Over.{AreOver}
 use Rattle.rc_layers.specs.Open.{IsOfSpec}
-use Rattle.rc_layers.specs.Relation.{HoldsRelation}
+use Rattle.rc_layers.specs.Relation.{HoldsRelation, KeepsRelations}
 use Rattle.rc_layers.proofs.OpenLemmas.{not_held, split, still_held}
 
 -- a relation's tuples are over its columns
@@ -117,3 +118,38 @@ of_relation_after_release spec old new r o released few =
     released_law spec old new released o.table (sym (offered-length old) ∙ o.stripes) r o.relation o.satisfies few
     (λ h m. o.held h (subst (In h) (sym (held_of-holding old)) m))
     (λ n l d. sym (told_offer old n) ∙ o.others n l (λ q. d (subst (λ held. IsHeld held n) (held_of-holding old) q)))
+
+-- ---- a stop
+
+-- an instance that offers what it did is of the relations that it was of
+pub still_of_relation : (spec : Spec) (old new : List Stripe) → table_of new ≡ table_of old → (holding new).offered ≡ (holding old).offered → KeepsRelations spec old new
+still_of_relation spec old new table offered r o = record {
+  table = table ∙ o.table;
+  relation = o.relation;
+  satisfies = o.satisfies;
+  few = o.few;
+  stripes = sym (offered-length new) ∙ ap length offered ∙ offered-length old ∙ o.stripes;
+  rows = λ n l. sym (told_offer new n) ∙ ap (λ z. get_or z n None) offered ∙ told_offer old n ∙ o.rows n l;
+}
+
+-- each held stripe was taken with its fragment of the relation that the instance was of
+taken_rows : (spec : Spec) (ss : List Stripe) (r : List Pairs) → IsOfRelation spec ss r → (h : HeldStripe) → In h (held_of (holding ss)) → h.taken ≡ fragment_of spec r h.stripe
+taken_rows spec ss r o h m =
+    let w : IsHeldFrom 0 ss h = in_held_from 0 ss h (subst (In h) (held_of-holding ss) m) in
+    let l : w.place < length ss = slice_get_within ss w.place w.stripe w.there in
+    let e : h.stripe ≡ w.place = omega (arith, w.numbered) in
+    let f : Some w.stripe.fragment.taken ≡ Some (fragment_of spec r w.place) = ap taken_in (sym w.there) ∙ o.rows w.place (omega (arith, l, o.stripes)) in
+    w.taken ∙ same_Some _ _ f ∙ ap (fragment_of spec r) (sym e)
+
+-- once all changes are taken back, what it holds is of the relation that it was of
+pub holds_after_revert : (spec : Spec) (old new : List Stripe) (r : List Pairs) → IsOfRelation spec old r → holding new ≡ all_reverted (holding old) → HoldsRelation spec (holding new) r
+holds_after_revert spec old new r o e = subst (λ s. HoldsRelation spec s r) (sym e) (record {
+  table = o.table;
+  stripes = offered-length old ∙ o.stripes;
+  relation = o.relation;
+  satisfies = o.satisfies;
+  held = λ h m.
+      let g : (g : HeldStripe) × In g (held_of (holding old)) × (h ≡ reverted g) = in_map reverted h (held_of (holding old)) (subst (In h) (held-reverted (holding old)) m) in
+      ap (λ (z : HeldStripe). z.now) g.2 ∙ taken_rows spec old r o g.0 g.1 ∙ ap (λ (z : HeldStripe). fragment_of spec r z.stripe) (sym g.2);
+  others = λ n l d. told_offer old n ∙ o.rows n l;
+})

@@ -1,3 +1,4 @@
 pub mod Open
 pub mod Relation
 pub mod Session
+pub mod Stopping

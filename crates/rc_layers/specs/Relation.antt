@@ -9,6 +9,7 @@ use Rattle.rc_spec.specs.Stripes.{stripe_total}
 use Rattle.rc_spec.specs.declared.spec.Spec.{Spec}
 use Rattle.rc_fragment.specs.Fragment.{edge_table}
 use Rattle.rc_fragment.specs.Holder.{HeldStripe, Holding, IsHeld, held_of, offered_at}
+use Rattle.rc_instance.specs.Instance.{IsOfRelation, Stripe}
 
 -- the holder is one of the specification, each held stripe's rows now are its fragment of this relation, which satisfies the dependencies, and each other stripe offers its own
 pub record HoldsRelation (spec : Spec) (s : Holding) (r : List Pairs) : Type 0 where
@@ -18,3 +19,7 @@ pub record HoldsRelation (spec : Spec) (s : Holding) (r : List Pairs) : Type 0 w
   pub satisfies : Satisfies r spec.deps
   pub held : (h : HeldStripe) → In h (held_of s) → h.now ≡ fragment_of spec r h.stripe
   pub others : (n : ℕ) → n < stripe_total spec → (IsHeld (held_of s) n → ⊥) → offered_at s n ≡ Some (fragment_of spec r n)
+
+-- each relation that the instance was of it is still of
+abbrev pub KeepsRelations : Spec → List Stripe → List Stripe → Type 0
+KeepsRelations spec old new = (r : List Pairs) → IsOfRelation spec old r → IsOfRelation spec new r

@@ -10,8 +10,10 @@ ghost use Rattle.rc_layers.specs.Open.{AreExclusive};
 ghost use Rattle.rc_layers.specs.Relation.{HoldsRelation};
 
 use crate::accepted::sealed;
-use crate::rows::stripes_of;
+use crate::rows::{push_rows, stripes_of};
 use crate::stop::Stop;
+use crate::stopping::StopAt;
+use crate::stops::run_up_to;
 use rc_fragment::Holder;
 use rc_instance::Instance;
 use rc_machine::{Stop as RunStop, run_plan};
@@ -122,8 +124,55 @@ impl Sides {
         push_replies(compiled.accepted().spec(), ranks, call, replies, out)
     }
 
+    /// Runs the call's plan on the instance up to the stop, takes back what it changed and frees its stripes; says whether it
+    /// was stopped there.
+    pub(crate) fn stop_call(
+        &mut self,
+        alloc: Global,
+        compiled: &Compiled,
+        call: &Call,
+        at: StopAt,
+    ) -> Result<bool, Stop>
+        requires fits { Fits compiled.now.spec call.now }
+        requires free { held_of (holding self.old.instance) ≡ [] }
+        requires relation { IsOfRelation compiled.now.spec self.old.instance self.old.relation }
+        ensures free { OnOk result (held_of (holding self.new.instance) ≡ []) }
+        ensures relation { OnOk result (IsOfRelation compiled.now.spec self.new.instance self.new.relation) }
+    {
+        let is_stopped = run_up_to(alloc, compiled, call, &mut self.instance, at)?;
+        self.take_back(compiled);
+        self.release(compiled)?;
+        Ok(is_stopped)
+    }
+
+    /// Takes back what was changed of the held stripes.
+    #[tactic(auto, using(crate::proofs::RelationLemmas::holds_after_revert))]
+    fn take_back(&mut self, compiled: &Compiled)
+        requires { IsOfRelation compiled.now.spec self.old.instance self.old.relation }
+        ensures { HoldsRelation compiled.now.spec (holding self.new.instance) self.new.relation }
+    {
+        self.instance.revert();
+    }
+
+    /// Appends all rows.
+    pub(crate) fn push_all_rows(
+        &mut self,
+        compiled: &Compiled,
+        ranks: &Ranks,
+        out: &mut Vec<u8>,
+    ) -> Result<(), Stop>
+        requires free { held_of (holding self.old.instance) ≡ [] }
+        requires relation { IsOfRelation compiled.now.spec self.old.instance self.old.relation }
+        ensures free { OnOk result (held_of (holding self.new.instance) ≡ []) }
+        ensures relation { OnOk result (IsOfRelation compiled.now.spec self.new.instance self.new.relation) }
+    {
+        self.hold_all(compiled);
+        push_rows(compiled.accepted(), ranks, &self.instance, out)?;
+        self.release(compiled)
+    }
+
     /// Takes all stripes Exclusive.
-    pub(crate) fn hold_all(&mut self, compiled: &Compiled)
+    fn hold_all(&mut self, compiled: &Compiled)
         requires free { held_of (holding self.old.instance) ≡ [] }
         requires relation { IsOfRelation compiled.now.spec self.old.instance self.old.relation }
         ensures holds { HoldsRelation compiled.now.spec (holding self.new.instance) self.new.relation }

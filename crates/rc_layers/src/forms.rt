@@ -34,6 +34,7 @@ fn fill_from(
         "routes" => routes::find(alloc, words, text, out),
         "machine" => machine::run(alloc, Telling::All, text, out),
         "alike" => machine::run(alloc, Telling::Steps, text, out),
+        "stops" => machine::run(alloc, Telling::Stops, text, out),
         "plain" => plain::run(alloc, text, out),
         "instance" => session::act_all(alloc, text, out),
         _ => Err(Stop::Words),

@@ -7,8 +7,9 @@ ghost use Rattle.rc_instance.specs.Instance.{IsOfRelation, holding};
 ghost use Rattle.rc_work.specs.Fitting.{RoundsFit, TurnsFit};
 
 use crate::calls::{Sides, read};
-use crate::rows::{push_held, push_rows};
+use crate::rows::push_held;
 use crate::stop::Stop;
+use crate::stops::push_stops;
 use crate::writing::{push_count, push_tuples};
 use rc_plan::Compiled;
 use rc_spec::Call;
@@ -24,10 +25,12 @@ pub(crate) enum Telling {
     All,
     /// Its reply alone.
     Steps,
+    /// Each stop of its plan, and then as `All`.
+    Stops,
 }
 
-/// `machine` and `alike`: makes the calls of the workload behind the specification, each by its plan on an instance and
-/// on the plain relation, in the order of the text. After each round it tells what the instance represents.
+/// `machine`, `alike` and `stops`: makes the calls of the workload behind the specification, each by its plan on an
+/// instance and on the plain relation, in the order of the text. After each round it tells what the instance represents.
 pub(crate) fn run(
     alloc: Global,
     telling: Telling,
@@ -72,12 +75,31 @@ fn make_round(
     ensures relation { OnOk result (IsOfRelation compiled.now.spec sides.new.instance sides.new.relation) }
 {
     for turn in turns {
-        match telling {
-            Telling::All => make_told(compiled, ranks, &turn.call, sides, out)?,
-            Telling::Steps => make(compiled, ranks, &turn.call, sides, out)?,
-        }
+        make_telling(compiled, ranks, telling, &turn.call, sides, out)?;
     }
     Ok(())
+}
+
+/// Makes a call, and appends what is told of it.
+fn make_telling(
+    compiled: &Compiled,
+    ranks: &Ranks,
+    telling: Telling,
+    call: &Call,
+    sides: &mut Sides,
+    out: &mut Vec<u8>,
+) -> Result<(), Stop>
+    requires fits { Fits compiled.now.spec call.now }
+    requires free { held_of (holding sides.old.instance) ≡ [] }
+    requires relation { IsOfRelation compiled.now.spec sides.old.instance sides.old.relation }
+    ensures free { OnOk result (held_of (holding sides.new.instance) ≡ []) }
+    ensures relation { OnOk result (IsOfRelation compiled.now.spec sides.new.instance sides.new.relation) }
+{
+    match telling {
+        Telling::All => make_told(compiled, ranks, call, sides, out),
+        Telling::Steps => make(compiled, ranks, call, sides, out),
+        Telling::Stops => make_stopped(compiled, ranks, call, sides, out),
+    }
 }
 
 /// Makes a call, and appends its step.
@@ -115,9 +137,25 @@ fn make_told(
     sides.push_step(compiled, ranks, call, out)?;
     push_held(&sides.instance, out)?;
     sides.release(compiled)?;
-    sides.hold_all(compiled);
-    push_rows(compiled.accepted(), ranks, &sides.instance, out)?;
-    sides.release(compiled)
+    sides.push_all_rows(compiled, ranks, out)
+}
+
+/// Stops the call's plan wherever it may be stopped, and then makes the call.
+fn make_stopped(
+    compiled: &Compiled,
+    ranks: &Ranks,
+    call: &Call,
+    sides: &mut Sides,
+    out: &mut Vec<u8>,
+) -> Result<(), Stop>
+    requires fits { Fits compiled.now.spec call.now }
+    requires free { held_of (holding sides.old.instance) ≡ [] }
+    requires relation { IsOfRelation compiled.now.spec sides.old.instance sides.old.relation }
+    ensures free { OnOk result (held_of (holding sides.new.instance) ≡ []) }
+    ensures relation { OnOk result (IsOfRelation compiled.now.spec sides.new.instance sides.new.relation) }
+{
+    push_stops(compiled, ranks, call, sides, out)?;
+    make_told(compiled, ranks, call, sides, out)
 }
 
 /// Appends how many tuples the instance represents, and where they aren't those of the relation all of both.
