@@ -21,25 +21,18 @@ mod tuples;
 
 use crate::fault::Fault;
 use crate::forms::answer_form;
-use rc_case::{Case, End, Script, Subject};
+use rc_case::{Case, End, Subject, run_files};
 use rc_text::push_bytes;
 use rc_tuple::Memory;
 use std::alloc::Global;
+use std::io;
 use std::process::ExitCode;
-use std::sync::Wait;
-use std::thread::Threads;
-use std::{env, fs, io};
 
 /// The lowest libraries, of which a case asks one.
 struct Basics;
 
 impl Subject for Basics {
-    fn answer<R: Threads + Wait + Sync>(
-        &self,
-        _rt: &R,
-        alloc: Global,
-        case: &Case,
-    ) -> Result<End, Memory> {
+    fn answer(&self, alloc: Global, case: &Case) -> Result<End, Memory> {
         let mut text = Vec::new(alloc);
         match answer_form(case, &mut text) {
             Ok(()) => Ok(End::new(0, text)),
@@ -54,13 +47,5 @@ impl Subject for Basics {
 
 /// Runs the cases of each file that the words name, and prints a line for each.
 fn main(rt: HostRuntime) -> io::Result<ExitCode> {
-    let alloc = rt.alloc();
-    let files: Vec<String> = env::args(&rt)?.skip(1).collect(alloc)?;
-    let mut script = Script::new(alloc);
-    for file in &files {
-        let text = fs::read_to_string(&rt, file.as_str())?;
-        print!(rt; "{}", script.run_file(&rt, alloc, &Basics, file, &text)?)?;
-    }
-    println!(rt; "{} ran, {} failed", script.ran(), script.failed())?;
-    Ok(ExitCode::from(if script.failed() == 0 { 0 } else { 1 }))
+    run_files(&rt, &Basics)
 }

@@ -1,12 +1,12 @@
 //! A case: what a program is given, and how it is to end.
 
 ghost use Rattle.std.specs.Prelude.{◌≡◌, ◌↔◌, IsTrue};
-ghost use Rattle.std.specs.Thread.{IsSync};
 
-use rc_tuple::Memory;
 use std::alloc::{AllocError, Global};
-use std::sync::Wait;
-use std::thread::Threads;
+use std::fmt;
+
+/// The status of a case to which there is no answer.
+const NO_ANSWER: u8 = 2;
 
 /// The streams of a case, which are a source of its input and a sink.
 #[derive(Debug, Drop)]
@@ -41,19 +41,6 @@ pub struct Case {
     pub wanted: End,
 }
 
-/// What cases are run on.
-pub trait Subject {
-    /// How it ends on the case's words, input and streams. It has no use for what the case wants. By the leave of `rt` it may
-    /// make threads, and wait.
-    fn answer<R: Threads + Wait + Sync>(
-        &self,
-        rt: &R,
-        alloc: Global,
-        case: &Case,
-    ) -> Result<End, Memory>
-        requires { IsSync R.row };
-}
-
 impl Streams {
     /// Streams that pass all in one call and never fail.
     fn new(alloc: Global) -> Streams {
@@ -73,6 +60,12 @@ impl End {
             left: 0,
             text,
         }
+    }
+
+    /// The end where there is no answer, with a line that says why.
+    pub fn without_answer<D: fmt::Display>(alloc: Global, why: &D) -> Result<End, AllocError> {
+        let text = format!(in alloc; "{why}\n")?;
+        Ok(End::new(NO_ANSWER, text.into_bytes()))
     }
 
     /// Whether the status, the text and what is left are the same.

@@ -1,11 +1,10 @@
-//! Scripts: the lines of case files, which make cases and run them.
+//! Scripts: what the lines of case files have made so far.
 
+use crate::cases::Cases;
 use crate::settings::set;
 use crate::texts::{Named, change, fill, push_bytes, push_line, text_of};
-use crate::{Case, End, LineFault, Subject};
-use std::alloc::{AllocError, Global};
-use std::sync::Wait;
-use std::thread::Threads;
+use crate::{Case, LineFault};
+use std::alloc::Global;
 
 /// Where lines of text go.
 #[derive(Clone, Copy, Debug, PartialEq, Eq)]
@@ -18,14 +17,12 @@ enum Target {
     Named,
 }
 
-/// The case that is being made, the named texts, and counts of what ran.
+/// The case that is being made, and the named texts, which the files behind may use too.
 #[derive(Debug, Drop)]
 pub struct Script {
     case: Option<Case>,
     texts: Vec<Named>,
     target: Target,
-    ran: u64,
-    failed: u64,
 }
 
 impl Script {
@@ -35,78 +32,22 @@ impl Script {
             case: None,
             texts: Vec::new(alloc),
             target: Target::Named,
-            ran: 0,
-            failed: 0,
         }
     }
 
-    /// How many cases ran.
-    pub fn ran(&self) -> u64 {
-        self.ran
+    /// The cases of a file's text. They are handed out one at a time, so that whoever answers them needs to lend this crate
+    /// nothing.
+    pub fn cases<'a>(&'a mut self, alloc: Global, text: &'a str) -> Cases<'a> {
+        Cases::new(alloc, self, text)
     }
 
-    /// How many cases ended otherwise than they were to, and lines were not done.
-    pub fn failed(&self) -> u64 {
-        self.failed
-    }
-
-    /// Does what the lines of a file say, and gives a line for each case that ran and for each line that was not done.
-    /// A line's fault has the file's name and the line's number.
-    pub fn run_file<R: Threads + Wait + Sync, S: Subject>(
-        &mut self,
-        rt: &R,
-        alloc: Global,
-        subject: &S,
-        file: &str,
-        text: &str,
-    ) -> Result<String, AllocError> {
-        let mut said = String::new(alloc);
-        let mut number = 0u64;
-        for line in text.lines() {
-            number = number.saturating_add(1);
-            let done = self.line(rt, alloc, subject, line);
-            self.push_said(alloc, &mut said, file, number, done)?;
-        }
-        let ended = self.end();
-        self.push_said(alloc, &mut said, file, number, ended)?;
-        Ok(said)
-    }
-
-    /// Appends what a line has to say, or why it is not done, which counts as failed.
-    fn push_said(
-        &mut self,
-        alloc: Global,
-        said: &mut String,
-        file: &str,
-        number: u64,
-        done: Result<Option<String>, LineFault>,
-    ) -> Result<(), AllocError> {
-        match done {
-            Ok(None) => Ok(()),
-            Ok(Some(line)) => {
-                said.push_str(&line)?;
-                said.push('\n')
-            }
-            Err(fault) => {
-                self.failed = self.failed.saturating_add(1);
-                said.push_str(&format!(in alloc; "{file} {number}: {fault}\n")?)
-            }
-        }
-    }
-
-    /// Does what a line says, and gives what is to be printed.
-    fn line<R: Threads + Wait + Sync, S: Subject>(
-        &mut self,
-        rt: &R,
-        alloc: Global,
-        subject: &S,
-        line: &str,
-    ) -> Result<Option<String>, LineFault> {
+    /// Does what a line says. The line `run` hands out the case that was made.
+    pub(crate) fn read(&mut self, alloc: Global, line: &str) -> Result<Option<Case>, LineFault> {
         if line.is_empty() || line.starts_with('#') {
             return Ok(None);
         }
         if line == "run" {
-            return self.run(rt, alloc, subject).map(Some);
+            return self.case.take().ok_or(LineFault::NoCase).map(Some);
         }
         match line.strip_prefix('|') {
             Some(text) => push_line(self.buffer()?, text)?,
@@ -150,11 +91,11 @@ impl Script {
         Ok(())
     }
 
-    /// A case that was begun has been run.
-    fn end(&mut self) -> Result<Option<String>, LineFault> {
+    /// Ends the case that was begun and not run, if there is one.
+    pub(crate) fn end(&mut self) -> Result<(), LineFault> {
         match self.case.take() {
             Some(_) => Err(LineFault::NotRun),
-            None => Ok(None),
+            None => Ok(()),
         }
     }
 
@@ -196,42 +137,6 @@ impl Script {
         match &mut self.case {
             Some(case) => set(alloc, case, word, rest),
             None => Err(LineFault::NoCase),
-        }
-    }
-
-    /// Runs the case, and says how it ended.
-    fn run<R: Threads + Wait + Sync, S: Subject>(
-        &mut self,
-        rt: &R,
-        alloc: Global,
-        subject: &S,
-    ) -> Result<String, LineFault> {
-        let Some(case) = self.case.take() else {
-            return Err(LineFault::NoCase);
-        };
-        let end = subject.answer(rt, alloc, &case)?;
-        self.ran = self.ran.saturating_add(1);
-        if end.is(&case.wanted) {
-            return Ok(format!(in alloc; "{}: ok", case.name)?);
-        }
-        self.failed = self.failed.saturating_add(1);
-        Ok(failure(alloc, &case.name, &end)?)
-    }
-}
-
-/// How a case ended that is to end otherwise.
-fn failure(alloc: Global, name: &str, end: &End) -> Result<String, AllocError> {
-    let (status, left) = (end.status, end.left);
-    match str::from_utf8(&end.text) {
-        Ok(text) => {
-            format!(in alloc;
-                "{name}: FAILED: status {status}, {left} bytes left, and wrote:\n{text}"
-            )
-        }
-        Err(_) => {
-            format!(in alloc;
-                "{name}: FAILED: status {status}, {left} bytes left, and wrote no text"
-            )
         }
     }
 }
