@@ -22,3 +22,9 @@ pub mod Limits
 pub mod RankingLaws
 pub mod Answers
 pub mod RefusalLaws
+pub mod WholeText
+pub mod Prefix
+pub mod PrefixCutLaws
+pub mod PrefixLineLaws
+pub mod PrefixLaws
+pub mod PrefixLastLaws

@@ -4,6 +4,7 @@
 mod columns;
 mod forms;
 mod laws;
+mod prefix_laws;
 mod printing;
 mod ranking;
 mod raw;
@@ -15,6 +16,7 @@ mod words;
 mod work;
 
 pub use laws::{runs_make_calls, texts_print_as_written};
+pub use prefix_laws::{cut_texts_are_refused, last_letter_is_there};
 pub use printing::{print_step, print_tuple};
 pub use reading::read_work;
 pub use reading_laws::first_broken_work_line;
