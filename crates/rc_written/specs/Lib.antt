@@ -1,0 +1,13 @@
+pub mod Written
+pub mod WordsLaws
+pub mod NumberedLaws
+pub mod FormOfLaws
+pub mod HasFormLaws
+pub mod LineLaws
+pub mod SectionsLaws
+pub mod ItemLaws
+pub mod SpecLaws
+pub mod Kinds
+pub mod LineFormLaws
+pub mod KindsLaws
+pub mod WrittenExample
