@@ -1,19 +1,20 @@
 -- What may be written of a text, of what is written of its parts.
-use Rattle.std.proofs.Common.{◌≡◌, ℕ, ◌+◌, inl, inr, List, ◌++◌, Option, Result, Ok, Err, ◌∙◌, refl, sym, subst, ap}
+use Rattle.std.proofs.Common.{◌≡◌, ℕ, ◌+◌, inl, inr, List, Option, Result, Ok, Err, ◌∙◌, sym, subst, ap}
 use Rattle.rc_reader.specs.Grammar.{Broken, Reading, spec_reading}
 use Rattle.rc_reader.specs.Answers.{IsRead, ReadsAs, rest_place}
 use Rattle.rc_reader.specs.declared.refusal.ReadRefusal.{ReadRefusal}
 use Rattle.rc_reader.specs.declared.refusal.ReadRefusal.TheVariants as refusals
 use Rattle.rc_reader.specs.declared.reading.Rest.{Rest}
-use Rattle.rc_text.specs.Lines.{TextPlace, printed_lines}
+use Rattle.rc_text.specs.Lines.{TextPlace}
 use Rattle.rc_spec.specs.declared.spec.Spec.{Spec}
 use Rattle.rc_spec.specs.Acceptance.{IsAccepted}
 use Rattle.rc_work.specs.declared.work.Work.{Work}
 use Rattle.rc_work.specs.Ranking.{work_reading}
-use Rattle.rc_answer.specs.Answers.{Answers, AnswersAlone, AnswersRun, AnswersWork, IsRefusal, IsReport, place_after}
+use Rattle.rc_answer.specs.Answers.{Answers, AnswersAlone, AnswersRun, AnswersWork, IsRefusal, IsReport}
+use Rattle.rc_work.specs.WholeText.{place_after}
 use Rattle.rc_answer.specs.Refusals.{WritesRefusal}
 use Rattle.rc_answer.specs.Writes.{Writes}
-use Rattle.rc_command.specs.declared.command.Command.TheVariants.{Run}
+use Rattle.rc_command.specs.declared.command.TextCommand.TheVariants.{Run}
 use Rattle.rc_answer.specs.declared.status.Status.{Status}
 use Rattle.rc_answer.specs.declared.status.Stop.{Stop}
 use Rattle.rc_answer.specs.declared.status.Stop.TheVariants.{Memory, Sink}

@@ -2,3 +2,4 @@ pub mod AnswerLemmas
 pub mod PlanLemmas
 pub mod WriteLemmas
 pub mod RanLemmas
+pub mod SummingLemmas

@@ -1,6 +1,6 @@
 -- What may be written for an input, with which status.
-use Rattle.std.specs.Prelude.{◌≡◌, ℕ, ◌+◌, ◌⊎◌, List, [], ◌∷◌, ◌++◌, Result, Ok, Err, decimal, codes}
-use Rattle.rc_text.specs.Lines.{TextPlace, printed_lines}
+use Rattle.std.specs.Prelude.{◌≡◌, ℕ, ◌⊎◌, List, [], ◌∷◌, ◌++◌, Result, Ok, Err, decimal, codes}
+use Rattle.rc_text.specs.Lines.{printed_lines}
 use Rattle.rc_spec.specs.declared.refusal.Refusal.{Refusal}
 use Rattle.rc_spec.specs.declared.spec.Spec.{Spec}
 use Rattle.rc_spec.specs.Acceptance.{IsAccepted, IsFirstBroken}
@@ -15,9 +15,10 @@ use Rattle.rc_work.specs.Printed.{words_text}
 use Rattle.rc_work.specs.Ranking.{work_reading}
 use Rattle.rc_work.specs.Report.{report}
 use Rattle.rc_work.specs.Runs.{Runs, HasSingleSteps}
+use Rattle.rc_work.specs.WholeText.{place_after}
 use Rattle.rc_answer.specs.Plans.{ArePlanned, plans_and_end, plans_text}
-use Rattle.rc_command.specs.declared.command.Command.{Command}
-use Rattle.rc_command.specs.declared.command.Command.TheVariants.{Check, Plan, Run}
+use Rattle.rc_command.specs.declared.command.TextCommand.{TextCommand}
+use Rattle.rc_command.specs.declared.command.TextCommand.TheVariants.{Check, Plan, Run}
 use Rattle.rc_answer.specs.declared.status.Status.{Status}
 use Rattle.rc_answer.specs.declared.status.Status.TheVariants.{Done, Refused}
 
@@ -77,10 +78,6 @@ pub record IsReport (spec : Spec) (work : Work) (text : List ℕ) (status : Stat
   pub printed : text ≡ plans_and_report spec work plans history
   pub done : status ≡ Done
 
--- where the workload begins: behind the specification's line `end`
-abbrev pub place_after : List ℕ → Reading → TextPlace
-place_after input reading = record { text = input; at = reading.last.next; line = reading.last.number + 1 }
-
 abbrev pub AnswersWork : Spec → Result Work Broken → List ℕ → Status → Type 0
 AnswersWork spec (Err broken) text status = IsRefusal broken text status
 AnswersWork spec (Ok work) text status = IsReport spec work text status
@@ -89,12 +86,12 @@ abbrev pub AnswersRun : List ℕ → Result Reading Broken → List ℕ → Stat
 AnswersRun input (Err broken) text status = IsRefusal broken text status
 AnswersRun input (Ok reading) text status = AnswersRules reading.spec (AnswersWork reading.spec (work_reading reading.spec (place_after input reading))) text status
 
--- ---- all commands
+-- ---- all commands that read a text
 
 -- What an input that is not too long may have written. `check` and `plan` read a specification alone: the refusal of its first
 -- broken line rule, then of its first broken rule of acceptance, else `accepted` or the plans. `run` reads a workload behind it,
 -- and refuses by its line rules last; else it writes the plans and the report of a run.
-abbrev pub Answers : Command → List ℕ → List ℕ → Status → Type 0
+abbrev pub Answers : TextCommand → List ℕ → List ℕ → Status → Type 0
 Answers Check input text status = AnswersAlone (λ spec. IsAcceptedText) (spec_of input) text status
 Answers Plan input text status = AnswersAlone IsPlansText (spec_of input) text status
 Answers Run input text status = AnswersRun input (spec_reading input) text status

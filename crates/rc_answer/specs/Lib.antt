@@ -1,5 +1,7 @@
 pub mod Answers
 pub mod Asked
+pub mod Big
+pub mod CutLaws
 pub mod Plans
 pub mod Ran
 pub mod RanLaws

@@ -20,7 +20,7 @@ use Rattle.rc_answer.specs.declared.outcome.Ran.{Ran}
 use Rattle.rc_answer.specs.declared.status.Status.{Status}
 use Rattle.rc_answer.specs.declared.status.Status.TheVariants.{Done, Refused}
 use Rattle.rc_answer.specs.declared.status.Stop.{Stop}
-use Rattle.rc_answer.specs.Answers.{place_after}
+use Rattle.rc_work.specs.WholeText.{place_after}
 use Rattle.rc_answer.specs.Plans.{ArePlanned, plans_text}
 
 -- ---- the text of a run

@@ -2,14 +2,18 @@
 //! plans and the report, or the refusal of the first broken rule.
 #![tactic(auto)]
 
+mod laws;
 mod outcome;
 mod performing;
 mod planning;
 mod refusing;
 mod status;
+mod summing;
 mod writing;
 
+pub use laws::cut_runs_are_refused;
 pub use outcome::{Outcome, Ran};
 pub use performing::answer;
 pub use refusing::refuse_size;
 pub use status::{Status, Stop};
+pub use summing::answer_big;

@@ -12,14 +12,14 @@ ghost use Rattle.rc_answer.specs.Answers.{Answers, AnswersAlone, IsReport};
 ghost use Rattle.rc_answer.specs.Ran.{HasRunText, IsRunOf, done_in, entries_in, run_text, status_in};
 ghost use Rattle.rc_answer.specs.Writes.{Writes};
 ghost use Rattle.rc_answer.specs.Asked.{IsAskedText};
-ghost use Rattle.rc_command.specs.declared.command.Command.TheVariants as commands;
+ghost use Rattle.rc_command.specs.declared.command.TextCommand.TheVariants as commands;
 
 use crate::outcome::{Outcome, Ran, with_run, without_run};
 use crate::planning::{write_planned, write_plans};
 use crate::refusing::{refuse, refuse_run, refuse_run_of, refuse_spec};
 use crate::status::{Status, Stop};
 use crate::writing::{write_accepted, write_report};
-use rc_command::Command;
+use rc_command::TextCommand;
 use rc_io::Sink;
 use rc_mutate::compile;
 use rc_place::accept;
@@ -34,7 +34,7 @@ use std::sync::Wait;
 use std::thread::Threads;
 
 /// Plans the operations of an accepted specification, and makes the calls of a workload by them, on a store of its own.
-fn make_run<R: Threads + Wait + Sync, G: Gate + Sync>(
+pub(crate) fn make_run<R: Threads + Wait + Sync, G: Gate + Sync>(
     rt: &R,
     alloc: Global,
     accepted: Accepted,
@@ -195,7 +195,7 @@ fn run<R: Threads + Wait + Sync, K: Sink, G: Gate + Sync>(
 pub fn answer<R: Threads + Wait + Sync, K: Sink, G: Gate + Sync>(
     rt: &R,
     alloc: Global,
-    command: Command,
+    command: TextCommand,
     text: &[u8],
     sink: &mut K,
     gate: &G,
@@ -211,8 +211,8 @@ pub fn answer<R: Threads + Wait + Sync, K: Sink, G: Gate + Sync>(
     ensures count { K.faults sink.old ≤ K.faults sink.new }
 {
     match command {
-        Command::Check => without_run(answer_alone(alloc, Asked::Acceptance, text, sink)),
-        Command::Plan => without_run(answer_alone(alloc, Asked::Plans, text, sink)),
-        Command::Run => run(rt, alloc, text, sink, gate),
+        TextCommand::Check => without_run(answer_alone(alloc, Asked::Acceptance, text, sink)),
+        TextCommand::Plan => without_run(answer_alone(alloc, Asked::Plans, text, sink)),
+        TextCommand::Run => run(rt, alloc, text, sink, gate),
     }
 }

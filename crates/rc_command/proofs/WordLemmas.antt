@@ -1,21 +1,24 @@
 -- What clap makes of the words, and which command they are.
-use Rattle.std.proofs.Common.{◌≡◌, ◌∙◌, ◌⊎◌, ◌||◌, inl, inr, Bool, true, false, List, [], ◌∷◌, Option, Some, None, option_map, codes, refl, sym, ap, subst, drop}
+use Rattle.std.proofs.Common.{ℕ, ◌≡◌, ◌∙◌, ◌⊎◌, ◌||◌, inl, inr, Bool, true, false, List, [], ◌∷◌, Option, Some, None, option_map, codes, find, refl, sym, ap, ap₂, subst, drop, unwrap_or}
 use Rattle.std.specs.List.{list_any}
 use Rattle.std.specs.Str.{bytes_eq}
 use Rattle.std.proofs.lemmas.Slice.Eq.{bytes_eq-Decides}
 use Rattle.clap.specs.Lexer.{long_of, short_of}
-use Rattle.clap.specs.Walk.{Names, idle, nothing_held, subcommand_met, walk, walk_from}
-use Rattle.clap.specs.Simple.{names_of}
+use Rattle.clap.specs.Walk.{Held, Names, Step, Walk, after_step, answers_to, finished, idle, settled, nothing_held, subcommand_met, value, walk, walk_from, walked, word_met}
+use Rattle.clap.specs.Simple.{label_of, names_of}
 use Rattle.clap.specs.Kinds.{or_else}
-use Rattle.clap.specs.Faults.{entered_fault, level_fault, stray_fault, turn_fault}
-use Rattle.clap.specs.Words.{App, IsAmong, Kinds, Row, Shape, Text, built, fault_of, subcommand_name_of, subcommand_of, subcommand_rows_of}
+use Rattle.clap.specs.Faults.{check_fault, defaults_fault, entered_fault, level_fault, settle_fault, step_fault, stray_fault, turn_fault, walk_fault, word_fault}
+use Rattle.clap.specs.Words.{App, IsAmong, Kinds, Row, Rule, Shape, Text, built, fault_of, subcommand_name_of, subcommand_of, subcommand_rows_of}
 use Rattle.clap.specs.declared.error.kind.ErrorKind.{ErrorKind}
 use Rattle.clap.specs.declared.parser.matches.ArgMatches.{ArgMatches}
+use Rattle.clap.specs.Values.{reading_of}
+use Rattle.clap.specs.declared.builder.value_parser.ValueParser.TheVariants as vp
+use Rattle.clap.specs.declared.parser.matches.ValueSource.TheVariants.{CommandLine}
 use Rattle.clap.proofs.OnLiterals.{clap_on_literals}
 use Rattle.clap.proofs.WalkLemmas.{walk_stopped}
 use Rattle.rc_command.specs.Command.{command_of}
 use Rattle.rc_command.specs.declared.command.Command.{Command}
-use Rattle.rc_command.specs.Grammar.{grammar, is_flag, named}
+use Rattle.rc_command.specs.Grammar.{grammar, is_flag, met, met_as}
 
 -- ---- a word that is neither a flag nor a name
 
@@ -59,6 +62,35 @@ stray_word s names word words has_subcommand below none met plain e =
     let turn_is = (both_empty _ _ walk_is).0 in
     stray_fails s (sym (turn_is_stray s names word none met plain) ∙ turn_is)
 
+-- ---- the words behind `big`
+
+-- clap waits for the positional of a place
+abbrev standing : Held → ℕ → Walk
+standing held position = record { held = held; waiting = idle; position = position; is_trailing = false; stopped = None }
+
+-- a word that is no flag goes to that positional
+plain_met : (rules : List Rule) (position : ℕ) (word : Text) (h : Held) → is_flag word ≡ false → word_met rules [] false idle position word h ≡ (h, value)
+plain_met rules position word h plain = rw (plain_dashes word plain, plain_long word plain, plain_short word plain) refl
+
+plain_fault : (s : Shape) (word : Text) (h : Held) → is_flag word ≡ false → word_fault s [] false idle word h ≡ []
+plain_fault s word h plain = rw (plain_dashes word plain, plain_long word plain, plain_short word plain) refl
+
+plain_walked : (rules : List Rule) (held : Held) (position : ℕ) (word : Text) → is_flag word ≡ false
+    → walked rules [] (standing held position) word ≡ after_step rules word (standing held position) held value
+unfolding clap_on_literals
+plain_walked rules held position word plain = ap (λ (m : Held × Step). after_step rules word (standing held position) m.0 m.1) (plain_met rules position word held plain)
+
+plain_turn : (s : Shape) (held : Held) (position : ℕ) (word : Text) → is_flag word ≡ false → turn_fault s [] (standing held position) word ≡ step_fault s position held value
+plain_turn s held position word plain =
+    ap₂ (λ (f : Kinds) (m : Held × Step). or_else f (step_fault s position m.0 m.1)) (plain_fault s word held plain) (plain_met s.rules position word held plain)
+
+plain_walk : (s : Shape) (held : Held) (position : ℕ) (word : Text) (words : List Text) → is_flag word ≡ false
+    → walk_fault s [] (standing held position) (word ∷ words)
+    ≡ or_else (step_fault s position held value) (walk_fault s [] (after_step s.rules word (standing held position) held value) words)
+unfolding clap_on_literals
+plain_walk s held position word words plain =
+    ap₂ (λ (f : Kinds) (w : Walk). or_else f (walk_fault s [] w words)) (plain_turn s held position word plain) (plain_walked s.rules held position word plain)
+
 -- ---- the program
 
 abbrev top : Shape
@@ -79,16 +111,20 @@ differs xs ys e = go (bytes_eq xs ys) refl
         let flipped : bytes_eq ys xs ≡ true = (bytes_eq-Decides ys xs).1 (sym ((bytes_eq-Decides xs ys).0 t)) in
         cc
 
--- a name is one of the three
+-- a name is one of the three that stand alone
 abbrev IsName : Text → Type 0
 IsName word = (word ≡ codes "check") ⊎ ((word ≡ codes "plan") ⊎ (word ≡ codes "run"))
 
--- another word is none of them
+abbrev IsBig : Text → Type 0
+IsBig word = word ≡ codes "big"
+
+-- another word is none of the four
 abbrev IsOther : Text → Type 0
-IsOther word = (bytes_eq word (codes "check") ≡ false) × (bytes_eq word (codes "plan") ≡ false) × (bytes_eq word (codes "run") ≡ false)
+IsOther word = (bytes_eq word (codes "check") ≡ false) × (bytes_eq word (codes "plan") ≡ false) × (bytes_eq word (codes "run") ≡ false) × (bytes_eq word (codes "big") ≡ false)
 
 no_name : (word : Text) → IsOther word → subcommand_met names idle word ≡ None
-no_name word (not_check, not_plan, not_run) = rw (differs (codes "check") word not_check, differs (codes "plan") word not_plan, differs (codes "run") word not_run) refl
+no_name word (not_check, not_plan, not_run, not_big) =
+    rw (differs (codes "check") word not_check, differs (codes "plan") word not_plan, differs (codes "run") word not_run, differs (codes "big") word not_big) refl
 
 -- clap leaves the words after a name to the name's subcommand
 rest_is_left : (name word : Text) (words : List Text) → IsName name → stop_at (name ∷ word ∷ words) ≡ Some (name, word ∷ words)
@@ -108,14 +144,16 @@ several_words program name word words known plain e =
     let below_is : entered_fault (built grammar) (stop_at (name ∷ word ∷ words)) ≡ [] = (both_empty _ _ (both_empty _ _ e).1).0 in
     rest_fails name word words known plain (rw (rest_is_left name word words known) at below_is)
 
-name_or_other : (word : Text) → IsName word ⊎ IsOther word
-name_or_other word = go (bytes_eq word (codes "check")) (bytes_eq word (codes "plan")) (bytes_eq word (codes "run")) refl refl refl
+name_or_other : (word : Text) → IsName word ⊎ (IsBig word ⊎ IsOther word)
+name_or_other word = go (bytes_eq word (codes "check")) (bytes_eq word (codes "plan")) (bytes_eq word (codes "run")) (bytes_eq word (codes "big")) refl refl refl refl
   where
-    go : (check plan run : Bool) → bytes_eq word (codes "check") ≡ check → bytes_eq word (codes "plan") ≡ plan → bytes_eq word (codes "run") ≡ run → IsName word ⊎ IsOther word
-    go true plan run c p r = inl (inl ((bytes_eq-Decides word (codes "check")).0 c))
-    go false true run c p r = inl (inr (inl ((bytes_eq-Decides word (codes "plan")).0 p)))
-    go false false true c p r = inl (inr (inr ((bytes_eq-Decides word (codes "run")).0 r)))
-    go false false false c p r = inr (c, p, r)
+    go : (check plan run big : Bool) → bytes_eq word (codes "check") ≡ check → bytes_eq word (codes "plan") ≡ plan → bytes_eq word (codes "run") ≡ run → bytes_eq word (codes "big") ≡ big
+        → IsName word ⊎ (IsBig word ⊎ IsOther word)
+    go true plan run big c p r b = inl (inl ((bytes_eq-Decides word (codes "check")).0 c))
+    go false true run big c p r b = inl (inr (inl ((bytes_eq-Decides word (codes "plan")).0 p)))
+    go false false true big c p r b = inl (inr (inr ((bytes_eq-Decides word (codes "run")).0 r)))
+    go false false false true c p r b = inr (inl ((bytes_eq-Decides word (codes "big")).0 b))
+    go false false false false c p r b = inr (inr (c, p, r, b))
 
 other_fails : (program word : Text) (words : List Text) → IsOther word → is_flag word ≡ false → fault_of grammar (program ∷ word ∷ words) ≡ [] → ⊥
 other_fails program word words other plain e = stray_word top names word words _ _ refl (no_name word other) plain e
@@ -128,7 +166,92 @@ plain_head word words e = go (is_flag word) refl e
     go false t h = (t, h)
 
 abbrev read : List Text → Option Command
-read words = named (option_map (λ p. p.0) (subcommand_of grammar words))
+read words = met (subcommand_of grammar words)
+
+-- ---- `big` and its words
+
+abbrev big : Shape
+big = unwrap_or (find (λ s. answers_to (codes "big") (label_of s)) (built grammar).subs) top
+
+abbrev seed_row : Text → Row
+seed_row seed = record { id = codes "SEED"; values = seed ∷ []; count = None; source = Some CommandLine; reading = reading_of vp.String }
+
+-- what clap holds after the first word behind `big`, and after the second
+abbrev seed_held : Text → Held
+seed_held seed = record { rows = []; pending = Some (codes "SEED", seed ∷ []); skip = 0 }
+
+abbrev calls_held : Text → Text → Held
+calls_held seed calls = record { rows = seed_row seed ∷ []; pending = Some (codes "N", calls ∷ []); skip = 0 }
+
+seed_walked : (seed : Text) → is_flag seed ≡ false → walked big.rules [] (walk_from nothing_held) seed ≡ standing (seed_held seed) 2
+seed_walked seed plain = plain_walked big.rules nothing_held 1 seed plain
+
+calls_walked : (seed calls : Text) → is_flag calls ≡ false → walked big.rules [] (standing (seed_held seed) 2) calls ≡ standing (calls_held seed calls) 3
+calls_walked seed calls plain = plain_walked big.rules (seed_held seed) 2 calls plain
+
+words_walked : (seed calls : Text) → is_flag seed ≡ false → is_flag calls ≡ false → walk big.rules [] nothing_held (seed ∷ calls ∷ []) ≡ standing (calls_held seed calls) 3
+words_walked seed calls seed_plain calls_plain =
+    ap (λ (w : Walk). walked big.rules [] w calls) (seed_walked seed seed_plain) ∙ calls_walked seed calls calls_plain
+
+seed_turn : (seed : Text) (words : List Text) → is_flag seed ≡ false → walk_fault big [] (walk_from nothing_held) (seed ∷ words) ≡ walk_fault big [] (standing (seed_held seed) 2) words
+seed_turn seed words plain = plain_walk big nothing_held 1 seed words plain
+
+calls_turn : (seed calls : Text) (words : List Text) → is_flag calls ≡ false
+    → walk_fault big [] (standing (seed_held seed) 2) (calls ∷ words) ≡ walk_fault big [] (standing (calls_held seed calls) 3) words
+calls_turn seed calls words plain = plain_walk big (seed_held seed) 2 calls words plain
+
+-- the faults at the end of the words behind `big`
+abbrev end_fault : Held → Kinds
+end_fault end = or_else (settle_fault big.rules big.args_override_self end) (or_else (defaults_fault (settled big.rules end).rows big.rules) (check_fault big (finished big.rules end) false))
+
+abbrev big_fault : List Text → Kinds
+big_fault words = level_fault big [] nothing_held words false []
+
+-- clap leaves the words after `big` to `big`
+big_stopped : (words : List Text) → stop_at (codes "big" ∷ words) ≡ Some (codes "big", words)
+unfolding clap_on_literals
+big_stopped words = ap (λ w. w.stopped) (sym (walk_stopped [] names (walk_from nothing_held) (codes "big") [] words))
+
+big_fails : (program : Text) (words : List Text) → fault_of grammar (program ∷ codes "big" ∷ words) ≡ [] → big_fault words ≡ []
+big_fails program words e =
+    let below_is : entered_fault (built grammar) (stop_at (codes "big" ∷ words)) ≡ [] = (both_empty _ _ (both_empty _ _ e).1).0 in
+    rw (big_stopped words) at below_is
+
+some_fault : (k : ErrorKind) (ks : Kinds) → k ∷ ks ≡ [] → ⊥
+some_fault k ks e = cc
+
+-- one word is too few, and three are too many
+one_is_missing : (seed : Text) → end_fault (seed_held seed) ≡ [] → ⊥
+unfolding clap_on_literals
+one_is_missing seed e = some_fault _ _ e
+
+one_word_fails : (seed : Text) → is_flag seed ≡ false → big_fault (seed ∷ []) ≡ [] → ⊥
+one_word_fails seed plain e =
+    let end_is : end_fault (walk big.rules [] nothing_held (seed ∷ [])).held ≡ [] = (both_empty [] _ (both_empty (walk_fault big [] (walk_from nothing_held) (seed ∷ [])) _ e).1).1 in
+    one_is_missing seed (subst (λ (w : Walk). end_fault w.held ≡ []) (seed_walked seed plain) end_is)
+
+third_word_fails : (seed calls other : Text) (words : List Text) → is_flag seed ≡ false → is_flag calls ≡ false → is_flag other ≡ false → big_fault (seed ∷ calls ∷ other ∷ words) ≡ [] → ⊥
+third_word_fails seed calls other words seed_plain calls_plain other_plain e =
+    let walk_is : walk_fault big [] (walk_from nothing_held) (seed ∷ calls ∷ other ∷ words) ≡ [] = (both_empty _ _ e).0 in
+    let turns = seed_turn seed (calls ∷ other ∷ words) seed_plain ∙ calls_turn seed calls (other ∷ words) calls_plain ∙ plain_walk big (calls_held seed calls) 3 other words other_plain in
+    some_fault _ _ (sym turns ∙ walk_is)
+
+-- two are taken
+none_is_missing : (seed calls : Text) → end_fault (calls_held seed calls) ≡ []
+unfolding clap_on_literals
+none_is_missing seed calls = refl
+
+two_words_pass : (program seed calls : Text) → is_flag seed ≡ false → is_flag calls ≡ false → fault_of grammar (program ∷ codes "big" ∷ seed ∷ calls ∷ []) ≡ []
+unfolding clap_on_literals
+two_words_pass program seed calls seed_plain calls_plain =
+    let turns : walk_fault big [] (walk_from nothing_held) (seed ∷ calls ∷ []) ≡ [] = seed_turn seed (calls ∷ []) seed_plain ∙ calls_turn seed calls [] calls_plain in
+    let end_is = ap (λ (w : Walk). end_fault w.held) (words_walked seed calls seed_plain calls_plain) ∙ none_is_missing seed calls in
+    let level : big_fault (seed ∷ calls ∷ []) ≡ [] = ap₂ or_else turns end_is in
+    ap (λ k. or_else k []) level
+
+two_words_are : (program seed calls : Text) → is_flag seed ≡ false → is_flag calls ≡ false → read (program ∷ codes "big" ∷ seed ∷ calls ∷ []) ≡ command_of (program ∷ codes "big" ∷ seed ∷ calls ∷ [])
+unfolding clap_on_literals
+two_words_are program seed calls seed_plain calls_plain = ap (λ (w : Walk). met_as (codes "big") (finished big.rules w.held)) (words_walked seed calls seed_plain calls_plain)
 
 -- what clap takes is a command, and clap names it
 pub taken_is_command : (words : List Text) → list_any is_flag (drop 1 words) ≡ false → fault_of grammar words ≡ [] → read words ≡ command_of words
@@ -137,48 +260,105 @@ taken_is_command [] plain e = cc
 taken_is_command (program ∷ []) plain e = cc
 taken_is_command (program ∷ word ∷ []) plain e = go (name_or_other word)
   where
-    go : IsName word ⊎ IsOther word → read (program ∷ word ∷ []) ≡ command_of (program ∷ word ∷ [])
+    go : IsName word ⊎ (IsBig word ⊎ IsOther word) → read (program ∷ word ∷ []) ≡ command_of (program ∷ word ∷ [])
     go (inl (inl same)) = rw same refl
     go (inl (inr (inl same))) = rw same refl
     go (inl (inr (inr same))) = rw same refl
-    go (inr other) = absurd (other_fails program word [] other (plain_head word [] plain).0 e)
-taken_is_command (program ∷ word ∷ second ∷ words) plain e = absurd (go (name_or_other word))
+    go (inr (inl same)) = absurd (some_fault _ _ (rw same at e))
+    go (inr (inr other)) = absurd (other_fails program word [] other (plain_head word [] plain).0 e)
+taken_is_command (program ∷ word ∷ seed ∷ []) plain e = absurd (go (name_or_other word))
   where
-    after : (is_flag word ≡ false) × (list_any is_flag (second ∷ words) ≡ false)
-    after = plain_head word (second ∷ words) plain
+    after : (is_flag word ≡ false) × (list_any is_flag (seed ∷ []) ≡ false)
+    after = plain_head word (seed ∷ []) plain
 
-    go : IsName word ⊎ IsOther word → ⊥
-    go (inl name) = several_words program word second words name (plain_head second words after.1).0 e
-    go (inr other) = other_fails program word (second ∷ words) other after.0 e
+    go : IsName word ⊎ (IsBig word ⊎ IsOther word) → ⊥
+    go (inl name) = several_words program word seed [] name (plain_head seed [] after.1).0 e
+    go (inr (inl same)) = one_word_fails seed (plain_head seed [] after.1).0 (big_fails program (seed ∷ []) (rw same at e))
+    go (inr (inr other)) = other_fails program word (seed ∷ []) other after.0 e
+taken_is_command (program ∷ word ∷ seed ∷ calls ∷ []) plain e = go (name_or_other word)
+  where
+    after : (is_flag word ≡ false) × (list_any is_flag (seed ∷ calls ∷ []) ≡ false)
+    after = plain_head word (seed ∷ calls ∷ []) plain
+
+    behind : (is_flag seed ≡ false) × (list_any is_flag (calls ∷ []) ≡ false)
+    behind = plain_head seed (calls ∷ []) after.1
+
+    go : IsName word ⊎ (IsBig word ⊎ IsOther word) → read (program ∷ word ∷ seed ∷ calls ∷ []) ≡ command_of (program ∷ word ∷ seed ∷ calls ∷ [])
+    go (inl name) = absurd (several_words program word seed (calls ∷ []) name behind.0 e)
+    go (inr (inl same)) = rw same (two_words_are program seed calls behind.0 (plain_head calls [] behind.1).0)
+    go (inr (inr other)) = absurd (other_fails program word (seed ∷ calls ∷ []) other after.0 e)
+taken_is_command (program ∷ word ∷ seed ∷ calls ∷ other ∷ words) plain e = absurd (go (name_or_other word))
+  where
+    after : (is_flag word ≡ false) × (list_any is_flag (seed ∷ calls ∷ other ∷ words) ≡ false)
+    after = plain_head word (seed ∷ calls ∷ other ∷ words) plain
+
+    behind : (is_flag seed ≡ false) × (list_any is_flag (calls ∷ other ∷ words) ≡ false)
+    behind = plain_head seed (calls ∷ other ∷ words) after.1
+
+    last : (is_flag calls ≡ false) × (list_any is_flag (other ∷ words) ≡ false)
+    last = plain_head calls (other ∷ words) behind.1
+
+    go : IsName word ⊎ (IsBig word ⊎ IsOther word) → ⊥
+    go (inl name) = several_words program word seed (calls ∷ other ∷ words) name behind.0 e
+    go (inr (inl same)) = third_word_fails seed calls other words behind.0 last.0 (plain_head other words last.1).0 (big_fails program (seed ∷ calls ∷ other ∷ words) (rw same at e))
+    go (inr (inr stray)) = other_fails program word (seed ∷ calls ∷ other ∷ words) stray after.0 e
 
 -- what clap refuses for another cause than memory is no command
-pub refused_is_none : (words : List Text) (kind : ErrorKind) → IsAmong kind (fault_of grammar words) → None ≡ command_of words
+pub refused_is_none : (words : List Text) (kind : ErrorKind) → list_any is_flag (drop 1 words) ≡ false → IsAmong kind (fault_of grammar words) → None ≡ command_of words
 unfolding clap_on_literals
-refused_is_none [] kind h = refl
-refused_is_none (program ∷ []) kind h = refl
-refused_is_none (program ∷ word ∷ []) kind h = go (name_or_other word)
+refused_is_none [] kind plain h = refl
+refused_is_none (program ∷ []) kind plain h = refl
+refused_is_none (program ∷ word ∷ []) kind plain h = go (name_or_other word)
   where
-    go : IsName word ⊎ IsOther word → None ≡ command_of (program ∷ word ∷ [])
+    go : IsName word ⊎ (IsBig word ⊎ IsOther word) → None ≡ command_of (program ∷ word ∷ [])
     go (inl (inl same)) = absurd (rw same at h)
     go (inl (inr (inl same))) = absurd (rw same at h)
     go (inl (inr (inr same))) = absurd (rw same at h)
-    go (inr (not_check, not_plan, not_run)) = rw (not_check, not_plan, not_run) refl
-refused_is_none (program ∷ word ∷ other ∷ words) kind h = refl
+    go (inr (inl same)) = rw same refl
+    go (inr (inr (not_check, not_plan, not_run, not_big))) = rw (not_check, not_plan, not_run) refl
+refused_is_none (program ∷ word ∷ seed ∷ []) kind plain h = refl
+refused_is_none (program ∷ word ∷ seed ∷ calls ∷ []) kind plain h = go (bytes_eq word (codes "big")) refl
+  where
+    after : (is_flag word ≡ false) × (list_any is_flag (seed ∷ calls ∷ []) ≡ false)
+    after = plain_head word (seed ∷ calls ∷ []) plain
+
+    behind : (is_flag seed ≡ false) × (list_any is_flag (calls ∷ []) ≡ false)
+    behind = plain_head seed (calls ∷ []) after.1
+
+    go : (is_big : Bool) → bytes_eq word (codes "big") ≡ is_big → None ≡ command_of (program ∷ word ∷ seed ∷ calls ∷ [])
+    go false b = rw b refl
+    go true b =
+        let same : word ≡ codes "big" = (bytes_eq-Decides word (codes "big")).0 b in
+        let fault = two_words_pass program seed calls behind.0 (plain_head calls [] behind.1).0 in
+        absurd (subst (IsAmong kind) fault (rw same at h))
+refused_is_none (program ∷ word ∷ seed ∷ calls ∷ other ∷ words) kind plain h = refl
 
 -- the same of a command whose grammar is the program's
 pub taken_by : (app : App) (words : List Text) (rows : Option (Text × List Row)) → app ≡ grammar → list_any is_flag (drop 1 words) ≡ false
-    → fault_of app words ≡ [] → rows ≡ subcommand_of app words → named (option_map (λ p. p.0) rows) ≡ command_of words
+    → fault_of app words ≡ [] → rows ≡ subcommand_of app words → met rows ≡ command_of words
 taken_by app words rows same plain none rows_are =
     let none_there : fault_of grammar words ≡ [] = subst (λ a. fault_of a words ≡ []) same none in
     let rows_there : rows ≡ subcommand_of grammar words = subst (λ a. rows ≡ subcommand_of a words) same rows_are in
-    ap (λ r. named (option_map (λ p. p.0) r)) rows_there ∙ taken_is_command words plain none_there
+    ap met rows_there ∙ taken_is_command words plain none_there
 
-pub refused_by : (app : App) (words : List Text) (kind : ErrorKind) → app ≡ grammar → IsAmong kind (fault_of app words) → None ≡ command_of words
-refused_by app words kind same h = refused_is_none words kind (subst (λ a. IsAmong kind (fault_of a words)) same h)
+pub refused_by : (app : App) (words : List Text) (kind : ErrorKind) → app ≡ grammar → list_any is_flag (drop 1 words) ≡ false → IsAmong kind (fault_of app words) → None ≡ command_of words
+refused_by app words kind same plain h = refused_is_none words kind plain (subst (λ a. IsAmong kind (fault_of a words)) same h)
 
 first_of : {B : Type 0} (name : B → Text) (rows : B → List Row) (o : Option B) → option_map name o ≡ option_map (λ (p : Text × List Row). p.0) (option_map (λ b. (name b, rows b)) o)
 first_of name rows None = refl
 first_of name rows (Some b) = refl
 
-pub name_of_rows : (m : ArgMatches) → subcommand_name_of m ≡ option_map (λ p. p.0) (subcommand_rows_of m)
+name_of_rows : (m : ArgMatches) → subcommand_name_of m ≡ option_map (λ p. p.0) (subcommand_rows_of m)
 name_of_rows m = first_of _ _ _
+
+pair_met : {B : Type 0} (name : B → Text) (rows : B → List Row) (o : Option B) (q : Option (Text × List Row))
+    → option_map name o ≡ option_map (λ p. p.0) q → option_map rows o ≡ option_map (λ p. p.1) q → option_map (λ b. (name b, rows b)) o ≡ q
+pair_met name rows None None n r = refl
+pair_met name rows None (Some q) n r = cc
+pair_met name rows (Some b) None n r = cc
+pair_met name rows (Some b) (Some (text, found)) n r = ap₂ (λ t f. Some (t, f)) (ap (λ o. unwrap_or o text) n) (ap (λ o. unwrap_or o found) r)
+
+-- what was met, by its name and its rows
+pub met_is : {B : Type 0} (name : B → Text) (rows : B → List Row) (m : ArgMatches) (o : Option B) (b : B) → option_map name o ≡ subcommand_name_of m
+    → option_map rows o ≡ option_map (λ p. p.1) (subcommand_rows_of m) → o ≡ Some b → met_as (name b) (rows b) ≡ met (subcommand_rows_of m)
+met_is name rows m o b names_are rows_are is = ap met (ap (option_map (λ x. (name x, rows x))) (sym is) ∙ pair_met name rows o _ (names_are ∙ name_of_rows m) rows_are)

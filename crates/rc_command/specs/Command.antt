@@ -1,18 +1,38 @@
 -- The command that the words of the command line give.
-use Rattle.std.specs.Prelude.{ℕ, List, [], ◌∷◌, Option, Some, None, codes, if◌then◌else◌}
+use Rattle.std.specs.Prelude.{ℕ, ◌<◌, ◌≤◌, ◌^◌, nat_le, nat_lt, ◌&&◌, List, [], ◌∷◌, Option, Some, None, option_map, Result, Ok, Err, codes, if◌then◌else◌}
 use Rattle.std.specs.Str.{bytes_eq}
+use Rattle.rc_text.specs.Numbers.{u64_of}
+use Rattle.rc_text.specs.declared.numbers.NumFault.{NumFault}
 use Rattle.rc_command.specs.declared.command.Command.{Command}
-use Rattle.rc_command.specs.declared.command.Command.TheVariants.{Check, Plan, Run}
+use Rattle.rc_command.specs.declared.command.Command.TheVariants.{OfText, Big}
+use Rattle.rc_command.specs.declared.command.TextCommand.{TextCommand}
+use Rattle.rc_command.specs.declared.command.TextCommand.TheVariants.{Check, Plan, Run}
 
--- the command of a name
-abbrev pub command_named : List ℕ → Option Command
+-- the command of a name that takes no further word
+abbrev pub command_named : List ℕ → Option TextCommand
 command_named name = if bytes_eq name (codes "check") then Some Check
     else (if bytes_eq name (codes "plan") then Some Plan
     else (if bytes_eq name (codes "run") then Some Run else None))
 
--- the program's name and one word
+-- a seed has 31 bits, and a generated workload 1 to 20,000 calls
+abbrev pub big_within : ℕ → ℕ → Option Command
+big_within seed calls = if nat_lt seed (2 ^ 31) && (nat_le 1 calls && nat_le calls 20000) then Some (Big seed calls) else None
+
+abbrev pub big_of : Result ℕ NumFault → Result ℕ NumFault → Option Command
+big_of (Ok seed) (Ok calls) = big_within seed calls
+big_of (Ok seed) (Err fault) = None
+big_of (Err fault) calls = None
+
+-- the program's name, and then a name alone, or `big` with a seed and a number of calls
 abbrev pub command_of : List (List ℕ) → Option Command
 command_of [] = None
 command_of (program ∷ []) = None
-command_of (program ∷ name ∷ []) = command_named name
-command_of (program ∷ name ∷ other ∷ words) = None
+command_of (program ∷ name ∷ []) = option_map OfText (command_named name)
+command_of (program ∷ name ∷ seed ∷ []) = None
+command_of (program ∷ name ∷ seed ∷ calls ∷ []) = if bytes_eq name (codes "big") then big_of (u64_of seed) (u64_of calls) else None
+command_of (program ∷ name ∷ seed ∷ calls ∷ other ∷ words) = None
+
+-- what is generated keeps the limits
+abbrev pub IsWithinLimits : Command → Type 0
+IsWithinLimits (OfText command) = Unit {0}
+IsWithinLimits (Big seed calls) = (seed < 2 ^ 31) × (1 ≤ calls) × (calls ≤ 20000)

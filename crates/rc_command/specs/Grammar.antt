@@ -1,8 +1,11 @@
 -- What clap reads of the program.
-use Rattle.std.specs.Prelude.{ℕ, Bool, List, [], ◌∷◌, ◌==◌, true, false, codes, option_and_then, Option}
-use Rattle.clap.specs.Words.{App, new_app, with_subcommand}
+use Rattle.std.specs.Prelude.{ℕ, Bool, List, [], ◌∷◌, ◌==◌, true, false, codes, option_and_then, option_map, Option, Some, None, if◌then◌else◌}
+use Rattle.std.specs.Str.{bytes_eq}
+use Rattle.clap.specs.Words.{App, Row, Rule, Text, first_of, new_app, new_rule, with_rule, with_subcommand}
+use Rattle.rc_text.specs.Numbers.{u64_of}
 use Rattle.rc_command.specs.declared.command.Command.{Command}
-use Rattle.rc_command.specs.Command.{command_named}
+use Rattle.rc_command.specs.declared.command.Command.TheVariants as command
+use Rattle.rc_command.specs.Command.{big_of, command_named}
 
 -- the program: a subcommand must be there, and neither help nor version is asked for
 abbrev pub program : App
@@ -14,15 +17,34 @@ program = let app = new_app (codes "relc") in record app {
   };
 }
 
+-- a word that must be there
+abbrev pub required_word : Text → Rule
+required_word id = record (new_rule id) { required = true }
+
+-- `big` with its two words
+abbrev pub big_app : App
+big_app = with_rule (with_rule (new_app (codes "big")) (required_word (codes "SEED"))) (required_word (codes "N"))
+
 -- the program with its commands
 abbrev pub grammar : App
-grammar = with_subcommand (with_subcommand (with_subcommand program (new_app (codes "check")).top) (new_app (codes "plan")).top) (new_app (codes "run")).top
+grammar = with_subcommand (with_subcommand (with_subcommand (with_subcommand program (new_app (codes "check")).top) (new_app (codes "plan")).top) (new_app (codes "run")).top) big_app.top
 
 -- the word begins with a hyphen, 45
 abbrev pub is_flag : List ℕ → Bool
 is_flag [] = false
 is_flag (byte ∷ rest) = byte == 45
 
--- the command of a subcommand's name, where there is one
-abbrev pub named : Option (List ℕ) → Option Command
-named = option_and_then command_named
+-- the command of the two words behind `big`
+abbrev pub big_words : Option Text → Option Text → Option Command
+big_words (Some seed) (Some calls) = big_of (u64_of seed) (u64_of calls)
+big_words (Some seed) None = None
+big_words None calls = None
+
+-- the command of a subcommand's name and what clap found behind it
+abbrev pub met_as : Text → List Row → Option Command
+met_as name rows = if bytes_eq name (codes "big") then big_words (first_of (codes "SEED") rows) (first_of (codes "N") rows)
+    else option_map command.OfText (command_named name)
+
+-- the command of the subcommand that clap met, where there is one
+abbrev pub met : Option (Text × List Row) → Option Command
+met = option_and_then (λ p. met_as p.0 p.1)

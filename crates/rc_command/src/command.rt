@@ -1,17 +1,20 @@
 //! The command that the words of the command line give, as clap reads them.
-ghost use Rattle.std.specs.Prelude.{◌≡◌, IfOk, map, option_map, string_bytes};
+ghost use Rattle.std.specs.Prelude.{◌≡◌, IfOk, IfSome, codes, map, string_bytes};
 ghost use Rattle.std.specs.List.{list_any};
-ghost use Rattle.clap.specs.Words.{app_of, kind_of};
-ghost use Rattle.rc_command.specs.Command.{command_of};
-ghost use Rattle.rc_command.specs.Grammar.{grammar, is_flag, named};
+ghost use Rattle.clap.specs.Words.{app_of, first_value, found_of, subcommand_rows_of};
+ghost use Rattle.rc_text.specs.Numbers.{u64_of};
+ghost use Rattle.rc_command.specs.Command.{IsWithinLimits, big_of, command_named, command_of};
+ghost use Rattle.rc_command.specs.Grammar.{big_words, grammar, is_flag, met};
 
 use clap::error::ErrorKind;
+use clap::{Arg, ArgMatches};
+use rc_text::read_u64;
 use rc_tuple::Memory;
 use std::alloc::{AllocError, Global};
 
-/// What the program is asked to do.
+/// What a text is read for.
 #[derive(Clone, Copy, Debug, PartialEq, Eq)]
-pub enum Command {
+pub enum TextCommand {
     /// Reads a specification alone, and says whether it is accepted.
     Check,
     /// Reads a specification alone, and prints the plans of its operations.
@@ -20,12 +23,33 @@ pub enum Command {
     Run,
 }
 
+/// What the program is asked to do.
+#[derive(Clone, Copy, Debug, PartialEq, Eq)]
+pub enum Command {
+    /// Reads a text, and answers it.
+    OfText(TextCommand),
+    /// Reads nothing: makes the calls of a workload that a seed generates, and prints the summary of their replies.
+    Big {
+        /// A number of 31 bits.
+        seed: u32,
+        /// How many calls, from 1 to 20,000.
+        calls: u32,
+    },
+}
+
+/// The largest seed: it has 31 bits.
+const MAX_SEED: u64 = 2_147_483_647;
+
+/// How many calls are generated at most.
+const MAX_CALLS: u64 = 20_000;
+
 /// The command of the words, of which the first is the program's name.
 ///
-/// `None` where they are no command: none or several after the name, another word, a help or version flag.
-/// `Err` where memory is wanted and not given, and only there.
+/// `None` where they are no command: too few or too many words, another name, a word that begins with `-`, or one that
+/// should be a number and is none or beyond its limits. `Err` where memory is wanted and not given.
 pub fn command_in(alloc: Global, words: &[String]) -> Result<Option<Command>, Memory>
-    ensures { IfOk result (λ c. c ≡ command_of (map string_bytes words.now)) }
+    ensures value { IfOk result (λ c. c ≡ command_of (map string_bytes words.now)) }
+    ensures limits { IfOk result (λ c. IfSome c IsWithinLimits) }
 {
     let [_, arguments @ ..] = words else {
         return Ok(None);
@@ -35,7 +59,7 @@ pub fn command_in(alloc: Global, words: &[String]) -> Result<Option<Command>, Me
     }
     let reader = reader(alloc)?;
     match reader.try_get_matches_from(words) {
-        Ok(matches) => Ok(command_named(matches.subcommand_name())),
+        Ok(matches) => Ok(command_met(&matches)),
         Err(error) => match error.kind() {
             ErrorKind::OutOfMemory => Err(Memory),
             _ => Ok(None),
@@ -43,20 +67,25 @@ pub fn command_in(alloc: Global, words: &[String]) -> Result<Option<Command>, Me
     }
 }
 
-/// What clap reads: the commands as subcommands, of which one must be there, and neither help nor version.
+/// What clap reads: the commands as subcommands, of which one must be there, and neither help nor version. `big` takes two
+/// words.
 fn reader<'a>(alloc: Global) -> Result<clap::Command<'a>, AllocError>
     ensures { IfOk result (λ c. app_of c ≡ grammar) }
 {
     let check = clap::Command::new(alloc, "check");
     let plan = clap::Command::new(alloc, "plan");
     let run = clap::Command::new(alloc, "run");
+    let seed = Arg::new(alloc, "SEED").required(true);
+    let calls = Arg::new(alloc, "N").required(true);
+    let big = clap::Command::new(alloc, "big").arg(seed)?.arg(calls)?;
     clap::Command::new(alloc, "relc")
         .subcommand_required(true)
         .disable_help_flag(true)
         .disable_help_subcommand(true)
         .subcommand(check)?
         .subcommand(plan)?
-        .subcommand(run)
+        .subcommand(run)?
+        .subcommand(big)
 }
 
 /// Whether a word begins with `-`. clap itself passes over a `--`, as in `relc run --`.
@@ -77,14 +106,51 @@ fn is_flag(word: &str) -> bool
     word.starts_with('-')
 }
 
-/// The command of a subcommand's name.
-fn command_named(name: Option<&str>) -> Option<Command>
-    ensures { result ≡ named (option_map (λ s. s.now) name.entry) }
+/// The command of the subcommand that clap met.
+fn command_met(matches: &ArgMatches) -> Option<Command>
+    ensures value { result ≡ met (subcommand_rows_of matches.now) }
+    ensures limits { IfSome result IsWithinLimits }
+{
+    let (name, inner) = matches.subcommand()?;
+    match name {
+        "big" => big_met(inner),
+        _ => Some(Command::OfText(command_named(name)?)),
+    }
+}
+
+/// The command of the two words that clap met behind `big`.
+fn big_met(matches: &ArgMatches) -> Option<Command>
+    ensures value { result ≡ big_words (first_value (found_of matches.now) (codes "SEED"))
+        (first_value (found_of matches.now) (codes "N")) }
+    ensures limits { IfSome result IsWithinLimits }
+{
+    big_in(matches.get_str("SEED")?, matches.get_str("N")?)
+}
+
+/// The command of a name that takes no further word.
+fn command_named(name: &str) -> Option<TextCommand>
+    ensures { result ≡ command_named name.now }
 {
     match name {
-        Some("check") => Some(Command::Check),
-        Some("plan") => Some(Command::Plan),
-        Some("run") => Some(Command::Run),
+        "check" => Some(TextCommand::Check),
+        "plan" => Some(TextCommand::Plan),
+        "run" => Some(TextCommand::Run),
         _ => None,
     }
+}
+
+/// The workload of a seed and a number of calls, where both texts are numbers within their limits.
+fn big_in(seed: &str, calls: &str) -> Option<Command>
+    ensures value { result ≡ big_of (u64_of seed.now) (u64_of calls.now) }
+    ensures limits { IfSome result IsWithinLimits }
+{
+    let seed = read_u64(seed.as_bytes()).ok()?;
+    let calls = read_u64(calls.as_bytes()).ok()?;
+    if seed > MAX_SEED || calls == 0 || calls > MAX_CALLS {
+        return None;
+    }
+    Some(Command::Big {
+        seed: seed as u32,
+        calls: calls as u32,
+    })
 }

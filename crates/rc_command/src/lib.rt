@@ -3,4 +3,4 @@
 
 mod command;
 
-pub use command::{Command, command_in};
+pub use command::{Command, TextCommand, command_in};

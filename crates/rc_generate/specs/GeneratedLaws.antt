@@ -11,7 +11,7 @@ use Rattle.rc_tuple.specs.TupleLaws.{IsTuple-zip}
 use Rattle.rc_spec.specs.declared.call.Call.{Call}
 use Rattle.rc_spec.specs.Calls.{Fits}
 use Rattle.rc_rel.specs.declared.entry.Entry.{Entry}
-use Rattle.rc_rel.specs.History.{steps_of, replay}
+use Rattle.rc_rel.specs.History.{own, steps_of, replay}
 use Rattle.rc_work.specs.declared.work.Turn.{Turn}
 use Rattle.rc_work.specs.Fitting.{RoundsFit, HasThreads}
 use Rattle.rc_work.specs.Limits.{KeepsLimits}
@@ -22,7 +22,7 @@ use Rattle.rc_shards.specs.SummaryLaws.{summaries_are_one_threads, length_as_one
 use Rattle.rc_generate.specs.Sample.{sample_graph}
 use Rattle.rc_generate.specs.SampleLaws.{sample_is_sharded}
 use Rattle.rc_generate.specs.SharedRuns.{TurnsKeepShards}
-use Rattle.rc_generate.specs.SharedRunsLaws.{shared_runs_are_as_one_thread}
+use Rattle.rc_generate.specs.SharedRunsLaws.{shared_runs_are_as_one_thread, shared_runs_have_same_replies}
 use Rattle.rc_generate.specs.Generated.{next_number, number_at, insert_call, remove_call, query_call, call_of_kind, call_by, turn_at, generated_turns, generated_calls, generated}
 
 -- ---- the calls fit, and each is of its thread's shard
@@ -100,6 +100,16 @@ GeneratedSummaryIsOneThreads = (seed calls : ℕ) (history : List Entry) → Run
 pub generated_summary_is_one_threads : GeneratedSummaryIsOneThreads
 generated_summary_is_one_threads seed calls history run =
     summaries_are_one_threads sample_graph (generated_calls seed calls) history (generated_as_one_thread seed calls history run)
+
+-- each thread's calls have the same replies in every run
+abbrev pub GeneratedRepliesAreTheSame : Type 0
+GeneratedRepliesAreTheSame = (seed calls : ℕ) (history other : List Entry) → Runs sample_graph (generated seed calls) history
+    → Runs sample_graph (generated seed calls) other → (thread : ℕ) → steps_of (own history thread) ≡ steps_of (own other thread)
+
+pub generated_replies_are_the_same : GeneratedRepliesAreTheSame
+generated_replies_are_the_same seed calls history other run again =
+    shared_runs_have_same_replies sample_graph 0 (λ v. v % 4) (generated seed calls) history other sample_is_sharded
+    (generated_keeps_shards seed calls) (generated_fits seed calls) run again
 
 -- it has as many steps as calls, and the replies list few rows, so that its summary can be counted
 abbrev pub GeneratedRunsAreSmall : Type 0

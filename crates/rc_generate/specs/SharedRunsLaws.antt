@@ -5,13 +5,14 @@ use Rattle.std.proofs.lemmas.List.Elements.{filter-append}
 use Rattle.rc_spec.specs.declared.call.Call.{Call}
 use Rattle.rc_spec.specs.declared.spec.Spec.{Spec}
 use Rattle.rc_rel.specs.declared.entry.Entry.{Entry}
+use Rattle.rc_rel.specs.History.{own, steps_of}
 use Rattle.rc_work.specs.declared.work.Turn.{Turn}
 use Rattle.rc_work.specs.declared.work.Work.{Work}
 use Rattle.rc_work.specs.Fitting.{TurnsFit, RoundsFit}
 use Rattle.rc_work.specs.Runs.{thread_calls, Runs}
 use Rattle.rc_work.specs.RunsLaws.{runs_make_calls}
-use Rattle.rc_shards.specs.Shards.{IsSharded, shard_of, calls_in, CallsFit, IsAsOneThread}
-use Rattle.rc_shards.specs.ShardLaws.{shards_are_as_one_thread}
+use Rattle.rc_shards.specs.Shards.{IsSharded, IsSharedOut, MakesShards, shard_of, calls_in, CallsFit, IsAsOneThread}
+use Rattle.rc_shards.specs.ShardLaws.{all_fit, keeps_shards, same_in_every_schedule, shards_are_as_one_thread}
 use Rattle.rc_generate.specs.SharedRuns.{all_calls, TurnsKeepShards}
 
 round_calls : (key : ℕ) (share : ℕ → ℕ) (thread : ℕ) (round : List Turn) → AllByRecursion (λ t. shard_of key share t.call.args ≡ t.thread) round
@@ -47,6 +48,18 @@ calls_fit : (spec : Spec) (rounds : List (List Turn)) → RoundsFit spec rounds 
 calls_fit spec [] h = tt
 calls_fit spec (round ∷ rounds) h = fit_append spec (map (λ t. t.call) round) (all_calls rounds) (turns_fit spec round h.0) (calls_fit spec rounds h.1)
 
+-- each thread makes the calls of its shard
+module _ (spec : Spec) (key : ℕ) (share : ℕ → ℕ) (work : Work) (keep : TurnsKeepShards key share work.rounds) where
+  makes_shards : (history : List Entry) → Runs spec work history → MakesShards key share (all_calls work.rounds) history
+  makes_shards history run thread = runs_make_calls spec work history thread run ∙ rounds_calls key share thread work.rounds keep
+
+  is_shared_out : (history : List Entry) → RoundsFit spec work.rounds → Runs spec work history → IsSharedOut spec key share history
+  is_shared_out history fit run = record {
+    legal = run.legal;
+    fit = all_fit spec key share (all_calls work.rounds) history (makes_shards history run) (calls_fit spec work.rounds fit);
+    keeps = keeps_shards spec key share (all_calls work.rounds) history (makes_shards history run);
+  }
+
 -- every run of such a workload is as if one thread had made all calls in written order
 abbrev pub SharedRunsAreAsOneThread : Type 0
 SharedRunsAreAsOneThread = (spec : Spec) (key : ℕ) (share : ℕ → ℕ) (work : Work) (history : List Entry) → IsSharded spec key → TurnsKeepShards key share work.rounds
@@ -54,5 +67,16 @@ SharedRunsAreAsOneThread = (spec : Spec) (key : ℕ) (share : ℕ → ℕ) (work
 
 pub shared_runs_are_as_one_thread : SharedRunsAreAsOneThread
 shared_runs_are_as_one_thread spec key share work history is keep fit run =
-    shards_are_as_one_thread spec key share (all_calls work.rounds) history is (calls_fit spec work.rounds fit) run.legal
-    (λ thread. runs_make_calls spec work history thread run ∙ rounds_calls key share thread work.rounds keep)
+    shards_are_as_one_thread spec key share (all_calls work.rounds) history is (calls_fit spec work.rounds fit) run.legal (makes_shards spec key share work keep history run)
+
+-- and each thread's calls have the same replies in every run
+abbrev pub SharedRunsHaveSameReplies : Type 0
+SharedRunsHaveSameReplies = (spec : Spec) (key : ℕ) (share : ℕ → ℕ) (work : Work) (history other : List Entry) → IsSharded spec key
+    → TurnsKeepShards key share work.rounds → RoundsFit spec work.rounds → Runs spec work history → Runs spec work other
+    → (thread : ℕ) → steps_of (own history thread) ≡ steps_of (own other thread)
+
+pub shared_runs_have_same_replies : SharedRunsHaveSameReplies
+shared_runs_have_same_replies spec key share work history other is keep fit run again =
+    (same_in_every_schedule spec key share history other is
+    (is_shared_out spec key share work keep history fit run) (is_shared_out spec key share work keep other fit again)
+    (λ thread. runs_make_calls spec work history thread run ∙ sym (runs_make_calls spec work other thread again))).0

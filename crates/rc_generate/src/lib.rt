@@ -12,4 +12,4 @@ pub use laws::{
     shared_runs_are_as_one_thread,
 };
 pub use sample::sample_spec;
-pub use summary_text::push_summary;
+pub use summary_text::print_summary;

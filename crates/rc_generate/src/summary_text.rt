@@ -1,6 +1,6 @@
 //! The text of a summary.
 
-ghost use Rattle.std.specs.Prelude.{◌≡◌, ◌++◌, ◌∷◌, [], OnOk};
+ghost use Rattle.std.specs.Prelude.{◌≡◌, ◌++◌, ◌∷◌, [], IfOk, OnOk};
 ghost use Rattle.rc_text.specs.Lines.{printed_lines};
 ghost use Rattle.rc_work.specs.Report.{count_line};
 ghost use Rattle.rc_generate.specs.SummaryText.{summary_text};
@@ -8,6 +8,7 @@ ghost use Rattle.rc_generate.specs.SummaryText.{summary_text};
 use rc_shards::Summary;
 use rc_text::{push_bytes, push_u64};
 use rc_tuple::Memory;
+use std::alloc::Global;
 
 /// Appends a line with a word and a count.
 fn push_count(out: &mut Vec<u8>, word: &[u8], count: u64) -> Result<(), Memory>
@@ -20,9 +21,8 @@ fn push_count(out: &mut Vec<u8>, word: &[u8], count: u64) -> Result<(), Memory>
     Ok(())
 }
 
-/// Appends the text of a summary: a line with each count, and the line `end`. Where memory is wanted, some of the text may
-/// be there.
-pub fn push_summary(out: &mut Vec<u8>, summary: &Summary) -> Result<(), Memory>
+/// Appends the text of a summary.
+fn push_summary(out: &mut Vec<u8>, summary: &Summary) -> Result<(), Memory>
     ensures { OnOk result (out.new.items ≡ out.old.items ++ summary_text summary.now) }
 {
     push_count(out, b"calls", summary.calls)?;
@@ -37,4 +37,13 @@ pub fn push_summary(out: &mut Vec<u8>, summary: &Summary) -> Result<(), Memory>
     push_count(out, b"final", summary.tuples)?;
     push_bytes(out, b"end\n")?;
     Ok(())
+}
+
+/// The text of a summary: a line with each count, and the line `end`.
+pub fn print_summary(alloc: Global, summary: &Summary) -> Result<Vec<u8>, Memory>
+    ensures { IfOk result (λ text. text.items ≡ summary_text summary.now) }
+{
+    let mut text = Vec::new(alloc);
+    push_summary(&mut text, summary)?;
+    Ok(text)
 }

@@ -132,7 +132,7 @@ impl<'a> Gate for HoldingGate<'a> {
 }
 
 /// Waits until the count is so high, for a bounded number of turns. Whether it is.
-fn wait_for(count: &AtomicU64, least: u64) -> bool {
+pub(crate) fn wait_for(count: &AtomicU64, least: u64) -> bool {
     for _ in 0..TURNS {
         if count.load(SeqCst) >= least {
             return true;

@@ -9,6 +9,8 @@ mod graph;
 #[cfg(test)]
 mod plan_tests;
 #[cfg(test)]
+mod reading_tests;
+#[cfg(test)]
 mod row_tests;
 #[cfg(test)]
 mod run_tests;

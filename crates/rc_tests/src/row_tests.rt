@@ -10,6 +10,8 @@ use rc_spec::Found;
 use rc_tuple::Memory;
 use std::alloc::Global;
 use std::sync::Wait;
+use std::sync::atomic::AtomicU64;
+use std::sync::atomic::Ordering::SeqCst;
 use std::test::Fail;
 use std::thread::{Threads, join};
 
@@ -251,6 +253,60 @@ fn reads<R: Wait>(rt: &R, row: &Row, mut pass: Pass, times: u32) -> Pass
 fn threads_take_turns(rt: HostRuntime) -> Result<(), Fail> {
     let fragments = contend(&rt, rt.alloc(), 1000)?;
     assert_eq!(&rt; fragments, 12);
+    Ok(())
+}
+
+/// So often each of two readers comes to a stripe at most, until one has found the other at its latch.
+const TURNS: u32 = 10_000_000;
+
+/// Whether a reader finds a latch at the first stripe.
+fn finds_latch(row: &Row, pass: &mut Pass) -> bool
+    requires { IsFreePass row.now pass.old }
+    ensures { IsFreePass row.now pass.new }
+{
+    match reader_finds(row, pass) {
+        Ok(Some(Found::Latch(_))) => true,
+        _ => false,
+    }
+}
+
+/// Comes to the first stripe over and over, until this reader or the other has found a latch there.
+fn look_for_latch(row: &Row, mut pass: Pass, found: &AtomicU64)
+    requires { IsFreePass row.now pass }
+{
+    for _ in 0..TURNS {
+        if found.load(SeqCst) == 1 {
+            return;
+        }
+        if finds_latch(row, &mut pass) {
+            found.store(1, SeqCst);
+        }
+    }
+}
+
+/// Two readers that come at once, of which one finds the other at its latch. Nothing holds a reader there, so that it is met
+/// by chance, in a few turns where both run.
+#[derive(Drop)]
+struct Latched<'a, R> {
+    rt: &'a R,
+}
+
+impl<R: Threads> Trial for Latched<'_, R> {
+    fn goes_well(&self, row: &Row, one: Pass, two: Pass, _three: Pass) -> bool {
+        let found = AtomicU64::new(0);
+        let shared = &found;
+        join(
+            self.rt,
+            move || look_for_latch(row, one, shared),
+            move || look_for_latch(row, two, shared),
+        );
+        found.load(SeqCst) == 1
+    }
+}
+
+#[test]
+fn a_latch_is_found(rt: HostRuntime) -> Result<(), Fail> {
+    assert!(&rt; goes_well(rt.alloc(), &Latched { rt: &rt })?);
     Ok(())
 }
 

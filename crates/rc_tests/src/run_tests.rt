@@ -1,6 +1,7 @@
-//! Workloads through the top call: a gate that holds a call, a gate that counts, and many calls of eight threads.
+//! Workloads through the top call: a gate that holds a call, a gate that counts, many calls of eight threads, and a
+//! generated workload.
 
-use crate::gate_tests::TURNS;
+use crate::gate_tests::wait_for;
 use crate::graph::GRAPH;
 use crate::shared_tests::is_legal;
 use rc_io::{MemSink, MemSource};
@@ -9,7 +10,6 @@ use rc_text::{push_bytes, push_u64};
 use rc_top::{Outcome, Ran, Status, relc};
 use rc_tuple::Memory;
 use std::alloc::Global;
-use std::hint::spin_loop;
 use std::sync::Wait;
 use std::sync::atomic::AtomicU64;
 use std::sync::atomic::Ordering::SeqCst;
@@ -19,11 +19,13 @@ use std::thread::Threads;
 /// The most bytes that an answer may have.
 const ROOM: usize = 1 << 22;
 
-/// The words `relc run`.
-fn run_words(alloc: Global) -> Result<Vec<String>, Memory> {
+/// The words behind the program's name, with it.
+pub(crate) fn words_of(alloc: Global, arguments: &[&str]) -> Result<Vec<String>, Memory> {
     let mut words = Vec::new(alloc);
     words.push(String::from_str(alloc, "relc")?)?;
-    words.push(String::from_str(alloc, "run")?)?;
+    for argument in arguments {
+        words.push(String::from_str(alloc, argument)?)?;
+    }
     Ok(words)
 }
 
@@ -39,22 +41,29 @@ fn outcome<R: Threads + Wait + Sync, G: Gate + Sync>(
     push_bytes(&mut text, GRAPH)?;
     push_bytes(&mut text, work)?;
     let mut source = MemSource::new(text, 1 << 20, Vec::new(alloc));
-    let words = run_words(alloc)?;
+    let words = words_of(alloc, &["run"])?;
     Ok(relc(rt, alloc, &words, &mut source, sink, gate))
 }
 
 // ---- a call that is held
 
-/// Holds the call of the pass 0 before its commit until the pass 1 has answered.
+/// Holds the first call of the pass 0 before its commit until the pass 1 has answered one, which begins once the other is held.
 #[derive(Drop)]
 struct HoldsFirst {
+    held: AtomicU64,
     answered: AtomicU64,
+    /// Whether either was waited for in vain.
+    late: AtomicU64,
 }
 
 impl Gate for HoldsFirst {
     fn at(&self, pass: u32, point: Point) {
         match (pass, point) {
-            (0, Point::BeforeCommit) => self.wait(),
+            (0, Point::BeforeCommit) => {
+                self.held.store(1, SeqCst);
+                self.wait(&self.answered);
+            }
+            (1, Point::BeforeLocks) => self.wait(&self.held),
             (1, Point::Answered) => self.answered.store(1, SeqCst),
             _ => {}
         }
@@ -62,14 +71,25 @@ impl Gate for HoldsFirst {
 }
 
 impl HoldsFirst {
-    /// Waits until the other has answered, for a bounded number of turns.
-    fn wait(&self) {
-        for _ in 0..TURNS {
-            if self.answered.load(SeqCst) == 1 {
-                return;
-            }
-            spin_loop();
+    /// Nothing was told yet.
+    fn new() -> HoldsFirst {
+        HoldsFirst {
+            held: AtomicU64::new(0),
+            answered: AtomicU64::new(0),
+            late: AtomicU64::new(0),
         }
+    }
+
+    /// Waits for the other.
+    fn wait(&self, other: &AtomicU64) {
+        if !wait_for(other, 1) {
+            self.late.store(1, SeqCst);
+        }
+    }
+
+    /// Whether both came in time.
+    fn came_in_time(&self) -> bool {
+        self.answered.load(SeqCst) == 1 && self.late.load(SeqCst) == 0
     }
 }
 
@@ -83,15 +103,13 @@ final 2
 end
 ";
 
-/// Whether the journal has the second call first.
+/// Whether the first call was held until the second was answered, and the journal has the second first.
 fn second_comes_first<R: Threads + Wait + Sync>(rt: &R, alloc: Global) -> Result<bool, Fail> {
-    let gate = HoldsFirst {
-        answered: AtomicU64::new(0),
-    };
+    let gate = HoldsFirst::new();
     let mut sink = MemSink::new(alloc, ROOM, ROOM, Vec::new(alloc))?;
     let work = b"work 2\nround\n0 ins 1 2 10\n1 ins 2 5 1\nend\n";
     outcome(rt, alloc, work, &mut sink, &gate)?;
-    Ok(sink.bytes().ends_with(HELD))
+    Ok(gate.came_in_time() && sink.bytes().ends_with(HELD))
 }
 
 #[test]
@@ -102,35 +120,52 @@ fn a_held_call_of_a_workload_comes_later(rt: HostRuntime) -> Result<(), Fail> {
 
 // ---- many calls
 
-/// Counts the commits.
+/// Counts the points that it is told, and the commits among them.
 #[derive(Drop)]
 struct Counter {
+    points: AtomicU64,
     commits: AtomicU64,
 }
 
 impl Gate for Counter {
     fn at(&self, _pass: u32, point: Point) {
+        self.points.fetch_add(1, SeqCst);
         if point == Point::AfterCommit {
             self.commits.fetch_add(1, SeqCst);
         }
     }
 }
 
-/// So many calls a round has.
-const EACH: u64 = 40;
+impl Counter {
+    /// Nothing was told yet.
+    fn new() -> Counter {
+        Counter {
+            points: AtomicU64::new(0),
+            commits: AtomicU64::new(0),
+        }
+    }
 
-/// So many calls all rounds have.
-const ALL: u64 = 64 * EACH;
+    /// Whether so many calls were made: each has four points, of which one is its commit.
+    fn saw(&self, calls: u64) -> bool {
+        self.commits.load(SeqCst) == calls && self.points.load(SeqCst) == calls.wrapping_mul(4)
+    }
+}
 
-/// A workload of eight threads in 64 rounds, on few sources.
+/// So many calls all rounds have: as many as a workload may.
+const CALLS: u64 = 20_000;
+
+/// So many rounds there are: as many as a workload may have.
+const ROUNDS: u64 = 64;
+
+/// A workload of eight threads in all rounds, on few sources.
 fn many_calls(alloc: Global) -> Result<Vec<u8>, Memory> {
     let mut text = Vec::new(alloc);
     push_bytes(&mut text, b"work 8\n")?;
-    for round in 0..64 {
-        push_bytes(&mut text, b"round\n")?;
-        for number in 0..EACH {
-            push_call(&mut text, round * EACH + number)?;
+    for number in 0..CALLS {
+        if number * ROUNDS % CALLS < ROUNDS {
+            push_bytes(&mut text, b"round\n")?;
         }
+        push_call(&mut text, number)?;
     }
     push_bytes(&mut text, b"end\n")?;
     Ok(text)
@@ -163,7 +198,7 @@ fn is_whole(alloc: Global, ran: &Ran) -> Result<bool, Fail> {
         .made()
         .iter()
         .fold(0, |sum: u64, made| sum.wrapping_add(*made));
-    Ok(made == ALL && is_legal(alloc, &ran.closed)?)
+    Ok(made == CALLS && is_legal(alloc, &ran.closed)?)
 }
 
 /// Whether the outcome is a run of all calls.
@@ -174,19 +209,75 @@ fn is_run(alloc: Global, outcome: &Outcome) -> Result<bool, Fail> {
     }
 }
 
-/// Whether the calls of eight threads in 64 rounds are all made, and the gate sees each commit.
+/// Whether the calls of eight threads in all rounds are made, and the gate is told of each point.
 fn are_made<R: Threads + Wait + Sync>(rt: &R, alloc: Global) -> Result<bool, Fail> {
-    let gate = Counter {
-        commits: AtomicU64::new(0),
-    };
+    let gate = Counter::new();
     let mut sink = MemSink::new(alloc, ROOM, ROOM, Vec::new(alloc))?;
     let work = many_calls(alloc)?;
     let outcome = outcome(rt, alloc, &work, &mut sink, &gate)?;
-    Ok(gate.commits.load(SeqCst) == ALL && is_run(alloc, &outcome)?)
+    Ok(gate.saw(CALLS) && is_run(alloc, &outcome)?)
 }
 
 #[test]
 fn many_calls_of_eight_threads_are_one_history(rt: HostRuntime) -> Result<(), Fail> {
     assert!(&rt; are_made(&rt, rt.alloc())?);
+    Ok(())
+}
+
+// ---- a generated workload
+
+/// The summary of `big 7 4000`, as one thread would have it.
+const SUMMARY: &[u8] = b"calls 4000
+inserted 1366
+present 649
+conflict 0
+removed 303
+absent 680
+queries 1002
+rows 10117
+many 0
+final 1063
+end
+";
+
+/// The status of a generated workload, which is written into the sink.
+fn status_of_big<R: Threads + Wait + Sync, G: Gate + Sync>(
+    rt: &R,
+    alloc: Global,
+    calls: &str,
+    sink: &mut MemSink,
+    gate: &G,
+) -> Result<Status, Memory> {
+    let mut source = MemSource::new(Vec::new(alloc), 1, Vec::new(alloc));
+    let words = words_of(alloc, &["big", "7", calls])?;
+    let outcome = relc(rt, alloc, &words, &mut source, sink, gate);
+    Ok(outcome.status)
+}
+
+/// Whether the gate is told of each point of a generated workload, and its one summary is written.
+fn is_summed<R: Threads + Wait + Sync>(rt: &R, alloc: Global) -> Result<bool, Fail> {
+    let gate = Counter::new();
+    let mut sink = MemSink::new(alloc, ROOM, ROOM, Vec::new(alloc))?;
+    let status = status_of_big(rt, alloc, "4000", &mut sink, &gate)?;
+    Ok(status == Status::Done && gate.saw(4000) && sink.bytes() == SUMMARY)
+}
+
+#[test]
+fn a_generated_workload_has_one_summary(rt: HostRuntime) -> Result<(), Fail> {
+    assert!(&rt; is_summed(&rt, rt.alloc())?);
+    Ok(())
+}
+
+/// Whether a call of a generated workload is held until one of another thread is answered.
+fn is_held<R: Threads + Wait + Sync>(rt: &R, alloc: Global) -> Result<bool, Fail> {
+    let gate = HoldsFirst::new();
+    let mut sink = MemSink::new(alloc, ROOM, ROOM, Vec::new(alloc))?;
+    let status = status_of_big(rt, alloc, "4", &mut sink, &gate)?;
+    Ok(status == Status::Done && gate.came_in_time())
+}
+
+#[test]
+fn threads_of_a_generated_workload_run_beside_each_other(rt: HostRuntime) -> Result<(), Fail> {
+    assert!(&rt; is_held(&rt, rt.alloc())?);
     Ok(())
 }

@@ -1,19 +1,25 @@
 -- The end of a command, of what was written.
-use Rattle.std.proofs.Common.{◌≡◌, ℕ, ◌+◌, ◌<◌, ◌≤◌, ◌^◌, ◌⊎◌, inl, inr, List, Option, Some, Result, Ok, Err, length, ◌∙◌, refl, sym, subst, ap, arith}
-use Rattle.rc_io.specs.Bytes.{Takes, IsEmpty}
-use Rattle.rc_io.specs.BytesLaws.{takes_all, takes_at_most}
+use Rattle.std.proofs.Common.{◌≡◌, ℕ, ◌+◌, ◌<◌, ◌≤◌, ◌^◌, ◌⊎◌, inl, inr, List, drop, Option, Some, Result, Ok, Err, length, ◌∙◌, refl, sym, subst, ap, arith}
+use Rattle.std.proofs.Math.ListN.{drop_of_length-le}
+use Rattle.std.proofs.Math.Seq.{drop-append_seam}
+use Rattle.rc_io.specs.Bytes.{Adds, AddsPrefix, Takes, IsEmpty}
+use Rattle.rc_io.specs.BytesLaws.{adds_prefix_none, takes_all, takes_at_most, takes_first}
 use Rattle.rc_reader.specs.Grammar.{Broken, Reading, spec_of, spec_reading}
 use Rattle.rc_spec.specs.declared.spec.Spec.{Spec}
 use Rattle.rc_spec.specs.Acceptance.{IsAccepted}
 use Rattle.rc_spec.specs.AcceptanceLaws.{refused_not_accepted}
 use Rattle.rc_work.specs.declared.work.Work.{Work}
 use Rattle.rc_work.specs.Ranking.{work_reading}
-use Rattle.rc_answer.specs.Answers.{Answers, AnswersAlone, AnswersRules, AnswersRun, AnswersWork, IsAcceptedText, IsPlansText, IsSizeRefusal, place_after}
+use Rattle.rc_answer.specs.Answers.{Answers, AnswersAlone, AnswersRules, AnswersRun, AnswersWork, IsAcceptedText, IsPlansText, IsSizeRefusal}
+use Rattle.rc_work.specs.WholeText.{place_after}
+use Rattle.rc_answer.specs.Big.{IsBigText, big_text}
 use Rattle.rc_answer.specs.Writes.{Writes}
 use Rattle.rc_top.specs.Answer.{IsAnswer, IsGoodReading, IsGoodSpec, IsGoodWork, KeepsRules}
-use Rattle.rc_top.specs.Ends.{Ends, status_of}
-use Rattle.rc_command.specs.declared.command.Command.{Command}
-use Rattle.rc_command.specs.declared.command.Command.TheVariants.{Check, Plan, Run}
+use Rattle.rc_top.specs.Asks.{LeavesAllBut}
+use Rattle.rc_top.specs.Ends.{Ends, EndsBig, status_of}
+use Rattle.rc_command.specs.declared.command.Command.TheVariants.{OfText}
+use Rattle.rc_command.specs.declared.command.TextCommand.{TextCommand}
+use Rattle.rc_command.specs.declared.command.TextCommand.TheVariants.{Check, Plan, Run}
 use Rattle.rc_answer.specs.declared.status.Status.{Status}
 use Rattle.rc_answer.specs.declared.status.Status.TheVariants.{Done, Usage, Refused, SourceFailed, SinkFailed, OutOfMemory}
 use Rattle.rc_answer.specs.declared.status.Stop.{Stop}
@@ -83,13 +89,13 @@ written_run input (Ok reading) text status is =
     let work : Result Work Broken = work_reading reading.spec (place_after input reading) in
     written_rules reading.spec (AnswersWork reading.spec work) text status (written_work reading.spec work text status) is
 
-written : (command : Command) (input text : List ℕ) (status : Status) → Answers command input text status → IsWritten status
+written : (command : TextCommand) (input text : List ℕ) (status : Status) → Answers command input text status → IsWritten status
 written Check input text status is = written_alone (λ spec. IsAcceptedText) (spec_of input) text status accepted_done is
 written Plan input text status is = written_alone IsPlansText (spec_of input) text status plans_done is
 written Run input text status is = written_run input (spec_reading input) text status is
 
 -- told bytes that were read whole are answered
-pub read_ends : (command : Command) (input bytes : List ℕ) (told left : Option (List ℕ)) (old new : Option (List ℕ)) (r : Result Status Stop)
+pub read_ends : (command : TextCommand) (input bytes : List ℕ) (told left : Option (List ℕ)) (old new : Option (List ℕ)) (r : Result Status Stop)
     → told ≡ Some input → Takes told bytes left → IsEmpty left → length bytes ≤ 2 ^ 24
     → Writes (Answers command bytes) old new r → Ends (IsAnswer command input) old new (status_of r)
 read_ends command input bytes told left old new r is_told taken empty within writes =
@@ -108,7 +114,7 @@ read_ends command input bytes told left old new r is_told taken empty within wri
         too_long long = let e : length bytes ≡ length input = ap length same in omega (arith, within, e, long)
 
 -- told bytes of which more were taken than may be are refused
-pub long_ends : (command : Command) (input bytes : List ℕ) (told left : Option (List ℕ)) (old new : Option (List ℕ)) (r : Result Status Stop)
+pub long_ends : (command : TextCommand) (input bytes : List ℕ) (told left : Option (List ℕ)) (old new : Option (List ℕ)) (r : Result Status Stop)
     → told ≡ Some input → Takes told bytes left → length bytes ≡ 2 ^ 24 + 1
     → Writes IsSizeRefusal old new r → Ends (IsAnswer command input) old new (status_of r)
 long_ends command input bytes told left old new r is_told taken beyond writes =
@@ -125,6 +131,29 @@ long_ends command input bytes told left old new r is_told taken beyond writes =
       where
         too_short : length input ≤ 2 ^ 24 → ⊥
         too_short short = omega (arith, most, beyond, short)
+
+-- ---- what is left
+
+module _ (input bytes : List ℕ) (told left : Option (List ℕ)) (is_told : told ≡ Some input) (taken : Takes told bytes left) where
+  -- of told bytes those are left that stand behind the taken ones
+  behind_taken : left ≡ Some (drop (length bytes) input)
+  behind_taken =
+      let (rest, parts, is_left) = takes_first input bytes left (sym is_told ∙ taken) in
+      is_left ∙ ap Some (sym (ap (drop (length bytes)) parts ∙ drop-append_seam bytes rest))
+
+  pub leaves : (most : ℕ) → length bytes ≤ most → LeavesAllBut most input left
+  leaves most few = (length bytes, few, behind_taken)
+
+  -- where they were read to their end none is beyond the limit
+  pub all_read : IsEmpty left → length bytes ≤ 2 ^ 24 → left ≡ Some (drop (2 ^ 24 + 1) input)
+  all_read empty within =
+      let all = takes_all input bytes left (sym is_told ∙ taken) empty in
+      let few : length input ≤ 2 ^ 24 + 1 = omega (arith, within, ap length all.0) in
+      all.1 ∙ ap Some (sym (drop_of_length-le input few))
+
+  -- and of others one byte beyond it is gone
+  pub limit_read : length bytes ≡ 2 ^ 24 + 1 → left ≡ Some (drop (2 ^ 24 + 1) input)
+  limit_read beyond = subst (λ n. left ≡ Some (drop n input)) beyond behind_taken
 
 -- ---- texts that keep all rules
 
@@ -147,13 +176,13 @@ refused_run input (Ok reading) text good is =
     let work : Result Work Broken = work_reading reading.spec (place_after input reading) in
     refused_rules reading.spec (AnswersWork reading.spec work) text good.0 (refused_work work reading.spec text good.1) is
 
-refused_text : (command : Command) (input text : List ℕ) → KeepsRules command input → Answers command input text Refused → ⊥
+refused_text : (command : TextCommand) (input text : List ℕ) → KeepsRules command input → Answers command input text Refused → ⊥
 refused_text Check input text good is = refused_alone (λ spec. IsAcceptedText) (spec_of input) text accepted_done good is
 refused_text Plan input text good is = refused_alone IsPlansText (spec_of input) text plans_done good is
 refused_text Run input text good is = refused_run input (spec_reading input) text good is
 
 -- a text that keeps all rules is answered, where nothing fails
-pub answered : (command : Command) (input : List ℕ) (old new : Option (List ℕ)) (status : Status) → length input ≤ 2 ^ 24 → KeepsRules command input
+pub answered : (command : TextCommand) (input : List ℕ) (old new : Option (List ℕ)) (status : Status) → length input ≤ 2 ^ 24 → KeepsRules command input
     → Ends (IsAnswer command input) old new status → (status ≡ Usage → ⊥) → (status ≡ SourceFailed → ⊥) → (status ≡ SinkFailed → ⊥) → (status ≡ Done) ⊎ (status ≡ OutOfMemory)
 answered command input old new Done short good ends usage source sink = inl refl
 answered command input old new Usage short good ends usage source sink = absurd (usage refl)
@@ -162,5 +191,19 @@ answered command input old new SourceFailed short good ends usage source sink = 
 answered command input old new SinkFailed short good ends usage source sink = absurd (sink refl)
 answered command input old new OutOfMemory short good ends usage source sink = inr refl
 
-pub one_command : (a b : Command) → Some a ≡ Some b → a ≡ b
+pub one_command : (a b : TextCommand) → Some (OfText a) ≡ Some (OfText b) → a ≡ b
 one_command a b e = cc
+
+-- ---- generated workloads
+
+-- what is written of one ends as its text does
+pub big_ends : (seed calls : ℕ) (old new : Option (List ℕ)) (r : Result Status Stop) → Writes (IsBigText seed calls) old new r → EndsBig seed calls old new (status_of r)
+big_ends seed calls old new (Ok Done) (text, is, adds) = subst (λ (t : List ℕ). Adds old t new) is.0 adds
+big_ends seed calls old new (Ok Usage) (text, is, adds) = let e : Usage ≡ Done = is.1 in cc
+big_ends seed calls old new (Ok Refused) (text, is, adds) = let e : Refused ≡ Done = is.1 in cc
+big_ends seed calls old new (Ok SourceFailed) (text, is, adds) = let e : SourceFailed ≡ Done = is.1 in cc
+big_ends seed calls old new (Ok SinkFailed) (text, is, adds) = let e : SinkFailed ≡ Done = is.1 in cc
+big_ends seed calls old new (Ok OutOfMemory) (text, is, adds) = let e : OutOfMemory ≡ Done = is.1 in cc
+big_ends seed calls old new (Err Memory) (inl same) = subst (λ (o : Option (List ℕ)). AddsPrefix old (big_text seed calls) o) (sym same) (adds_prefix_none old (big_text seed calls))
+big_ends seed calls old new (Err Memory) (inr (text, status, is, part)) = subst (λ (t : List ℕ). AddsPrefix old t new) is.0 part
+big_ends seed calls old new (Err Sink) (text, status, is, part) = subst (λ (t : List ℕ). AddsPrefix old t new) is.0 part

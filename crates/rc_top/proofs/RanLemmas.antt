@@ -1,20 +1,24 @@
 -- What the end of a command leaves of a run.
-use Rattle.std.proofs.Common.{◌≡◌, ◌∙◌, ◌↔◌, ℕ, List, Option, Some, None, Result, Ok, Err, ap, subst, sym}
+use Rattle.std.proofs.Common.{◌≡◌, ◌∙◌, ◌↔◌, ℕ, List, Option, Some, None, Result, Ok, Err, refl, subst, sym}
 use Rattle.std.specs.Prelude.{IfOk, IfSome, IsSome}
 use Rattle.rc_io.specs.Bytes.{Takes, IsEmpty}
 use Rattle.rc_io.specs.BytesLaws.{takes_all}
 use Rattle.rc_answer.specs.declared.outcome.Outcome.{Outcome}
 use Rattle.rc_answer.specs.declared.outcome.Ran.{Ran}
 use Rattle.rc_answer.specs.declared.status.Status.{Status}
-use Rattle.rc_answer.specs.declared.status.Status.TheVariants.{Done, OutOfMemory, Refused, SinkFailed}
+use Rattle.rc_answer.specs.declared.status.Status.TheVariants.{Done, Refused}
 use Rattle.rc_answer.specs.declared.status.Stop.{Stop}
 use Rattle.rc_answer.specs.declared.status.Stop.TheVariants.{Memory, Sink}
 use Rattle.rc_answer.specs.Answers.{IsSizeRefusal}
+use Rattle.rc_answer.specs.Big.{HasSummaryText}
 use Rattle.rc_answer.specs.Ran.{HasRunText, IsOneHistory, ran_in, status_in}
-use Rattle.rc_answer.specs.RanLaws.{is_one_history}
+use Rattle.rc_answer.specs.RanLaws.{summed_is_one_history, written_is_one_history}
 use Rattle.rc_answer.specs.Writes.{Writes}
 use Rattle.rc_command.specs.declared.command.Command.{Command}
-use Rattle.rc_command.specs.declared.command.Command.TheVariants.{Run}
+use Rattle.rc_command.specs.declared.command.Command.TheVariants.{Big, OfText}
+use Rattle.rc_command.specs.declared.command.TextCommand.{TextCommand}
+use Rattle.rc_command.specs.declared.command.TextCommand.TheVariants.{Check, Plan, Run}
+use Rattle.rc_top.specs.Asks.{MakesRun}
 use Rattle.rc_top.specs.Ends.{status_of}
 
 -- what holds of each run that there may be
@@ -32,7 +36,7 @@ module _ (bytes : List ℕ) (old new : Option (List ℕ)) (r : Result Outcome St
 
   -- it is of one history
   pub history_left : IfSome (ran_in r) IsOneHistory
-  history_left = each_some (HasRunText bytes old new) IsOneHistory (ran_in r) (is_one_history bytes old new) ran_of_bytes
+  history_left = each_some (HasRunText bytes old new) IsOneHistory (ran_in r) (written_is_one_history bytes old new) ran_of_bytes
 
   -- and, where the source told its bytes, of these
   pub run_left : (input : List ℕ) (told left : Option (List ℕ)) → told ≡ Some input → Takes told bytes left → IsEmpty left → IfSome (ran_in r) (HasRunText input old new)
@@ -40,7 +44,7 @@ module _ (bytes : List ℕ) (old new : Option (List ℕ)) (r : Result Outcome St
       subst (λ (b : List ℕ). IfSome (ran_in r) (HasRunText b old new)) (takes_all input bytes left (sym is_told ∙ taken) empty).0 ran_of_bytes
 
 -- a run is left exactly where the command is done that makes one
-pub left_exactly : (command : Command) (r : Result Outcome Stop) → IfOk r (λ o. IsSome o.ran ↔ (command ≡ Run) × (o.status ≡ Done))
+pub left_exactly : (command : TextCommand) (r : Result Outcome Stop) → IfOk r (λ o. IsSome o.ran ↔ (command ≡ Run) × (o.status ≡ Done))
     → IsSome (ran_in r) ↔ (command ≡ Run) × (status_of (status_in r) ≡ Done)
 left_exactly command (Ok o) h = h
 left_exactly command (Err Memory) h = (λ s. cc, λ e. cc)
@@ -56,11 +60,35 @@ size_not_done old new (Err Memory) h e = cc
 size_not_done old new (Err Sink) h e = cc
 
 -- so it is for the words that name the command
-pub left_by_words : {X D : Type 0} (named : Option Command) (command : Command) → named ≡ Some command → X ↔ (command ≡ Run) × D → X ↔ (named ≡ Some Run) × D
-left_by_words named command is h = (
-  λ x. (is ∙ ap Some (h.0 x).0, (h.0 x).1),
-  λ e. h.1 (some_same (sym is ∙ e.0), e.1),
-)
+pub left_by_words : {X D : Type 0} (named : Option Command) (command : TextCommand) → named ≡ Some (OfText command) → X ↔ (command ≡ Run) × D → X ↔ MakesRun named × D
+left_by_words {X} {D} named command is h = subst (λ (c : Option Command). X ↔ MakesRun c × D) (sym is) (go command h)
   where
-    some_same : Some command ≡ Some Run → command ≡ Run
-    some_same e = cc
+    go : {X D : Type 0} (command : TextCommand) → X ↔ (command ≡ Run) × D → X ↔ MakesRun (Some (OfText command)) × D
+    go Check h = (λ x. let e : Check ≡ Run = (h.0 x).0 in cc, λ e. absurd e.0)
+    go Plan h = (λ x. let e : Plan ≡ Run = (h.0 x).0 in cc, λ e. absurd e.0)
+    go Run h = (λ x. (tt, (h.0 x).1), λ e. h.1 (refl, e.1))
+
+-- and where a generated workload was run
+pub left_by_seed : {X D : Type 0} (named : Option Command) (seed calls : ℕ) → named ≡ Some (Big seed calls) → X ↔ D → X ↔ MakesRun named × D
+left_by_seed {X} {D} named seed calls is h = subst (λ (c : Option Command). X ↔ MakesRun c × D) (sym is) (λ x. (tt, h.0 x), λ e. h.1 e.1)
+
+-- a generated workload leaves its run exactly where it is done
+module _ (r : Result Outcome Stop) where
+  pub big_left_exactly : IfOk r (λ o. IsSome o.ran × (o.status ≡ Done)) → IsSome (ran_in r) ↔ (status_of (status_in r) ≡ Done)
+  big_left_exactly h = go r h
+    where
+      go : (r : Result Outcome Stop) → IfOk r (λ o. IsSome o.ran × (o.status ≡ Done)) → IsSome (ran_in r) ↔ (status_of (status_in r) ≡ Done)
+      go (Ok o) h = (λ s. h.1, λ e. h.0)
+      go (Err Memory) h = (λ s. cc, λ e. cc)
+      go (Err Sink) h = (λ s. cc, λ e. cc)
+
+  module _ (seed calls : ℕ) (old new : Option (List ℕ)) (summed : IfOk r (λ o. IfSome o.ran (HasSummaryText seed calls old new))) where
+    pub summary_left : IfSome (ran_in r) (HasSummaryText seed calls old new)
+    summary_left = go r summed
+      where
+        go : (r : Result Outcome Stop) → IfOk r (λ o. IfSome o.ran (HasSummaryText seed calls old new)) → IfSome (ran_in r) (HasSummaryText seed calls old new)
+        go (Ok o) h = h
+        go (Err e) h = tt
+
+    pub big_history_left : IfSome (ran_in r) IsOneHistory
+    big_history_left = each_some (HasSummaryText seed calls old new) IsOneHistory (ran_in r) (summed_is_one_history seed calls old new) summary_left

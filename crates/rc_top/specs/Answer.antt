@@ -1,15 +1,15 @@
 -- What the whole of an input may have written, with which status.
-use Rattle.std.specs.Prelude.{◌≡◌, ℕ, ◌+◌, ◌<◌, ◌≤◌, ◌^◌, ◌⊎◌, List, [], ◌∷◌, ◌++◌, length, Result, Ok, Err, codes}
+use Rattle.std.specs.Prelude.{ℕ, ◌<◌, ◌≤◌, ◌^◌, List, [], ◌∷◌, length, Result, Ok, Err, codes}
 use Rattle.rc_text.specs.Lines.{printed_lines}
 use Rattle.rc_spec.specs.declared.spec.Spec.{Spec}
 use Rattle.rc_spec.specs.Acceptance.{IsAccepted}
-use Rattle.rc_spec.specs.RefusalText as rules
 use Rattle.rc_reader.specs.Grammar.{Broken, Reading, spec_reading, spec_of}
 use Rattle.rc_work.specs.declared.work.Work.{Work}
 use Rattle.rc_work.specs.Ranking.{work_reading}
-use Rattle.rc_answer.specs.Answers.{Answers, IsSizeRefusal, place_after}
-use Rattle.rc_command.specs.declared.command.Command.{Command}
-use Rattle.rc_command.specs.declared.command.Command.TheVariants.{Check, Plan, Run}
+use Rattle.rc_answer.specs.Answers.{Answers, IsSizeRefusal}
+use Rattle.rc_work.specs.WholeText.{place_after}
+use Rattle.rc_command.specs.declared.command.TextCommand.{TextCommand}
+use Rattle.rc_command.specs.declared.command.TextCommand.TheVariants.{Check, Plan, Run}
 use Rattle.rc_answer.specs.declared.status.Status.{Status}
 
 abbrev pub usage_text : List ℕ
@@ -29,12 +29,12 @@ IsGoodSpec (Err broken) = ⊥
 IsGoodSpec (Ok spec) = IsAccepted spec
 
 -- an input that breaks no rule of the command
-abbrev pub KeepsRules : Command → List ℕ → Type 0
+abbrev pub KeepsRules : TextCommand → List ℕ → Type 0
 KeepsRules Check input = IsGoodSpec (spec_of input)
 KeepsRules Plan input = IsGoodSpec (spec_of input)
 KeepsRules Run input = IsGoodReading input (spec_reading input)
 
 -- what any input may have written, with its status
-pub record IsAnswer (command : Command) (input text : List ℕ) (status : Status) : Type 0 where
+pub record IsAnswer (command : TextCommand) (input text : List ℕ) (status : Status) : Type 0 where
   pub read : length input ≤ 2 ^ 24 → Answers command input text status
   pub long : 2 ^ 24 < length input → IsSizeRefusal text status

@@ -5,6 +5,7 @@ use Rattle.rc_answer.specs.declared.status.Status.{Status}
 use Rattle.rc_answer.specs.declared.status.Status.TheVariants.{Done, Usage, Refused, SourceFailed, SinkFailed, OutOfMemory}
 use Rattle.rc_answer.specs.Writes.{WritesPart, WritesWhole}
 use Rattle.rc_top.specs.Answer.{usage_text}
+use Rattle.rc_answer.specs.Big.{big_text}
 use Rattle.rc_answer.specs.Statuses.{stop_status}
 use Rattle.rc_answer.specs.declared.status.Stop.{Stop}
 
@@ -30,3 +31,12 @@ EndsUsage old new Refused = ⊥
 EndsUsage old new SourceFailed = ⊥
 EndsUsage old new SinkFailed = AddsPrefix old usage_text new
 EndsUsage old new OutOfMemory = new ≡ old
+
+-- the end of a generated workload: its one text, or a part of it, maybe nothing
+abbrev pub EndsBig : ℕ → ℕ → Option (List ℕ) → Option (List ℕ) → Status → Type 0
+EndsBig seed calls old new Done = Adds old (big_text seed calls) new
+EndsBig seed calls old new Usage = ⊥
+EndsBig seed calls old new Refused = ⊥
+EndsBig seed calls old new SourceFailed = ⊥
+EndsBig seed calls old new SinkFailed = AddsPrefix old (big_text seed calls) new
+EndsBig seed calls old new OutOfMemory = AddsPrefix old (big_text seed calls) new

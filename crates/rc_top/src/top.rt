@@ -1,16 +1,19 @@
 //! The top call.
 
-ghost use Rattle.std.specs.Prelude.{◌≡◌, ◌≤◌, ◌^◌, ◌⊎◌, ◌↔◌, ℕ, List, [], Some, None, IfSome, IsSome, length, map, string_bytes};
+ghost use Rattle.std.specs.Prelude.{◌≡◌, ◌≤◌, ◌^◌, ◌+◌, ◌⊎◌, ◌↔◌, ℕ, List, Some, None, IfSome, IsSome, drop, length, map, string_bytes};
 ghost use Rattle.rc_io.specs.Counts.{Rose};
 ghost use Rattle.rc_top.specs.Answer.{IsAnswer, KeepsRules};
-ghost use Rattle.rc_top.specs.Ends.{Ends, EndsUsage, status_of};
+ghost use Rattle.rc_top.specs.Asks.{HasRead, LeavesAllBut, MakesRun, ReadsNothing};
+ghost use Rattle.rc_top.specs.Ends.{Ends, EndsBig, EndsUsage, status_of};
+ghost use Rattle.rc_answer.specs.Big.{HasSummaryText};
 ghost use Rattle.rc_answer.specs.Ran.{HasRunText, IsOneHistory, ran_in, status_in};
 ghost use Rattle.rc_command.specs.Command.{command_of};
-ghost use Rattle.rc_command.specs.declared.command.Command.{Command};
-ghost use Rattle.rc_command.specs.declared.command.Command.TheVariants as commands;
+ghost use Rattle.rc_command.specs.declared.command.Command.TheVariants.{Big, OfText};
+ghost use Rattle.rc_command.specs.declared.command.TextCommand.{TextCommand};
+ghost use Rattle.rc_command.specs.declared.command.TextCommand.TheVariants as commands;
 
-use rc_answer::{Outcome, Status, Stop, answer, refuse_size};
-use rc_command::{Command, command_in};
+use rc_answer::{Outcome, Status, Stop, answer, answer_big, refuse_size};
+use rc_command::{Command, TextCommand, command_in};
 use rc_io::{ReadFault, Sink, Source, WriteFault, read_all, write_all};
 use rc_store::Gate;
 use rc_text::MAX_TEXT_BYTES;
@@ -19,22 +22,23 @@ use std::alloc::Global;
 use std::sync::Wait;
 use std::thread::Threads;
 
-/// Does what the words ask. `words[0]` is the program's name; the commands are `check`, `plan` and `run`,
-/// and each reads the source to its end, or until 2^24 + 1 bytes are taken.
+/// Does what the words ask. `words[0]` is the program's name. The commands `check`, `plan` and `run` read the source to
+/// its end, or until 2^24 + 1 bytes are taken, and never more; `big SEED N` and other words take nothing from it.
 ///
 /// Over the bytes that the source tells to be left at entry, `check` writes `accepted` where the specification keeps
 /// all rules, `plan` the planned plan of each of its operations and then `end`, and `run` the same plans and then the
 /// report of a journal that is a run of the workload and of the rows of its replay. Where a rule is broken, each writes
-/// the refusal of the first, and of more than 2^24 bytes `refused size`. Other words write the usage line, and take
-/// nothing from the source.
+/// the refusal of the first, and of more than 2^24 bytes `refused size`. `big` writes the summary of the workload that
+/// the seed generates, which is that of one thread that makes the calls in order. Other words write the usage line.
 ///
 /// The status is `Done` or `Refused` with the whole text, `Usage` with the usage line, `SourceFailed` with nothing
 /// written, `SinkFailed` with a prefix of such a text, and `OutOfMemory` with nothing or a prefix.
 ///
-/// `run` makes the calls of each round by threads that run beside each other, on one shared store, and `ran` has what they
-/// left: whatever was read, the journal is one legal history, every state of which satisfies the dependencies, and the
-/// rows are those that it leaves; of told bytes it is a run of the workload that they have, and what was written are the
-/// plans and the report of these very values. The gate is told of each point that a call reaches.
+/// `run` and `big` make the calls of each round by threads that run beside each other, on one shared store, and `ran` has
+/// what they left: whatever was read, the journal is one legal history, every state of which satisfies the dependencies,
+/// and the rows are those that it leaves; it is a run of the workload that the told bytes have, or of the generated one,
+/// and what was written are the plans and the report, or the summary, of these very values. The gate is told of each
+/// point that a call reaches.
 pub fn relc<R: Threads + Wait + Sync, S: Source, K: Sink, G: Gate + Sync>(
     rt: &R,
     alloc: Global,
@@ -46,35 +50,52 @@ pub fn relc<R: Threads + Wait + Sync, S: Source, K: Sink, G: Gate + Sync>(
     // Words that are no command, and they alone, write the usage line.
     ensures usage { command_of (map string_bytes words.now) ≡ None
         → EndsUsage (K.held sink.old) (K.held sink.new) result.status }
-    ensures untouched { command_of (map string_bytes words.now) ≡ None → source.new ≡ source.old }
-    ensures only_usage { result.status ≡ Status.Usage → command_of (map string_bytes words.now) ≡ None }
+    ensures only_usage { result.status ≡ Status.Usage
+        → command_of (map string_bytes words.now) ≡ None }
+    ensures untouched { ReadsNothing (command_of (map string_bytes words.now))
+        → source.new ≡ source.old }
 
-    // What is written of told bytes, and what is left of them.
-    ensures answers { (command : Command) → command_of (map string_bytes words.now) ≡ Some command
+    // What is written of told bytes, how many are taken, and what is left of them.
+    ensures answers { (command : TextCommand)
+        → command_of (map string_bytes words.now) ≡ Some (OfText command)
         → (input : List ℕ) → S.left source.old ≡ Some input
         → Ends (IsAnswer command input) (K.held sink.old) (K.held sink.new) result.status }
-    ensures left { (command : Command) → command_of (map string_bytes words.now) ≡ Some command
-        → (input : List ℕ) → S.left source.old ≡ Some input → length input ≤ 2 ^ 24
-        → (result.status ≡ Status.Done) ⊎ (result.status ≡ Status.Refused) → S.left source.new ≡ Some [] }
+    ensures taken { (input : List ℕ) → S.left source.old ≡ Some input
+        → LeavesAllBut (2 ^ 24 + 1) input (S.left source.new) }
+    ensures left { (command : TextCommand)
+        → command_of (map string_bytes words.now) ≡ Some (OfText command)
+        → (input : List ℕ) → S.left source.old ≡ Some input → HasRead result.status
+        → S.left source.new ≡ Some (drop (2 ^ 24 + 1) input) }
 
-    // What `run` left, and of what the report is.
+    // What is written of a generated workload.
+    ensures big { (seed calls : ℕ)
+        → command_of (map string_bytes words.now) ≡ Some (Big seed calls)
+        → EndsBig seed calls (K.held sink.old) (K.held sink.new) result.status }
+
+    // What a run left, and of what its text is.
     ensures has_ran { IsSome result.ran ↔
-        (command_of (map string_bytes words.now) ≡ Some commands.Run) × (result.status ≡ Status.Done) }
+        MakesRun (command_of (map string_bytes words.now)) × (result.status ≡ Status.Done) }
     ensures history { IfSome result.ran IsOneHistory }
-    ensures report { (input : List ℕ) → S.left source.old ≡ Some input
+    ensures report { command_of (map string_bytes words.now) ≡ Some (OfText commands.Run)
+        → (input : List ℕ) → S.left source.old ≡ Some input
         → IfSome result.ran (HasRunText input (K.held sink.old) (K.held sink.new)) }
+    ensures summary { (seed calls : ℕ)
+        → command_of (map string_bytes words.now) ≡ Some (Big seed calls)
+        → IfSome result.ran (HasSummaryText seed calls (K.held sink.old) (K.held sink.new)) }
 
     // Statuses have their causes.
     ensures source_failed { result.status ≡ Status.SourceFailed
         → Rose (S.faults source.old) (S.faults source.new) }
-    ensures nothing_written { result.status ≡ Status.SourceFailed → K.held sink.new ≡ K.held sink.old }
+    ensures nothing_written { result.status ≡ Status.SourceFailed
+        → K.held sink.new ≡ K.held sink.old }
     ensures sink_failed { result.status ≡ Status.SinkFailed
         → Rose (K.faults sink.old) (K.faults sink.new) }
     ensures source_count { S.faults source.old ≤ S.faults source.new }
     ensures sink_count { K.faults sink.old ≤ K.faults sink.new }
 
     // A text that keeps all rules is answered, where nothing fails and memory is there.
-    ensures complete { (command : Command) → command_of (map string_bytes words.now) ≡ Some command
+    ensures complete { (command : TextCommand)
+        → command_of (map string_bytes words.now) ≡ Some (OfText command)
         → (input : List ℕ) → S.left source.old ≡ Some input
         → length input ≤ 2 ^ 24 → KeepsRules command input
         → (Rose (S.faults source.old) (S.faults source.new) → ⊥)
@@ -82,7 +103,8 @@ pub fn relc<R: Threads + Wait + Sync, S: Source, K: Sink, G: Gate + Sync>(
         → (result.status ≡ Status.Done) ⊎ (result.status ≡ Status.OutOfMemory) }
 {
     match command_in(alloc, words) {
-        Ok(Some(command)) => read_and_answer(rt, alloc, command, source, sink, gate),
+        Ok(Some(Command::OfText(command))) => answer_text(rt, alloc, command, source, sink, gate),
+        Ok(Some(Command::Big { seed, calls })) => big(rt, alloc, seed, calls, sink, gate),
         Ok(None) => Outcome::without_run(usage(sink)),
         Err(Memory) => Outcome::without_run(Status::OutOfMemory),
     }
@@ -121,19 +143,43 @@ fn status_of(answer: Result<Status, Stop>) -> Status
     }
 }
 
-/// Reads the source to its end, and answers its text as the command asks.
-fn read_and_answer<R: Threads + Wait + Sync, S: Source, K: Sink, G: Gate + Sync>(
+/// Makes the calls of a generated workload, and writes their summary.
+fn big<R: Threads + Wait + Sync, K: Sink, G: Gate + Sync>(
     rt: &R,
     alloc: Global,
-    command: Command,
+    seed: u32,
+    calls: u32,
+    sink: &mut K,
+    gate: &G,
+) -> Outcome
+    requires { calls ≤ 20000 }
+    ensures big { EndsBig seed calls (K.held sink.old) (K.held sink.new) result.status }
+    ensures has_ran { IsSome result.ran ↔ (result.status ≡ Status.Done) }
+    ensures history { IfSome result.ran IsOneHistory }
+    ensures summary { IfSome result.ran
+        (HasSummaryText seed calls (K.held sink.old) (K.held sink.new)) }
+    ensures sink_failed { result.status ≡ Status.SinkFailed
+        → Rose (K.faults sink.old) (K.faults sink.new) }
+    ensures sink_count { K.faults sink.old ≤ K.faults sink.new }
+{
+    outcome_of(answer_big(rt, alloc, seed, calls, sink, gate))
+}
+
+/// Reads the source to its end, and answers its text as the command asks.
+fn answer_text<R: Threads + Wait + Sync, S: Source, K: Sink, G: Gate + Sync>(
+    rt: &R,
+    alloc: Global,
+    command: TextCommand,
     source: &mut S,
     sink: &mut K,
     gate: &G,
 ) -> Outcome
     ensures answers { (input : List ℕ) → S.left source.old ≡ Some input
         → Ends (IsAnswer command input) (K.held sink.old) (K.held sink.new) result.status }
-    ensures left { (input : List ℕ) → S.left source.old ≡ Some input → length input ≤ 2 ^ 24
-        → (result.status ≡ Status.Done) ⊎ (result.status ≡ Status.Refused) → S.left source.new ≡ Some [] }
+    ensures taken { (input : List ℕ) → S.left source.old ≡ Some input
+        → LeavesAllBut (2 ^ 24 + 1) input (S.left source.new) }
+    ensures left { (input : List ℕ) → S.left source.old ≡ Some input → HasRead result.status
+        → S.left source.new ≡ Some (drop (2 ^ 24 + 1) input) }
     ensures not_usage { result.status ≡ Status.Usage → ⊥ }
     ensures has_ran { IsSome result.ran ↔ (command ≡ commands.Run) × (result.status ≡ Status.Done) }
     ensures history { IfSome result.ran IsOneHistory }

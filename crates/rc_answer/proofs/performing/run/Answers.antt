@@ -6,7 +6,7 @@ use Rattle.rc_work.specs.Ranking.{work_reading}
 use Rattle.rc_answer.specs.Answers.{Answers, IsReport}
 use Rattle.rc_answer.specs.Ran.{done_in, status_in}
 use Rattle.rc_answer.specs.Writes.{Writes}
-use Rattle.rc_command.specs.declared.command.Command.TheVariants.{Run}
+use Rattle.rc_command.specs.declared.command.TextCommand.TheVariants.{Run}
 use Rattle.rc_answer.proofs.AnswerLemmas.{refusal_answers, report_answers, writes_wider}
 use Rattle.rc_answer.proofs.RanLemmas.{done_has_ran, done_ran, done_status, read_as}
 use Rattle.rc_answer.proofs.performing.run.Goals as goal

@@ -2,8 +2,8 @@ use Rattle.std.proofs.Common.{◌≡◌, ◌∙◌, false, sym, ap, map, string_
 use Rattle.std.proofs.lemmas.List.{drop-map, take_rest}
 use Rattle.std.specs.List.{list_any}
 use Rattle.clap.specs.Words.{app_of, is_simple, fault_of, is_simple_and_free, kind_of}
-use Rattle.rc_command.specs.Grammar.{grammar, is_flag, named}
-use Rattle.rc_command.proofs.WordLemmas.{name_of_rows, taken_by, refused_by}
+use Rattle.rc_command.specs.Grammar.{grammar, is_flag}
+use Rattle.rc_command.proofs.WordLemmas.{taken_by, refused_by}
 use Rattle.rc_command.proofs.command.command_in.Goals as goal
 
 pub returns-in-Ok : goal.returns-in-Ok
@@ -13,11 +13,18 @@ returns-in-Ok c =
     let plain : list_any is_flag (drop 1 words) ≡ false = rw (drop-map, ← take_rest c.args.words.now 1) (sym c.has_flag.ensures ∙ c.if-has_flag.false) in
     let none : fault_of (app_of c.in_ok-reader.reader) words ≡ [] = c.in-Ok.ensures.kinds (ap is_simple_and_free same) in
     let rows = (c.in-Ok.ensures.matches (ap is_simple same)).1 in
-    c.command_named.ensures ∙ ap named (c.subcommand_name.ensures ∙ name_of_rows c.in-Ok.matches) ∙ taken_by _ words _ same plain none rows
+    record {
+      value = c.command_met.ensures.value ∙ taken_by _ words _ same plain none rows;
+      limits = c.command_met.ensures.limits;
+    }
 
 pub returns : goal.returns
 returns c =
     let words = map string_bytes c.args.words.now in
     let same : app_of c.in_ok-reader.reader ≡ grammar = c.in_ok-reader.ensures in
+    let plain : list_any is_flag (drop 1 words) ≡ false = rw (drop-map, ← take_rest c.args.words.now 1) (sym c.has_flag.ensures ∙ c.if-has_flag.false) in
     let kinds = c.in-Err.ensures.kinds (ap is_simple_and_free same) in
-    refused_by _ words (kind_of c.in-Err.error) same (⊎_elim (λ memory. absurd (c.in_default-kind.not-OutOfMemory (c.kind.ensures ∙ memory))) (λ among. among) kinds)
+    record {
+      value = refused_by _ words (kind_of c.in-Err.error) same plain (⊎_elim (λ memory. absurd (c.in_default-kind.not-OutOfMemory (c.kind.ensures ∙ memory))) (λ among. among) kinds);
+      limits = tt;
+    }

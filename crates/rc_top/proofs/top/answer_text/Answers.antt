@@ -1,21 +1,21 @@
-use Rattle.std.proofs.Common.{arith, ap, ◌∙◌, ◌≡◌, ◌≤◌, ◌^◌, ◌↔◌, ℕ, List, Some, length, sym, subst}
+use Rattle.std.proofs.Common.{arith, ap, ◌∙◌, ◌≡◌, ◌≤◌, ◌+◌, ◌^◌, ◌↔◌, ℕ, List, length, sym, subst}
 use Rattle.std.specs.Prelude.{IfSome, IsSome}
 use Rattle.rc_answer.specs.Answers.{Answers}
 use Rattle.rc_answer.specs.Ran.{HasRunText, IsOneHistory, status_in}
 use Rattle.rc_answer.specs.Writes.{Writes}
 use Rattle.rc_top.specs.Answer.{IsAnswer}
+use Rattle.rc_top.specs.Asks.{HasRead}
 use Rattle.rc_top.specs.Ends.{Ends, status_of}
 use Rattle.rc_answer.specs.declared.outcome.Outcome.{Outcome}
-use Rattle.rc_answer.specs.declared.outcome.Ran.{Ran}
 use Rattle.rc_answer.specs.declared.status.Status.{Status}
 use Rattle.rc_answer.specs.declared.status.Status.TheVariants.{Done}
-use Rattle.rc_command.specs.declared.command.Command.TheVariants.{Run}
+use Rattle.rc_command.specs.declared.command.TextCommand.TheVariants.{Run}
 use Rattle.rc_io.specs.Bytes.{Takes}
 use Rattle.rc_io.specs.Faults.{IsCountTaken}
 use Rattle.rc_io.specs.declared.source.ReadFault.{ReadFault}
-use Rattle.rc_top.proofs.EndLemmas.{read_ends, long_ends}
+use Rattle.rc_top.proofs.EndLemmas.{all_read, leaves, limit_read, long_ends, read_ends}
 use Rattle.rc_top.proofs.RanLemmas.{history_left, left_exactly, none_left, run_left, size_not_done}
-use Rattle.rc_top.proofs.top.read_and_answer.Goals as goal
+use Rattle.rc_top.proofs.top.answer_text.Goals as goal
 
 pub returns-in-Ok-clause-answers : goal.returns-in-Ok-clause-answers
 returns-in-Ok-clause-answers g c = λ input told.
@@ -26,6 +26,18 @@ returns-in-Ok-clause-answers g c = λ input told.
     told c.in-Ok.ensures.all.0 c.in-Ok.ensures.all.1 within
     (subst (λ (read : List ℕ). Writes (Answers c.args.command read) (g.K.Sink.held c.args.sink.now) (g.K.Sink.held c.answer.new.sink) (status_in c.answer.result)) c.deref.ensures.value c.answer.ensures.written) in
     subst (λ (status : Status). Ends (IsAnswer c.args.command input) (g.K.Sink.held c.args.sink.now) (g.K.Sink.held c.answer.new.sink) status) (sym c.outcome_of.ensures.status) ended
+
+pub returns-in-Ok-clause-taken : goal.returns-in-Ok-clause-taken
+returns-in-Ok-clause-taken g c = λ input told.
+    let within : length c.in-Ok.text.items ≤ 2 ^ 24 + 1 = omega (arith, c.in-Ok.ensures.within, c.deref.ensures.len) in
+    leaves input c.in-Ok.text.items (g.S.Source.left c.args.source.now) (g.S.Source.left c.read_all.new.source) told
+    c.in-Ok.ensures.all.0 (2 ^ 24 + 1) within
+
+pub returns-in-Ok-clause-left : goal.returns-in-Ok-clause-left
+returns-in-Ok-clause-left g c = λ input told read.
+    let within : length c.in-Ok.text.items ≤ 2 ^ 24 = omega (arith, c.in-Ok.ensures.within, c.deref.ensures.len) in
+    all_read input c.in-Ok.text.items (g.S.Source.left c.args.source.now) (g.S.Source.left c.read_all.new.source) told
+    c.in-Ok.ensures.all.0 c.in-Ok.ensures.all.1 within
 
 pub returns-in-Ok-clause-has_ran : goal.returns-in-Ok-clause-has_ran
 returns-in-Ok-clause-has_ran g c =
@@ -60,3 +72,33 @@ returns-in-Err-TooLong-clause-has_ran g c =
     none_left c.without_run.result.ran c.without_run.result.status (ap (λ (o : Outcome). o.ran) c.without_run.ensures)
     (λ e. size_not_done (g.K.Sink.held c.args.sink.now) (g.K.Sink.held c.refuse_size.new.sink) c.refuse_size.result c.refuse_size.ensures.written
     (sym (ap (λ (o : Outcome). o.status) c.without_run.ensures ∙ c.status_of.ensures) ∙ e))
+
+pub returns-in-Err-TooLong-clause-taken : goal.returns-in-Err-TooLong-clause-taken
+returns-in-Err-TooLong-clause-taken g c = λ input told.
+    let (bytes, beyond, taken) = c.in-Err-TooLong.ensures.taken in
+    let many : length bytes ≡ 2 ^ 24 + 1 = subst (λ (fault : ReadFault). IsCountTaken fault (2 ^ 24) (length bytes)) c.in-Err-TooLong.field-0-is beyond in
+    leaves input bytes (g.S.Source.left c.args.source.now) (g.S.Source.left c.read_all.new.source) told taken (2 ^ 24 + 1) (omega (arith, many))
+
+pub returns-in-Err-TooLong-clause-left : goal.returns-in-Err-TooLong-clause-left
+returns-in-Err-TooLong-clause-left g c = λ input told read.
+    let (bytes, beyond, taken) = c.in-Err-TooLong.ensures.taken in
+    limit_read input bytes (g.S.Source.left c.args.source.now) (g.S.Source.left c.read_all.new.source) told taken
+    (subst (λ (fault : ReadFault). IsCountTaken fault (2 ^ 24) (length bytes)) c.in-Err-TooLong.field-0-is beyond)
+
+pub returns-in-Err-Source-clause-taken : goal.returns-in-Err-Source-clause-taken
+returns-in-Err-Source-clause-taken g c = λ input told.
+    let (bytes, count, taken) = c.in-Err-Source.ensures.taken in
+    let few : length bytes ≤ 2 ^ 24 = subst (λ (fault : ReadFault). IsCountTaken fault (2 ^ 24) (length bytes)) c.in-Err-Source.field-0-is count in
+    leaves input bytes (g.S.Source.left c.args.source.now) (g.S.Source.left c.read_all.new.source) told taken (2 ^ 24 + 1) (omega (arith, few))
+
+pub returns-in-Err-Source-clause-left : goal.returns-in-Err-Source-clause-left
+returns-in-Err-Source-clause-left g c = λ input told read. absurd (subst (λ (o : Outcome). HasRead o.status) c.without_run-in-Err-Source.ensures read)
+
+pub returns-in-Err-Memory-clause-taken : goal.returns-in-Err-Memory-clause-taken
+returns-in-Err-Memory-clause-taken g c = λ input told.
+    let (bytes, count, taken) = c.in-Err-Memory.ensures.taken in
+    let few : length bytes ≤ 2 ^ 24 = subst (λ (fault : ReadFault). IsCountTaken fault (2 ^ 24) (length bytes)) c.in-Err-Memory.field-0-is count in
+    leaves input bytes (g.S.Source.left c.args.source.now) (g.S.Source.left c.read_all.new.source) told taken (2 ^ 24 + 1) (omega (arith, few))
+
+pub returns-in-Err-Memory-clause-left : goal.returns-in-Err-Memory-clause-left
+returns-in-Err-Memory-clause-left g c = λ input told read. absurd (subst (λ (o : Outcome). HasRead o.status) c.without_run-in-Err-Memory.ensures read)
