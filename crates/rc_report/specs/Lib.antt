@@ -1,0 +1,13 @@
+pub mod Cut
+pub mod Lines
+pub mod Replies
+pub mod Steps
+pub mod Histories
+pub mod Texts
+pub mod Legal
+pub mod CountLaws
+pub mod QuotableLaws
+pub mod ReadLaws
+pub mod SpecLaws
+pub mod Runs
+pub mod RunTexts
