@@ -29,17 +29,15 @@ end
 
 MIB = 1 << 20
 CALLS = 20_000
-THREADS = 8
-ROUNDS = 64
 
 
-def inserts():
-    """20,000 inserts of distinct edges, by 8 threads in 64 rounds."""
-    lines = [f"work {THREADS}"]
+def inserts(threads=8, rounds=64):
+    """20,000 inserts of distinct edges, by so many threads in so many rounds."""
+    lines = [f"work {threads}"]
     for number in range(CALLS):
-        if number * ROUNDS // CALLS != (number - 1) * ROUNDS // CALLS:
+        if number * rounds // CALLS != (number - 1) * rounds // CALLS:
             lines.append("round")
-        lines.append(f"{number % THREADS} ins {number * 7919 % CALLS} {number % 97} {number}")
+        lines.append(f"{number % threads} ins {number * 7919 % CALLS} {number % 97} {number}")
     return GRAPH + "\n".join(lines + ["end", ""])
 
 
@@ -77,6 +75,11 @@ def replies():
 if __name__ == "__main__":
     texts = {
         "inserts": inserts,
+        **{
+            f"inserts_{threads}_{rounds}": lambda threads=threads, rounds=rounds: inserts(threads, rounds)
+            for threads in (1, 2, 4, 8)
+            for rounds in (1, 64)
+        },
         "nothing": lambda: grown(0),
         **{f"grown_{size}": lambda size=size: grown(size) for size in (1_000, 5_000, 15_000, 20_000)},
         **{f"found_{size}": lambda size=size: grown(size, 5_000) for size in (1_000, 5_000, 15_000)},

@@ -1,8 +1,9 @@
 //! Measures calls on a shared store: mixes of calls on graphs, by one thread, two and four, which wait or try again, with entries
 //! kept and with counts alone. It prints how many calls were answered, and with the words `time NODES CALLS` how long a thread's
-//! call took.
+//! call took. With the words `long NODES CALLS TIMES` one thread makes the calls of one mix so many times over.
 #![tactic(auto)]
 
+mod endurance;
 mod fault;
 mod measure;
 mod mix;
@@ -10,6 +11,7 @@ mod random;
 mod session;
 mod subject;
 
+use crate::endurance::endure;
 use crate::fault::Fault;
 use crate::measure::{Crew, Figure, measure};
 use crate::mix::MIXES;
@@ -41,33 +43,65 @@ const UNTIMED: Size = Size {
     is_timed: false,
 };
 
-/// Measures all; the status is 1 where it could not be done, or the words are no such.
+/// What the words ask for.
+#[derive(Clone, Copy, Debug)]
+enum Task {
+    /// Each mix, with each number of threads.
+    Figures(Size),
+    /// The calls of one mix, so many times over.
+    Long { nodes: u64, calls: u32, times: u32 },
+}
+
+/// Does what the words ask; the status is 1 where it could not be done, or the words ask for nothing.
 fn main(rt: HostRuntime) -> ExitCode {
     let alloc = rt.alloc();
-    let Ok(Some(size)) = size_of_words(&rt, alloc) else {
+    let Ok(Some(task)) = task_in_words(&rt, alloc) else {
         return ExitCode::from(1);
     };
-    match measure_all(&rt, alloc, size) {
+    match perform(&rt, alloc, task) {
         Ok(()) => ExitCode::from(0),
         Err(_) => ExitCode::from(1),
     }
 }
 
-/// How much is measured, as the words say.
-fn size_of_words(rt: &HostRuntime, alloc: Global) -> io::Result<Option<Size>> {
+fn task_in_words(rt: &HostRuntime, alloc: Global) -> io::Result<Option<Task>> {
     let words: Vec<String> = env::args(rt)?.skip(1).collect(alloc)?;
-    Ok(size_of(&words))
+    Ok(task_in(&words))
 }
 
-fn size_of(words: &[String]) -> Option<Size> {
+fn task_in(words: &[String]) -> Option<Task> {
     match words {
-        [] => Some(UNTIMED),
-        [time, nodes, calls] if time.as_str() == "time" => Some(Size {
+        [] => Some(Task::Figures(UNTIMED)),
+        [time, nodes, calls] if time.as_str() == "time" => Some(Task::Figures(Size {
             nodes: nodes.as_str().parse::<u64>().ok()?,
             calls: calls.as_str().parse::<u32>().ok()?,
             is_timed: true,
+        })),
+        [long, nodes, calls, times] if long.as_str() == "long" => Some(Task::Long {
+            nodes: nodes.as_str().parse::<u64>().ok()?,
+            calls: calls.as_str().parse::<u32>().ok()?,
+            times: times.as_str().parse::<u32>().ok()?,
         }),
         _ => None,
+    }
+}
+
+fn perform<R: Threads + Wait + Clock + Print + Sync>(
+    rt: &R,
+    alloc: Global,
+    task: Task,
+) -> Result<(), Fault> {
+    match task {
+        Task::Figures(size) => measure_all(rt, alloc, size),
+        Task::Long {
+            nodes,
+            calls,
+            times,
+        } => {
+            let answered = endure(rt, alloc, &MIXES[1], nodes, calls, times)?;
+            println!(rt; "{answered} answered")?;
+            Ok(())
+        }
     }
 }
 
