@@ -8,6 +8,5 @@ pub mod Legal
 pub mod CountLaws
 pub mod QuotableLaws
 pub mod ReadLaws
-pub mod SpecLaws
 pub mod Runs
 pub mod RunTexts

@@ -22,8 +22,9 @@ use Rattle.rc_answer.specs.Plans.{ArePlanned, op_text, plans_text}
 use Rattle.rc_answer.specs.Ran.{IsReadAs, IsRunOf, entries_in, run_text}
 use Rattle.rc_answer.specs.declared.outcome.Ran.{Ran}
 use Rattle.rc_answer.specs.declared.status.Status.{Status}
+use Rattle.rc_written.specs.SpecLaws.{reading_can_be_written}
+use Rattle.rc_written.specs.Written.{CanBeWritten}
 use Rattle.rc_report.specs.Runs.{IsPrintedRun, reports_tell_runs}
-use Rattle.rc_report.specs.SpecLaws.{IsReadSpec, is_read_spec}
 
 -- ---- one specification has one text of plans
 
@@ -57,8 +58,8 @@ one_run : (input : List ℕ) (spec : Spec) (work : Work) (plans others : List (L
     → plans_and_report spec work plans history ≡ plans_and_report spec work others other
     → history ≡ other
 one_run input spec work plans others history other read planned kept run again e =
-    let is : IsReadSpec spec =
-    subst IsReadSpec read.of_spec (is_read_spec input read.reading read.read) in
+    let is : CanBeWritten spec =
+    subst CanBeWritten read.of_spec (reading_can_be_written input read.reading read.read) in
     let sealed : IsSealed spec =
     record { in_range = is.in_range; populated = is.populated; accepted = read.accepted } in
     let left = printed_lines (report spec work.ranks history (replay spec history)) in

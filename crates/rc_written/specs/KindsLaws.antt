@@ -5,6 +5,7 @@ use Rattle.std.specs.Option.{option_map}
 use Rattle.std.proofs.lemmas.List.{length_push}
 use Rattle.std.proofs.lemmas.List.Sums.{sum_by-cons}
 use Rattle.rc_text.specs.Lines.{ContentLine}
+use Rattle.rc_spec.specs.declared.items.Op.{Op}
 use Rattle.rc_spec.specs.declared.spec.Spec.{Spec}
 use Rattle.rc_spec.specs.Spec.{empty}
 use Rattle.rc_spec.specs.InRange.{IsInRange}
@@ -37,6 +38,18 @@ same n = omega arith
 
 pushed : {X : Type 0} (xs : List X) (x : X) → length (xs ++ x ∷ []) ≡ length xs + 1
 pushed xs x = omega (arith, length_push xs x)
+
+-- one operation more
+one_operation : (spec : Spec) (op : Op) → Grows spec (operation_kind ∷ []) (record spec { ops = spec.ops ++ op ∷ [] })
+one_operation spec op = record {
+  columns = same _;
+  deps = same _;
+  nodes = same _;
+  edges = same _;
+  classes = same _;
+  places = same _;
+  ops = pushed spec.ops _;
+}
 
 -- one line
 grows_by : (spec : Spec) (form : FormText) → Grows spec (kind_of form ∷ []) (with_line spec form)
@@ -109,36 +122,9 @@ grows_by spec (place_line edge class) =
       places = pushed spec.places _;
       ops = same _;
     }
-grows_by spec (query_line name pattern outs) =
-    record {
-      columns = same _;
-      deps = same _;
-      nodes = same _;
-      edges = same _;
-      classes = same _;
-      places = same _;
-      ops = pushed spec.ops _;
-    }
-grows_by spec (insert_line name pattern) =
-    record {
-      columns = same _;
-      deps = same _;
-      nodes = same _;
-      edges = same _;
-      classes = same _;
-      places = same _;
-      ops = pushed spec.ops _;
-    }
-grows_by spec (remove_line name pattern) =
-    record {
-      columns = same _;
-      deps = same _;
-      nodes = same _;
-      edges = same _;
-      classes = same _;
-      places = same _;
-      ops = pushed spec.ops _;
-    }
+grows_by spec (query_line name pattern outs) = one_operation spec _
+grows_by spec (insert_line name pattern) = one_operation spec _
+grows_by spec (remove_line name pattern) = one_operation spec _
 grows_by spec end_line = record {
   columns = same _;
   deps = same _;

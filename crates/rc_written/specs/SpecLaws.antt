@@ -108,38 +108,23 @@ spec_is_read spec can =
 
 -- ---- what is read
 
-record IsReadWhole (spec : Spec) : Type 0 where
+-- a specification that was read, with the lines behind its header
+record IsRead (reading : Reading) : Type 0 where
   lines : List ContentLine
-  reading : Reading
   reached : ReachesEnd empty lines reading
-  value : reading.spec ≡ spec
-
-nothing_more : (found : Spec) (lines : List ContentLine) (spec : Spec) → nothing_after found lines ≡ Ok spec
-    → found ≡ spec
-nothing_more found [] spec e = cc
-nothing_more found (line ∷ lines) spec e = absurd cc
 
 behind_header : (b : Bool) (past_end : ℕ) (line : ContentLine) (others : List ContentLine)
-    (reading : Reading) (spec : Spec)
-    → reading.spec ≡ spec
+    (reading : Reading)
     → MatchBool b (LinesMean past_end empty others (Ok reading)) (broken_at S1 line.number ≡ Ok reading)
-    → IsReadWhole spec
-behind_header true past_end line others reading spec value means =
-    record { lines = others; reading = reading; reached = means; value = value }
-behind_header false past_end line others reading spec value means = absurd cc
+    → IsRead reading
+behind_header true past_end line others reading means = record { lines = others; reached = means }
+behind_header false past_end line others reading means = absurd cc
 
-content_read : (past_end : ℕ) (lines : List ContentLine) (reading : Reading) (spec : Spec)
-    → reading.spec ≡ spec → ContentMeans past_end lines (Ok reading) → IsReadWhole spec
-content_read past_end [] reading spec value means = absurd cc
-content_read past_end (line ∷ others) reading spec value means =
-    behind_header (is_header line.bytes) past_end line others reading spec value means
-
-alone_read : (text : List ℕ) (gives : Result Reading Broken) (spec : Spec) → spec_reading text ≡ gives
-    → alone gives ≡ Ok spec → IsReadWhole spec
-alone_read text (Err broken) spec e k = absurd cc
-alone_read text (Ok reading) spec e k =
-    content_read (past_end_of text) (content_from (start_of text)) reading spec
-    (nothing_more reading.spec reading.others spec k) ((text_means text (Ok reading)).0 e)
+content_read : (past_end : ℕ) (lines : List ContentLine) (reading : Reading)
+    → ContentMeans past_end lines (Ok reading) → IsRead reading
+content_read past_end [] reading means = absurd cc
+content_read past_end (line ∷ others) reading means =
+    behind_header (is_header line.bytes) past_end line others reading means
 
 -- what each line keeps holds behind lines that are taken
 pub taken_keeps : (P : Spec → Type 0) → Keeps P → (spec : Spec) (lines : List ContentLine) (next : Spec)
@@ -149,27 +134,40 @@ taken_keeps P keeps spec (line ∷ lines) next (between, e, others) h =
     taken_keeps P keeps between lines next others (keeps-after_bytes P keeps spec line.bytes _ h e)
 
 -- and of what is read
-read_keeps : (P : Spec → Type 0) → Keeps P → P empty → (spec : Spec) → IsReadWhole spec → P spec
-read_keeps P keeps at_first spec read =
+read_keeps : (P : Spec → Type 0) → Keeps P → P empty → (reading : Reading) → IsRead reading → P reading.spec
+read_keeps P keeps at_first reading read =
     let found = read.reached in
-    let before = taken_keeps P keeps empty found.reached.front found.before found.reached.taken at_first in
-    subst P read.value (keeps-after_bytes P keeps found.before read.reading.last.bytes _ before found.is_end)
+    keeps-after_bytes P keeps found.before reading.last.bytes _
+    (taken_keeps P keeps empty found.reached.front found.before found.reached.taken at_first) found.is_end
 
-read_is_populated : (spec : Spec) → IsReadWhole spec → HasColumnAndNode spec
-read_is_populated spec read =
-    subst HasColumnAndNode read.value
-    (populated-end read.reached.before read.reading.last.bytes true read.reading.spec
-    read.reached.is_end refl)
+-- so a specification that is read can be written, whatever stands behind it
+pub reading_can_be_written : (text : List ℕ) (reading : Reading) → spec_reading text ≡ Ok reading
+    → CanBeWritten reading.spec
+reading_can_be_written text reading e =
+    let read = content_read (past_end_of text) (content_from (start_of text)) reading
+    ((text_means text (Ok reading)).0 e) in
+    record {
+      in_range = read_keeps IsInRange in_range-keeps in_range-empty reading read;
+      well_named = read_keeps IsWellNamed well_named-keeps well_named-empty reading read;
+      populated = populated-end read.reached.before reading.last.bytes true reading.spec
+          read.reached.is_end refl;
+      limits = read_keeps KeepsTextLimits limits-keeps limits-empty reading read;
+    }
+
+nothing_more : (found : Spec) (lines : List ContentLine) (spec : Spec) → nothing_after found lines ≡ Ok spec
+    → found ≡ spec
+nothing_more found [] spec e = cc
+nothing_more found (line ∷ lines) spec e = absurd cc
+
+alone_read : (text : List ℕ) (gives : Result Reading Broken) (spec : Spec) → spec_reading text ≡ gives
+    → alone gives ≡ Ok spec → CanBeWritten spec
+alone_read text (Err broken) spec e k = absurd cc
+alone_read text (Ok reading) spec e k =
+    subst CanBeWritten (nothing_more reading.spec reading.others spec k)
+    (reading_can_be_written text reading e)
 
 pub what_is_read : (text : List ℕ) (spec : Spec) → spec_of text ≡ Ok spec → CanBeWritten spec
-what_is_read text spec e =
-    let read = alone_read text (spec_reading text) spec refl e in
-    record {
-      in_range = read_keeps IsInRange in_range-keeps in_range-empty spec read;
-      well_named = read_keeps IsWellNamed well_named-keeps well_named-empty spec read;
-      populated = read_is_populated spec read;
-      limits = read_keeps KeepsTextLimits limits-keeps limits-empty spec read;
-    }
+what_is_read text spec e = alone_read text (spec_reading text) spec refl e
 
 -- a text gives a specification exactly where it can be written
 pub some_text_gives : (spec : Spec) → ((text : List ℕ) × (spec_of text ≡ Ok spec)) ↔ CanBeWritten spec

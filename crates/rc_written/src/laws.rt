@@ -6,7 +6,7 @@ ghost use Rattle.rc_spec.specs.Spec.{empty};
 ghost use Rattle.rc_reader.specs.declared.refusal.LineRule.TheVariants.{S6, S7};
 ghost use Rattle.rc_reader.specs.Forms.{FormText, form_of};
 ghost use Rattle.rc_reader.specs.Rules.{breaks_limit, breaks_order};
-ghost use Rattle.rc_reader.specs.Grammar.{After, after_form_of, after_bytes, spec_of};
+ghost use Rattle.rc_reader.specs.Grammar.{After, Reading, after_form_of, after_bytes, spec_of, spec_reading};
 ghost use Rattle.rc_reader.specs.FirstBroken.{AreTaken};
 ghost use Rattle.rc_reader.specs.TextLimits.{KeepsTextLimits};
 ghost use Rattle.rc_written.specs.Written.{words_of_form, HasForm, DifferInNumber, CanBeLine, written_line, spec_lines, spec_text, CanBeWritten};
@@ -15,12 +15,14 @@ ghost use Rattle.rc_written.specs.Kinds.{line_form, Says, LineKind, kind_of, kin
 use rc_spec::Spec;
 
 /// A specification that is in range and well named, has a column and a node, and keeps the limits of a text is what the
-/// text of its lines is read as. No text is read as another specification, and specifications with the same text are
-/// the same.
+/// text of its lines is read as. No text is read as another specification, whether it stands alone or a workload stands
+/// behind it, and specifications with the same text are the same.
 pub fn specifications_are_read_back()
     ensures read_back { (spec : Spec) → IsInRange spec → IsWellNamed spec → HasColumnAndNode spec → KeepsTextLimits spec
         → spec_of (printed_lines (spec_lines spec)) ≡ Ok spec }
     ensures some_text { (spec : Spec) → ((text : List ℕ) × (spec_of text ≡ Ok spec)) ↔ CanBeWritten spec }
+    ensures readings { (text : List ℕ) (reading : Reading) → spec_reading text ≡ Ok reading
+        → CanBeWritten reading.spec }
     ensures told_apart { (spec other : Spec) → CanBeWritten spec → CanBeWritten other
         → spec_text spec ≡ spec_text other → spec ≡ other }
 {}
