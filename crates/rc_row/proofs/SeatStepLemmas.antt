@@ -15,11 +15,11 @@ use Rattle.rc_row.specs.Law.{Slot, kept_of, stripes_by, stripe_word, latch_word,
 use Rattle.rc_row.specs.Passes.{RowSeen, compiled_of, spec_of, stripes_of}
 use Rattle.rc_row.specs.RowInside.{IsWholeRow, row_seen}
 use Rattle.rc_row.specs.Seats.{undealt, dealt, noted, informed, gathered, spent}
-use Rattle.rc_row.specs.Told.{ToldAtLock, ToldAtUnlock, ToldAtEnter, ToldAtBack, ToldAtLeave, ToldAtLatch, ToldAtUnlatch, ToldAtCommit}
+use Rattle.rc_row.specs.Told.{ToldAtLock, ToldAtUnlock, ToldAtEnter, ToldAtBack, ToldAtLeave, ToldAtLatch, ToldAtUnlatch, ToldAtCommit, ToldAtLook}
 use Rattle.rc_row.proofs.LockLemmas.{locks, unlocks}
 use Rattle.rc_row.proofs.ReaderLemmas.{enters, backs, leaves}
 use Rattle.rc_row.proofs.LatchLemmas.{latches, unlatches}
-use Rattle.rc_row.proofs.CommitLemmas.{commits}
+use Rattle.rc_row.proofs.CommitLemmas.{commits, looks}
 use Rattle.rc_row.proofs.SeatLemmas.{notes, deals, learns, gathers}
 
 -- what a step on the word w of a row's table keeps, which makes f of it and tells this, and what it requires
@@ -144,6 +144,14 @@ module _ (a : Inside) (row : RowSeen) (is : row_seen a ≡ row) (whole : IsWhole
       has_words,
       subst (λ (t : Option Key × Me Slot View). Keeps a id t.1 0 (λ n. (n + 1) % 2 ^ 64) (ToldAtCommit t.0 e (step_on a 0 1 0) t.1)) (λ i. (sym (its_key told known) i, (sym view i, me.1)))
           (commits a.table.shared.key a.table.shared.table_id.slots id (standing_of me.0) me.1 e (subst (λ (r : RowSeen). MayCommit (compiled_of r) (standing_of me.0).core e) (sym is) may)),
+    )
+
+    pub looks_at : me.0 ≡ pass_view (standing_of me.0) → Requires a table id me 0 (λ n. n) (ToldAtLook (step_on a 0 0 0) me)
+    looks_at view = (
+      its_table table same,
+      has_words,
+      subst (λ (t : Me Slot View). Keeps a id t 0 (λ n. n) (ToldAtLook (step_on a 0 0 0) t)) (λ i. (sym view i, me.1))
+          (looks a.table.shared.key a.table.shared.table_id.slots id (standing_of me.0) me.1),
     )
 
     pub notes_at : me.0 ≡ pass_view (standing_of me.0) → Splitting a table id me.0 me.0 (noted me.0)

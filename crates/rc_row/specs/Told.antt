@@ -5,7 +5,7 @@ use Rattle.rc_spec.specs.declared.lock.Found.{Found}
 use Rattle.rc_spec.specs.declared.lock.Found.TheVariants.{Pass, Readers, Latch}
 use Rattle.rc_spec.specs.declared.lock.Mode.TheVariants.{Shared, Exclusive}
 use Rattle.rc_rel.specs.declared.entry.Entry.{Entry}
-use Rattle.rc_core.specs.Passes.{locked, blocked, shared, back, released, committed, rows_of_hold}
+use Rattle.rc_core.specs.Passes.{locked, blocked, shared, back, released, committed, learned, rows_of_hold}
 use Rattle.atomic_table.specs.Table.{Me, Step, rest}
 use Rattle.rc_row.specs.declared.law.Key.{Key}
 use Rattle.rc_row.specs.declared.law.View.{View}
@@ -128,3 +128,14 @@ pub record HasCommitted (key : Key) (e : Entry) (m : Who) (found : ℕ) (m' : Wh
 abbrev pub ToldAtCommit : Option Key → Entry → Step Slot → Who → ℕ → Who → Type 0
 ToldAtCommit None e st m found m' = Unit {0}
 ToldAtCommit (Some key) e st m found m' = HasCommitted key e m found m'
+
+-- ---- looks
+
+-- the history is as long as was found, and the pass has seen all of it
+pub record HasLooked (m : Who) (found : ℕ) (m' : Who) : Type 0 where
+  pub seen : (standing_of m.0).core.seen ≤ found
+  pub view : m'.0 ≡ pass_view (with_core (standing_of m.0) (learned (standing_of m.0).core found))
+  pub slots : m'.1 ≡ m.1
+
+abbrev pub ToldAtLook : Step Slot → Who → ℕ → Who → Type 0
+ToldAtLook st m found m' = HasLooked m found m'

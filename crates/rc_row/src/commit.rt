@@ -97,6 +97,18 @@ impl Row {
         self.commit_step::<E>(seat)
     }
 
+    /// The pass has seen the whole history as it stands, and answers how long that is. Takes no memory.
+    pub fn look(&self, pass: &mut Pass) -> u64
+        requires { IsPassOf self.now pass.old }
+        ensures pass { IsPassOf self.now pass.new }
+        ensures value { pass.new ≡ with_standing (with_core pass.old.standing (learned (core_of pass.old) result)) pass.old }
+        ensures seen { (core_of pass.old).seen ≤ result }
+    {
+        let length = self.look_step(&mut pass.seat);
+        pass.seen = pass.seen.max(length);
+        length
+    }
+
     /// Notes what the pass has seen, for another pass to learn. Takes no memory.
     pub fn note(&self, pass: &mut Pass) -> Note
         requires { IsPassOf self.now pass.old }

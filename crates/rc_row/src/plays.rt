@@ -1,6 +1,6 @@
 //! What each kind of step on the table tells the pass that makes it.
 
-ghost use Rattle.rc_row.specs.Told.{ToldAtBack, ToldAtCommit, ToldAtEnter, ToldAtLatch, ToldAtLeave, ToldAtLock, ToldAtUnlatch, ToldAtUnlock};
+ghost use Rattle.rc_row.specs.Told.{ToldAtBack, ToldAtCommit, ToldAtEnter, ToldAtLatch, ToldAtLeave, ToldAtLock, ToldAtLook, ToldAtUnlatch, ToldAtUnlock};
 
 use crate::law::View;
 use atomic_table::{Join, Play, Split};
@@ -102,6 +102,13 @@ pub struct Commit<E> {
 
 impl<E: Carries> Play<Option<Keep>, View> for Commit<E> {
     ghost then = { ToldAtCommit E.told E.entry };
+}
+
+/// A load of the commit word.
+pub struct Look;
+
+impl Play<Option<Keep>, View> for Look {
+    ghost then = { ToldAtLook };
 }
 
 /// A note is made of a pass, and learned by another.

@@ -8,11 +8,12 @@ ghost use Rattle.atomic_table.specs.Table.{rest};
 ghost use Rattle.rc_row.specs.Law.{kept_of, note_view, numbers_in, pass_view, passes_view, standing_of, view_of};
 ghost use Rattle.rc_row.specs.Passes.{compiled_of, spec_of, stripes_of};
 ghost use Rattle.rc_row.specs.Seats.{dealt, gathered, informed, noted, undealt};
-ghost use Rattle.rc_row.specs.Told.{EntersOrTurns, HasCommitted, HasLeft, HasUnlatched, HasUnlocked, IsBack, LatchesOrNot, LocksOrNot};
+ghost use Rattle.rc_row.specs.Told.{EntersOrTurns, HasCommitted, HasLeft, HasLooked, HasUnlatched, HasUnlocked, IsBack, LatchesOrNot, LocksOrNot};
 
 use crate::law::View;
 use crate::plays::{
-    Back, Carries, Commit, Deal, Enter, Gather, Knows, Latch, Leave, Lock, Notes, Unlatch, Unlock,
+    Back, Carries, Commit, Deal, Enter, Gather, Knows, Latch, Leave, Lock, Look, Notes, Unlatch,
+    Unlock,
 };
 use crate::row::{COMMIT_WORD, Row, latch_word, stripe_word};
 use atomic_table::Seat;
@@ -154,6 +155,16 @@ impl Row {
         self.table
             .shared
             .fetch_add::<Commit<E>>(seat, COMMIT_WORD, 1)
+    }
+
+    /// Reads how long the history is.
+    pub(crate) fn look_step(&self, seat: &mut Seat<Option<Keep>, View>) -> u64
+        requires row { seat.old.table_id ≡ self.now.table }
+        requires pass { seat.old.me.0 ≡ pass_view (standing_of seat.old.me.0) }
+        ensures seat { (seat.new.table_id ≡ seat.old.table_id) × (seat.new.id ≡ seat.old.id) }
+        ensures told { HasLooked seat.old.me result seat.new.me }
+    {
+        self.table.shared.load::<Look>(seat, COMMIT_WORD)
     }
 
     /// Makes a note.

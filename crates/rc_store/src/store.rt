@@ -91,4 +91,15 @@ impl<W: Wakes> Store<W> {
     {
         self.row.learn(pass, note);
     }
+
+    /// The pass has seen the whole history as it stands, and answers how long that is. Takes no memory.
+    pub fn look(&self, pass: &mut Pass) -> u64
+        requires { IsPassOf self.now.row pass.old }
+        ensures pass { IsPassOf self.now.row pass.new }
+        ensures value { pass.new ≡ with_standing
+            (with_core pass.old.standing (learned (core_of pass.old) result)) pass.old }
+        ensures seen { (core_of pass.old).seen ≤ result }
+    {
+        self.row.look(pass)
+    }
 }
