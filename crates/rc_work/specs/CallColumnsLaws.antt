@@ -1,5 +1,5 @@
 -- Laws of the columns to which calls give values.
-use Rattle.std.proofs.Common.{◌≡◌, ℕ, ◌<◌, List, [], ◌∷◌, Option, Some, None, length, refl, arith}
+use Rattle.std.proofs.Common.{◌≡◌, ℕ, ◌<◌, ◌≤◌, List, [], ◌∷◌, Option, Some, None, length, refl, arith}
 use Rattle.std.specs.List.{slice_get}
 use Rattle.std.specs.Option.{option_map_or}
 use Rattle.std.specs.Ordering.{nat_cmp}
@@ -14,6 +14,7 @@ use Rattle.rc_spec.specs.declared.items.OpKind.{OpKind}
 use Rattle.rc_spec.specs.declared.items.OpKind.TheVariants.{Query, Insert, Remove}
 use Rattle.rc_spec.specs.declared.spec.Spec.{Spec}
 use Rattle.rc_work.specs.CallColumns.{columns_at}
+use Rattle.rc_work.specs.DistinctLaws.{length-distinct-le}
 
 abbrev columns_by : Spec → Option Op → List ℕ
 columns_by spec found = option_map_or (λ op. value_columns spec op.pattern op.kind) found []
@@ -48,3 +49,8 @@ distinct_at spec n (Some op) named is = distinct_by spec op.pattern op.kind (nam
 -- and no column stands twice
 pub columns_at-distinct : (spec : Spec) (n : ℕ) → IsWellNamed spec → AreDistinct (columns_at spec n)
 columns_at-distinct spec n named = distinct_at spec n (slice_get spec.ops n) named refl
+
+-- so there are at most 32
+pub columns_at-few : (spec : Spec) (n : ℕ) → IsWellNamed spec → IsInRange spec → length (columns_at spec n) ≤ 32
+columns_at-few spec n named range =
+    length-distinct-le 32 (columns_at spec n) (columns_at-distinct spec n named) (columns_at-below spec n range)

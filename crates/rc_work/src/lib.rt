@@ -15,6 +15,7 @@ mod rules;
 mod words;
 mod work;
 
+pub use columns::columns_at;
 pub use laws::{runs_make_calls, texts_print_as_written};
 pub use prefix_laws::{cut_texts_are_refused, last_letter_is_there};
 pub use printing::{print_step, print_tuple};
