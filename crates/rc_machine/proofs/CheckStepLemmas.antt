@@ -82,6 +82,10 @@ module _ (spec : Spec) (sealed : IsSealed spec) (plan : List Statement) (call : 
     }
 
     -- the run after a Probe
+    -- the columns that are probed are the call's
+    pub probe_within : Within xs (cols_of call.args)
+    probe_within c m = subst (In c) (sym over) (at.known (Probe xs) (inl refl) c m)
+
     pub probe_step : IsAt spec plan call rest (project xs call.args ∷ []) held
     probe_step = record {
       progress = after spec at.progress (Probe xs);

@@ -11,3 +11,5 @@ pub mod CheckStepLemmas
 pub mod ChangeLemmas
 pub mod ConditionLemmas
 pub mod GoLemmas
+mod EmitLemmas
+mod StripeLemmas

@@ -11,7 +11,6 @@ use Rattle.rc_fragment.specs.Holder.{HasRoom, Holding, LentStripe, with_change, 
 use Rattle.rc_machine.specs.Apply.{HasRoomFor, count_on}
 use Rattle.rc_machine.specs.declared.places.RowPlace.{RowPlace}
 use Rattle.rc_machine.proofs.ReadLemmas.{in_next}
-use Rattle.rc_machine.proofs.ReadLemmas.{in_next}
 
 -- one row more
 count_first : (stripe : ℕ) (p : RowPlace) (places : List RowPlace) → count_on stripe (p ∷ places) ≡ cond (p.stripe == stripe) 1 0 + count_on stripe places

@@ -25,6 +25,7 @@ use Rattle.rc_spec.specs.HeathLaws.{IsJoined, in_join, join_in, rising_join}
 use Rattle.rc_spec.specs.Placement.{class_at, class_of}
 use Rattle.rc_spec.specs.PlacementLaws.{class_of_known}
 use Rattle.rc_spec.specs.Stripes.{physical_stripe}
+use Rattle.rc_bindings.specs.Bindings.{BindingList, OneBinding, with_tuples}
 use Rattle.rc_fragment.specs.declared.shape.EdgeShape.{EdgeShape}
 use Rattle.rc_fragment.specs.Fragment.{HasScanned, HasShape, IsLookedUp, IsThere, edge_table, shape_of}
 use Rattle.rc_fragment.specs.Holder.{HeldStripe, Holding, IsHeld, IsLent, held_of}
@@ -33,7 +34,7 @@ use Rattle.rc_plan.specs.declared.statement.ReadMode.TheVariants.{Lookup, Scan}
 use Rattle.rc_spec.specs.JoinLaws.{project-agreeing}
 use Rattle.rc_plan.specs.StripeLocksLaws.{physical_stripe-agreeing, physical_stripe-in_band, striping_in_target}
 use Rattle.rc_machine.specs.Machine.{rows_now, stripes_held}
-use Rattle.rc_machine.specs.Read.{AreGood, AreMerges, HasMerged, HasMergedAll, HasMergedOn, IsMergeOf, IsMergeOn, IsReader}
+use Rattle.rc_machine.specs.Read.{AreGood, AreMerges, HasMerged, HasMergedAll, HasMergedOn, IsMergeOf, IsMergeOn, IsReader, TakesMerges}
 use Rattle.rc_plan.specs.StripeLocks.{band}
 
 -- ---- results
@@ -198,6 +199,12 @@ module _ (spec : Spec) (sealed : IsSealed spec) (e : ℕ) (known : e < length sp
 
 -- ---- all bindings
 
+-- within a list it is the same what stands where nothing is
+pub same_default : {A : Type 0} (xs : List A) (i : ℕ) (d e : A) → i < length xs → get_or xs i d ≡ get_or xs i e
+same_default [] i d e l = absurd (omega (arith, l))
+same_default (x ∷ xs) zero d e l = refl
+same_default (x ∷ xs) (suc i) d e l = same_default xs i d e (omega (arith, l))
+
 pub merges_none : (e : ℕ) (held : List HeldStripe) → AreMerges [] e held []
 merges_none e held = record { only = λ c m. absurd m; each = λ b m c q. absurd m }
 
@@ -259,3 +266,7 @@ merges_join bs e held merges f =
 pub in_range_from : (k n c : ℕ) → k ≤ c → c < k + n → In c (range_with_len k n)
 in_range_from k zero c a b = absurd (omega arith)
 in_range_from k (suc n) c a b = elim (cases_eq c k) [ inl e ↦ inl e | inr f ↦ inr (in_range_from (k + 1) n c (omega (arith, f)) (omega arith)) ]
+
+-- a list stays one for the merges, whatever it has
+pub same_takes : (spec : Spec) (e : ℕ) (b : OneBinding) (found : BindingList) (ts : List Pairs) → TakesMerges spec e b found → TakesMerges spec e b (with_tuples found ts)
+same_takes spec e b found ts takes = record { width = takes.width; columns = takes.columns }

@@ -7,3 +7,4 @@ pub mod OffersLaws
 pub mod Read
 pub mod Run
 pub mod Stopped
+pub mod Workspace

@@ -1,13 +1,14 @@
 -- What a Read of an edge finds on held stripes.
 use Rattle.std.specs.Prelude.{◌≡◌, ℕ, true, List, ◌⊎◌}
 use Rattle.rc_tuple.specs.RisingSet.{In}
-use Rattle.rc_tuple.specs.ColSet.{Within}
+use Rattle.rc_tuple.specs.ColSet.{Within, union}
 use Rattle.rc_tuple.specs.Tuple.{Pairs, agrees, cols_of, merge}
 use Rattle.rc_spec.specs.declared.spec.Spec.{Spec}
 use Rattle.rc_spec.specs.Decomposition.{bound, edge_at}
 use Rattle.rc_spec.specs.Fragments.{EdgeRow}
 use Rattle.rc_spec.specs.Placement.{class_at, class_of}
 use Rattle.rc_spec.specs.Stripes.{physical_stripe}
+use Rattle.rc_bindings.specs.Bindings.{BindingList, OneBinding}
 use Rattle.rc_fragment.specs.Fragment.{IsThere}
 use Rattle.rc_fragment.specs.Holder.{AreGoodRows, HeldStripe}
 use Rattle.rc_plan.specs.PlanRules.{IsFindable}
@@ -24,6 +25,11 @@ pub record IsCovered (spec : Spec) (c : ℕ) (stripes : List ℕ) (b : Pairs) : 
 pub record IsReader (spec : Spec) (e : ℕ) (mode : ReadMode) (b : Pairs) : Type 0 where
   pub source : Within (bound spec (edge_at spec e).from) (cols_of b)
   pub key : IsFindable mode (edge_at spec e).key (cols_of b)
+
+-- the list is one for the merges of the binding with rows of the edge
+pub record TakesMerges (spec : Spec) (e : ℕ) (b : OneBinding) (found : BindingList) : Type 0 where
+  pub width : b.width ≡ found.width
+  pub columns : found.columns ≡ union b.columns (bound spec (edge_at spec e).to)
 
 -- bindings by which the rows of an edge can be found on held stripes
 pub record AreReaders (spec : Spec) (e : ℕ) (mode : ReadMode) (held : List HeldStripe) (bs : List Pairs) : Type 0 where

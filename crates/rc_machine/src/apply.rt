@@ -1,6 +1,6 @@
 //! Apply: a tuple's rows added to all edges, or taken out of them.
 
-ghost use Rattle.std.specs.Prelude.{◌≡◌, ℕ, IfOk, OnErr, OnOk};
+ghost use Rattle.std.specs.Prelude.{◌≡◌, ℕ, length, IfOk, OnErr, OnOk};
 ghost use Rattle.std.specs.List.{range_with_len};
 ghost use Rattle.rc_tuple.specs.RisingSet.{In};
 ghost use Rattle.rc_tuple.specs.Tuple.{Pairs};
@@ -13,30 +13,36 @@ ghost use Rattle.rc_fragment.specs.Holder.{held_of};
 ghost use Rattle.rc_machine.specs.Applied.{AreTakenAlike, CanApply, CanInsert, CanRemove, HasApplied, HasRemoved};
 ghost use Rattle.rc_machine.specs.Apply.{IsSameButLent, all_changed};
 ghost use Rattle.rc_machine.specs.Machine.{AreAsTaken};
+ghost use Rattle.rc_machine.specs.Workspace.{AreWide};
 
 use crate::places::{make_room, row_places};
+use crate::workspace::Workspace;
+use rc_bindings::{Binding, Bindings};
 use rc_fragment::Holder;
 use rc_spec::{OpKind, Reply, Spec};
 use rc_tuple::{Memory, Tuple};
+use std::alloc::Global;
 
 /// Does what Apply says and answers. Where memory is wanted all rows are as they were taken, which they are before.
 pub(crate) fn apply<H: Holder>(
+    alloc: Global,
     holder: &mut H,
     spec: &Spec,
     kind: &OpKind,
     args: &Tuple,
-    bindings: &[Tuple],
+    space: &mut Workspace,
 ) -> Result<Reply, Memory>
     requires sealed { IsSealed spec.now }
     requires table { (H.seen holder.old).table ≡ edge_table spec.now }
+    requires wide { AreWide spec.now space.old }
     requires unchanged { AreAsTaken (held_of (H.seen holder.old)) }
-    requires can { CanApply spec.now kind.now args.now bindings.now (held_of (H.seen holder.old)) }
-    ensures ok { IfOk result (HasApplied spec.now kind.now args.now bindings.now (held_of (H.seen holder.old)) (held_of (H.seen holder.new))) }
+    requires can { CanApply spec.now kind.now args.now space.old.bindings.tuples (held_of (H.seen holder.old)) }
+    ensures ok { IfOk result (HasApplied spec.now kind.now args.now space.old.bindings.tuples (held_of (H.seen holder.old)) (held_of (H.seen holder.new))) }
     ensures err { OnErr result (held_of (H.seen holder.new) ≡ held_of (H.seen holder.old)) }
     ensures lent { IsSameButLent (H.seen holder.old) (H.seen holder.new) }
     ensures sound { (spec : Spec) → H.is_sound holder.old spec → H.is_sound holder.new spec }
 {
-    match change_rows(holder, spec, kind, args, bindings) {
+    match change_rows(alloc, holder, spec, kind, args, space) {
         Ok(reply) => Ok(reply),
         Err(memory) => {
             holder.revert();
@@ -47,16 +53,18 @@ pub(crate) fn apply<H: Holder>(
 
 /// Changes the rows and answers. Where memory is wanted some rows may be added, and none is taken out.
 fn change_rows<H: Holder>(
+    alloc: Global,
     holder: &mut H,
     spec: &Spec,
     kind: &OpKind,
     args: &Tuple,
-    bindings: &[Tuple],
+    space: &mut Workspace,
 ) -> Result<Reply, Memory>
     requires sealed { IsSealed spec.now }
     requires table { (H.seen holder.old).table ≡ edge_table spec.now }
-    requires can { CanApply spec.now kind.now args.now bindings.now (held_of (H.seen holder.old)) }
-    ensures ok { IfOk result (HasApplied spec.now kind.now args.now bindings.now (held_of (H.seen holder.old)) (held_of (H.seen holder.new))) }
+    requires wide { AreWide spec.now space.old }
+    requires can { CanApply spec.now kind.now args.now space.old.bindings.tuples (held_of (H.seen holder.old)) }
+    ensures ok { IfOk result (HasApplied spec.now kind.now args.now space.old.bindings.tuples (held_of (H.seen holder.old)) (held_of (H.seen holder.new))) }
     ensures alike { OnErr result (AreTakenAlike (held_of (H.seen holder.old)) (held_of (H.seen holder.new))) }
     ensures lent { IsSameButLent (H.seen holder.old) (H.seen holder.new) }
     ensures sound { (spec : Spec) → H.is_sound holder.old spec → H.is_sound holder.new spec }
@@ -64,37 +72,51 @@ fn change_rows<H: Holder>(
     match kind {
         OpKind::Query { .. } => unreachable!(),
         OpKind::Insert => {
-            add_rows(holder, spec, args)?;
+            space.found.begin(args.cols());
+            space.found.push_projection(args)?;
+            add_rows(holder, spec, args, &space.found.get(0))?;
             Ok(Reply::Inserted)
         }
-        OpKind::Remove => remove_least(holder, spec, bindings),
+        OpKind::Remove => remove_least(alloc, holder, spec, &space.bindings),
     }
 }
 
 /// Takes the rows of the least of the bindings out, if there is one. Where memory is wanted the rows stay.
-fn remove_least<H: Holder>(holder: &mut H, spec: &Spec, bindings: &[Tuple]) -> Result<Reply, Memory>
+fn remove_least<H: Holder>(
+    alloc: Global,
+    holder: &mut H,
+    spec: &Spec,
+    bindings: &Bindings,
+) -> Result<Reply, Memory>
     requires sealed { IsSealed spec.now }
     requires table { (H.seen holder.old).table ≡ edge_table spec.now }
-    requires can { (b : Pairs) → In b bindings.now → CanRemove spec.now b (held_of (H.seen holder.old)) }
-    ensures ok { IfOk result (HasRemoved spec.now bindings.now (held_of (H.seen holder.old)) (held_of (H.seen holder.new))) }
+    requires wide { bindings.now.width ≡ length spec.now.columns }
+    requires can { (b : Pairs) → In b bindings.now.tuples → CanRemove spec.now b (held_of (H.seen holder.old)) }
+    ensures ok { IfOk result (HasRemoved spec.now bindings.now.tuples (held_of (H.seen holder.old)) (held_of (H.seen holder.new))) }
     ensures err { OnErr result (held_of (H.seen holder.new) ≡ held_of (H.seen holder.old)) }
     ensures lent { IsSameButLent (H.seen holder.old) (H.seen holder.new) }
     ensures sound { (spec : Spec) → H.is_sound holder.old spec → H.is_sound holder.new spec }
 {
-    match bindings {
-        [] => Ok(Reply::Absent),
-        [found, ..] => {
-            let removed = found.copy()?;
-            sub_rows(holder, spec, found)?;
-            Ok(Reply::Removed(removed))
-        }
+    if bindings.is_empty() {
+        return Ok(Reply::Absent);
     }
+    let least = bindings.get(0);
+    let removed = least.tuple(alloc)?;
+    sub_rows(holder, spec, &removed, &least)?;
+    Ok(Reply::Removed(removed))
 }
 
 /// Adds the tuple's row to each edge, on the stripe on which it falls. Where memory is wanted the rows of the first
 /// edges may be added.
-pub(crate) fn add_rows<H: Holder>(holder: &mut H, spec: &Spec, tuple: &Tuple) -> Result<(), Memory>
+pub(crate) fn add_rows<H: Holder>(
+    holder: &mut H,
+    spec: &Spec,
+    tuple: &Tuple,
+    binding: &Binding,
+) -> Result<(), Memory>
     requires sealed { IsSealed spec.now }
+    requires same { binding.now.tuple ≡ tuple.now }
+    requires wide { binding.now.width ≡ length spec.now.columns }
     requires table { (H.seen holder.old).table ≡ edge_table spec.now }
     requires can { CanInsert spec.now tuple.now (held_of (H.seen holder.old)) }
     ensures ok { OnOk result (held_of (H.seen holder.new) ≡ all_changed raised spec.now tuple.now (edge_numbers spec.now) (held_of (H.seen holder.old))) }
@@ -102,7 +124,7 @@ pub(crate) fn add_rows<H: Holder>(holder: &mut H, spec: &Spec, tuple: &Tuple) ->
     ensures lent { IsSameButLent (H.seen holder.old) (H.seen holder.new) }
     ensures sound { (spec : Spec) → H.is_sound holder.old spec → H.is_sound holder.new spec }
 {
-    let places = row_places(spec, tuple)?;
+    let places = row_places(spec, tuple, binding)?;
     make_room(holder, &places)?;
     for place in &places {
         holder.add_row(place.stripe, place.edge, &place.row)?;
@@ -111,8 +133,15 @@ pub(crate) fn add_rows<H: Holder>(holder: &mut H, spec: &Spec, tuple: &Tuple) ->
 }
 
 /// Takes the tuple's row out of each edge, on the stripe on which it falls. Where memory is wanted the rows stay.
-pub(crate) fn sub_rows<H: Holder>(holder: &mut H, spec: &Spec, tuple: &Tuple) -> Result<(), Memory>
+pub(crate) fn sub_rows<H: Holder>(
+    holder: &mut H,
+    spec: &Spec,
+    tuple: &Tuple,
+    binding: &Binding,
+) -> Result<(), Memory>
     requires sealed { IsSealed spec.now }
+    requires same { binding.now.tuple ≡ tuple.now }
+    requires wide { binding.now.width ≡ length spec.now.columns }
     requires table { (H.seen holder.old).table ≡ edge_table spec.now }
     requires can { CanRemove spec.now tuple.now (held_of (H.seen holder.old)) }
     ensures ok { OnOk result (held_of (H.seen holder.new) ≡ all_changed lowered spec.now tuple.now (edge_numbers spec.now) (held_of (H.seen holder.old))) }
@@ -120,7 +149,7 @@ pub(crate) fn sub_rows<H: Holder>(holder: &mut H, spec: &Spec, tuple: &Tuple) ->
     ensures lent { IsSameButLent (H.seen holder.old) (H.seen holder.new) }
     ensures sound { (spec : Spec) → H.is_sound holder.old spec → H.is_sound holder.new spec }
 {
-    let places = row_places(spec, tuple)?;
+    let places = row_places(spec, tuple, binding)?;
     make_room(holder, &places)?;
     for place in &places {
         holder.sub_row(place.stripe, place.edge, &place.row);

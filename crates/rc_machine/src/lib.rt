@@ -10,6 +10,8 @@ mod places;
 mod read;
 mod step;
 mod stop;
+mod stripe;
+mod workspace;
 
 pub use machine::run_plan;
 pub use stop::Stop;

@@ -1,6 +1,6 @@
 //! A Lock: the stripes of a class that it names, taken one after another.
 
-ghost use Rattle.std.specs.Prelude.{◌≡◌, ℕ, ◌<◌, ◌≤◌, List, length, map, take, IfOk, OnOk, Err};
+ghost use Rattle.std.specs.Prelude.{◌≡◌, ◌++◌, ℕ, ◌<◌, ◌≤◌, List, length, map, take, IfOk, OnOk, Err};
 ghost use Rattle.std.specs.Ordering.{nat_cmp};
 ghost use Rattle.rc_tuple.specs.RisingSet.{In, IsRising, gather};
 ghost use Rattle.rc_tuple.specs.ColSet.{Within};
@@ -19,35 +19,90 @@ ghost use Rattle.rc_machine.specs.declared.stop.Stop.TheVariants as stop;
 ghost use Rattle.rc_plan.specs.StripeLocks.{band};
 
 use crate::Stop;
+use crate::stripe::stripe_of;
+use rc_bindings::Bindings;
 use rc_fragment::{Holder, TakeStop};
-use rc_plan::{Which, stripes_locked};
-use rc_spec::{Mode, Spec};
-use rc_tuple::{Memory, Tuple};
-use std::alloc::Global;
+use rc_plan::Which;
+use rc_spec::{Mode, Spec, band_start};
+use rc_tuple::Memory;
 
 /// Takes the stripes of a class on which the bindings fall, or all of them, in rising order. After a stop those that
 /// were taken stay held.
 pub(crate) fn lock<H: Holder>(
-    alloc: Global,
     holder: &mut H,
     spec: &Spec,
     class: u8,
     which: Which,
     mode: Mode,
-    bindings: &[Tuple],
+    bindings: &Bindings,
+    stripes: &mut Vec<u32>,
 ) -> Result<(), Stop>
     requires sealed { IsSealed spec.now }
     requires known { class < length spec.now.classes }
+    requires wide { bindings.now.width ≡ length spec.now.columns }
     requires total { length (H.seen holder.old).offered ≡ stripe_total spec.now }
-    requires above { (s : ℕ) → In s (stripes_locked spec.now class which bindings.now) → IsAbove (held_of (H.seen holder.old)) s }
-    ensures ok { OnOk result (HasLocked (H.seen holder.old) (H.seen holder.new) (gather nat_cmp (stripes_locked spec.now class which bindings.now)) mode) }
-    ensures some { (n : ℕ) × HasLocked (H.seen holder.old) (H.seen holder.new) (take n (gather nat_cmp (stripes_locked spec.now class which bindings.now))) mode }
-    ensures refused { (h : Held) → result ≡ Err (stop.Held h) → HasRefusedOne (H.seen holder.old) (H.seen holder.new) (gather nat_cmp (stripes_locked spec.now class which bindings.now)) mode h }
+    requires above { (s : ℕ) → In s (stripes_locked spec.now class which bindings.now.tuples) → IsAbove (held_of (H.seen holder.old)) s }
+    ensures ok { OnOk result (HasLocked (H.seen holder.old) (H.seen holder.new) (gather nat_cmp (stripes_locked spec.now class which bindings.now.tuples)) mode) }
+    ensures some { (n : ℕ) × HasLocked (H.seen holder.old) (H.seen holder.new) (take n (gather nat_cmp (stripes_locked spec.now class which bindings.now.tuples))) mode }
+    ensures refused { (h : Held) → result ≡ Err (stop.Held h) → HasRefusedOne (H.seen holder.old) (H.seen holder.new) (gather nat_cmp (stripes_locked spec.now class which bindings.now.tuples)) mode h }
     ensures goes_on { GoesOn (H.seen holder.old) (H.seen holder.new) }
     ensures sound { (spec : Spec) → H.is_sound holder.old spec → H.is_sound holder.new spec }
 {
-    let stripes = rising(stripes_locked(alloc, spec, class, which, bindings)?);
-    take_all(holder, &stripes, mode)?;
+    name_stripes(stripes, spec, class, which, bindings)?;
+    sort(stripes);
+    take_all(holder, stripes, mode)?;
+    Ok(())
+}
+
+/// Makes the list that of the stripes which a Lock takes: those on which the bindings fall, in their order, or all of the
+/// class.
+fn name_stripes(
+    stripes: &mut Vec<u32>,
+    spec: &Spec,
+    class: u8,
+    which: Which,
+    bindings: &Bindings,
+) -> Result<(), Memory>
+    requires sealed { IsSealed spec.now }
+    requires known { class < length spec.now.classes }
+    requires wide { bindings.now.width ≡ length spec.now.columns }
+    ensures { OnOk result (stripes.new.items ≡ stripes_locked spec.now class which bindings.now.tuples) }
+{
+    stripes.clear();
+    match which {
+        Which::Keyed => push_fallen_on(stripes, spec, class, bindings),
+        Which::All => push_band(stripes, spec, class),
+    }
+}
+
+/// Adds the stripe on which each binding falls.
+fn push_fallen_on(
+    stripes: &mut Vec<u32>,
+    spec: &Spec,
+    class: u8,
+    bindings: &Bindings,
+) -> Result<(), Memory>
+    requires sealed { IsSealed spec.now }
+    requires known { class < length spec.now.classes }
+    requires wide { bindings.now.width ≡ length spec.now.columns }
+    ensures { OnOk result (stripes.new.items ≡ stripes.old.items ++ map (physical_stripe spec.now class) bindings.now.tuples) }
+{
+    for at in 0..bindings.len() {
+        stripes.push(stripe_of(spec, class, &bindings.get(at)))?;
+    }
+    Ok(())
+}
+
+/// Adds all stripes of the class.
+fn push_band(stripes: &mut Vec<u32>, spec: &Spec, class: u8) -> Result<(), Memory>
+    requires sealed { IsSealed spec.now }
+    requires known { class < length spec.now.classes }
+    ensures { OnOk result (stripes.new.items ≡ stripes.old.items ++ band spec.now class) }
+{
+    let start = band_start(spec, class);
+    for place in 0..spec.class(class).stripes {
+        stripes.push(start + place)?;
+    }
     Ok(())
 }
 
@@ -68,11 +123,10 @@ fn take_all<H: Holder>(holder: &mut H, stripes: &[u32], mode: Mode) -> Result<()
     Ok(())
 }
 
-/// The numbers rising, without repeats. Takes no memory.
-fn rising(mut numbers: Vec<u32>) -> Vec<u32>
-    ensures { result.items ≡ gather nat_cmp numbers.items }
+/// Puts the numbers in rising order, each once. Takes no memory.
+fn sort(numbers: &mut Vec<u32>)
+    ensures { numbers.new.items ≡ gather nat_cmp numbers.old.items }
 {
     numbers.sort_unstable();
     numbers.dedup();
-    numbers
 }

@@ -9,7 +9,8 @@ ghost use Rattle.rc_machine.specs.Machine.{AreAsTaken, AreTakenAsOffered, HasAns
 ghost use Rattle.rc_machine.specs.declared.stop.Stop.TheVariants as stop;
 
 use crate::Stop;
-use crate::step::{alone, step};
+use crate::step::step;
+use crate::workspace::Workspace;
 use rc_fragment::Holder;
 use rc_plan::Compiled;
 use rc_spec::{Call, Reply};
@@ -46,9 +47,11 @@ pub fn run_plan<H: Holder>(
 {
     let spec = compiled.accepted().spec();
     let plan = compiled.plan(call.op).list();
-    let mut bindings = alone(alloc, call.args.copy()?)?;
+    let mut space = Workspace::new(alloc, spec.columns.list().len());
+    space.bindings.begin(call.args.cols());
+    space.bindings.push_projection(&call.args)?;
     for at in 0..plan.len() {
-        if let Some(reply) = step(alloc, holder, spec, call, plan, at, &mut bindings)? {
+        if let Some(reply) = step(alloc, holder, spec, call, plan, at, &mut space)? {
             return Ok(reply);
         }
     }

@@ -8,15 +8,15 @@ ghost use Rattle.rc_spec.specs.Calls.{all_columns};
 ghost use Rattle.rc_spec.specs.CountedRows.{row_in};
 ghost use Rattle.rc_spec.specs.Decomposition.{bound, edge_at};
 ghost use Rattle.rc_spec.specs.Fragments.{edge_numbers};
-ghost use Rattle.rc_spec.specs.Placement.{class_of};
-ghost use Rattle.rc_spec.specs.Stripes.{physical_stripe};
 ghost use Rattle.rc_spec.specs.declared.spec.Spec.{Spec};
 ghost use Rattle.rc_fragment.specs.Holder.{IsHeldExclusive, held_of};
 ghost use Rattle.rc_machine.specs.Apply.{HasRoomFor, IsSameButLent, count_on, place_in};
 ghost use Rattle.rc_machine.specs.declared.places.RowPlace.{RowPlace};
 
+use crate::stripe::stripe_of;
+use rc_bindings::Binding;
 use rc_fragment::Holder;
-use rc_spec::{Spec, physical_stripe};
+use rc_spec::Spec;
 use rc_tuple::{Memory, Tuple};
 
 /// A row of an edge, and the stripe on which it falls.
@@ -27,16 +27,22 @@ pub(crate) struct RowPlace {
     pub(crate) row: Tuple,
 }
 
-/// The tuple's row of each edge, with the stripe on which it falls.
-pub(crate) fn row_places(spec: &Spec, tuple: &Tuple) -> Result<Vec<RowPlace>, Memory>
+/// The tuple's row of each edge, with the stripe on which it falls, which is that of the tuple.
+pub(crate) fn row_places(
+    spec: &Spec,
+    tuple: &Tuple,
+    binding: &Binding,
+) -> Result<Vec<RowPlace>, Memory>
     requires sealed { IsSealed spec.now }
+    requires same { binding.now.tuple ≡ tuple.now }
+    requires wide { binding.now.width ≡ length spec.now.columns }
     requires whole { cols_of tuple.now ≡ all_columns spec.now }
     ensures { IfOk result (λ places. places.items ≡ map (place_in spec.now tuple.now) (edge_numbers spec.now)) }
 {
     let mut places = Vec::new(tuple.alloc());
     for edge in 0..spec.edges.list().len() as u8 {
         let row = row_in(spec, tuple, edge)?;
-        let stripe = stripe_of_row(spec, edge, &row);
+        let stripe = stripe_of(spec, spec.class_of(edge), binding);
         places.push(RowPlace { edge, stripe, row })?;
     }
     Ok(places)
@@ -63,16 +69,6 @@ fn count_on(places: &[RowPlace], stripe: u32) -> u16
     ensures { result ≡ count_on stripe places.now }
 {
     places.iter().filter(|place| place.stripe == stripe).count() as u16
-}
-
-/// The stripe on which a row of an edge falls.
-fn stripe_of_row(spec: &Spec, edge: u8, row: &Tuple) -> u32
-    requires sealed { IsSealed spec.now }
-    requires known { edge < length spec.now.edges }
-    requires columns { cols_of row.now ≡ bound spec.now (edge_at spec.now edge).to }
-    ensures { result ≡ physical_stripe spec.now (class_of spec.now edge) row.now }
-{
-    physical_stripe(spec, spec.class_of(edge), row)
 }
 
 /// The tuple's row of an edge.

@@ -10,6 +10,7 @@ ghost use Rattle.rc_fragment.specs.declared.held.Held.{Held};
 ghost use Rattle.rc_plan.specs.Compiled.{IsPlanOf};
 ghost use Rattle.rc_machine.specs.Machine.{AreAsTaken, AreTakenAsOffered, IsRefused};
 ghost use Rattle.rc_machine.specs.Run.{HasGoneOn, IsAt};
+ghost use Rattle.rc_machine.specs.Workspace.{AreWide, StaysWide};
 ghost use Rattle.rc_machine.specs.declared.stop.Stop.TheVariants as stop;
 
 use crate::Stop;
@@ -18,10 +19,10 @@ use crate::check::{conflict, present};
 use crate::emit::emit;
 use crate::lock::lock;
 use crate::read::read;
+use crate::workspace::Workspace;
 use rc_fragment::Holder;
 use rc_plan::Statement;
 use rc_spec::{Call, Reply, Spec};
-use rc_tuple::{Memory, Tuple};
 use std::alloc::Global;
 
 /// Runs the statement with this number. The run goes on, or has answered; after a stop no held stripe is changed.
@@ -33,16 +34,18 @@ pub(crate) fn step<H: Holder>(
     call: &Call,
     plan: &[Statement],
     at: usize,
-    bindings: &mut Vec<Tuple>,
+    space: &mut Workspace,
 ) -> Result<Option<Reply>, Stop>
     requires sealed { IsSealed spec.now }
     requires fits { Fits spec.now call.now }
     requires planned { IsPlanOf spec.now call.now.op plan.now }
     requires there { at < length plan.now }
     requires sound { H.is_sound holder.old spec.now }
-    requires run { IsAt spec.now plan.now call.now (drop at plan.now) bindings.old.items (held_of (H.seen holder.old)) }
+    requires run { IsAt spec.now plan.now call.now (drop at plan.now) space.old.bindings.tuples (held_of (H.seen holder.old)) }
+    requires wide { AreWide spec.now space.old }
     requires taken { AreTakenAsOffered (H.seen holder.old) }
-    ensures run { IfOk result (HasGoneOn spec.now plan.now call.now (drop (at + 1) plan.now) bindings.new.items (held_of (H.seen holder.new))) }
+    ensures run { IfOk result (HasGoneOn spec.now plan.now call.now (drop (at + 1) plan.now) space.new.bindings.tuples (held_of (H.seen holder.new))) }
+    ensures wide { IfOk result (StaysWide spec.now space.new) }
     ensures taken { AreTakenAsOffered (H.seen holder.new) }
     ensures stopped { IfErr result (λ _. AreAsTaken (held_of (H.seen holder.new))) }
     ensures refused { (h : Held) → result ≡ Err (stop.Held h) → IsRefused spec.now plan.now call.now (H.seen holder.old) (H.seen holder.new) h }
@@ -51,33 +54,36 @@ pub(crate) fn step<H: Holder>(
 {
     match plan[at] {
         Statement::Lock { class, which, mode } => {
-            lock(alloc, holder, spec, class, which, mode, bindings)?;
+            lock(
+                holder,
+                spec,
+                class,
+                which,
+                mode,
+                &space.bindings,
+                &mut space.stripes,
+            )?;
             Ok(None)
         }
         Statement::Probe { cols } => {
-            *bindings = alone(alloc, call.args.project(cols)?)?;
+            space.bindings.begin(cols);
+            space.bindings.push_projection(&call.args)?;
             Ok(None)
         }
         Statement::Read { edge, mode } => {
-            *bindings = read(alloc, holder, spec, edge, mode, bindings)?;
+            read(alloc, holder, spec, edge, mode, space)?;
             Ok(None)
         }
-        Statement::CheckAbsent => Ok(present(bindings)),
-        Statement::CheckDep { dep } => Ok(conflict(spec, dep, &call.args, bindings)?),
+        Statement::CheckAbsent => Ok(present(&space.bindings)),
+        Statement::CheckDep { dep } => Ok(conflict(spec, dep, &call.args, &space.bindings)),
         Statement::Apply => {
             let kind = &spec.op(call.op).kind;
-            Ok(Some(apply(holder, spec, kind, &call.args, bindings)?))
+            Ok(Some(apply(alloc, holder, spec, kind, &call.args, space)?))
         }
-        Statement::Emit => { Ok(Some(emit(alloc, &spec.op(call.op).kind, bindings)?)) }
+        Statement::Emit => {
+            let kind = &spec.op(call.op).kind;
+            Ok(Some(emit(alloc, kind, &space.bindings)?))
+        }
         Statement::Commit | Statement::Release { .. } => unreachable!(),
     }
-}
-
-/// The list of one tuple.
-pub(crate) fn alone(alloc: Global, tuple: Tuple) -> Result<Vec<Tuple>, Memory>
-    ensures { IfOk result (λ list. list.items ≡ tuple ∷ []) }
-{
-    let mut list = Vec::new(alloc);
-    list.push(tuple)?;
-    Ok(list)
 }

@@ -31,4 +31,4 @@ pub use named::Named;
 pub use query_rows::QueryRows;
 pub use refusal::{Item, Refusal, Rule, print_refusal};
 pub use spec::{Classes, Columns, Deps, Edges, Nodes, Ops, Places, Spec};
-pub use stripes::{band_start, physical_stripe, stripe_of, stripe_total};
+pub use stripes::{band_start, mix, physical_stripe, stripe_of, stripe_total};

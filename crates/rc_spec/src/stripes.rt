@@ -31,9 +31,10 @@ pub fn stripe_of(class: &Class, tuple: &Tuple) -> u32
     hash_of(class.cols, tuple) % class.stripes
 }
 
-/// The hash with one more value, of which the low 32 bits count.
+/// The hash with one more value, of which the low 32 bits count. A tuple's hash begins with 7 and takes the values at its
+/// columns in turn, so that a caller who keeps tuples in another form finds the same stripes.
 #[tactic(auto, unfolding(crate::specs::Stripes::mix))]
-fn mix(hash: u32, value: u64) -> u32
+pub fn mix(hash: u32, value: u64) -> u32
     ensures { result ≡ mix hash value }
 {
     ((u64::from(hash) * 31 + value % (1 << 32)) % (1 << 32)) as u32

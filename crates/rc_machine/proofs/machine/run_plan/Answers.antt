@@ -1,6 +1,10 @@
-use Rattle.std.proofs.Common.{◌≡◌, ◌∷◌, [], List, Err, sym, ap, subst, ◌∙◌}
+use Rattle.std.proofs.Common.{◌≡◌, ◌<◌, ◌≤◌, ◌∷◌, ◌++◌, [], List, Err, length, sym, ap, subst, ◌∙◌}
 use Rattle.rc_tuple.specs.RisingSet.{In}
-use Rattle.rc_tuple.specs.Tuple.{Pairs}
+use Rattle.rc_tuple.specs.MergeLaws.{project_all}
+use Rattle.rc_tuple.specs.Tuple.{Pairs, project}
+use Rattle.rc_tuple.specs.TupleLaws.{rising_pairs}
+use Rattle.rc_bindings.specs.Bindings.{BindingList}
+use Rattle.rc_machine.proofs.StripeLemmas.{args_below}
 use Rattle.rc_spec.specs.declared.spec.Spec.{Spec}
 use Rattle.rc_spec.specs.Acceptance.{IsSealed}
 use Rattle.rc_spec.specs.Calls.{Fits}
@@ -23,6 +27,24 @@ spec_is g c = c.spec-spec.ensures.value ∙ c.accepted.ensures.value
 plan_is : (g : Over) (c : After-list-plan g) → c.list-plan.result.now ≡ plan_at c.args.compiled.now.plans c.args.call.now.op
 plan_is g c = c.list-plan.ensures ∙ c.plan.ensures.value
 
+-- the specification has a column, and few
+pub new-space-requires-clause-some : goal.new-space-requires-clause-some
+new-space-requires-clause-some g c = subst (λ l. 0 < length l) (sym c.list.ensures) (subst IsSealed (sym c.spec-spec.ensures.value) c.spec-spec.ensures.sealed).populated.column
+
+pub new-space-requires-clause-few : goal.new-space-requires-clause-few
+new-space-requires-clause-few g c = subst (λ l. length l ≤ 32) (sym c.list.ensures) (subst IsSealed (sym c.spec-spec.ensures.value) c.spec-spec.ensures.sealed).in_range.columns
+
+pub begin-requires : goal.begin-requires
+begin-requires g c n m =
+    let at = (goal.at.begin-requires g c).After-list-plan in
+    let spec : Spec = c.spec-spec.result.now in
+    let sealed : IsSealed spec = subst IsSealed (sym c.spec-spec.ensures.value) c.spec-spec.ensures.sealed in
+    let fits : Fits spec c.args.call.now = subst (λ z. Fits z c.args.call.now) (sym (spec_is g at)) c.requires.fits in
+    subst (λ w. n < w) (sym (ap (λ (z : BindingList). z.width) c.new-space.ensures.bindings ∙ ap length c.list.ensures)) (args_below spec sealed c.args.call.now fits n (subst (In n) c.cols.ensures.cols m))
+
+pub push_projection-requires : goal.push_projection-requires
+push_projection-requires g c n m = subst (In n) c.cols.ensures.cols (subst (λ (z : BindingList). In n z.columns) c.begin.ensures m)
+
 pub loop-at-init : goal.loop-at-init
 loop-at-init g c =
     let spec : Spec = c.spec-spec.result.now in
@@ -32,8 +54,17 @@ loop-at-init g c =
     let fits : Fits spec c.args.call.now = subst (λ z. Fits z c.args.call.now) (sym same) c.requires.fits in
     let planned : IsPlanOf spec c.args.call.now.op plan = subst (λ z. IsPlanOf z c.args.call.now.op plan) (sym same) (subst (IsPlanOf c.args.compiled.now.spec c.args.call.now.op) (sym c.list-plan.ensures) c.plan.ensures.accepted) in
     let start : IsAt spec plan c.args.call.now plan (c.args.call.now.args ∷ []) [] = begins spec sealed plan c.args.call.now fits planned in
+    let whole : project c.begin.new.self.columns c.args.call.now.args ≡ c.args.call.now.args =
+    ap (λ (z : BindingList). project z.columns c.args.call.now.args) c.begin.ensures
+    ∙ project_all c.cols.result c.args.call.now.args (rising_pairs c.args.call.now.args c.cols.ensures.tuple) (λ n m. subst (In n) (sym c.cols.ensures.cols) m) in
+    let args : c.push_projection.new.self.tuples ≡ c.args.call.now.args ∷ [] =
+    ap (λ (z : BindingList). z.tuples) c.in_ok-push_projection.ensures.ok ∙ ap (λ t. c.begin.new.self.tuples ++ t ∷ []) whole ∙ ap (λ (z : BindingList). z.tuples ++ c.args.call.now.args ∷ []) c.begin.ensures in
     record {
-      run = subst (λ (z : List Pairs). IsAt spec plan c.args.call.now plan z (held_of (g.H.Holder.seen c.args.holder.now))) (sym (c.in_ok-bindings.ensures ∙ ap (λ z. z ∷ []) c.in_ok-copy.ensures))
+      wide = record {
+        bindings = ap (λ (z : BindingList). z.width) c.in_ok-push_projection.ensures.ok ∙ ap (λ (z : BindingList). z.width) c.begin.ensures ∙ ap (λ (z : BindingList). z.width) c.new-space.ensures.bindings ∙ ap length c.list.ensures;
+        found = ap (λ (z : BindingList). z.width) c.new-space.ensures.found ∙ ap length c.list.ensures;
+      };
+      run = subst (λ (z : List Pairs). IsAt spec plan c.args.call.now plan z (held_of (g.H.Holder.seen c.args.holder.now))) (sym args)
           (subst (λ (z : List HeldStripe). IsAt spec plan c.args.call.now plan (c.args.call.now.args ∷ []) z) (sym c.requires.free) start);
       taken = λ h m. absurd (subst (In h) c.requires.free m);
       goes_on = goes_on_same (g.H.Holder.seen c.args.holder.now);

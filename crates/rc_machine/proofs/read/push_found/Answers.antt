@@ -13,14 +13,14 @@ pub push_scanned-requires-clause-columns : goal.push_scanned-requires-clause-col
 push_scanned-requires-clause-columns g c =
     lent_columns (g.H.Holder.seen c.args.holder.now) c.args.stripe c.fragment-fragment.result.now c.requires.held c.fragment-fragment.ensures c.args.spec.now c.requires.good
 
-pub returns-in-Lookup : goal.returns-in-Lookup
-returns-in-Lookup g c =
+pub returns-in-Lookup-clause-merged : goal.returns-in-Lookup-clause-merged
+returns-in-Lookup-clause-merged g c =
     on_ok c.push_looked_up.result
-    (on_one (g.H.Holder.seen c.args.holder.now) c.args.stripe c.fragment-fragment.result.now c.requires.held c.fragment-fragment.ensures c.args.binding.now c.args.edge c.args.merges.now.items c.push_looked_up.new.merges.items)
-    c.push_looked_up.ensures
+    (on_one (g.H.Holder.seen c.args.holder.now) c.args.stripe c.fragment-fragment.result.now c.requires.held c.fragment-fragment.ensures c.args.binding.now.tuple c.args.edge c.args.found.now.tuples c.push_looked_up.new.found.tuples)
+    c.push_looked_up.ensures.merged
 
-pub returns-in-Scan : goal.returns-in-Scan
-returns-in-Scan g c =
+pub returns-in-Scan-clause-merged : goal.returns-in-Scan-clause-merged
+returns-in-Scan-clause-merged g c =
     on_ok c.push_scanned.result
-    (on_one (g.H.Holder.seen c.args.holder.now) c.args.stripe c.fragment-fragment.result.now c.requires.held c.fragment-fragment.ensures c.args.binding.now c.args.edge c.args.merges.now.items c.push_scanned.new.merges.items)
-    c.push_scanned.ensures
+    (on_one (g.H.Holder.seen c.args.holder.now) c.args.stripe c.fragment-fragment.result.now c.requires.held c.fragment-fragment.ensures c.args.binding.now.tuple c.args.edge c.args.found.now.tuples c.push_scanned.new.found.tuples)
+    c.push_scanned.ensures.merged

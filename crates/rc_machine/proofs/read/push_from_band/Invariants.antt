@@ -1,7 +1,11 @@
 use Rattle.std.specs.List.{range_with_len}
 use Rattle.rc_fragment.specs.Holder.{held_of}
 use Rattle.rc_machine.specs.Read.{HasMergedOn}
+use Rattle.rc_machine.specs.Workspace.{HasMoreTuples}
 use Rattle.rc_machine.proofs.read.push_from_band.Given as goal
 
 abbrev pub invariant-loop-place : goal.invariant-loop-place
-invariant-loop-place g l = HasMergedOn l.binding l.edge (held_of (g.H.Holder.seen l.holder)) (range_with_len l.start l.place) l.fn.merges.items l.merges.items
+invariant-loop-place g l = record {
+  merged : HasMergedOn l.binding.tuple l.edge (held_of (g.H.Holder.seen l.holder)) (range_with_len l.start l.place) l.fn.found.tuples l.found.tuples;
+  same : HasMoreTuples l.fn.found l.found;
+}

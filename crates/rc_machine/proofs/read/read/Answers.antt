@@ -1,26 +1,100 @@
-use Rattle.std.proofs.Common.{arith, subst, sym, ◌∙◌}
+use Rattle.std.proofs.Common.{◌≡◌, ◌<◌, ◌≤◌, [], arith, ap, get_or, length, refl, subst, sym, take, ◌∙◌}
 use Rattle.std.proofs.lemmas.List.{take_all}
-use Rattle.rc_tuple.specs.RisingSet.{In}
+use Rattle.rc_tuple.specs.ColSet.{union}
+use Rattle.rc_tuple.specs.RisingSet.{In, gather}
 use Rattle.rc_tuple.specs.RisingSetLaws.{get_or_in}
+use Rattle.rc_tuple.specs.Tuple.{Pairs, tuple_cmp}
+use Rattle.rc_spec.specs.declared.items.Edge.{Edge}
+use Rattle.rc_spec.specs.Decomposition.{bound, edge_at}
+use Rattle.rc_bindings.specs.Bindings.{BindingList, with_tuples}
 use Rattle.rc_fragment.specs.Holder.{held_of}
 use Rattle.rc_machine.specs.Read.{AreMerges}
-use Rattle.rc_machine.proofs.ReadLemmas.{merges_join, merges_more}
+use Rattle.rc_machine.proofs.ReadLemmas.{merges_join, merges_more, merges_none, same_default, to_known}
+use Rattle.rc_machine.proofs.StripeLemmas.{joined_below}
+use Rattle.rc_machine.proofs.read.read.Given.{Over}
+use Rattle.rc_machine.proofs.read.read.Goals.{After-get-binding, After-union}
 use Rattle.rc_machine.proofs.read.read.Goals as goal
 
+pub bound-requires : goal.bound-requires
+bound-requires g c = subst (λ (z : Edge). z.to < length c.args.spec.now.nodes) (sym c.edge.ensures.value) (to_known c.args.spec.now c.requires.sealed c.args.edge c.requires.known)
+
+-- the columns of what is found
+columns : (g : Over) (c : After-union g) → c.union.result ≡ union c.args.space.now.bindings.columns (bound c.args.spec.now (edge_at c.args.spec.now c.args.edge).to)
+columns g c =
+    c.union.ensures.value ∙ ap (λ xs. union xs c.bound.result) c.cols.ensures.columns
+    ∙ ap (union c.args.space.now.bindings.columns) (c.bound.ensures ∙ ap (λ (z : Edge). bound c.args.spec.now z.to) c.edge.ensures.value)
+
+pub begin-requires : goal.begin-requires
+begin-requires g c n m =
+    subst (λ w. n < w) (sym c.requires.wide.found)
+    (joined_below c.args.spec.now c.requires.sealed c.args.edge c.requires.known c.args.space.now.bindings.columns (λ k h. subst (λ w. k < w) c.requires.wide.bindings (c.cols.ensures.below.below k h))
+    n (subst (In n) (columns g (goal.at.begin-requires g c).After-union) m))
+
+pub loop-at-init : goal.loop-at-init
+loop-at-init g c = record {
+  merged = subst (λ (z : BindingList). AreMerges [] c.args.edge (held_of (g.H.Holder.seen c.args.holder.now)) z.tuples) (sym c.begin.ensures) (merges_none c.args.edge (held_of (g.H.Holder.seen c.args.holder.now)));
+  bindings = refl;
+  same = refl;
+}
+
+pub get-binding-requires : goal.get-binding-requires
+get-binding-requires g c = subst (λ (z : BindingList). c.loop-at.at < length z.tuples) (sym c.loop-at.invariant.bindings) (let l = c.loop-at-test.true in let n = c.len-at-end.ensures in omega (arith, l, n))
+
+-- the binding is one of the bindings
+is : (g : Over) (c : After-get-binding g) → c.get-binding.result.tuple ≡ get_or c.args.space.now.bindings.tuples c.loop-at.at []
+is g c = c.get-binding.ensures.tuple ∙ ap (λ (z : BindingList). get_or z.tuples c.loop-at.at []) c.loop-at.invariant.bindings
+
+below : (g : Over) (c : After-get-binding g) → c.loop-at.at < length c.args.space.now.bindings.tuples
+below g c = let l = c.loop-at-test.true in let n = c.len-at-end.ensures in omega (arith, l, n)
+
+there : (g : Over) (c : After-get-binding g) → In c.get-binding.result.tuple c.args.space.now.bindings.tuples
+there g c = subst (λ t. In t c.args.space.now.bindings.tuples) (sym (is g c)) (get_or_in c.args.space.now.bindings.tuples c.loop-at.at [] (below g c))
+
 pub push_joined-requires-clause-reader : goal.push_joined-requires-clause-reader
-push_joined-requires-clause-reader g c =
-    c.requires.readers.readers c.binding-item.result (subst (λ z. In z c.args.bindings.now) (sym c.binding-item.is) (get_or_in c.args.bindings.now c.loop-binding.binding-index c.binding-item.result c.loop-binding-test.true))
+push_joined-requires-clause-reader g c = c.requires.readers.readers c.get-binding.result.tuple (there g (goal.at.push_joined-requires-clause-reader g c).After-get-binding)
 
 pub push_joined-requires-clause-covered : goal.push_joined-requires-clause-covered
-push_joined-requires-clause-covered g c =
-    c.requires.readers.covered c.binding-item.result (subst (λ z. In z c.args.bindings.now) (sym c.binding-item.is) (get_or_in c.args.bindings.now c.loop-binding.binding-index c.binding-item.result c.loop-binding-test.true))
+push_joined-requires-clause-covered g c = c.requires.readers.covered c.get-binding.result.tuple (there g (goal.at.push_joined-requires-clause-covered g c).After-get-binding)
 
-pub loop-binding-preserved : goal.loop-binding-preserved
-loop-binding-preserved g c =
-    merges_more c.args.bindings.now c.loop-binding.binding-index c.binding-item.result c.args.edge (held_of (g.H.Holder.seen c.args.holder.now)) c.loop-binding.merges.items c.push_joined.new.merges.items c.loop-binding-test.true c.binding-item.is
-    c.loop-binding.invariant c.in_ok-push_joined.ensures
+pub push_joined-requires-clause-wide : goal.push_joined-requires-clause-wide
+push_joined-requires-clause-wide g c = c.get-binding.ensures.width ∙ ap (λ (z : BindingList). z.width) c.loop-at.invariant.bindings ∙ c.requires.wide.bindings
 
-pub returns : goal.returns
-returns g c =
-    c.distinct.ensures ∙ merges_join c.args.bindings.now c.args.edge (held_of (g.H.Holder.seen c.args.holder.now)) c.loop-binding.merges.items
-    (subst (λ z. AreMerges z c.args.edge (held_of (g.H.Holder.seen c.args.holder.now)) c.loop-binding.merges.items) (take_all c.loop-binding.binding-index c.args.bindings.now (omega arith)) c.loop-binding.invariant)
+pub push_joined-requires-clause-takes : goal.push_joined-requires-clause-takes
+push_joined-requires-clause-takes g c =
+    let at = goal.at.push_joined-requires-clause-takes g c in
+    let start : c.loop-at.space.found ≡ with_tuples c.begin.new.self c.loop-at.space.found.tuples = c.loop-at.invariant.same in
+    record {
+      width = c.get-binding.ensures.width ∙ ap (λ (z : BindingList). z.width) c.loop-at.invariant.bindings ∙ c.requires.wide.bindings
+          ∙ sym (ap (λ (z : BindingList). z.width) start ∙ ap (λ (z : BindingList). z.width) c.begin.ensures ∙ c.requires.wide.found);
+      columns = ap (λ (z : BindingList). z.columns) start ∙ ap (λ (z : BindingList). z.columns) c.begin.ensures ∙ columns g at.After-union
+          ∙ ap (λ xs. union xs (bound c.args.spec.now (edge_at c.args.spec.now c.args.edge).to)) (sym (c.get-binding.ensures.columns ∙ ap (λ (z : BindingList). z.columns) c.loop-at.invariant.bindings));
+    }
+
+pub loop-at-preserved : goal.loop-at-preserved
+loop-at-preserved g c =
+    let at = (goal.at.loop-at-preserved g c).After-get-binding in
+    let bs = c.args.space.now.bindings.tuples in
+    let b = c.get-binding.result.tuple in
+    record {
+      merged = merges_more bs c.loop-at.at b c.args.edge (held_of (g.H.Holder.seen c.args.holder.now)) c.loop-at.space.found.tuples c.push_joined.new.found.tuples (below g at)
+          (is g at ∙ same_default bs c.loop-at.at [] b (below g at)) c.loop-at.invariant.merged c.in_ok-push_joined.ensures.merged;
+      bindings = c.loop-at.invariant.bindings;
+      same = c.in_ok-push_joined.ensures.same ∙ ap (λ z. with_tuples z c.push_joined.new.found.tuples) c.loop-at.invariant.same;
+    }
+
+pub returns-clause-joined : goal.returns-clause-joined
+returns-clause-joined g c =
+    let bs = c.args.space.now.bindings.tuples in
+    let held = held_of (g.H.Holder.seen c.args.holder.now) in
+    let l = c.loop-at-test.false in
+    let n = c.len-at-end.ensures in
+    ap (λ (z : BindingList). z.tuples) (c.swap.ensures.x_after ∙ c.in_ok-sort.ensures)
+    ∙ merges_join bs c.args.edge held c.loop-at.space.found.tuples
+    (subst (λ z. AreMerges z c.args.edge held c.loop-at.space.found.tuples) (take_all c.loop-at.at bs (omega (arith, l, n))) c.loop-at.invariant.merged)
+
+pub returns-clause-wide : goal.returns-clause-wide
+returns-clause-wide g c = record {
+  bindings = ap (λ (z : BindingList). z.width) (c.swap.ensures.x_after ∙ c.in_ok-sort.ensures ∙ ap (λ z. with_tuples z (gather tuple_cmp c.loop-at.space.found.tuples)) c.loop-at.invariant.same)
+      ∙ ap (λ (z : BindingList). z.width) c.begin.ensures ∙ c.requires.wide.found;
+  found = ap (λ (z : BindingList). z.width) (c.swap.ensures.y_after ∙ c.loop-at.invariant.bindings) ∙ c.requires.wide.bindings;
+}

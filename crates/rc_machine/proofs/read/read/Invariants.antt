@@ -1,7 +1,12 @@
-use Rattle.std.proofs.Common.{take}
+use Rattle.std.proofs.Common.{◌≡◌, take}
 use Rattle.rc_fragment.specs.Holder.{held_of}
 use Rattle.rc_machine.specs.Read.{AreMerges}
+use Rattle.rc_machine.specs.Workspace.{HasMoreTuples}
 use Rattle.rc_machine.proofs.read.read.Given as goal
 
-abbrev pub invariant-loop-binding : goal.invariant-loop-binding
-invariant-loop-binding g l = AreMerges (take l.binding-index l.bindings) l.edge (held_of (g.H.Holder.seen l.holder)) l.merges.items
+abbrev pub invariant-loop-at : goal.invariant-loop-at
+invariant-loop-at g l = record {
+  merged : AreMerges (take l.at l.fn.space.bindings.tuples) l.edge (held_of (g.H.Holder.seen l.holder)) l.space.found.tuples;
+  bindings : l.space.bindings ≡ l.fn.space.bindings;
+  same : HasMoreTuples l.initial.space.found l.space.found;
+}

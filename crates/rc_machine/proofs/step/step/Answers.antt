@@ -1,8 +1,9 @@
-use Rattle.std.proofs.Common.{◌≡◌, ◌<◌, ◌+◌, ◌∷◌, [], List, None, Some, Err, cond, drop, get_or, length, take, subst, sym, ap, ◌∙◌, inl, refl}
+use Rattle.std.proofs.Common.{◌≡◌, ◌<◌, ◌+◌, ◌∷◌, ◌++◌, [], List, None, Some, Err, cond, drop, get_or, length, take, subst, sym, ap, ◌∙◌, inl, refl}
 use Rattle.std.specs.Ordering.{nat_cmp}
 use Rattle.std.proofs.lemmas.Option.{slice_get_within}
 use Rattle.rc_tuple.specs.RisingSet.{In, gather}
-use Rattle.rc_tuple.specs.Tuple.{Pairs}
+use Rattle.rc_tuple.specs.Tuple.{Pairs, project}
+use Rattle.rc_bindings.specs.Bindings.{BindingList}
 use Rattle.rc_spec.specs.Contents.{join}
 use Rattle.rc_spec.specs.Fragments.{tuples_of_edge}
 use Rattle.rc_spec.specs.declared.call.Reply.TheVariants.{Conflict, Present}
@@ -15,7 +16,8 @@ use Rattle.rc_machine.specs.Locks.{HasLocked, HasRefusedOne}
 use Rattle.rc_machine.specs.Machine.{AreAsTaken, rows_now}
 use Rattle.rc_machine.specs.Read.{AreReaders}
 use Rattle.rc_machine.specs.Run.{IsAt}
-use Rattle.rc_machine.proofs.CheckStepLemmas.{probe_step}
+use Rattle.rc_machine.proofs.CheckStepLemmas.{probe_step, probe_within}
+use Rattle.rc_machine.proofs.StripeLemmas.{all_below}
 use Rattle.rc_machine.proofs.GoLemmas.{absent_goes, applied_replies, applied_told, at_is, can_apply, dep_goes, emit_replies, if_err, lock_refused, locked_told, still_taken, told_same}
 use Rattle.rc_machine.proofs.LentLemmas.{lent_goes_on}
 use Rattle.rc_machine.proofs.ReadStepLemmas.{are_good, are_readers, read_step}
@@ -26,8 +28,8 @@ use Rattle.rc_machine.proofs.step.step.Goals as goal
 
 -- the statement is the first of those that are left
 starts : (g : Over) (c : Start g) (d x : Statement) → get_or c.args.plan.now c.args.at d ≡ x
-    → IsAt c.args.spec.now c.args.plan.now c.args.call.now (x ∷ drop (c.args.at + 1) c.args.plan.now) c.args.bindings.now.items (held_of (g.H.Holder.seen c.args.holder.now))
-starts g c d x is = at_is c.args.spec.now c.args.plan.now c.args.call.now c.args.at d x c.args.bindings.now.items (held_of (g.H.Holder.seen c.args.holder.now)) c.requires.there is c.requires.run
+    → IsAt c.args.spec.now c.args.plan.now c.args.call.now (x ∷ drop (c.args.at + 1) c.args.plan.now) c.args.space.now.bindings.tuples (held_of (g.H.Holder.seen c.args.holder.now))
+starts g c d x is = at_is c.args.spec.now c.args.plan.now c.args.call.now c.args.at d x c.args.space.now.bindings.tuples (held_of (g.H.Holder.seen c.args.holder.now)) c.requires.there is c.requires.run
 
 -- what is held, as taken, is of one relation
 one : (g : Over) (c : Start g) → AreOfOneRelation c.args.spec.now (held_of (g.H.Holder.seen c.args.holder.now))
@@ -45,7 +47,7 @@ lock-requires-clause-known g c = (starts g (goal.at.lock-requires-clause-known g
 pub lock-requires-clause-above : goal.lock-requires-clause-above
 lock-requires-clause-above g c s m =
     lock_above c.args.spec.now c.requires.sealed c.args.plan.now c.args.call.now _ _ _ _ _ _ (starts g (goal.at.lock-requires-clause-above g c).Start _ _ c.in-Lock.is) s
-    (subst (λ z. In s (stripes_locked c.args.spec.now c.in-Lock.class c.in-Lock.which z)) c.deref.ensures.value m)
+    m
 
 pub returns-in_err-lock-in-Lock-clause-taken : goal.returns-in_err-lock-in-Lock-clause-taken
 returns-in_err-lock-in-Lock-clause-taken g c =
@@ -61,11 +63,10 @@ returns-in_err-lock-in-Lock-clause-refused g c h e =
     let old = g.H.Holder.seen c.args.holder.now in
     let new = g.H.Holder.seen c.lock.new.holder in
     let n = c.in_err-lock-in-Lock.ensures.some.0 in
-    let named = λ (bs : List Pairs). gather nat_cmp (stripes_locked c.args.spec.now c.in-Lock.class c.in-Lock.which bs) in
     lock_refused c.args.spec.now c.args.plan.now c.args.call.now _ _ _ _ _ old new n (starts g (goal.at.returns-in_err-lock-in-Lock-clause-refused g c).Start _ _ c.in-Lock.is)
-    (subst (λ bs. HasLocked old new (take n (named bs)) c.in-Lock.mode) c.deref.ensures.value c.in_err-lock-in-Lock.ensures.some.1)
+    c.in_err-lock-in-Lock.ensures.some.1
     (g.met.H.Holder.sound_rows c.lock.new.holder c.args.spec.now (c.in_err-lock-in-Lock.ensures.sound c.args.spec.now c.requires.sound)) h
-    (subst (λ bs. HasRefusedOne old new (named bs) c.in-Lock.mode h) c.deref.ensures.value (c.in_err-lock-in-Lock.ensures.refused h (ap Err (sym is))))
+    (c.in_err-lock-in-Lock.ensures.refused h (ap Err (sym is)))
 
 pub returns-in_ok-lock-in-Lock-clause-taken : goal.returns-in_ok-lock-in-Lock-clause-taken
 returns-in_ok-lock-in-Lock-clause-taken g c =
@@ -74,15 +75,30 @@ returns-in_ok-lock-in-Lock-clause-taken g c =
 pub returns-in_ok-lock-in-Lock-clause-run : goal.returns-in_ok-lock-in-Lock-clause-run
 returns-in_ok-lock-in-Lock-clause-run g c =
     lock_step c.args.spec.now c.requires.sealed c.args.plan.now c.args.call.now _ _ _ _ _ _ (starts g (goal.at.returns-in_ok-lock-in-Lock-clause-run g c).Start _ _ c.in-Lock.is) _ _
-    (subst (λ z. HasLocked (g.H.Holder.seen c.args.holder.now) (g.H.Holder.seen c.lock.new.holder) (gather nat_cmp (stripes_locked c.args.spec.now c.in-Lock.class c.in-Lock.which z)) c.in-Lock.mode) c.deref.ensures.value c.in_ok-lock-in-Lock.ensures.ok)
+    c.in_ok-lock-in-Lock.ensures.ok
 
 -- ---- Probe and Read
 
-pub returns-in_ok-bindings-in-Probe-clause-run : goal.returns-in_ok-bindings-in-Probe-clause-run
-returns-in_ok-bindings-in-Probe-clause-run g c =
+pub begin-requires : goal.begin-requires
+begin-requires g c n m =
+    subst (λ w. n < w) (sym c.requires.wide.bindings) (all_below c.args.spec.now n ((starts g (goal.at.begin-requires g c).Start _ _ c.in-Probe.is).known _ (inl refl) n m))
+
+pub push_projection-requires : goal.push_projection-requires
+push_projection-requires g c n m =
+    probe_within c.args.spec.now c.requires.sealed c.args.plan.now c.args.call.now c.requires.fits _ _ _ _ (starts g (goal.at.push_projection-requires g c).Start _ _ c.in-Probe.is) n
+    (subst (λ (z : BindingList). In n z.columns) c.begin.ensures m)
+
+pub returns-in_ok-push_projection-in-Probe-clause-run : goal.returns-in_ok-push_projection-in-Probe-clause-run
+returns-in_ok-push_projection-in-Probe-clause-run g c =
     subst (λ z. IsAt c.args.spec.now c.args.plan.now c.args.call.now (drop (c.args.at + 1) c.args.plan.now) z (held_of (g.H.Holder.seen c.args.holder.now)))
-    (sym (c.in_ok-bindings-in-Probe.ensures ∙ ap (λ z. z ∷ []) c.in_ok-project-in-Probe.ensures))
-    (probe_step c.args.spec.now c.requires.sealed c.args.plan.now c.args.call.now c.requires.fits _ _ _ _ (starts g (goal.at.returns-in_ok-bindings-in-Probe-clause-run g c).Start _ _ c.in-Probe.is))
+    (sym (ap (λ (z : BindingList). z.tuples) c.in_ok-push_projection-in-Probe.ensures.ok ∙ ap (λ (z : BindingList). z.tuples ++ project z.columns c.args.call.now.args ∷ []) c.begin.ensures))
+    (probe_step c.args.spec.now c.requires.sealed c.args.plan.now c.args.call.now c.requires.fits _ _ _ _ (starts g (goal.at.returns-in_ok-push_projection-in-Probe-clause-run g c).Start _ _ c.in-Probe.is))
+
+pub returns-in_ok-push_projection-in-Probe-clause-wide : goal.returns-in_ok-push_projection-in-Probe-clause-wide
+returns-in_ok-push_projection-in-Probe-clause-wide g c = record {
+  bindings = ap (λ (z : BindingList). z.width) c.in_ok-push_projection-in-Probe.ensures.ok ∙ ap (λ (z : BindingList). z.width) c.begin.ensures ∙ c.requires.wide.bindings;
+  found = c.requires.wide.found;
+}
 
 pub read-requires-clause-known : goal.read-requires-clause-known
 read-requires-clause-known g c = (starts g (goal.at.read-requires-clause-known g c).Start _ _ c.in-Read.is).known _ (inl refl)
@@ -95,14 +111,12 @@ read-requires-clause-good g c =
 pub read-requires-clause-readers : goal.read-requires-clause-readers
 read-requires-clause-readers g c =
     let start = (goal.at.read-requires-clause-readers g c).Start in
-    subst (AreReaders c.args.spec.now c.in-Read.edge c.in-Read.mode (held_of (g.H.Holder.seen c.args.holder.now))) (sym c.deref-in-Read.ensures.value)
     (are_readers c.args.spec.now c.requires.sealed c.args.plan.now c.args.call.now _ _ _ _ _ (starts g start _ _ c.in-Read.is) (one g start).0 (one g start).1)
 
-pub returns-in_ok-bindings-in-Read-clause-run : goal.returns-in_ok-bindings-in-Read-clause-run
-returns-in_ok-bindings-in-Read-clause-run g c =
-    let start = (goal.at.returns-in_ok-bindings-in-Read-clause-run g c).Start in
-    read_step c.args.spec.now c.requires.sealed c.args.plan.now c.args.call.now _ _ _ _ _ (starts g start _ _ c.in-Read.is) c.in_ok-bindings-in-Read.field-0.items
-    (c.in_ok-bindings-in-Read.ensures ∙ ap (λ z. join z (tuples_of_edge c.in-Read.edge (rows_now (held_of (g.H.Holder.seen c.args.holder.now))))) c.deref-in-Read.ensures.value) (one g start).0 (one g start).1
+pub returns-in_ok-read-in-Read-clause-run : goal.returns-in_ok-read-in-Read-clause-run
+returns-in_ok-read-in-Read-clause-run g c =
+    let start = (goal.at.returns-in_ok-read-in-Read-clause-run g c).Start in
+    read_step c.args.spec.now c.requires.sealed c.args.plan.now c.args.call.now _ _ _ _ _ (starts g start _ _ c.in-Read.is) c.read.new.space.bindings.tuples c.in_ok-read-in-Read.ensures.joined (one g start).0 (one g start).1
 
 -- ---- checks
 
@@ -110,7 +124,7 @@ pub returns-in-CheckAbsent-clause-run : goal.returns-in-CheckAbsent-clause-run
 returns-in-CheckAbsent-clause-run g c =
     let start = (goal.at.returns-in-CheckAbsent-clause-run g c).Start in
     absent_goes c.args.spec.now c.requires.sealed c.args.plan.now c.args.call.now c.requires.fits c.requires.planned _ _ _ (one g start) (starts g start _ _ c.in-CheckAbsent.is) c.present.result
-    (c.present.ensures ∙ ap (λ z. cond (some_left z) (Some Present) None) c.deref-in-CheckAbsent.ensures.value)
+    c.present.ensures
 
 pub conflict-requires-clause-some : goal.conflict-requires-clause-some
 conflict-requires-clause-some g c = ((starts g (goal.at.conflict-requires-clause-some g c).Start _ _ c.in-CheckDep.is).known _ (inl refl)).0
@@ -118,11 +132,13 @@ conflict-requires-clause-some g c = ((starts g (goal.at.conflict-requires-clause
 pub conflict-requires-clause-known : goal.conflict-requires-clause-known
 conflict-requires-clause-known g c = ((starts g (goal.at.conflict-requires-clause-known g c).Start _ _ c.in-CheckDep.is).known _ (inl refl)).1
 
-pub returns-in_ok-conflict-in-CheckDep-clause-run : goal.returns-in_ok-conflict-in-CheckDep-clause-run
-returns-in_ok-conflict-in-CheckDep-clause-run g c =
-    let start = (goal.at.returns-in_ok-conflict-in-CheckDep-clause-run g c).Start in
-    dep_goes c.args.spec.now c.requires.sealed c.args.plan.now c.args.call.now c.requires.fits c.requires.planned _ _ _ (one g start) c.in-CheckDep.dep (starts g start _ _ c.in-CheckDep.is) c.in_ok-conflict-in-CheckDep.field-0
-    (c.in_ok-conflict-in-CheckDep.ensures ∙ ap (λ z. cond (some_differs c.args.spec.now c.in-CheckDep.dep c.args.call.now.args z) (Some (Conflict c.in-CheckDep.dep)) None) c.deref-in-CheckDep.ensures.value)
+pub conflict-requires-clause-tuple : goal.conflict-requires-clause-tuple
+conflict-requires-clause-tuple g c = c.requires.fits.1.tuple
+
+pub returns-in-CheckDep-clause-run : goal.returns-in-CheckDep-clause-run
+returns-in-CheckDep-clause-run g c =
+    let start = (goal.at.returns-in-CheckDep-clause-run g c).Start in
+    dep_goes c.args.spec.now c.requires.sealed c.args.plan.now c.args.call.now c.requires.fits c.requires.planned _ _ _ (one g start) c.in-CheckDep.dep (starts g start _ _ c.in-CheckDep.is) c.conflict.result c.conflict.ensures
 
 -- ---- Apply and Emit
 
@@ -135,7 +151,6 @@ op-requires-in-Emit g c = known_op g (goal.at.op-requires-in-Emit g c).Start
 pub apply-requires-clause-can : goal.apply-requires-clause-can
 apply-requires-clause-can g c =
     let start = (goal.at.apply-requires-clause-can g c).Start in
-    subst (λ z. CanApply c.args.spec.now c.op.result.now.kind c.args.call.now.args z (held_of (g.H.Holder.seen c.args.holder.now))) (sym c.deref-in-Apply.ensures.value)
     (can_apply c.args.spec.now c.requires.sealed c.args.plan.now c.args.call.now c.requires.fits c.requires.planned _ _ _ (one g start) (starts g start _ _ c.in-Apply.is) c.op.result.now.kind (ap (λ (z : Op). z.kind) (sym c.op.ensures.value)))
 
 pub returns-in_err-apply-in-Apply-clause-taken : goal.returns-in_err-apply-in-Apply-clause-taken
@@ -149,10 +164,9 @@ returns-in_err-apply-in-Apply-clause-stopped g c = if_err _ (subst AreAsTaken (s
 
 -- what Apply did with the bindings
 applied : (g : Over) (c : In_ok-apply-in-Apply g)
-    → HasApplied c.args.spec.now c.op.result.now.kind c.args.call.now.args c.args.bindings.now.items (held_of (g.H.Holder.seen c.args.holder.now)) (held_of (g.H.Holder.seen c.apply.new.holder)) c.in_ok-apply-in-Apply.field-0
+    → HasApplied c.args.spec.now c.op.result.now.kind c.args.call.now.args c.args.space.now.bindings.tuples (held_of (g.H.Holder.seen c.args.holder.now)) (held_of (g.H.Holder.seen c.apply.new.holder)) c.in_ok-apply-in-Apply.field-0
 applied g c =
-    subst (λ z. HasApplied c.args.spec.now c.op.result.now.kind c.args.call.now.args z (held_of (g.H.Holder.seen c.args.holder.now)) (held_of (g.H.Holder.seen c.apply.new.holder)) c.in_ok-apply-in-Apply.field-0)
-    c.deref-in-Apply.ensures.value c.in_ok-apply-in-Apply.ensures.ok
+    c.in_ok-apply-in-Apply.ensures.ok
 
 pub returns-in_ok-apply-in-Apply-clause-run : goal.returns-in_ok-apply-in-Apply-clause-run
 returns-in_ok-apply-in-Apply-clause-run g c =
@@ -165,11 +179,11 @@ pub returns-in_ok-apply-in-Apply-clause-taken : goal.returns-in_ok-apply-in-Appl
 returns-in_ok-apply-in-Apply-clause-taken g c =
     let old = g.H.Holder.seen c.args.holder.now in
     let new = g.H.Holder.seen c.apply.new.holder in
-    applied_told c.args.spec.now c.op.result.now.kind c.args.call.now.args c.args.bindings.now.items old new c.in_ok-apply-in-Apply.field-0 (applied g (goal.at.returns-in_ok-apply-in-Apply-clause-taken g c).In_ok-apply-in-Apply)
+    applied_told c.args.spec.now c.op.result.now.kind c.args.call.now.args c.args.space.now.bindings.tuples old new c.in_ok-apply-in-Apply.field-0 (applied g (goal.at.returns-in_ok-apply-in-Apply-clause-taken g c).In_ok-apply-in-Apply)
     (lent_goes_on old new c.in_ok-apply-in-Apply.ensures.lent) c.requires.taken
 
 pub returns-in_ok-emit-in-Emit-clause-run : goal.returns-in_ok-emit-in-Emit-clause-run
 returns-in_ok-emit-in-Emit-clause-run g c =
     let start = (goal.at.returns-in_ok-emit-in-Emit-clause-run g c).Start in
     emit_replies c.args.spec.now c.requires.sealed c.args.plan.now c.args.call.now c.requires.fits c.requires.planned _ _ _ (one g start) (starts g start _ _ c.in-Emit.is) c.op-in-Emit.result.now.kind (ap (λ (z : Op). z.kind) (sym c.op-in-Emit.ensures.value))
-    c.in_ok-emit-in-Emit.field-0 (λ outs q. c.in_ok-emit-in-Emit.ensures outs q ∙ ap (answer outs) c.deref-in-Emit.ensures.value)
+    c.in_ok-emit-in-Emit.field-0 c.in_ok-emit-in-Emit.ensures

@@ -3,9 +3,9 @@ use Rattle.std.specs.Cmp.{unsigned_ties}
 use Rattle.std.specs.Ordering.{nat_cmp}
 use Rattle.std.proofs.lemmas.List.Filters.{dedup_is}
 use Rattle.rc_tuple.specs.RisingSetLaws.{kept_once, nat_order}
-use Rattle.rc_machine.proofs.lock.rising.Goals as goal
+use Rattle.rc_machine.proofs.lock.sort.Goals as goal
 
 pub returns : goal.returns
 returns c =
     dedup_is _ _ _ c.dedup.ensures.filtered
-    ∙ kept_once nat_cmp nat_order eqb unsigned_ties c.args.numbers.items c.sort_unstable.new.self.items c.sort_unstable.ensures.permutation c.sort_unstable.ensures.sorted
+    ∙ kept_once nat_cmp nat_order eqb unsigned_ties c.args.numbers.now.items c.sort_unstable.new.self.items c.sort_unstable.ensures.permutation c.sort_unstable.ensures.sorted

@@ -1,0 +1,4 @@
+pub mod Bindings
+pub mod BindingsLaws
+pub mod Registers
+pub mod RegistersLaws

@@ -1,0 +1,224 @@
+//! One binding.
+
+ghost use Rattle.std.specs.Prelude.{◌≡◌, ℕ, ◌<◌, ◌≤◌, ◌++◌, length, map, IsTrue, OnOk, IfOk};
+ghost use Rattle.std.specs.declared.cmp.Ordering.TheVariants.{Less};
+ghost use Rattle.rc_tuple.specs.Tuple.{IsTuple, agree_on, agrees, cols_of, get, pick, project, tuple_cmp, value};
+ghost use Rattle.rc_spec.specs.InRange.{IsSetBelow};
+ghost use Rattle.rc_spec.specs.Plain.{row_cmp};
+ghost use Rattle.rc_spec.specs.Stripes.{hash_of, stripe_of};
+ghost use Rattle.rc_bindings.specs.Registers.{fits, fits_all, register, tuple_in};
+
+use rc_spec::{Class, mix};
+use rc_tuple::{ColSet, Cols, Memory, Tuple, Vals};
+use std::alloc::Global;
+use std::cmp::Ordering;
+use std::marker::Model;
+
+/// A tuple in registers: a value for each column below the width, and the columns that count.
+#[derive(Debug, Drop)]
+pub struct Binding<'a> {
+    pub(crate) cols: ColSet,
+    pub(crate) registers: &'a [u64],
+}
+
+impl<'a> Model for Binding<'a> {
+    ghost use Rattle.rc_bindings.specs.Bindings.{IsBinding, OneBinding, seen_one};
+
+    ghost Value = { OneBinding };
+
+    ghost view = { λ b. seen_one b.cols b.registers.now };
+
+    ghost invariant = { λ b. IsBinding b.cols b.registers.now };
+}
+
+impl<'a> Binding<'a> {
+    /// The columns that have a value.
+    pub fn cols(&self) -> ColSet
+        ensures columns { result ≡ self.now.columns }
+        ensures of_tuple { cols_of self.now.tuple ≡ self.now.columns }
+        ensures tuple { IsTuple self.now.tuple }
+        ensures below { IsSetBelow self.now.width self.now.columns }
+    {
+        self.cols
+    }
+
+    /// The value at a column; `None` exactly where the column is none of the tuple's.
+    pub fn get(&self, col: u8) -> Option<u64>
+        ensures { result ≡ get self.now.tuple col }
+    {
+        if self.cols.has(col) {
+            Some(self.registers[col as usize])
+        } else {
+            None
+        }
+    }
+
+    /// The value at a column, or 0 where the column is none of the tuple's.
+    pub fn value(&self, col: u8) -> u64
+        ensures { result ≡ value self.now.tuple col }
+    {
+        self.get(col).unwrap_or(0)
+    }
+
+    /// The stripe of the class on which the tuple falls, from 0, where the class has a stripe. A column that the tuple
+    /// hasn't counts as 0.
+    pub fn stripe_of(&self, class: &Class) -> u32
+        requires some { 0 < class.now.stripes }
+        requires within { IsSetBelow self.now.width class.now.cols }
+        ensures value { result ≡ stripe_of class.now self.now.tuple }
+        ensures below { result < class.now.stripes }
+    {
+        self.hash_of(class.cols) % class.stripes
+    }
+
+    /// The hash of the values at the columns, where a column that the tuple hasn't counts as 0.
+    fn hash_of(&self, cols: ColSet) -> u32
+        requires { IsSetBelow self.now.width cols }
+        ensures { result ≡ hash_of cols self.now.tuple }
+    {
+        let mut hash = 7;
+        for col in 0..self.registers.len() as u8 {
+            if cols.has(col) {
+                hash = mix(hash, self.value(col));
+            }
+        }
+        hash
+    }
+
+    /// Whether both have the same value at each column that both have.
+    pub fn agrees(&self, row: &Tuple) -> bool
+        ensures { result ≡ agrees self.now.tuple row.now }
+    {
+        fits_all(self.cols, self.registers, row.pairs())
+    }
+
+    /// Whether both have the same projection on the columns.
+    pub fn agrees_on(&self, cols: ColSet, other: &Tuple) -> bool
+        requires columns { IsSetBelow self.now.width cols }
+        requires tuple { IsTuple other.now }
+        ensures { result ≡ agree_on cols self.now.tuple other.now }
+    {
+        for col in 0..self.registers.len() as u8 {
+            if cols.has(col) && self.get(col) != other.get(col) {
+                return false;
+            }
+        }
+        true
+    }
+
+    /// The values at the columns, in the order of the list, and 0 at a column that the tuple hasn't.
+    pub fn pick(&self, alloc: Global, outs: &Cols) -> Result<Vals, Memory>
+        ensures { IfOk result (λ values. values ≡ pick outs.now self.now.tuple) }
+    {
+        let mut values = Vals::new(alloc);
+        for col in outs.list() {
+            values.push(self.value(*col))?;
+        }
+        Ok(values)
+    }
+
+    /// Compares the values at the columns, in the order of the list.
+    pub fn order_by(&self, outs: &Cols, other: &Binding) -> Ordering
+        ensures { result ≡ row_cmp (pick outs.now self.now.tuple) (pick outs.now other.now.tuple) }
+    {
+        for col in outs.list() {
+            match self.value(*col).cmp(&other.value(*col)) {
+                Ordering::Equal => {}
+                unequal => return unequal,
+            }
+        }
+        Ordering::Equal
+    }
+
+    /// Whether the tuple is below another over the same columns.
+    pub fn is_below(&self, other: &Binding) -> bool
+        requires { other.now.columns ≡ self.now.columns }
+        ensures { IsTrue result → tuple_cmp self.now.tuple other.now.tuple ≡ Less }
+    {
+        is_below(self.cols, self.registers, other.registers)
+    }
+
+    /// Adds the tuple's pairs at the columns at the end of a list.
+    pub fn push_projection(&self, cols: ColSet, pairs: &mut Vec<(u8, u64)>) -> Result<(), Memory>
+        ensures { OnOk result (pairs.new.items ≡ pairs.old.items ++ project cols self.now.tuple) }
+    {
+        push_pairs(self.cols.inter(cols), self.registers, pairs)
+    }
+
+    /// The tuple.
+    pub fn tuple(&self, alloc: Global) -> Result<Tuple, Memory>
+        ensures { IfOk result (λ tuple. tuple ≡ self.now.tuple) }
+    {
+        Tuple::new(self.cols, values_at(alloc, self.cols, self.registers)?)
+    }
+}
+
+/// The values in the registers of the columns, in their order.
+fn values_at(alloc: Global, cols: ColSet, registers: &[u64]) -> Result<Vals, Memory>
+    requires below { IsSetBelow (length registers.now) cols }
+    requires few { length registers.now ≤ 32 }
+    ensures { IfOk result (λ values. values ≡ map (register registers.now) cols) }
+{
+    let mut values = Vals::new(alloc);
+    for col in 0..registers.len() as u8 {
+        if cols.has(col) {
+            values.push(registers[col as usize])?;
+        }
+    }
+    Ok(values)
+}
+
+/// Whether the first registers are below the second at the first of the columns at which they differ.
+fn is_below(cols: ColSet, registers: &[u64], others: &[u64]) -> bool
+    requires below { IsSetBelow (length registers.now) cols }
+    requires too { IsSetBelow (length others.now) cols }
+    requires few { length registers.now ≤ 32 }
+    ensures { IsTrue result → tuple_cmp (tuple_in cols registers.now) (tuple_in cols others.now) ≡ Less }
+{
+    for col in 0..registers.len() as u8 {
+        if !cols.has(col) {
+            continue;
+        }
+        match registers[col as usize].cmp(&others[col as usize]) {
+            Ordering::Less => return true,
+            Ordering::Equal => {}
+            Ordering::Greater => return false,
+        }
+    }
+    false
+}
+
+/// Adds the columns with the values in their registers at the end of a list.
+fn push_pairs(cols: ColSet, registers: &[u64], pairs: &mut Vec<(u8, u64)>) -> Result<(), Memory>
+    requires below { IsSetBelow (length registers.now) cols }
+    requires few { length registers.now ≤ 32 }
+    ensures { OnOk result (pairs.new.items ≡ pairs.old.items ++ tuple_in cols registers.now) }
+{
+    for col in 0..registers.len() as u8 {
+        if cols.has(col) {
+            pairs.push((col, registers[col as usize]))?;
+        }
+    }
+    Ok(())
+}
+
+/// Whether the registers have no other value at the pair's column, where it counts.
+fn fits(cols: ColSet, registers: &[u64], pair: &(u8, u64)) -> bool
+    requires { IsSetBelow (length registers.now) cols }
+    ensures { result ≡ fits cols registers.now pair.now }
+{
+    !cols.has(pair.0) || registers[pair.0 as usize] == pair.1
+}
+
+/// Whether the registers have no other value at the columns of the pairs, where they count.
+fn fits_all(cols: ColSet, registers: &[u64], pairs: &[(u8, u64)]) -> bool
+    requires { IsSetBelow (length registers.now) cols }
+    ensures { result ≡ fits_all cols registers.now pairs.now }
+{
+    for pair in pairs {
+        if !fits(cols, registers, pair) {
+            return false;
+        }
+    }
+    true
+}

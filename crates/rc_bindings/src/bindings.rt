@@ -1,0 +1,217 @@
+//! A list of bindings.
+
+ghost use Rattle.std.specs.Prelude.{◌≡◌, ℕ, ◌<◌, ◌≤◌, ◌-◌, ◌*◌, ◌^◌, ◌==◌, ◌++◌, [], ◌∷◌, length, get_or, take, drop, IsTrue, OnOk, OnErr, IfOk};
+ghost use Rattle.rc_tuple.specs.ColSet.{Within, union};
+ghost use Rattle.rc_tuple.specs.RisingSet.{In, IsRising, gather};
+ghost use Rattle.rc_tuple.specs.Tuple.{Pairs, cols_of, merges_of, project, tuple_cmp};
+ghost use Rattle.rc_spec.specs.InRange.{AreBelow, IsSetBelow};
+ghost use Rattle.rc_bindings.specs.Bindings.{HasMore, no_binding, with_tuples};
+ghost use Rattle.rc_bindings.specs.Registers.{all_written};
+
+use crate::Binding;
+use rc_tuple::{ColSet, Memory, Tuple, distinct};
+use std::alloc::Global;
+use std::marker::Model;
+
+/// Tuples over the same columns, each in registers for all columns below a width, one behind the other.
+#[derive(Drop, Debug)]
+pub struct Bindings {
+    cols: ColSet,
+    width: usize,
+    count: usize,
+    registers: Vec<u64>,
+}
+
+impl Model for Bindings {
+    ghost use Rattle.rc_bindings.specs.Bindings.{AreBindings, BindingList, seen_list};
+
+    ghost Value = { BindingList };
+
+    ghost view = { λ b. seen_list b.cols b.width b.count b.registers.items };
+
+    ghost invariant = { λ b. AreBindings b.cols b.width b.count b.registers.items };
+}
+
+impl Bindings {
+    /// No binding, over no column, which takes no memory.
+    pub fn new(alloc: Global, width: usize) -> Bindings
+        requires some { 0 < width }
+        requires few { width ≤ 32 }
+        ensures { result ≡ no_binding [] width }
+    {
+        Bindings {
+            cols: ColSet::empty(),
+            width,
+            count: 0,
+            registers: Vec::new(alloc),
+        }
+    }
+
+    /// The columns of the bindings.
+    pub fn cols(&self) -> ColSet
+        ensures columns { result ≡ self.now.columns }
+        ensures below { IsSetBelow self.now.width self.now.columns }
+        ensures tuples { (t : Pairs) → In t self.now.tuples → cols_of t ≡ self.now.columns }
+    {
+        self.cols
+    }
+
+    /// How many bindings there are.
+    pub fn len(&self) -> usize
+        ensures { result ≡ length self.now.tuples }
+    {
+        self.count
+    }
+
+    /// Whether there is none.
+    pub fn is_empty(&self) -> bool
+        ensures { result ≡ (length self.now.tuples == 0) }
+    {
+        self.count == 0
+    }
+
+    /// The binding at a place.
+    pub fn get(&self, at: usize) -> Binding<'_>
+        requires { at < length self.now.tuples }
+        ensures tuple { result.tuple ≡ get_or self.now.tuples at [] }
+        ensures columns { result.columns ≡ self.now.columns }
+        ensures width { result.width ≡ self.now.width }
+    {
+        let start = at * self.width;
+        let end = start + self.width;
+        Binding {
+            cols: self.cols,
+            registers: part(&self.registers, start, end),
+        }
+    }
+
+    /// Forgets the bindings and takes these columns. The memory stays.
+    pub fn begin(&mut self, cols: ColSet)
+        requires { AreBelow self.old.width cols }
+        ensures { self.new ≡ no_binding cols self.old.width }
+    {
+        // A call of a set tells the check what holds of every set.
+        let _ = cols.within(cols);
+        self.cols = cols;
+        self.count = 0;
+        self.registers.clear();
+    }
+
+    /// Adds the tuple's projection on the columns. Where memory is wanted the bindings stay.
+    pub fn push_projection(&mut self, tuple: &Tuple) -> Result<(), Memory>
+        requires { Within self.old.columns (cols_of tuple.now) }
+        ensures ok { OnOk result (self.new ≡ with_tuples self.old (self.old.tuples ++ project self.old.columns tuple.now ∷ [])) }
+        ensures err { OnErr result (self.new ≡ self.old) }
+    {
+        let start = self.registers.len();
+        push_zeros(&mut self.registers, self.width)?;
+        write(&mut self.registers, start, self.cols, tuple.pairs());
+        self.count += 1;
+        Ok(())
+    }
+
+    /// Adds the merge of a binding of the same width with a row, if they agree, where the columns are those of both. Where
+    /// memory is wanted the bindings stay.
+    pub fn push_merge(&mut self, binding: &Binding, row: &Tuple) -> Result<(), Memory>
+        requires width { binding.now.width ≡ self.old.width }
+        requires columns { self.old.columns ≡ union binding.now.columns (cols_of row.now) }
+        ensures ok { OnOk result (self.new ≡ with_tuples self.old (self.old.tuples ++ merges_of binding.now.tuple (row.now ∷ []))) }
+        ensures err { OnErr result (self.new ≡ self.old) }
+    {
+        if !binding.agrees(row) {
+            return Ok(());
+        }
+        let start = self.registers.len();
+        self.registers.extend_from_slice(binding.registers)?;
+        write(&mut self.registers, start, self.cols, row.pairs());
+        self.count += 1;
+        Ok(())
+    }
+
+    /// Adds the merges of a binding of the same width with those of the rows that agree with it, in their order, where the
+    /// columns are those of both.
+    pub fn push_merges(&mut self, binding: &Binding, rows: &[Tuple]) -> Result<(), Memory>
+        requires width { binding.now.width ≡ self.old.width }
+        requires columns { (row : Pairs) → In row rows.now → self.old.columns ≡ union binding.now.columns (cols_of row) }
+        ensures { OnOk result (self.new ≡ with_tuples self.old (self.old.tuples ++ merges_of binding.now.tuple rows.now)) }
+    {
+        for row in rows {
+            self.push_merge(binding, row)?;
+        }
+        Ok(())
+    }
+
+    /// Puts the bindings in their order, each once. Costs one comparison a binding where they rise already.
+    pub fn sort(&mut self, alloc: Global) -> Result<(), Memory>
+        ensures { OnOk result (self.new ≡ with_tuples self.old (gather tuple_cmp self.old.tuples)) }
+    {
+        if self.rises() {
+            return Ok(());
+        }
+        let tuples = distinct(self.tuples(alloc)?);
+        self.begin(self.cols);
+        for tuple in &tuples {
+            self.push_projection(tuple)?;
+        }
+        Ok(())
+    }
+
+    /// Whether each binding is below the next.
+    fn rises(&self) -> bool
+        ensures { IsTrue result → IsRising tuple_cmp self.now.tuples }
+    {
+        for at in 1..self.count {
+            if !self.get(at - 1).is_below(&self.get(at)) {
+                return false;
+            }
+        }
+        true
+    }
+
+    /// The bindings as tuples.
+    pub fn tuples(&self, alloc: Global) -> Result<Vec<Tuple>, Memory>
+        ensures { IfOk result (λ tuples. tuples.items ≡ self.now.tuples) }
+    {
+        let mut tuples = Vec::new(alloc);
+        for at in 0..self.count {
+            tuples.push(self.get(at).tuple(alloc)?)?;
+        }
+        Ok(tuples)
+    }
+}
+
+/// The registers from one place up to another.
+fn part(registers: &[u64], start: usize, end: usize) -> &[u64]
+    requires order { start ≤ end }
+    requires within { end ≤ length registers.now }
+    ensures value { result.now ≡ take (end - start) (drop start registers.now) }
+    ensures words { (v : ℕ) → In v result.now → v < 2 ^ 64 }
+{
+    &registers[start..end]
+}
+
+/// Adds registers of a tuple without columns at the end. Where memory is wanted nothing is added.
+fn push_zeros(registers: &mut Vec<u64>, width: usize) -> Result<(), Memory>
+    ensures ok { OnOk result (HasMore width registers.old.items registers.new.items) }
+    ensures err { OnErr result (registers.new.items ≡ registers.old.items) }
+{
+    registers.reserve(width)?;
+    for _ in 0..width {
+        registers.push_reserved(0);
+    }
+    Ok(())
+}
+
+/// Writes those of the pairs whose columns the set has, each value in its column's register of the row that starts there.
+fn write(registers: &mut [u64], start: usize, cols: ColSet, pairs: &[(u8, u64)])
+    requires columns { IsSetBelow (length (drop start registers.old)) cols }
+    requires few { length registers.old * 8 < 2 ^ 63 }
+    ensures { registers.new ≡ take start registers.old ++ all_written (project cols pairs.now) (drop start registers.old) }
+{
+    for pair in pairs {
+        if cols.has(pair.0) {
+            let index = start + pair.0 as usize;
+            registers[index] = pair.1;
+        }
+    }
+}

@@ -1,0 +1,6 @@
+use Rattle.std.proofs.Common.{◌≡◌, map, take}
+use Rattle.rc_tuple.specs.Tuple.{pick}
+use Rattle.rc_machine.proofs.emit.rows.Given as goal
+
+abbrev pub invariant-loop-at : goal.invariant-loop-at
+invariant-loop-at l = l.rows ≡ map (pick l.outs) (take l.at l.bindings.tuples)

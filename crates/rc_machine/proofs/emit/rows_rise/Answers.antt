@@ -1,0 +1,43 @@
+use Rattle.std.proofs.Common.{◌≡◌, ◌+◌, ◌-◌, ◌<◌, ◌≤◌, [], inl, inr, get_or, is_lt, refl, true, length, map, subst, sym, ap, ◌∙◌, arith}
+use Rattle.std.proofs.Math.Nat.{eq-or-lt_of_le}
+use Rattle.std.proofs.Math.ListN.{get_or-map}
+use Rattle.std.proofs.lemmas.List.{length-map}
+use Rattle.std.proofs.lemmas.Bool.{false≢true}
+use Rattle.std.specs.declared.cmp.Ordering.{Ordering}
+use Rattle.std.specs.declared.cmp.Ordering.TheVariants.{Less, Equal, Greater}
+use Rattle.rc_tuple.specs.RisingSetLaws.{number_lists_order}
+use Rattle.rc_tuple.specs.Tuple.{pick}
+use Rattle.rc_spec.specs.Plain.{row_cmp}
+use Rattle.rc_bindings.specs.BindingsLaws.{rising_by_steps}
+use Rattle.rc_machine.proofs.emit.rows_rise.Goals as goal
+
+pub loop-at-preserved : goal.loop-at-preserved
+loop-at-preserved c i l =
+    elim (eq-or-lt_of_le (let k : i + 1 ≤ c.loop-at.at = omega (arith, l) in k)) [
+      | inl e ↦
+          let outs = c.args.outs.now in
+          let ts = c.args.bindings.now.tuples in
+          let before : i ≡ c.loop-at.at - 1 = omega (arith, e) in
+          ap (λ n. row_cmp (pick outs (get_or ts n [])) (pick outs (get_or ts (i + 1) []))) before
+          ∙ ap (λ n. row_cmp (pick outs (get_or ts (c.loop-at.at - 1) [])) (pick outs (get_or ts n []))) e
+          ∙ ap (λ t. row_cmp (pick outs t) (pick outs (get_or ts c.loop-at.at []))) (sym c.get.ensures.tuple)
+          ∙ ap (λ t. row_cmp (pick outs c.get.result.tuple) (pick outs t)) (sym c.get-in-loop-at.ensures.tuple)
+          ∙ sym c.order_by.ensures ∙ less_from c.order_by.result (sym c.is_lt.ensures ∙ c.if-not-is_lt.false)
+      | inr less ↦ c.loop-at.invariant i less
+    ]
+  where
+    less_from : (o : Ordering) → is_lt o ≡ true → o ≡ Less
+    less_from Less h = refl
+    less_from Equal h = absurd (false≢true h)
+    less_from Greater h = absurd (false≢true h)
+
+pub returns : goal.returns
+returns c h =
+    let outs = c.args.outs.now in
+    let ts = c.args.bindings.now.tuples in
+    let n = length-map ts (pick outs) in
+    let l = c.loop-at-test.false in
+    let len = c.len-at-end.ensures in
+    rising_by_steps row_cmp number_lists_order (pick outs []) (map (pick outs) ts) (λ i k.
+    ap (λ z. row_cmp z (get_or (map (pick outs) ts) (i + 1) (pick outs []))) (get_or-map (pick outs) ts i [])
+    ∙ ap (row_cmp (pick outs (get_or ts i []))) (get_or-map (pick outs) ts (i + 1) []) ∙ c.loop-at.invariant i (omega (arith, n, l, len, k)))

@@ -1,0 +1,15 @@
+use Rattle.std.proofs.Common.{◌≡◌, ◌+◌, ◌∷◌, ◌++◌, [], sym, ap, ◌∙◌}
+use Rattle.std.proofs.lemmas.List.{append_assoc}
+use Rattle.std.specs.List.{range_with_len}
+use Rattle.rc_tuple.specs.ColSetLaws.{range_with_len_more}
+use Rattle.rc_spec.specs.PlacementLaws.{placed_total}
+use Rattle.rc_machine.proofs.lock.push_band.Goals as goal
+
+pub band_start-start-requires-clause-few : goal.band_start-start-requires-clause-few
+band_start-start-requires-clause-few c = placed_total c.args.spec.now c.requires.sealed.accepted.placed
+
+pub loop-place-preserved : goal.loop-place-preserved
+loop-place-preserved c =
+    c.in_ok-push.ensures.items ∙ ap (λ z. z ++ (c.band_start-start.result + c.loop-place.place) ∷ []) c.loop-place.invariant
+    ∙ append_assoc c.args.stripes.now.items (range_with_len c.band_start-start.result c.loop-place.place) ((c.band_start-start.result + c.loop-place.place) ∷ [])
+    ∙ ap (λ z. c.args.stripes.now.items ++ z) (sym (range_with_len_more c.band_start-start.result c.loop-place.place))
