@@ -1,5 +1,5 @@
 -- When a row may be added, from what a look-up or a scan answers.
-use Rattle.std.specs.Prelude.{◌≡◌, ℕ, ◌<◌, ◌==◌, Bool, true, not, Option, None, Some, is_some, List, [], ◌∷◌, length}
+use Rattle.std.specs.Prelude.{◌≡◌, ℕ, ◌<◌, ◌==◌, Bool, true, not, Option, None, Some, is_some, List, [], ◌∷◌, length, map}
 use Rattle.std.specs.List.{slice_get}
 use Rattle.std.specs.Option.{option_map}
 use Rattle.std.proofs.Common.{refl, sym, ap, subst, arith, ◌∙◌}
@@ -12,7 +12,8 @@ use Rattle.rc_spec.specs.Decomposition.{edge_at, no_edge}
 use Rattle.rc_spec.specs.Fragments.{EdgeRow}
 use Rattle.rc_spec.specs.declared.items.EdgeKind.TheVariants.{Singleton}
 use Rattle.rc_spec.specs.declared.spec.Spec.{Spec}
-use Rattle.rc_fragment.specs.Fragment.{HasShape, HasScanned, IsLookedUp, IsThere, edge_table, shape_of}
+use Rattle.rc_fragment.specs.Fragment.{HasShape, IsLookedUp, IsScan, IsThere, edge_table, shape_of}
+use Rattle.rc_fragment.specs.RowValues.{values_at}
 use Rattle.rc_fragment.specs.declared.shape.EdgeShape.{EdgeShape}
 use Rattle.bench_fragment.specs.Store.{MayBeAdded}
 
@@ -40,16 +41,20 @@ module _ (spec : Spec) (table : List EdgeShape) (rows : List EdgeRow) (e : ℕ) 
     none = count_none e t rows (λ w m a b. f t (w.2, (subst (λ (z : EdgeRow). In z rows) (λ i. (a i, b i, w.2)) m)) refl refl);
   }
 
-  pub free_from_lookup : (source key : Pairs) → source ≡ project shape.source t → key ≡ project shape.key t → (shape.kind ≡ Singleton → ⊥)
-      → ((s : EdgeShape) → HasShape table e s → IsLookedUp s rows e source key None) → MayBeAdded table rows e t
-  free_from_lookup source key a b n h = free (λ u there p q. h shape (has_shape spec table e is known) u there (p ∙ sym a) (q ∙ sym b)) (λ k. absurd (n k))
+  same_values : (cols : List ℕ) (u : Pairs) → project cols u ≡ project cols t → values_at cols u ≡ values_at cols t
+  same_values cols u p = ap (map (λ (q : ℕ × ℕ). q.1)) p
 
-  pub free_from_scan : (source : Pairs) (found : List Pairs) → source ≡ project shape.source t → found ≡ []
-      → ((s : EdgeShape) → HasShape table e s → HasScanned s rows e source [] found) → MayBeAdded table rows e t
+  pub free_from_lookup : (source key : List ℕ) → source ≡ values_at shape.source t → key ≡ values_at shape.key t → (shape.kind ≡ Singleton → ⊥)
+      → ((s : EdgeShape) → HasShape table e s → IsLookedUp s rows e source key None) → MayBeAdded table rows e t
+  free_from_lookup source key a b n h =
+      free (λ u there p q. h shape (has_shape spec table e is known) u (record { there = there; source_is = same_values shape.source u p ∙ sym a; key_is = same_values shape.key u q ∙ sym b })) (λ k. absurd (n k))
+
+  pub free_from_scan : (source : List ℕ) (found : List Pairs) → source ≡ values_at shape.source t → found ≡ []
+      → ((s : EdgeShape) → HasShape table e s → IsScan s rows e source found) → MayBeAdded table rows e t
   free_from_scan source found a n h = free (λ u there p q. none u there p) (λ k u there p. none u there p)
     where
       none : (u : Pairs) → IsThere rows e u → project shape.source u ≡ project shape.source t → ⊥
-      none u there p = let w = h shape (has_shape spec table e is known) in subst (In u) (sym w.1 ∙ n) (w.2.each u there (p ∙ sym a))
+      none u there p = subst (In u) n ((h shape (has_shape spec table e is known)).each u there (same_values shape.source u p ∙ sym a))
 
 -- what an empty list and no answer are
 pub nothing : {A : Type 0} (xs : List A) → (length xs == 0) ≡ true → xs ≡ []

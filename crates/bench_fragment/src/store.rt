@@ -1,33 +1,34 @@
 //! Tuples in one fragment: what a plan does to the rows of a stripe.
 
 ghost use Rattle.std.specs.Prelude.{◌≡◌, ◌+◌, ◌<◌, ◌≤◌, IfOk, IfSome, IsTrue, length};
-ghost use Rattle.rc_tuple.specs.Tuple.{cols_of, project};
+ghost use Rattle.rc_tuple.specs.Tuple.{cols_of};
 ghost use Rattle.rc_spec.specs.Decomposition.{bound, edge_at};
 ghost use Rattle.rc_spec.specs.declared.items.EdgeKind.TheVariants.{Singleton};
 ghost use Rattle.rc_fragment.specs.Fragment.{edge_table};
+ghost use Rattle.rc_fragment.specs.RowValues.{values_at};
 ghost use Rattle.bench_fragment.specs.Store.{MayBeAdded};
 
-use rc_fragment::Fragment;
+use rc_fragment::{Fragment, values_at};
 use rc_spec::{Accepted, EdgeKind};
-use rc_tuple::{Memory, Tuple, Tuples};
+use rc_tuple::{Memory, Tuple};
 
-/// The tuple's part at the columns of the edge's source.
-fn source_of(accepted: &Accepted, edge: u8, tuple: &Tuple) -> Result<Tuple, Memory>
+/// The tuple's values at the columns of the edge's source.
+fn source_of(accepted: &Accepted, edge: u8, tuple: &Tuple) -> Result<Vec<u64>, Memory>
     requires { edge < length accepted.now.edges }
-    ensures { IfOk result (λ part. part ≡ project (bound accepted.now (edge_at accepted.now edge).from) tuple.now) }
+    ensures { IfOk result (λ values. values.items ≡ values_at (bound accepted.now (edge_at accepted.now edge).from) tuple.now) }
 {
     let spec = accepted.spec();
     let shape = spec.edge(edge);
-    tuple.project(spec.bound(shape.from))
+    values_at(tuple, spec.bound(shape.from))
 }
 
-/// The tuple's part at the key of the edge.
-fn key_of(accepted: &Accepted, edge: u8, tuple: &Tuple) -> Result<Tuple, Memory>
+/// The tuple's values at the key of the edge.
+fn key_of(accepted: &Accepted, edge: u8, tuple: &Tuple) -> Result<Vec<u64>, Memory>
     requires { edge < length accepted.now.edges }
-    ensures { IfOk result (λ part. part ≡ project (edge_at accepted.now edge).key tuple.now) }
+    ensures { IfOk result (λ values. values.items ≡ values_at (edge_at accepted.now edge).key tuple.now) }
 {
     let shape = accepted.spec().edge(edge);
-    tuple.project(shape.key)
+    values_at(tuple, shape.key)
 }
 
 /// The tuple's row in the edge, if it has the columns of the edge's target.
@@ -59,12 +60,11 @@ fn may_be_added(
 {
     let source = source_of(accepted, edge, row)?;
     if is_singleton(accepted, edge) {
-        let mut rows = Tuples::new(row.alloc());
-        fragment.scan(edge, source.pairs(), &mut rows)?;
+        let rows = fragment.rows_at(edge, &source)?;
         return Ok(rows.list().is_empty());
     }
     let key = key_of(accepted, edge, row)?;
-    Ok(fragment.lookup(edge, source.pairs(), key.pairs()).is_none())
+    Ok(fragment.lookup(edge, &source, &key).is_none())
 }
 
 /// Whether the edge is of kind singleton.
@@ -114,10 +114,9 @@ fn sub_row(
 {
     let source = source_of(accepted, edge, tuple)?;
     let key = key_of(accepted, edge, tuple)?;
-    let Some(found) = fragment.lookup(edge, source.pairs(), key.pairs()) else {
+    let Some(row) = fragment.row_at(edge, &source, &key)? else {
         return Ok(false);
     };
-    let row = found.copy()?;
     fragment.sub_row(edge, &row);
     Ok(true)
 }
@@ -159,10 +158,7 @@ pub fn has(fragment: &Fragment, accepted: &Accepted, tuple: &Tuple) -> Result<bo
     for edge in 0..accepted.spec().edges.list().len() {
         let source = source_of(accepted, edge as u8, tuple)?;
         let key = key_of(accepted, edge as u8, tuple)?;
-        if fragment
-            .lookup(edge as u8, source.pairs(), key.pairs())
-            .is_none()
-        {
+        if fragment.lookup(edge as u8, &source, &key).is_none() {
             return Ok(false);
         }
     }

@@ -2,73 +2,80 @@
 
 ghost use Rattle.std.specs.Prelude.{◌≡◌, ◌+◌, ◌<◌, ◌≤◌, ◌^◌, true, OnOk};
 ghost use Rattle.std.specs.FinMap as fin;
-ghost use Rattle.rc_edges.specs.EdgeMap.{IsRowOf, count_at};
+ghost use Rattle.rc_edges.specs.EdgeMap.{HasExtra, HasWidth, count_at};
 
 use rc_edges::{EdgeMap, ListMap, OneMap};
 use rc_maps::{HashEdge, OrderedEdge};
-use rc_tuple::{Memory, Tuple};
+use rc_tuple::Memory;
 
 /// A container that tells whether it takes a row.
 pub(crate) trait Kind: EdgeMap {
     /// Whether it surely takes a row at the key.
-    fn takes(&self, key: &Tuple) -> bool
+    fn takes(&self, key: &[u64]) -> bool
         ensures { result ≡ true → Self.may_take self.now key.now };
 
     /// Adds the row, which can then be added at the key again.
-    fn add_row(&mut self, key: &Tuple, row: &Tuple) -> Result<(), Memory>
+    fn add_row(&mut self, key: &[u64], extra: &[u64]) -> Result<(), Memory>
         requires room { count_at (Self.rows self.old) key.now < 2 ^ 63 }
-        requires same { IsRowOf (fin.get (Self.rows self.old) key.now) row.now }
+        requires same { HasExtra (fin.get (Self.rows self.old) key.now) extra.now }
         requires single { Self.may_take self.old key.now }
         ensures grown { OnOk result (count_at (Self.rows self.new) key.now ≤ count_at (Self.rows self.old) key.now + 1) }
-        ensures row { OnOk result (IsRowOf (fin.get (Self.rows self.new) key.now) row.now) }
+        ensures row { OnOk result (HasExtra (fin.get (Self.rows self.new) key.now) extra.now) }
         ensures again { OnOk result (Self.may_take self.new key.now) };
 }
 
 impl Kind for ListMap {
-    fn takes(&self, _: &Tuple) -> bool {
+    fn takes(&self, _: &[u64]) -> bool {
         true
     }
 
     #[tactic(auto, using(crate::proofs::KindLemmas::counts_one_more, crate::proofs::KindLemmas::has_the_row))]
-    fn add_row(&mut self, key: &Tuple, row: &Tuple) -> Result<(), Memory> {
-        self.add(key, row)?;
+    fn add_row(&mut self, key: &[u64], extra: &[u64]) -> Result<(), Memory> {
+        self.add(key, extra)?;
         Ok(())
     }
 }
 
 impl Kind for OneMap {
     /// A singleton may have another key, unless it has none.
-    fn takes(&self, _: &Tuple) -> bool {
-        self.is_gone()
+    fn takes(&self, _: &[u64]) -> bool {
+        self.len() == 0
     }
 
     #[tactic(auto, using(crate::proofs::KindLemmas::counts_one_more, crate::proofs::KindLemmas::has_the_row, crate::proofs::KindLemmas::stays_alone))]
-    fn add_row(&mut self, key: &Tuple, row: &Tuple) -> Result<(), Memory> {
-        self.add(key, row)?;
+    fn add_row(&mut self, key: &[u64], extra: &[u64]) -> Result<(), Memory> {
+        self.add(key, extra)?;
         Ok(())
     }
 }
 
 impl Kind for HashEdge {
-    fn takes(&self, _: &Tuple) -> bool {
-        true
+    fn takes(&self, key: &[u64]) -> bool {
+        fits(self.takes_one_column(), key)
     }
 
-    #[tactic(auto, using(crate::proofs::KindLemmas::counts_one_more, crate::proofs::KindLemmas::has_the_row))]
-    fn add_row(&mut self, key: &Tuple, row: &Tuple) -> Result<(), Memory> {
-        self.add(key, row)?;
+    #[tactic(auto, using(crate::proofs::KindLemmas::counts_one_more, crate::proofs::KindLemmas::has_the_row, crate::proofs::KindLemmas::fits_still))]
+    fn add_row(&mut self, key: &[u64], extra: &[u64]) -> Result<(), Memory> {
+        self.add(key, extra)?;
         Ok(())
     }
 }
 
 impl Kind for OrderedEdge {
-    fn takes(&self, _: &Tuple) -> bool {
-        true
+    fn takes(&self, key: &[u64]) -> bool {
+        fits(self.takes_one_column(), key)
     }
 
-    #[tactic(auto, using(crate::proofs::KindLemmas::counts_one_more, crate::proofs::KindLemmas::has_the_row))]
-    fn add_row(&mut self, key: &Tuple, row: &Tuple) -> Result<(), Memory> {
-        self.add(key, row)?;
+    #[tactic(auto, using(crate::proofs::KindLemmas::counts_one_more, crate::proofs::KindLemmas::has_the_row, crate::proofs::KindLemmas::fits_still))]
+    fn add_row(&mut self, key: &[u64], extra: &[u64]) -> Result<(), Memory> {
+        self.add(key, extra)?;
         Ok(())
     }
+}
+
+/// Whether the key has one column, where only such are taken.
+fn fits(one_column: bool, key: &[u64]) -> bool
+    ensures { result ≡ true → HasWidth one_column key.now }
+{
+    !one_column || key.len() == 1
 }

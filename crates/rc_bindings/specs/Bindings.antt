@@ -1,9 +1,11 @@
 -- Bindings: tuples over the same columns, in registers that lie one behind the other.
-use Rattle.std.specs.Prelude.{◌≡◌, ℕ, zero, suc, ◌<◌, ◌≤◌, ◌∷◌, ◌++◌, ◌^◌, List, [], take, drop, length}
+use Rattle.std.specs.Prelude.{◌≡◌, ◌⊎◌, ℕ, zero, suc, ◌<◌, ◌≤◌, ◌∷◌, ◌++◌, ◌^◌, List, [], take, drop, length}
+use Rattle.std.specs.List.{zip}
+use Rattle.rc_tuple.specs.ColSet.{Within}
 use Rattle.rc_tuple.specs.RisingSet.{In}
-use Rattle.rc_tuple.specs.Tuple.{Pairs}
+use Rattle.rc_tuple.specs.Tuple.{Pairs, project}
 use Rattle.rc_spec.specs.InRange.{IsSetBelow}
-use Rattle.rc_bindings.specs.Registers.{tuple_in}
+use Rattle.rc_bindings.specs.Registers.{tuple_in, values_of}
 
 -- what is seen of one binding: its columns, which are below the width, and the tuple
 pub record OneBinding : Type 0 where
@@ -59,3 +61,33 @@ pub record HasMore (n : ℕ) (old new : List ℕ) : Type 0 where
   pub more : List ℕ
   pub count : length more ≡ n
   pub beside : new ≡ old ++ more
+
+-- ---- a row by its values
+
+-- the pairs of a row that a call is given: the values of the key, and those of the extra columns
+abbrev pub given : List ℕ → List ℕ → List ℕ → List ℕ → Pairs
+given key key_values extra extra_values = zip key key_values ++ zip extra extra_values
+
+-- the row has the pairs, and beside them none but the binding's
+pub record IsRowWith (b ps row : Pairs) : Type 0 where
+  pub has : (p : ℕ × ℕ) → In p ps → In p row
+  pub only : (p : ℕ × ℕ) → In p row → In p b ⊎ In p ps
+
+-- a row's values at the columns of the key, and then those at the extra ones
+abbrev pub key_and_extra : List ℕ → List ℕ → Pairs → List ℕ
+key_and_extra key extra row = values_of (project key row) ++ values_of (project extra row)
+
+-- the row is given by these values: it has one for each of the columns, and its other pairs are the binding's
+pub record IsGivenBy (b : Pairs) (key extra : List ℕ) (row : Pairs) : Type 0 where
+  pub keys : length (values_of (project key row)) ≡ length key
+  pub extras : length (values_of (project extra row)) ≡ length extra
+  pub with : IsRowWith b (given key (values_of (project key row)) extra (values_of (project extra row))) row
+
+-- the list is one for the merges of the binding with rows that are given by values of these columns
+pub record TakesRows (b : OneBinding) (key extra : List ℕ) (list : BindingList) : Type 0 where
+  pub width : b.width ≡ list.width
+  pub old_within : Within b.columns list.columns
+  pub key_within : Within key list.columns
+  pub extra_within : Within extra list.columns
+  pub parts : (c : ℕ) → In c list.columns → In c b.columns ⊎ In c (key ++ extra)
+  pub apart : (c : ℕ) → In c key → In c extra → ⊥

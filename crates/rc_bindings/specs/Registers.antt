@@ -28,3 +28,7 @@ fits_all cols values ps = list_all (fits cols values) ps
 -- the columns of a set that are below a number
 abbrev pub columns_below : List ℕ → ℕ → List ℕ
 columns_below cols n = filter (has cols) (range_with_len 0 n)
+
+-- the values of a tuple, in column order
+abbrev pub values_of : Pairs → List ℕ
+values_of t = map (λ p. p.1) t

@@ -1,12 +1,14 @@
 -- Laws of tuples in registers.
-use Rattle.std.proofs.Common.{◌≡◌, ℕ, zero, suc, ◌+◌, ◌<◌, ◌^◌, ◌==◌, ◌||◌, ◌&&◌, Bool, true, false, cond, not, None, Option, Some, eqb, List, [], ◌∷◌, ◌++◌, length, map, filter, get_or, set, refl, sym, ap, ◌∙◌, inl, inr, ◌⊎◌, subst, arith}
+use Rattle.std.proofs.Common.{◌≡◌, ℕ, zero, suc, ◌+◌, ◌<◌, ◌^◌, ◌==◌, ◌||◌, ◌&&◌, Bool, true, false, cond, not, None, Option, Some, eqb, List, [], ◌∷◌, ◌++◌, length, map, filter, get_or, set, take, refl, sym, ap, ◌∙◌, inl, inr, ◌⊎◌, subst, arith}
 use Rattle.std.proofs.Math.ListN.{length-set}
 use Rattle.std.specs.Option.{option_eq, unwrap_or}
 use Rattle.std.proofs.lemmas.Option.{none-some}
-use Rattle.std.proofs.lemmas.Bool.{eqb-true, eq-eqb, false≢true, or_cases, or_left, or_right}
+use Rattle.std.proofs.lemmas.Bool.{and_from, eqb-true, eq-eqb, false≢true, or_cases, or_left, or_right}
 use Rattle.std.proofs.lemmas.List.{get_or-set_same, get_or-set_other}
 use Rattle.std.specs.Prelude.{Result, Ok, Err, IfOk, OnOk}
-use Rattle.std.proofs.lemmas.List.{map-append}
+use Rattle.std.proofs.Math.Seq.{take-suc}
+use Rattle.std.proofs.lemmas.Option.{slice_get_within}
+use Rattle.std.proofs.lemmas.List.{append-nil, length-take-le, map-append, take_all}
 use Rattle.std.proofs.lemmas.List.Elements.{filter-append}
 use Rattle.std.proofs.lemmas.List.Sums.{fold-append}
 use Rattle.std.specs.List.{fold, list_all, range_with_len, zip}
@@ -14,16 +16,17 @@ use Rattle.std.specs.Ordering.{nat_cmp, ordering_then}
 use Rattle.std.specs.Cmp.{nat_cmp_is}
 use Rattle.std.proofs.lemmas.Cmp.{ranked}
 use Rattle.std.specs.declared.cmp.Ordering.{Ordering}
-use Rattle.std.specs.declared.cmp.Ordering.TheVariants.{Less, Equal}
+use Rattle.std.specs.declared.cmp.Ordering.TheVariants.{Less, Equal, Greater}
 use Rattle.rc_tuple.specs.RisingSet.{In, IsRising}
 use Rattle.rc_tuple.specs.RisingSetLaws.{in_map, map_in, get_or_in, same_rising, in_has, has_in, nat_order, not_below_itself, same_bool, list_all_in, in_list_all, rising_gather, rising_filter, in_filter, filter_in}
-use Rattle.rc_tuple.specs.ColSet.{IsColSet, Within, has, union}
-use Rattle.rc_tuple.specs.ColSetLaws.{in_union, union_left, union_right, rising_range, in_range_below, range_with_len_more}
+use Rattle.std.specs.List.{slice_get}
+use Rattle.rc_tuple.specs.ColSet.{IsColSet, Within, has, inter, union}
+use Rattle.rc_tuple.specs.ColSetLaws.{inter_in, rank_more, slice_get-rank, in_union, union_left, union_right, rising_range, in_range_below, range_with_len_more}
 use Rattle.rc_tuple.specs.Tuple.{Pairs, IsTuple, agrees, cols_of, get, merge, pair_cmp, project, tuple_cmp, value}
-use Rattle.rc_tuple.specs.TupleLaws.{Agree, agree_from, agrees_to, in_project, project_in, rising_cols, rising_pairs, pair_order, in_merge, merge_left, merge_right, rising_merge}
+use Rattle.rc_tuple.specs.TupleLaws.{zip_more, Agree, GivesOne, one_pair, agree_from, agrees_to, in_project, project_in, rising_cols, rising_pairs, pair_order, in_merge, merge_left, merge_right, rising_merge}
 use Rattle.rc_spec.specs.InRange.{IsSetBelow}
 use Rattle.rc_spec.specs.Stripes.{hash_of, mix}
-use Rattle.rc_bindings.specs.Registers.{all_written, columns_below, fits, fits_all, register, tuple_in}
+use Rattle.rc_bindings.specs.Registers.{all_written, columns_below, fits, fits_all, register, tuple_in, values_of}
 
 pub cols_of-tuple_in : (cols values : List ℕ) → cols_of (tuple_in cols values) ≡ cols
 cols_of-tuple_in [] values = refl
@@ -169,22 +172,133 @@ merge-written cols values u rises below agreeing =
             go false h = tuple_in_has (union cols (cols_of u)) (all_written u values) p (union_left cols (cols_of u) p.0 q.0)
                 (q.1 ∙ sym (register-unwritten u values p.0 (λ n. false≢true (sym h ∙ has_in (cols_of u) p.0 n))))
 
+-- ---- pairs in any order
+
+pub all_written-append : (ps qs : Pairs) (values : List ℕ) → all_written (ps ++ qs) values ≡ all_written qs (all_written ps values)
+all_written-append [] qs values = refl
+all_written-append (p ∷ ps) qs values = all_written-append ps qs (set values p.0 p.1)
+
+-- each written register has the value of its column, where no column is given two
+pub register-given : (ps : Pairs) (values : List ℕ) → GivesOne ps → ((p : ℕ × ℕ) → In p ps → p.0 < length values) → (p : ℕ × ℕ) → In p ps → register (all_written ps values) p.0 ≡ p.1
+register-given [] values one below p m = absurd m
+register-given (q ∷ ps) values one below p m =
+    go (register-given ps (set values q.0 q.1) (λ x y a b e. one x y (inr a) (inr b) e) (λ x k. subst (λ n. x.0 < n) (sym (length-set values q.0 q.1)) (below x (inr k)))) (has (cols_of ps) p.0) refl m
+  where
+    go : ((r : ℕ × ℕ) → In r ps → register (all_written ps (set values q.0 q.1)) r.0 ≡ r.1) → (b : Bool) → has (cols_of ps) p.0 ≡ b → In p (q ∷ ps)
+        → register (all_written ps (set values q.0 q.1)) p.0 ≡ p.1
+    go later b h (inr k) = later p k
+    go later true h (inl e) =
+        let r : (z : ℕ × ℕ) × In z ps × (p.0 ≡ z.0) = in_map (λ (z : ℕ × ℕ). z.0) p.0 ps (in_has (cols_of ps) p.0 h) in
+        let same : p ≡ r.0 = one p r.0 (inl e) (inr r.1) r.2 in
+        ap (λ (z : ℕ × ℕ). register (all_written ps (set values q.0 q.1)) z.0) same ∙ later r.0 r.1 ∙ ap (λ (z : ℕ × ℕ). z.1) (sym same)
+    go later false h (inl e) =
+        register-unwritten ps (set values q.0 q.1) p.0 (λ k. false≢true (sym h ∙ has_in (cols_of ps) p.0 k))
+        ∙ ap (λ (z : ℕ × ℕ). register (set values q.0 q.1) z.0) e ∙ get_or-set_same values q.0 q.1 0 (below q (inl refl)) ∙ ap (λ (z : ℕ × ℕ). z.1) (sym e)
+
+-- a row that has the pairs, and beside them none but those that the registers have
+module _ (cols values : List ℕ) (rises : IsRising nat_cmp cols) (ps u : Pairs) (to_row : (p : ℕ × ℕ) → In p ps → In p u) (from_row : (p : ℕ × ℕ) → In p u → In p (tuple_in cols values) ⊎ In p ps) where
+  own : (p q : ℕ × ℕ) → In p (tuple_in cols values) → In q (tuple_in cols values) → p.0 ≡ q.0 → p ≡ q
+  own = one_pair (tuple_in cols values) (subst (IsRising nat_cmp) (sym (cols_of-tuple_in cols values)) rises)
+
+  -- the test is that of agreement with the row
+  pub fits_all-agree : fits_all cols values ps ≡ agrees (tuple_in cols values) u
+  fits_all-agree = same_bool (fits_all cols values ps) (agrees (tuple_in cols values) u) to from
+    where
+      to : fits_all cols values ps ≡ true → agrees (tuple_in cols values) u ≡ true
+      to h = agrees_to (tuple_in cols values) u (λ p q m n e. elim (from_row q n) [
+        | inl k ↦ own p q m k e
+        | inr k ↦ agree_from (tuple_in cols values) ps (sym (fits_all-agrees cols values ps) ∙ h) p q m k e
+      ])
+
+      from : agrees (tuple_in cols values) u ≡ true → fits_all cols values ps ≡ true
+      from h = fits_all-agrees cols values ps ∙ agrees_to (tuple_in cols values) ps (λ p q m n e. agree_from (tuple_in cols values) u h p q m (to_row q n) e)
+
+  -- and writing the pairs is the merge with it
+  pub merge-given : GivesOne ps → ((p : ℕ × ℕ) → In p ps → p.0 < length values) → (xs : List ℕ) → IsRising nat_cmp xs
+      → ((c : ℕ) → In c xs → In c cols ⊎ In c (cols_of ps)) → Within cols xs → Within (cols_of ps) xs
+      → agrees (tuple_in cols values) u ≡ true → tuple_in xs (all_written ps values) ≡ merge (tuple_in cols values) u
+  merge-given one below xs xs_rise parts old_within new_within agreeing =
+      same_rising pair_cmp pair_order (tuple_in xs (all_written ps values)) (merge (tuple_in cols values) u)
+      (rising-tuple_in xs (all_written ps values) xs_rise) (rising_merge (tuple_in cols values) u) to from
+    where
+      in_given : (p : ℕ × ℕ) → In p.0 (cols_of ps) → p.1 ≡ register (all_written ps values) p.0 → In p ps
+      in_given p m e =
+          let r : (z : ℕ × ℕ) × In z ps × (p.0 ≡ z.0) = in_map (λ (z : ℕ × ℕ). z.0) p.0 ps m in
+          let w : r.0.1 ≡ p.1 = sym (e ∙ ap (register (all_written ps values)) r.2 ∙ register-given ps values one below r.0 r.1) in
+          let same : r.0 ≡ p = λ i. (sym r.2 i, w i) in
+          subst (λ (z : ℕ × ℕ). In z ps) same r.1
+
+      to : (p : ℕ × ℕ) → In p (tuple_in xs (all_written ps values)) → In p (merge (tuple_in cols values) u)
+      to p m = go (has (cols_of ps) p.0) refl
+        where
+          q : In p.0 xs × (p.1 ≡ register (all_written ps values) p.0)
+          q = in_tuple_in xs (all_written ps values) p m
+
+          go : (b : Bool) → has (cols_of ps) p.0 ≡ b → In p (merge (tuple_in cols values) u)
+          go true h = merge_right (tuple_in cols values) u p (to_row p (in_given p (in_has (cols_of ps) p.0 h) q.1))
+          go false h =
+              let out : In p.0 (cols_of ps) → ⊥ = λ k. false≢true (sym h ∙ has_in (cols_of ps) p.0 k) in
+              elim (parts p.0 q.0) [
+                | inl k ↦ merge_left (tuple_in cols values) u p (tuple_in_has cols values p k (q.1 ∙ register-unwritten ps values p.0 out))
+                | inr k ↦ absurd (out k)
+              ]
+
+      given : (p : ℕ × ℕ) → In p ps → In p (tuple_in xs (all_written ps values))
+      given p k = tuple_in_has xs (all_written ps values) p (new_within p.0 (map_in (λ (z : ℕ × ℕ). z.0) p ps k)) (sym (register-given ps values one below p k))
+
+      left : (p : ℕ × ℕ) → In p (tuple_in cols values) → In p (tuple_in xs (all_written ps values))
+      left p k = go (has (cols_of ps) p.0) refl
+        where
+          q : In p.0 cols × (p.1 ≡ register values p.0)
+          q = in_tuple_in cols values p k
+
+          go : (b : Bool) → has (cols_of ps) p.0 ≡ b → In p (tuple_in xs (all_written ps values))
+          go true h =
+              let r : (z : ℕ × ℕ) × In z ps × (p.0 ≡ z.0) = in_map (λ (z : ℕ × ℕ). z.0) p.0 ps (in_has (cols_of ps) p.0 h) in
+              let same : p ≡ r.0 = agree_from (tuple_in cols values) u agreeing p r.0 k (to_row r.0 r.1) r.2 in
+              given p (subst (λ z. In z ps) (sym same) r.1)
+          go false h = tuple_in_has xs (all_written ps values) p (old_within p.0 q.0)
+              (q.1 ∙ sym (register-unwritten ps values p.0 (λ n. false≢true (sym h ∙ has_in (cols_of ps) p.0 n))))
+
+      from : (p : ℕ × ℕ) → In p (merge (tuple_in cols values) u) → In p (tuple_in xs (all_written ps values))
+      from p m = elim (in_merge (tuple_in cols values) u p m) [
+        | inl k ↦ left p k
+        | inr k ↦ elim (from_row p k) [ inl n ↦ left p n | inr n ↦ given p n ]
+      ]
+
 -- ---- order
 
 same_column : (c x y : ℕ) → ordering_then (nat_cmp c c) (nat_cmp x y) ≡ nat_cmp x y
 same_column c x y = ap (λ o. ordering_then o (nat_cmp x y)) (sym (nat_cmp_is c c Equal refl))
 
+then_decided : (a o : Ordering) → (a ≡ Equal → ⊥) → ordering_then a o ≡ a
+then_decided Less o n = refl
+then_decided Equal o n = absurd (n refl)
+then_decided Greater o n = refl
+
 -- the first column at which two differ decides
-pub tuple_in-less : (cols x y : List ℕ) (c : ℕ) → IsRising nat_cmp cols → In c cols → ((k : ℕ) → In k cols → k < c → register x k ≡ register y k) → nat_cmp (register x c) (register y c) ≡ Less
-    → tuple_cmp (tuple_in cols x) (tuple_in cols y) ≡ Less
-tuple_in-less [] x y c rises m before less = absurd m
-tuple_in-less (h ∷ cols) x y c rises (inl e) before less =
-    let here : nat_cmp (register x h) (register y h) ≡ Less = subst (λ k. nat_cmp (register x k) (register y k) ≡ Less) e less in
+pub tuple_in-decided : (cols x y : List ℕ) (c : ℕ) (a : Ordering) → (a ≡ Equal → ⊥) → IsRising nat_cmp cols → In c cols
+    → ((k : ℕ) → In k cols → k < c → register x k ≡ register y k) → nat_cmp (register x c) (register y c) ≡ a
+    → tuple_cmp (tuple_in cols x) (tuple_in cols y) ≡ a
+tuple_in-decided [] x y c a n rises m before is = absurd m
+tuple_in-decided (h ∷ cols) x y c a n rises (inl e) before is =
+    let here : nat_cmp (register x h) (register y h) ≡ a = subst (λ k. nat_cmp (register x k) (register y k) ≡ a) e is in
     ap (λ o. ordering_then o (tuple_cmp (tuple_in cols x) (tuple_in cols y))) (same_column h (register x h) (register y h) ∙ here)
-tuple_in-less (h ∷ cols) x y c rises (inr m) before less =
+    ∙ then_decided a (tuple_cmp (tuple_in cols x) (tuple_in cols y)) n
+tuple_in-decided (h ∷ cols) x y c a n rises (inr m) before is =
     let same : register x h ≡ register y h = before h (inl refl) (ranked h c Less (sym (rises.0 c m))) in
-    ap (λ o. ordering_then o (tuple_cmp (tuple_in cols x) (tuple_in cols y))) (same_column h (register x h) (register y h) ∙ sym (nat_cmp_is (register x h) (register y h) Equal same))
-    ∙ tuple_in-less cols x y c rises.1 m (λ k n l. before k (inr n) l) less
+    ap (λ o. ordering_then o (tuple_cmp (tuple_in cols x) (tuple_in cols y)))
+    (same_column h (register x h) (register y h) ∙ sym (nat_cmp_is (register x h) (register y h) Equal same))
+    ∙ tuple_in-decided cols x y c a n rises.1 m (λ k n l. before k (inr n) l) is
+
+-- and where there is none they are equal
+pub tuple_in-equal : (cols x y : List ℕ) → ((k : ℕ) → In k cols → register x k ≡ register y k)
+    → tuple_cmp (tuple_in cols x) (tuple_in cols y) ≡ Equal
+tuple_in-equal [] x y same = refl
+tuple_in-equal (h ∷ cols) x y same =
+    ap (λ o. ordering_then o (tuple_cmp (tuple_in cols x) (tuple_in cols y)))
+    (same_column h (register x h) (register y h) ∙ sym (nat_cmp_is (register x h) (register y h) Equal (same h (inl refl))))
+    ∙ tuple_in-equal cols x y (λ k n. same k (inr n))
 
 -- ---- reading
 
@@ -302,6 +416,79 @@ pairs_next cols values n =
     go : (b : Bool) → tuple_in (columns_below cols n) values ++ tuple_in (cond b (n ∷ []) []) values ≡ tuple_in (columns_below cols n) values ++ cond b ((n, register values n) ∷ []) []
     go true = refl
     go false = refl
+
+-- the values of a tuple are its registers
+pub values_of-tuple_in : (cols values : List ℕ) → values_of (tuple_in cols values) ≡ map (register values) cols
+values_of-tuple_in [] values = refl
+values_of-tuple_in (c ∷ cols) values = ap (λ l. register values c ∷ l) (values_of-tuple_in cols values)
+
+-- ---- values of columns in turn
+
+pub length-columns_below_more : (cols : List ℕ) (n : ℕ) → length (columns_below cols (n + 1)) ≡ length (columns_below cols n) + cond (has cols n) 1 0
+length-columns_below_more cols n = rank_more cols n
+
+-- a column of the set has a place
+pub place_within : (cols : List ℕ) (n : ℕ) → IsColSet cols → has cols n ≡ true → length (columns_below cols n) < length cols
+place_within cols n set h = slice_get_within cols (length (columns_below cols n)) n (slice_get-rank cols n set h)
+
+-- the pairs of the columns so far, and of one more
+abbrev pub pairs_below : List ℕ → List ℕ → ℕ → Pairs
+pairs_below cols values n = zip (columns_below cols n) (take (length (columns_below cols n)) values)
+
+pub pairs_below_there : (cols values : List ℕ) (n : ℕ) → IsColSet cols → length values ≡ length cols → has cols n ≡ true
+    → pairs_below cols values (n + 1) ≡ pairs_below cols values n ++ (n, get_or values (length (columns_below cols n)) 0) ∷ []
+pairs_below_there cols values n set count h =
+    let l = place_within cols n set h in
+    let more : columns_below cols (n + 1) ≡ columns_below cols n ++ n ∷ [] = columns_below_more cols n ∙ ap (λ b. columns_below cols n ++ cond b (n ∷ []) []) h in
+    let next : length (columns_below cols (n + 1)) ≡ suc (length (columns_below cols n)) =
+    length-columns_below_more cols n ∙ ap (λ b. length (columns_below cols n) + cond b 1 0) h ∙ (let e : length (columns_below cols n) + 1 ≡ suc (length (columns_below cols n)) = omega arith in e) in
+    let taken : length (columns_below cols n) ≡ length (take (length (columns_below cols n)) values) = sym (length-take-le (length (columns_below cols n)) values (omega (arith, l, count))) in
+    ap (λ k. zip (columns_below cols (n + 1)) (take k values)) next
+    ∙ ap (λ v. zip (columns_below cols (n + 1)) v) (take-suc values (length (columns_below cols n)) 0 (omega (arith, l, count)))
+    ∙ ap (λ xs. zip xs (take (length (columns_below cols n)) values ++ get_or values (length (columns_below cols n)) 0 ∷ [])) more
+    ∙ zip_more (columns_below cols n) (take (length (columns_below cols n)) values) n (get_or values (length (columns_below cols n)) 0) taken
+
+pub pairs_below_out : (cols values : List ℕ) (n : ℕ) → has cols n ≡ false → pairs_below cols values (n + 1) ≡ pairs_below cols values n
+pairs_below_out cols values n h =
+    let same : columns_below cols (n + 1) ≡ columns_below cols n = columns_below_more cols n ∙ ap (λ b. columns_below cols n ++ cond b (n ∷ []) []) h ∙ append-nil (columns_below cols n) in
+    ap (λ xs. zip xs (take (length xs) values)) same
+
+pub pairs_below_all : (width : ℕ) (cols values : List ℕ) → IsSetBelow width cols → length values ≡ length cols → pairs_below cols values width ≡ zip cols values
+pairs_below_all width cols values within count =
+    ap (λ xs. zip xs (take (length xs) values)) (columns_below_all width cols within) ∙ ap (zip cols) (take_all (length cols) values (omega (arith, count)))
+
+-- registers of which none of the columns is held fit any values
+pub fits_apart : (held values : List ℕ) (ps : Pairs) → ((c : ℕ) → In c (cols_of ps) → has held c ≡ false) → fits_all held values ps ≡ true
+fits_apart held values [] out = refl
+fits_apart held values (p ∷ ps) out =
+    and_from (fits held values p) (fits_all held values ps) (or_left (not (has held p.0)) (register values p.0 == p.1) (ap not (out p.0 (inl refl)))) (fits_apart held values ps (λ c m. out c (inr m)))
+
+-- two sets that share no column
+pub none_shared : (held cols : List ℕ) (c : ℕ) → length (inter held cols) ≡ 0 → In c cols → has held c ≡ false
+none_shared held cols c none m = go (has held c) refl
+  where
+    some : (xs : List ℕ) → In c xs → length xs ≡ 0 → ⊥
+    some (x ∷ xs) k e = omega (arith, e)
+    some [] k e = k
+
+    go : (b : Bool) → has held c ≡ b → b ≡ false
+    go false h = refl
+    go true h = absurd (some (inter held cols) (inter_in held cols c (in_has held c h) m) none)
+
+-- a column of the set stands with its value among the pairs
+pub zip_there : (cols values : List ℕ) (i c : ℕ) → slice_get cols i ≡ Some c → i < length values → In {A = ℕ × ℕ} (c, get_or values i 0) (zip cols values)
+zip_there [] values i c h l = absurd (none-some c h)
+zip_there (k ∷ cols) [] i c h l = absurd (omega (arith, l))
+zip_there (k ∷ cols) (v ∷ values) zero c h l = inl (λ i. (sym (ap (λ o. unwrap_or o 0) h) i, v))
+zip_there (k ∷ cols) (v ∷ values) (suc i) c h l = inr (zip_there cols values i c h (omega (arith, l)))
+
+pub fits_all-append : (held values : List ℕ) (ps qs : Pairs) → fits_all held values (ps ++ qs) ≡ (fits_all held values ps && fits_all held values qs)
+fits_all-append held values [] qs = refl
+fits_all-append held values (p ∷ ps) qs = go (fits held values p) (fits_all-append held values ps qs)
+  where
+    go : (b : Bool) → fits_all held values (ps ++ qs) ≡ (fits_all held values ps && fits_all held values qs) → (b && fits_all held values (ps ++ qs)) ≡ ((b && fits_all held values ps) && fits_all held values qs)
+    go true rest = rest
+    go false rest = refl
 
 -- columns with their registers are the tuple
 pub zip-registers : (cols values : List ℕ) → zip cols (map (register values) cols) ≡ tuple_in cols values

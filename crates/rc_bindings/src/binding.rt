@@ -1,12 +1,14 @@
 //! One binding.
 
 ghost use Rattle.std.specs.Prelude.{◌≡◌, ℕ, ◌<◌, ◌≤◌, ◌++◌, length, map, IsTrue, OnOk, IfOk};
+ghost use Rattle.std.specs.List.{zip};
 ghost use Rattle.std.specs.declared.cmp.Ordering.TheVariants.{Less};
+ghost use Rattle.rc_tuple.specs.ColSet.{IsColSet};
 ghost use Rattle.rc_tuple.specs.Tuple.{IsTuple, agree_on, agrees, cols_of, get, pick, project, tuple_cmp, value};
-ghost use Rattle.rc_spec.specs.InRange.{IsSetBelow};
+ghost use Rattle.rc_spec.specs.InRange.{AreBelow, IsSetBelow};
 ghost use Rattle.rc_spec.specs.Plain.{row_cmp};
 ghost use Rattle.rc_spec.specs.Stripes.{hash_of, stripe_of};
-ghost use Rattle.rc_bindings.specs.Registers.{fits, fits_all, register, tuple_in};
+ghost use Rattle.rc_bindings.specs.Registers.{fits, fits_all, register, tuple_in, values_of};
 
 use rc_spec::{Class, mix};
 use rc_tuple::{ColSet, Cols, Memory, Tuple, Vals};
@@ -130,12 +132,12 @@ impl<'a> Binding<'a> {
         Ordering::Equal
     }
 
-    /// Whether the tuple is below another over the same columns.
-    pub fn is_below(&self, other: &Binding) -> bool
+    /// How the tuple compares with another over the same columns.
+    pub fn cmp(&self, other: &Binding) -> Ordering
         requires { other.now.columns ≡ self.now.columns }
-        ensures { IsTrue result → tuple_cmp self.now.tuple other.now.tuple ≡ Less }
+        ensures { result ≡ tuple_cmp self.now.tuple other.now.tuple }
     {
-        is_below(self.cols, self.registers, other.registers)
+        compare(self.cols, self.registers, other.registers)
     }
 
     /// Adds the tuple's pairs at the columns at the end of a list.
@@ -145,12 +147,33 @@ impl<'a> Binding<'a> {
         push_pairs(self.cols.inter(cols), self.registers, pairs)
     }
 
+    /// Adds the tuple's values at the columns, in column order, at the end of a list.
+    pub fn push_values(&self, cols: ColSet, values: &mut Vec<u64>) -> Result<(), Memory>
+        ensures { OnOk result (values.new.items ≡ values.old.items ++ values_of (project cols self.now.tuple)) }
+    {
+        push_registers(self.cols.inter(cols), self.registers, values)
+    }
+
     /// The tuple.
     pub fn tuple(&self, alloc: Global) -> Result<Tuple, Memory>
         ensures { IfOk result (λ tuple. tuple ≡ self.now.tuple) }
     {
         Tuple::new(self.cols, values_at(alloc, self.cols, self.registers)?)
     }
+}
+
+/// Adds the values in the registers of the columns, in their order, at the end of a list.
+fn push_registers(cols: ColSet, registers: &[u64], values: &mut Vec<u64>) -> Result<(), Memory>
+    requires below { IsSetBelow (length registers.now) cols }
+    requires few { length registers.now ≤ 32 }
+    ensures { OnOk result (values.new.items ≡ values.old.items ++ map (register registers.now) cols) }
+{
+    for col in 0..registers.len() as u8 {
+        if cols.has(col) {
+            values.push(registers[col as usize])?;
+        }
+    }
+    Ok(())
 }
 
 /// The values in the registers of the columns, in their order.
@@ -168,24 +191,23 @@ fn values_at(alloc: Global, cols: ColSet, registers: &[u64]) -> Result<Vals, Mem
     Ok(values)
 }
 
-/// Whether the first registers are below the second at the first of the columns at which they differ.
-fn is_below(cols: ColSet, registers: &[u64], others: &[u64]) -> bool
+/// How the registers compare at the first of the columns at which they differ.
+fn compare(cols: ColSet, registers: &[u64], others: &[u64]) -> Ordering
     requires below { IsSetBelow (length registers.now) cols }
     requires too { IsSetBelow (length others.now) cols }
     requires few { length registers.now ≤ 32 }
-    ensures { IsTrue result → tuple_cmp (tuple_in cols registers.now) (tuple_in cols others.now) ≡ Less }
+    ensures { result ≡ tuple_cmp (tuple_in cols registers.now) (tuple_in cols others.now) }
 {
     for col in 0..registers.len() as u8 {
         if !cols.has(col) {
             continue;
         }
         match registers[col as usize].cmp(&others[col as usize]) {
-            Ordering::Less => return true,
             Ordering::Equal => {}
-            Ordering::Greater => return false,
+            unequal => return unequal,
         }
     }
-    false
+    Ordering::Equal
 }
 
 /// Adds the columns with the values in their registers at the end of a list.
@@ -219,6 +241,33 @@ fn fits_all(cols: ColSet, registers: &[u64], pairs: &[(u8, u64)]) -> bool
         if !fits(cols, registers, pair) {
             return false;
         }
+    }
+    true
+}
+
+/// Whether the registers have no other values at those of the columns that are held. The values are the columns', in their
+/// order.
+pub(crate) fn fits_values(held: ColSet, registers: &[u64], cols: ColSet, values: &[u64]) -> bool
+    requires below { AreBelow (length registers.now) cols }
+    requires few { length registers.now ≤ 32 }
+    requires count { length values.now ≡ length cols }
+    ensures value { result ≡ fits_all held registers.now (zip cols values.now) }
+    ensures set { IsColSet cols }
+{
+    // A call of a set tells the check what holds of every set.
+    let _ = cols.within(cols);
+    if held.inter(cols).is_empty() {
+        return true;
+    }
+    let mut place = 0;
+    for col in 0..registers.len() as u8 {
+        if !cols.has(col) {
+            continue;
+        }
+        if held.has(col) && registers[col as usize] != values[place] {
+            return false;
+        }
+        place += 1;
     }
     true
 }

@@ -1,14 +1,16 @@
 //! A list of bindings.
 
-ghost use Rattle.std.specs.Prelude.{◌≡◌, ℕ, ◌<◌, ◌≤◌, ◌-◌, ◌*◌, ◌^◌, ◌==◌, ◌++◌, [], ◌∷◌, length, get_or, take, drop, IsTrue, OnOk, OnErr, IfOk};
-ghost use Rattle.rc_tuple.specs.ColSet.{Within, union};
+ghost use Rattle.std.specs.Prelude.{◌≡◌, ℕ, List, ◌+◌, ◌<◌, ◌≤◌, ◌-◌, ◌*◌, ◌^◌, ◌==◌, ◌++◌, [], ◌∷◌, length, get_or, take, drop, IsTrue, OnOk, OnErr, IfOk, ◌↔◌};
+ghost use Rattle.std.specs.List.{flat_map, zip};
+ghost use Rattle.rc_tuple.specs.ColSet.{Within};
 ghost use Rattle.rc_tuple.specs.RisingSet.{In, IsRising, gather};
 ghost use Rattle.rc_tuple.specs.Tuple.{Pairs, cols_of, merges_of, project, tuple_cmp};
 ghost use Rattle.rc_spec.specs.InRange.{AreBelow, IsSetBelow};
-ghost use Rattle.rc_bindings.specs.Bindings.{HasMore, no_binding, with_tuples};
+ghost use Rattle.rc_bindings.specs.Bindings.{HasMore, IsGivenBy, IsRowWith, TakesRows, given, key_and_extra, no_binding, with_tuples};
 ghost use Rattle.rc_bindings.specs.Registers.{all_written};
 
 use crate::Binding;
+use crate::binding::fits_values;
 use rc_tuple::{ColSet, Memory, Tuple, distinct};
 use std::alloc::Global;
 use std::marker::Model;
@@ -110,40 +112,82 @@ impl Bindings {
         Ok(())
     }
 
-    /// Adds the merge of a binding of the same width with a row, if they agree, where the columns are those of both. Where
-    /// memory is wanted the bindings stay.
-    pub fn push_merge(&mut self, binding: &Binding, row: &Tuple) -> Result<(), Memory>
-        requires width { binding.now.width ≡ self.old.width }
-        requires columns { self.old.columns ≡ union binding.now.columns (cols_of row.now) }
-        ensures ok { OnOk result (self.new ≡ with_tuples self.old (self.old.tuples ++ merges_of binding.now.tuple (row.now ∷ []))) }
+    /// Adds the merge of a binding with a row, if they agree. The row is given by its values at the columns of its key and at
+    /// extra ones, in column order; its other pairs are the binding's. Where memory is wanted the bindings stay.
+    pub fn push_row(
+        &mut self,
+        binding: &Binding,
+        key: ColSet,
+        key_values: &[u64],
+        extra: ColSet,
+        extra_values: &[u64],
+    ) -> Result<(), Memory>
+        requires takes { TakesRows binding.now key extra self.old }
+        requires keys { length key_values.now ≡ length key }
+        requires extras { length extra_values.now ≡ length extra }
+        ensures ok { OnOk result ((row : Pairs) → IsRowWith binding.now.tuple (given key key_values.now extra extra_values.now) row
+            → self.new ≡ with_tuples self.old (self.old.tuples ++ merges_of binding.now.tuple (row ∷ []))) }
+        ensures same { self.new ≡ with_tuples self.old self.new.tuples }
         ensures err { OnErr result (self.new ≡ self.old) }
     {
-        if !binding.agrees(row) {
+        let width = self.width;
+        if !fits_values(binding.cols, binding.registers, key, key_values) {
+            return Ok(());
+        }
+        if !fits_values(binding.cols, binding.registers, extra, extra_values) {
             return Ok(());
         }
         let start = self.registers.len();
         self.registers.extend_from_slice(binding.registers)?;
-        write(&mut self.registers, start, self.cols, row.pairs());
+        write_values(&mut self.registers, start, width, key, key_values);
+        write_values(&mut self.registers, start, width, extra, extra_values);
         self.count += 1;
         Ok(())
     }
 
-    /// Adds the merges of a binding of the same width with those of the rows that agree with it, in their order, where the
-    /// columns are those of both.
-    pub fn push_merges(&mut self, binding: &Binding, rows: &[Tuple]) -> Result<(), Memory>
-        requires width { binding.now.width ≡ self.old.width }
-        requires columns { (row : Pairs) → In row rows.now → self.old.columns ≡ union binding.now.columns (cols_of row) }
-        ensures { OnOk result (self.new ≡ with_tuples self.old (self.old.tuples ++ merges_of binding.now.tuple rows.now)) }
+    /// Adds the merges of a binding with those of some rows that agree with it, in their order. The rows are given one behind
+    /// the other, each by its values at the columns of its key and then at extra ones, of which there is one at least. Where memory is
+    /// wanted the merges with the first rows are added.
+    pub fn push_rows(
+        &mut self,
+        binding: &Binding,
+        key: ColSet,
+        keys: usize,
+        extra: ColSet,
+        extras: usize,
+        values: &[u64],
+    ) -> Result<(), Memory>
+        requires takes { TakesRows binding.now key extra self.old }
+        requires keys { keys ≡ length key }
+        requires extras { extras ≡ length extra }
+        requires some { 0 < keys + extras }
+        requires few { keys + extras ≤ 64 }
+        ensures ok { OnOk result ((rows : List Pairs) → values.now ≡ flat_map (key_and_extra key extra) rows
+            → ((row : Pairs) → In row rows → IsGivenBy binding.now.tuple key extra row)
+            → self.new ≡ with_tuples self.old (self.old.tuples ++ merges_of binding.now.tuple rows)) }
+        ensures same { self.new ≡ with_tuples self.old self.new.tuples }
     {
-        for row in rows {
-            self.push_merge(binding, row)?;
+        let mut start = 0;
+        while start + keys + extras <= values.len() {
+            let middle = start + keys;
+            let end = middle + extras;
+            self.push_row(
+                binding,
+                key,
+                &values[start..middle],
+                extra,
+                &values[middle..end],
+            )?;
+            start = end;
         }
         Ok(())
     }
 
-    /// Puts the bindings in their order, each once. Costs one comparison a binding where they rise already.
+    /// Puts the bindings in their order, each once. Costs one comparison a binding where they rise already. Where memory is
+    /// wanted bindings may be gone.
     pub fn sort(&mut self, alloc: Global) -> Result<(), Memory>
-        ensures { OnOk result (self.new ≡ with_tuples self.old (gather tuple_cmp self.old.tuples)) }
+        ensures same { self.new ≡ with_tuples self.old self.new.tuples }
+        ensures ok { OnOk result (self.new ≡ with_tuples self.old (gather tuple_cmp self.old.tuples)) }
     {
         if self.rises() {
             return Ok(());
@@ -158,10 +202,10 @@ impl Bindings {
 
     /// Whether each binding is below the next.
     fn rises(&self) -> bool
-        ensures { IsTrue result → IsRising tuple_cmp self.now.tuples }
+        ensures { IsTrue result ↔ IsRising tuple_cmp self.now.tuples }
     {
         for at in 1..self.count {
-            if !self.get(at - 1).is_below(&self.get(at)) {
+            if !self.get(at - 1).cmp(&self.get(at)).is_lt() {
                 return false;
             }
         }
@@ -212,6 +256,27 @@ fn write(registers: &mut [u64], start: usize, cols: ColSet, pairs: &[(u8, u64)])
         if cols.has(pair.0) {
             let index = start + pair.0 as usize;
             registers[index] = pair.1;
+        }
+    }
+}
+
+/// Writes the values of the columns, in their order, each in its column's register of the row that starts there.
+fn write_values(registers: &mut [u64], start: usize, width: usize, cols: ColSet, values: &[u64])
+    requires width { length (drop start registers.old) ≡ width }
+    requires columns { AreBelow width cols }
+    requires narrow { width ≤ 32 }
+    requires few { length registers.old * 8 < 2 ^ 63 }
+    requires count { length values.now ≡ length cols }
+    ensures { registers.new ≡ take start registers.old ++ all_written (zip cols values.now) (drop start registers.old) }
+{
+    // A call of a set tells the check what holds of every set.
+    let _ = cols.within(cols);
+    let mut place = 0;
+    for col in 0..width as u8 {
+        if cols.has(col) {
+            let index = start + col as usize;
+            registers[index] = values[place];
+            place += 1;
         }
     }
 }

@@ -1,5 +1,10 @@
 pub mod EdgeMap
 pub mod Entry
+pub mod Key
 pub mod ListMap
 pub mod ListMapLaws
+pub mod OneMap
+pub mod OneMapLaws
 pub mod RowsLaws
+pub mod Values
+pub mod ValuesLaws

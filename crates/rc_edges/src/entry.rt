@@ -1,42 +1,43 @@
 //! What a container keeps at a key.
 
 ghost use Rattle.std.specs.Prelude.{◌≡◌, ◌+◌, ◌<◌, ◌^◌, OnOk, OnErr, IfOk, Some, None, option_copied};
-ghost use Rattle.rc_edges.specs.EdgeMap.{count_of, row_of, IsRowOf, lowered};
+ghost use Rattle.rc_edges.specs.EdgeMap.{HasExtra, count_of, extra_of, lowered};
 ghost use Rattle.rc_edges.specs.Entry.{now_of, taken_of, is_gone};
 
-use rc_tuple::{Memory, Tuple};
+use rc_tuple::{Memory, Vals};
+use std::alloc::Global;
 use std::mem;
 
-/// A row and its count now, and the two as they were taken. A count of 0 says that there is no row.
-/// The row as taken stands in `row` until another row takes its place, so that neither `settle` nor
-/// `revert` copies one.
+/// A row's extra values and its count now, and the two as they were taken. A count of 0 says that
+/// there is no row. The values as taken stand in `extra` until another row's take their place, so
+/// that neither `settle` nor `revert` copies them. A row with no extra value takes no memory.
 #[derive(Drop, Debug)]
 pub struct Entry {
-    row: Tuple,
+    extra: Vals,
     count: u64,
     count_taken: u64,
-    row_taken: Option<Tuple>,
+    extra_taken: Option<Vals>,
 }
 
 impl Entry {
     /// The row with the count 1, where none was taken.
-    pub fn new(row: &Tuple) -> Result<Entry, Memory>
-        ensures now { IfOk result (λ entry. now_of entry ≡ Some (row.now, 1)) }
+    pub fn new(alloc: Global, extra: &[u64]) -> Result<Entry, Memory>
+        ensures now { IfOk result (λ entry. now_of entry ≡ Some (extra.now, 1)) }
         ensures taken { IfOk result (λ entry. taken_of entry ≡ None) }
     {
         Ok(Entry {
-            row: row.copy()?,
+            extra: Vals::from_slice(alloc, extra)?,
             count: 1,
             count_taken: 0,
-            row_taken: None,
+            extra_taken: None,
         })
     }
 
-    /// Raises the count by 1; from 0 on it is this row's.
-    pub fn raise(&mut self, row: &Tuple) -> Result<(), Memory>
+    /// Raises the count by 1; from 0 on it is that of the row with these extra values.
+    pub fn raise(&mut self, extra: &[u64]) -> Result<(), Memory>
         requires room { count_of (now_of self.old) < 2 ^ 63 }
-        requires same { IsRowOf (now_of self.old) row.now }
-        ensures ok { OnOk result (now_of self.new ≡ Some (row.now, count_of (now_of self.old) + 1)) }
+        requires same { HasExtra (now_of self.old) extra.now }
+        ensures ok { OnOk result (now_of self.new ≡ Some (extra.now, count_of (now_of self.old) + 1)) }
         ensures taken { taken_of self.new ≡ taken_of self.old }
         ensures err { OnErr result (self.new ≡ self.old) }
     {
@@ -44,11 +45,11 @@ impl Entry {
             self.count += 1;
             return Ok(());
         }
-        let next = row.copy()?;
-        let last = mem::replace(&mut self.row, next);
+        let next = Vals::from_slice(self.extra.alloc(), extra)?;
+        let last = mem::replace(&mut self.extra, next);
         self.count = 1;
-        if self.row_taken.is_none() {
-            self.row_taken = Some(last);
+        if self.extra_taken.is_none() {
+            self.extra_taken = Some(last);
         }
         Ok(())
     }
@@ -68,10 +69,10 @@ impl Entry {
         ensures taken { taken_of self.new ≡ taken_of self.old }
     {
         self.count = self.count_taken;
-        let Some(row) = self.row_taken.take() else {
+        let Some(extra) = self.extra_taken.take() else {
             return;
         };
-        self.row = row;
+        self.extra = extra;
     }
 
     /// Makes the row and its count count as taken.
@@ -80,15 +81,15 @@ impl Entry {
         ensures taken { taken_of self.new ≡ now_of self.old }
     {
         self.count_taken = self.count;
-        self.row_taken = None;
+        self.extra_taken = None;
     }
 
-    /// The row now, if there is one.
-    pub fn row(&self) -> Option<&Tuple>
-        ensures { option_copied result ≡ row_of (now_of self.now) }
+    /// The extra values of the row now, if there is one.
+    pub fn extra(&self) -> Option<&[u64]>
+        ensures { option_copied result ≡ extra_of (now_of self.now) }
     {
         if self.count > 0 {
-            Some(&self.row)
+            Some(self.extra.list())
         } else {
             None
         }
@@ -101,27 +102,27 @@ impl Entry {
         self.count == 0 && self.count_taken == 0
     }
 
-    /// Another entry with the same rows and counts.
+    /// Another entry with the same extra values and counts.
     pub fn copy(&self) -> Result<Entry, Memory>
         ensures { IfOk result (λ entry. entry ≡ self.now) }
     {
-        let row = self.row.copy()?;
-        let row_taken = copy_of(&self.row_taken)?;
+        let extra = self.extra.copy()?;
+        let extra_taken = copy_of(&self.extra_taken)?;
         Ok(Entry {
-            row,
+            extra,
             count: self.count,
             count_taken: self.count_taken,
-            row_taken,
+            extra_taken,
         })
     }
 }
 
-/// A copy of the tuple, if there is one.
-fn copy_of(tuple: &Option<Tuple>) -> Result<Option<Tuple>, Memory>
-    ensures { IfOk result (λ copy. copy ≡ tuple.now) }
+/// A copy of the values, if there are some.
+fn copy_of(values: &Option<Vals>) -> Result<Option<Vals>, Memory>
+    ensures { IfOk result (λ copy. copy ≡ values.now) }
 {
-    match tuple {
-        Some(tuple) => Ok(Some(tuple.copy()?)),
+    match values {
+        Some(values) => Ok(Some(values.copy()?)),
         None => Ok(None),
     }
 }

@@ -3,10 +3,12 @@
 
 mod edge_map;
 mod entry;
+mod key;
 mod list_map;
 mod one_map;
 
 pub use edge_map::EdgeMap;
 pub use entry::Entry;
+pub use key::Key;
 pub use list_map::ListMap;
 pub use one_map::OneMap;

@@ -1,22 +1,22 @@
 //! The container of kind list.
 
-ghost use Rattle.std.specs.Prelude.{◌≡◌, ◌<◌, ◌≤◌, ◌++◌, length, take, IfOk, IfErr, OnOk, OnErr, [], ◌∷◌};
-ghost use Rattle.rc_tuple.specs.Tuple.{tuple_cmp};
+ghost use Rattle.std.specs.Prelude.{◌≡◌, ◌<◌, ◌≤◌, ◌++◌, false, length, take, IfOk, IfErr, IfSome, IfNone, OnOk, OnErr, [], ◌∷◌};
+ghost use Rattle.rc_edges.specs.Values.{values_cmp};
 ghost use Rattle.rc_edges.specs.EdgeMap.{nothing};
-ghost use Rattle.rc_edges.specs.ListMap.{AreKeptBut, IsKeyed, IsAt, IsGap, SameRows, rows_of};
+ghost use Rattle.rc_edges.specs.Entry.{is_gone};
+ghost use Rattle.rc_edges.specs.ListMap.{AreKeptBut, IsKeyed, IsAt, IsGap, SameRows, count_in, kept_in, rows_of};
 
-use crate::{EdgeMap, Entry};
-use rc_tuple::{Memory, Tuple, Tuples};
+use crate::{EdgeMap, Entry, Key};
+use rc_tuple::Memory;
 use std::alloc::Global;
 use std::cmp::Ordering;
 use std::marker::Model;
-use std::mem;
 
 /// A list of entries that rises by their keys, in which a key is looked for from the front. It
 /// suits an edge with few keys at each row of its source.
 #[derive(Drop, Debug)]
 pub struct ListMap {
-    items: Vec<(Tuple, Entry)>,
+    items: Vec<(Key, Entry)>,
 }
 
 impl Model for ListMap {
@@ -42,6 +42,29 @@ impl ListMap {
             items: Vec::new(alloc),
         }
     }
+
+    /// A container with a copy of this entry alone.
+    pub(crate) fn alone(alloc: Global, key: &Key, entry: &Entry) -> Result<Self, Memory>
+        requires { is_gone entry.now ≡ false }
+        ensures { IfOk result (λ list. list ≡ kept_in ((key.now, entry.now) ∷ [])) }
+    {
+        let mut items = Vec::with_capacity(alloc, 2)?;
+        items.push((key.copy()?, entry.copy()?))?;
+        Ok(ListMap { items })
+    }
+
+    /// Takes out the only entry, if there is just one.
+    pub(crate) fn take_only(&mut self) -> Option<(Key, Entry)>
+        ensures only { IfSome result (λ i. kept_in (i ∷ []) ≡ self.old) }
+        ensures held { IfSome result (λ i. is_gone i.1 ≡ false) }
+        ensures none { IfNone result (self.new ≡ self.old) }
+    {
+        if self.items.len() == 1 {
+            self.items.pop()
+        } else {
+            None
+        }
+    }
 }
 
 impl EdgeMap for ListMap {
@@ -49,25 +72,28 @@ impl EdgeMap for ListMap {
 
     ghost rows_taken = { λ map. map.taken };
 
+    ghost one_column = { λ _. false };
+
     ghost may_take = { λ _ _. Unit {0} };
 
-    fn add(&mut self, key: &Tuple, row: &Tuple) -> Result<(), Memory> {
-        match place_of(&self.items, key) {
+    fn add(&mut self, key: &[u64], extra: &[u64]) -> Result<(), Memory> {
+        match place(&self.items, key) {
             Ok(at) => {
                 let item = &mut self.items[at];
-                item.1.raise(row)?;
+                item.1.raise(extra)?;
                 Ok(())
             }
             Err(at) => {
-                let entry = Entry::new(row)?;
-                let key = key.copy()?;
+                let alloc = *self.items.allocator();
+                let entry = Entry::new(alloc, extra)?;
+                let key = Key::new(alloc, key)?;
                 self.items.insert(at, (key, entry))?;
                 Ok(())
             }
         }
     }
 
-    fn sub(&mut self, key: &[(u8, u64)]) {
+    fn sub(&mut self, key: &[u64]) {
         let Ok(at) = place(&self.items, key) else {
             unreachable!();
         };
@@ -76,7 +102,7 @@ impl EdgeMap for ListMap {
         sweep(&mut self.items, at);
     }
 
-    fn revert(&mut self, key: &[(u8, u64)]) {
+    fn revert(&mut self, key: &[u64]) {
         let Ok(at) = place(&self.items, key) else {
             return;
         };
@@ -85,7 +111,7 @@ impl EdgeMap for ListMap {
         sweep(&mut self.items, at);
     }
 
-    fn settle(&mut self, key: &[(u8, u64)]) {
+    fn settle(&mut self, key: &[u64]) {
         let Ok(at) = place(&self.items, key) else {
             return;
         };
@@ -94,28 +120,22 @@ impl EdgeMap for ListMap {
         sweep(&mut self.items, at);
     }
 
-    fn get(&self, key: &[(u8, u64)]) -> Option<&Tuple> {
+    fn get(&self, key: &[u64]) -> Option<&[u64]> {
         match place(&self.items, key) {
             Ok(at) => {
                 let item = &self.items[at];
-                item.1.row()
+                item.1.extra()
             }
             Err(_) => None,
         }
     }
 
-    fn scan(&self, out: &mut Tuples) -> Result<(), Memory> {
-        let none = Tuples::new(out.alloc());
-        let mut all = mem::replace(out, none).into_vec();
-        let len = all.len();
-        match push_rows(&self.items, &mut all) {
-            Ok(()) => {
-                *out = Tuples::from_vec(all);
-                Ok(())
-            }
+    fn scan(&self, out: &mut Vec<u64>) -> Result<(), Memory> {
+        let len = out.len();
+        match push_rows(&self.items, out) {
+            Ok(()) => Ok(()),
             Err(memory) => {
-                all.truncate(len);
-                *out = Tuples::from_vec(all);
+                out.truncate(len);
                 Err(memory)
             }
         }
@@ -135,25 +155,15 @@ impl EdgeMap for ListMap {
     }
 }
 
-/// The place of the item with the key, or else that where it would go.
-fn place_of(items: &[(Tuple, Entry)], key: &Tuple) -> Result<usize, usize>
-    ensures found { IfOk result (λ at. IsAt key.now items.now at) }
-    ensures within { IfOk result (λ at. at < length items.now) }
-    ensures gap { IfErr result (λ at. IsGap key.now items.now at) }
-    ensures end { IfErr result (λ at. at ≤ length items.now) }
+/// Compares a key with these values.
+fn order(key: &Key, values: &[u64]) -> Ordering
+    ensures { result ≡ values_cmp key.now values.now }
 {
-    place(items, key.pairs())
+    key.values().cmp(&values)
 }
 
-/// Compares a key with the pairs of another.
-fn order(key: &Tuple, other: &[(u8, u64)]) -> Ordering
-    ensures { result ≡ tuple_cmp key.now other.now }
-{
-    key.pairs().cmp(&other)
-}
-
-/// The place of the item with the key that has these pairs, or else that where it would go.
-fn place(items: &[(Tuple, Entry)], key: &[(u8, u64)]) -> Result<usize, usize>
+/// The place of the item with the key that has these values, or else that where it would go.
+fn place(items: &[(Key, Entry)], key: &[u64]) -> Result<usize, usize>
     ensures found { IfOk result (λ at. IsAt key.now items.now at) }
     ensures within { IfOk result (λ at. at < length items.now) }
     ensures gap { IfErr result (λ at. IsGap key.now items.now at) }
@@ -170,7 +180,7 @@ fn place(items: &[(Tuple, Entry)], key: &[(u8, u64)]) -> Result<usize, usize>
 }
 
 /// Takes the item out where its entry is gone.
-fn sweep(items: &mut Vec<(Tuple, Entry)>, at: usize)
+fn sweep(items: &mut Vec<(Key, Entry)>, at: usize)
     requires within { at < length items.old.items }
     requires keyed { IsKeyed items.old.items }
     requires kept { AreKeptBut at items.old.items }
@@ -182,27 +192,28 @@ fn sweep(items: &mut Vec<(Tuple, Entry)>, at: usize)
     }
 }
 
-/// Adds a copy of each row at the end; where memory is wanted some may have been added.
-fn push_rows(items: &[(Tuple, Entry)], all: &mut Vec<Tuple>) -> Result<(), Memory>
-    ensures ok { OnOk result (all.new.items ≡ all.old.items ++ rows_of items.now) }
-    ensures err { OnErr result (take (length all.old.items) all.new.items ≡ all.old.items) }
+/// Adds each row's key and extra values at the end; where memory is wanted some may have been added.
+pub(crate) fn push_rows(items: &[(Key, Entry)], out: &mut Vec<u64>) -> Result<(), Memory>
+    ensures ok { OnOk result (out.new.items ≡ out.old.items ++ rows_of items.now) }
+    ensures err { OnErr result (take (length out.old.items) out.new.items ≡ out.old.items) }
 {
     for item in items {
-        let Some(row) = item.1.row() else {
+        let Some(extra) = item.1.extra() else {
             continue;
         };
-        all.push(row.copy()?)?;
+        out.extend_from_slice(item.0.values())?;
+        out.extend_from_slice(extra)?;
     }
     Ok(())
 }
 
 /// How many of the items have a row now.
-fn count_rows(items: &[(Tuple, Entry)]) -> u64
-    ensures { result ≡ length (rows_of items.now) }
+fn count_rows(items: &[(Key, Entry)]) -> u64
+    ensures { result ≡ count_in items.now }
 {
     let mut count = 0;
     for item in items {
-        let Some(_) = item.1.row() else {
+        let Some(_) = item.1.extra() else {
             continue;
         };
         count += 1;
@@ -211,7 +222,7 @@ fn count_rows(items: &[(Tuple, Entry)]) -> u64
 }
 
 /// A copy of each item.
-fn copy_of(alloc: Global, items: &[(Tuple, Entry)]) -> Result<Vec<(Tuple, Entry)>, Memory>
+fn copy_of(alloc: Global, items: &[(Key, Entry)]) -> Result<Vec<(Key, Entry)>, Memory>
     ensures { IfOk result (λ copy. copy.items ≡ items.now) }
 {
     let mut copy = Vec::new(alloc);

@@ -1,18 +1,30 @@
 //! The container of a singleton.
 
-ghost use Rattle.std.specs.Prelude.{◌≡◌};
+ghost use Rattle.std.specs.Prelude.{◌≡◌, ◌++◌, ◌∷◌, [], false, OnOk, OnErr};
 ghost use Rattle.rc_edges.specs.EdgeMap.{HasNoOther, nothing};
+ghost use Rattle.rc_edges.specs.ListMap.{rows_of};
+ghost use Rattle.rc_edges.specs.OneMap.{IsHeld, kept_at};
 
-use crate::{EdgeMap, ListMap};
-use rc_tuple::{Memory, Tuple, Tuples};
+use crate::{EdgeMap, Entry, Key, ListMap};
+use rc_tuple::Memory;
 use std::alloc::Global;
 use std::marker::Model;
 
-/// A list for at most one key: it takes no second one. An entry as taken may stand beside that of
-/// the key now, until both are settled or reverted.
+/// At most one key, whose entry stands in place: it takes no second one.
+///
+/// Where another key comes before that of the entry is settled or reverted, the two stand in a list
+/// until one of them is left.
 #[derive(Drop, Debug)]
 pub struct OneMap {
-    list: ListMap,
+    place: Place,
+    alloc: Global,
+}
+
+/// Where the entries stand.
+#[derive(Drop, Debug)]
+enum Place {
+    One(Option<(Key, Entry)>),
+    Several(ListMap),
 }
 
 impl Model for OneMap {
@@ -22,7 +34,11 @@ impl Model for OneMap {
 
     ghost coded = { kept_code };
 
-    ghost view = { λ a. a.list };
+    ghost use Rattle.rc_edges.specs.OneMap.{IsHeld, kept_at};
+
+    ghost view = { λ a. kept_at a.place };
+
+    ghost invariant = { λ a. IsHeld a.place };
 }
 
 impl OneMap {
@@ -31,7 +47,8 @@ impl OneMap {
         ensures { result ≡ nothing }
     {
         OneMap {
-            list: ListMap::new(alloc),
+            place: Place::One(None),
+            alloc,
         }
     }
 }
@@ -41,43 +58,186 @@ impl EdgeMap for OneMap {
 
     ghost rows_taken = { λ map. map.taken };
 
+    ghost one_column = { λ _. false };
+
     ghost may_take = { λ map key. HasNoOther map.now key };
 
-    fn add(&mut self, key: &Tuple, row: &Tuple) -> Result<(), Memory> {
-        self.list.add(key, row)?;
-        Ok(())
+    fn add(&mut self, key: &[u64], extra: &[u64]) -> Result<(), Memory> {
+        match &mut self.place {
+            Place::Several(list) => list.add(key, extra),
+            Place::One(one) => {
+                let Some((own, entry)) = one else {
+                    let entry = Entry::new(self.alloc, extra)?;
+                    *one = Some((Key::new(self.alloc, key)?, entry));
+                    return Ok(());
+                };
+                if own.values() == key {
+                    return entry.raise(extra);
+                }
+                let mut list = ListMap::alone(self.alloc, own, entry)?;
+                list.add(key, extra)?;
+                self.place = Place::Several(list);
+                Ok(())
+            }
+        }
     }
 
-    fn sub(&mut self, key: &[(u8, u64)]) {
-        self.list.sub(key);
+    fn sub(&mut self, key: &[u64]) {
+        match &mut self.place {
+            Place::Several(list) => {
+                list.sub(key);
+                tidy(&mut self.place);
+            }
+            Place::One(one) => {
+                let Some((_, entry)) = one else {
+                    unreachable!();
+                };
+                entry.lower();
+                tidy(&mut self.place);
+            }
+        }
     }
 
-    fn revert(&mut self, key: &[(u8, u64)]) {
-        self.list.revert(key);
+    fn revert(&mut self, key: &[u64]) {
+        match &mut self.place {
+            Place::Several(list) => {
+                list.revert(key);
+                tidy(&mut self.place);
+            }
+            Place::One(one) => {
+                let Some((own, entry)) = one else {
+                    return;
+                };
+                if own.values() == key {
+                    entry.revert();
+                    tidy(&mut self.place);
+                }
+            }
+        }
     }
 
-    fn settle(&mut self, key: &[(u8, u64)]) {
-        self.list.settle(key);
+    fn settle(&mut self, key: &[u64]) {
+        match &mut self.place {
+            Place::Several(list) => {
+                list.settle(key);
+                tidy(&mut self.place);
+            }
+            Place::One(one) => {
+                let Some((own, entry)) = one else {
+                    return;
+                };
+                if own.values() == key {
+                    entry.settle();
+                    tidy(&mut self.place);
+                }
+            }
+        }
     }
 
-    fn get(&self, key: &[(u8, u64)]) -> Option<&Tuple> {
-        self.list.get(key)
+    fn get(&self, key: &[u64]) -> Option<&[u64]> {
+        match &self.place {
+            Place::Several(list) => list.get(key),
+            Place::One(one) => {
+                let Some((own, entry)) = one else {
+                    return None;
+                };
+                if own.values() == key {
+                    entry.extra()
+                } else {
+                    None
+                }
+            }
+        }
     }
 
-    fn scan(&self, out: &mut Tuples) -> Result<(), Memory> {
-        self.list.scan(out)
+    fn scan(&self, out: &mut Vec<u64>) -> Result<(), Memory> {
+        match &self.place {
+            Place::Several(list) => list.scan(out),
+            Place::One(one) => {
+                let Some((key, entry)) = one else {
+                    return Ok(());
+                };
+                push_row(key, entry, out)
+            }
+        }
     }
 
     fn len(&self) -> u64 {
-        self.list.len()
+        match &self.place {
+            Place::Several(list) => list.len(),
+            Place::One(one) => {
+                let Some((_, entry)) = one else {
+                    return 0;
+                };
+                match entry.extra() {
+                    Some(_) => 1,
+                    None => 0,
+                }
+            }
+        }
     }
 
     fn is_gone(&self) -> bool {
-        self.list.is_gone()
+        match &self.place {
+            Place::Several(list) => list.is_gone(),
+            Place::One(one) => {
+                let Some(_) = one else {
+                    return true;
+                };
+                false
+            }
+        }
     }
 
     fn copy(&self) -> Result<Self, Memory> {
-        let list = self.list.copy()?;
-        Ok(OneMap { list })
+        let place = match &self.place {
+            Place::Several(list) => Place::Several(list.copy()?),
+            Place::One(Some((key, entry))) => Place::One(Some((key.copy()?, entry.copy()?))),
+            Place::One(None) => Place::One(None),
+        };
+        Ok(OneMap {
+            place,
+            alloc: self.alloc,
+        })
     }
+}
+
+/// Lets an entry go that is gone, and takes the only one that is left out of a list.
+fn tidy(place: &mut Place)
+    ensures held { IsHeld place.new }
+    ensures same { kept_at place.new ≡ kept_at place.old }
+{
+    match place {
+        Place::Several(list) => {
+            if let Some(item) = list.take_only() {
+                *place = Place::One(Some(item));
+            }
+        }
+        Place::One(one) => {
+            let Some((_, entry)) = one else {
+                return;
+            };
+            if entry.is_gone() {
+                *one = None;
+            }
+        }
+    }
+}
+
+/// Adds the row's key and extra values at the end of the list, if the entry has a row now. Where
+/// memory is wanted the list stays as it was.
+fn push_row(key: &Key, entry: &Entry, out: &mut Vec<u64>) -> Result<(), Memory>
+    ensures ok { OnOk result (out.new.items ≡ out.old.items ++ rows_of ((key.now, entry.now) ∷ [])) }
+    ensures err { OnErr result (out.new.items ≡ out.old.items) }
+{
+    let Some(extra) = entry.extra() else {
+        return Ok(());
+    };
+    let len = out.len();
+    out.extend_from_slice(key.values())?;
+    if out.extend_from_slice(extra).is_err() {
+        out.truncate(len);
+        return Err(Memory);
+    }
+    Ok(())
 }

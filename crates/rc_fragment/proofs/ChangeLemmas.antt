@@ -6,19 +6,23 @@ use Rattle.std.proofs.lemmas.Bool.{false≢true, and_parts, and_from, eqb-true, 
 use Rattle.std.proofs.lemmas.Option.{slice_get-get_or}
 use Rattle.rc_tuple.specs.RisingSet.{In}
 use Rattle.rc_tuple.specs.RisingSetLaws.{slice_get_in}
-use Rattle.rc_tuple.specs.Tuple.{Pairs, cols_of, project, tuple_eq}
+use Rattle.rc_tuple.specs.Tuple.{Pairs, tuple_eq}
 use Rattle.rc_tuple.specs.TupleLaws.{same_from_test, test_from_same}
-use Rattle.rc_edges.specs.EdgeMap.{Counted, Rows, IsRowOf, count_of, lowered}
+use Rattle.rc_edges.specs.Values.{Values, values_eq}
+use Rattle.rc_edges.specs.EdgeMap.{Counted, HasExtra, Rows, count_of, lowered}
 use Rattle.rc_spec.specs.CountedRows.{count_at, is_row_at, with_count}
 use Rattle.rc_spec.specs.CountedRowsLaws.{same_counts, AreCountedRows-with_count, count-with_count}
 use Rattle.rc_fragment.specs.Container.{now_in, taken_in}
 use Rattle.rc_fragment.specs.Notes.{IsEmptiedAt, PlaceBecomes}
-use Rattle.rc_fragment.specs.Sources.{found_at, IsEmptied, IsSetAt, Becomes}
+use Rattle.rc_fragment.specs.RowValues.{HasValues, IsParted, row_from}
+use Rattle.rc_fragment.specs.RowValuesLaws.{length_values}
+use Rattle.rc_fragment.specs.Sources.{AreOfWidth, found_at, sources_of, IsEmptied, IsSetAt, Becomes}
 use Rattle.rc_fragment.specs.Listing.{listing, shapes, found_of, found_by, IsFiled, IsStored, AreStored}
 use Rattle.rc_fragment.specs.declared.container.Container.{Container}
 use Rattle.rc_fragment.specs.declared.edge_rows.EdgeRows.{EdgeRows}
 use Rattle.rc_fragment.specs.declared.shape.EdgeShape.{EdgeShape}
-use Rattle.rc_fragment.proofs.ListingLemmas.{count_of_row, count_of_edge, AreCountedRows-listing, count_listed}
+use Rattle.rc_fragment.proofs.ListingLemmas.{count_of_row, count_of_edge, extra_in, found_for, key_in, row_with, source_in, AreCountedRows-listing, count_listed}
+use Rattle.rc_edges.specs.ValuesLaws.{same_from_test as values_same, test_from_same as values_test}
 
 -- ---- a place of a list set
 
@@ -58,16 +62,17 @@ same_shape (a ∷ new) (b ∷ old) e zero y z g h = let p : a ≡ y = cc in let 
 same_shape (a ∷ new) (b ∷ old) e (suc d) y z g h = same_shape new old (cc) d y z g h
 
 -- an edge's counts are determined by what is found in it
-edge_count : (part other : Container → Rows) (o p : Option EdgeRows) (row : Pairs) → ((y z : EdgeRows) → o ≡ Some y → p ≡ Some z → y.shape ≡ z.shape) → ((s k : Pairs) → found_of part o s k ≡ found_of other p s k)
+edge_count : (part other : Container → Rows) (o p : Option EdgeRows) (row : Pairs) → ((y z : EdgeRows) → o ≡ Some y → p ≡ Some z → y.shape ≡ z.shape) → ((s k : Values) → found_of part o s k ≡ found_of other p s k)
     → count_of_edge part o row ≡ count_of_edge other p row
 edge_count part other None None row s f = refl
-edge_count part other None (Some z) row s f = ap (count_of_row row) (f (project z.shape.source row) (project z.shape.key row))
-edge_count part other (Some y) None row s f = ap (count_of_row row) (f (project y.shape.source row) (project y.shape.key row))
+edge_count part other None (Some z) row s f = ap (count_of_row z.shape row) (f (source_in z.shape row) (key_in z.shape row))
+edge_count part other (Some y) None row s f = ap (count_of_row y.shape row) (f (source_in y.shape row) (key_in y.shape row))
 edge_count part other (Some y) (Some z) row s f =
-    ap (count_of_row row) (f (project y.shape.source row) (project y.shape.key row) ∙ ap (λ (t : EdgeShape). found_at other z.sources.entries (project t.source row) (project t.key row)) (s y z refl refl))
+    ap (count_of_row y.shape row) (f (source_in y.shape row) (key_in y.shape row))
+    ∙ ap (λ (t : EdgeShape). count_of_row t row (found_at other (sources_of z) (source_in t row) (key_in t row))) (s y z refl refl)
 
 module _ (part other : Container → Rows) (new old : List EdgeRows) (a : AreFiled part new) (b : AreFiled other old) (same : shapes new ≡ shapes old) where
-  pub same_listing : ((d : ℕ) (s k : Pairs) → found_by part new d s k ≡ found_by other old d s k) → listing part new ≡ listing other old
+  pub same_listing : ((d : ℕ) (s k : Values) → found_by part new d s k ≡ found_by other old d s k) → listing part new ≡ listing other old
   same_listing f = same_counts (listing part new) (listing other old) (AreCountedRows-listing part new a) (AreCountedRows-listing other old b)
       (λ d row. count_listed part new a d row ∙ edge_count part other (slice_get new d) (slice_get old d) row (same_shape new old same d) (f d) ∙ sym (count_listed other old b d row))
 
@@ -87,71 +92,68 @@ module _ (edges new : List EdgeRows) (e : ℕ) (x y : EdgeRows) (number : slice_
   pub stored_set : AreStored edges → IsStored y → AreStored new
   stored_set all here z m = elim (in_set z edges e y (subst (In z) set m)) [ inl p ↦ subst IsStored (sym p) here | inr n ↦ all z n ]
 
-  pub found_set : (part : Container → Rows) (source key : Pairs) (w : Option Counted) → IsSetAt (found_at part x.sources.entries) (found_at part y.sources.entries) source key w
-      → (d : ℕ) (s k : Pairs) → found_by part new d s k ≡ cond (d == e && (tuple_eq s source && tuple_eq k key)) w (found_by part edges d s k)
+  pub found_set : (part : Container → Rows) (source key : Values) (w : Option Counted) → IsSetAt (found_at part (sources_of x)) (found_at part (sources_of y)) source key w
+      → (d : ℕ) (s k : Values) → found_by part new d s k ≡ cond (d == e && (values_eq s source && values_eq k key)) w (found_by part edges d s k)
   found_set part source key w is d s k = ap (λ o. found_of part o s k) (get_new d) ∙ go (d == e) refl
     where
-      go : (b : Bool) → (d == e) ≡ b → found_of part (cond b (Some y) (slice_get edges d)) s k ≡ cond (b && (tuple_eq s source && tuple_eq k key)) w (found_by part edges d s k)
-      go true h = is s k ∙ ap (cond (tuple_eq s source && tuple_eq k key) w) (sym (ap (λ o. found_of part o s k) (ap (slice_get edges) (eqb-true d e h) ∙ number)))
+      go : (b : Bool) → (d == e) ≡ b → found_of part (cond b (Some y) (slice_get edges d)) s k ≡ cond (b && (values_eq s source && values_eq k key)) w (found_by part edges d s k)
+      go true h = is s k ∙ ap (cond (values_eq s source && values_eq k key) w) (sym (ap (λ o. found_of part o s k) (ap (slice_get edges) (eqb-true d e h) ∙ number)))
       go false h = refl
 
   -- no other source's container is left with no row
-  pub emptied_set : (source : Pairs) → ((s : Pairs) → IsEmptied y.sources.entries s → (s ≡ source) ⊎ IsEmptied x.sources.entries s)
-      → (d : ℕ) (s : Pairs) → IsEmptiedAt new d s → ((d ≡ e) × (s ≡ source)) ⊎ IsEmptiedAt edges d s
+  pub emptied_set : (source : Values) → ((s : Values) → IsEmptied (sources_of y) s → (s ≡ source) ⊎ IsEmptied (sources_of x) s)
+      → (d : ℕ) (s : Values) → IsEmptiedAt new d s → ((d ≡ e) × (s ≡ source)) ⊎ IsEmptiedAt edges d s
   emptied_set source f d s m = go (d == e) refl (sym (get_new d) ∙ m.1)
     where
       go : (b : Bool) → (d == e) ≡ b → cond b (Some y) (slice_get edges d) ≡ Some m.0 → ((d ≡ e) × (s ≡ source)) ⊎ IsEmptiedAt edges d s
       go true h p =
           let q : y ≡ m.0 = cc in
           let r : d ≡ e = eqb-true d e h in
-          elim (f s (subst (λ (z : EdgeRows). IsEmptied z.sources.entries s) (sym q) m.2)) [ inl a ↦ inl (r, a) | inr i ↦ inr (x, ap (slice_get edges) r ∙ number, i) ]
+          elim (f s (subst (λ (z : EdgeRows). IsEmptied (sources_of z) s) (sym q) m.2)) [ inl a ↦ inl (r, a) | inr i ↦ inr (x, ap (slice_get edges) r ∙ number, i) ]
       go false h p = inr (m.0, p, m.2)
 
-  pub emptied_kept : ((s : Pairs) → IsEmptied y.sources.entries s → IsEmptied x.sources.entries s) → (d : ℕ) (s : Pairs) → IsEmptiedAt new d s → IsEmptiedAt edges d s
+  pub emptied_kept : ((s : Values) → IsEmptied (sources_of y) s → IsEmptied (sources_of x) s) → (d : ℕ) (s : Values) → IsEmptiedAt new d s → IsEmptiedAt edges d s
   emptied_kept f d s m = go (d == e) refl (sym (get_new d) ∙ m.1)
     where
       go : (b : Bool) → (d == e) ≡ b → cond b (Some y) (slice_get edges d) ≡ Some m.0 → IsEmptiedAt edges d s
-      go true h p = let q : y ≡ m.0 = cc in (x, ap (slice_get edges) (eqb-true d e h) ∙ number, f s (subst (λ (z : EdgeRows). IsEmptied z.sources.entries s) (sym q) m.2))
+      go true h p = let q : y ≡ m.0 = cc in (x, ap (slice_get edges) (eqb-true d e h) ∙ number, f s (subst (λ (z : EdgeRows). IsEmptied (sources_of z) s) (sym q) m.2))
       go false h p = (m.0, p, m.2)
 
-  pub freed_set : (source : Pairs) → (IsEmptied y.sources.entries source → ⊥) → IsEmptiedAt new e source → ⊥
+  pub freed_set : (source : Values) → (IsEmptied (sources_of y) source → ⊥) → IsEmptiedAt new e source → ⊥
   freed_set source f m =
       let g : Some y ≡ Some m.0 = sym (ap (λ b. cond b (Some y) (slice_get edges e)) (eq-eqb e e refl)) ∙ sym (get_new e) ∙ m.1 in
       let q : y ≡ m.0 = cc in
-      f (subst (λ (z : EdgeRows). IsEmptied z.sources.entries source) (sym q) m.2)
+      f (subst (λ (z : EdgeRows). IsEmptied (sources_of z) source) (sym q) m.2)
 
--- what is kept at a source and a key, if anything, is a row of them
-pub record IsOfPlace (x : EdgeRows) (source key : Pairs) (w : Option Counted) : Type 0 where
-  pub source_of : (c : Counted) → w ≡ Some c → project x.shape.source c.0 ≡ source
-  pub key_of : (c : Counted) → w ≡ Some c → project x.shape.key c.0 ≡ key
-  pub columns_of : (c : Counted) → w ≡ Some c → cols_of c.0 ≡ x.shape.target
+-- what is kept at a source and a key, if anything, are the extra values of a row of them
+pub record IsOfPlace (x : EdgeRows) (source key : Values) (w : Option Counted) : Type 0 where
+  pub values : (c : Counted) → w ≡ Some c → HasValues x.shape (row_from x.shape source key c.0) source key c.0
   pub count : (c : Counted) → w ≡ Some c → 0 < c.1
 
-pub place_of_filed : (part : Container → Rows) (x : EdgeRows) → IsFiled part x → (source key : Pairs) → IsOfPlace x source key (found_at part x.sources.entries source key)
-place_of_filed part x f source key = record { source_of = f.source source key; key_of = f.key source key; columns_of = f.columns source key; count = f.counts source key }
+pub place_of_filed : (part : Container → Rows) (x : EdgeRows) → IsFiled part x → (source key : Values) → IsOfPlace x source key (found_at part (sources_of x) source key)
+place_of_filed part x f source key = record { values = f.values source key; count = f.counts source key }
 
-pub filed_set : (part : Container → Rows) (x y : EdgeRows) → y.shape ≡ x.shape → IsFiled part x → (source key : Pairs) (w : Option Counted) → IsOfPlace x source key w
-    → IsSetAt (found_at part x.sources.entries) (found_at part y.sources.entries) source key w → IsFiled part y
+pub filed_set : (part : Container → Rows) (x y : EdgeRows) → y.shape ≡ x.shape → IsFiled part x → (source key : Values) (w : Option Counted) → IsOfPlace x source key w
+    → IsSetAt (found_at part (sources_of x)) (found_at part (sources_of y)) source key w → IsFiled part y
 filed_set part x y shape f source key w p is = record {
-  source = λ s k c h. ap (λ (z : EdgeShape). project z.source c.0) shape ∙ go (λ s k. project x.shape.source c.0 ≡ s) s k c h (p.source_of c) (f.source s k c);
-  key = λ s k c h. ap (λ (z : EdgeShape). project z.key c.0) shape ∙ go (λ s k. project x.shape.key c.0 ≡ k) s k c h (p.key_of c) (f.key s k c);
-  columns = λ s k c h. go (λ s k. cols_of c.0 ≡ x.shape.target) s k c h (p.columns_of c) (f.columns s k c) ∙ ap (λ (z : EdgeShape). z.target) (sym shape);
+  values = λ s k c h. subst (λ (z : EdgeShape). HasValues z (row_from z s k c.0) s k c.0) (sym shape)
+      (go (λ s k. HasValues x.shape (row_from x.shape s k c.0) s k c.0) s k c h (p.values c) (f.values s k c));
   counts = λ s k c h. go (λ s k. 0 < c.1) s k c h (p.count c) (f.counts s k c);
 }
   where
-    cases : (P : Pairs → Pairs → Type 0) (s k : Pairs) (c : Counted) (b : Bool) → (tuple_eq s source && tuple_eq k key) ≡ b → cond b w (found_at part x.sources.entries s k) ≡ Some c
-        → (w ≡ Some c → P source key) → (found_at part x.sources.entries s k ≡ Some c → P s k) → P s k
+    cases : (P : Values → Values → Type 0) (s k : Values) (c : Counted) (b : Bool) → (values_eq s source && values_eq k key) ≡ b → cond b w (found_at part (sources_of x) s k) ≡ Some c
+        → (w ≡ Some c → P source key) → (found_at part (sources_of x) s k ≡ Some c → P s k) → P s k
     cases P s k c true t h here there =
-        let q : (tuple_eq s source ≡ true) × (tuple_eq k key ≡ true) = and_parts (tuple_eq s source) (tuple_eq k key) t in
-        subst (λ z. P z k) (sym (same_from_test s source q.0)) (subst (P source) (sym (same_from_test k key q.1)) (here h))
+        let q : (values_eq s source ≡ true) × (values_eq k key ≡ true) = and_parts (values_eq s source) (values_eq k key) t in
+        subst (λ z. P z k) (sym (values_same s source q.0)) (subst (P source) (sym (values_same k key q.1)) (here h))
     cases P s k c false t h here there = there h
 
-    go : (P : Pairs → Pairs → Type 0) (s k : Pairs) (c : Counted) → found_at part y.sources.entries s k ≡ Some c → (w ≡ Some c → P source key) → (found_at part x.sources.entries s k ≡ Some c → P s k) → P s k
-    go P s k c h here there = cases P s k c (tuple_eq s source && tuple_eq k key) refl (sym (is s k) ∙ h) here there
+    go : (P : Values → Values → Type 0) (s k : Values) (c : Counted) → found_at part (sources_of y) s k ≡ Some c → (w ≡ Some c → P source key) → (found_at part (sources_of x) s k ≡ Some c → P s k) → P s k
+    go P s k c h here there = cases P s k c (values_eq s source && values_eq k key) refl (sym (is s k) ∙ h) here there
 
 -- a change of one edge's rows at a source and a key is one at a place of all edges
 pub place_becomes : (edges new : List EdgeRows) (e : ℕ) (x y : EdgeRows) → slice_get edges e ≡ Some x → new ≡ slice_set edges e y → AreStored edges
-    → (source key : Pairs) (v w : Option Counted) → Becomes x y source key v w → IsOfPlace x source key v → IsOfPlace x source key w → PlaceBecomes edges new (e, source, key) v w
+    → (source key : Values) (v w : Option Counted) → Becomes x y source key v w → IsOfPlace x source key v → IsOfPlace x source key w → PlaceBecomes edges new (e, source, key) v w
 place_becomes edges new e x y number set all source key v w b p q =
     let s : IsStored x = all x (slice_get_in edges e x number) in
     record {
@@ -161,7 +163,8 @@ place_becomes edges new e x y number set all source key v w b p q =
       stored = stored_set edges new e x y number set all record {
         now = filed_set now_in x y b.shape s.now source key v p b.now;
         taken = filed_set taken_in x y b.shape s.taken source key w q b.taken;
-        kinds = b.kinds;
+        forms = b.forms;
+        parted = subst IsParted (sym b.shape) s.parted;
       };
       shapes = shapes_set edges new e x y number set b.shape;
     }
@@ -171,23 +174,26 @@ pub found_edge : (edges : List EdgeRows) (e : ℕ) (x : EdgeRows) → e < length
 found_edge edges e x l is = slice_get-get_or edges e x l ∙ ap Some (sym is)
 
 -- what is found at a place of it
-pub found_there : (part : Container → Rows) (edges : List EdgeRows) (e : ℕ) (x : EdgeRows) → slice_get edges e ≡ Some x → (source key : Pairs) → found_at part x.sources.entries source key ≡ found_by part edges e source key
+pub found_there : (part : Container → Rows) (edges : List EdgeRows) (e : ℕ) (x : EdgeRows) → slice_get edges e ≡ Some x → (source key : Values) → found_at part (sources_of x) source key ≡ found_by part edges e source key
 found_there part edges e x number source key = sym (ap (λ o. found_of part o source key) number)
 
-pub place_of_row : (x : EdgeRows) (source key row : Pairs) (n : ℕ) → project x.shape.source row ≡ source → project x.shape.key row ≡ key → cols_of row ≡ x.shape.target → IsOfPlace x source key (Some (row, n + 1))
-place_of_row x source key row n a b d = record {
-  source_of = λ c h. let q : (row, n + 1) ≡ c = cc in ap (λ (z : Counted). project x.shape.source z.0) (sym q) ∙ a;
-  key_of = λ c h. let q : (row, n + 1) ≡ c = cc in ap (λ (z : Counted). project x.shape.key z.0) (sym q) ∙ b;
-  columns_of = λ c h. let q : (row, n + 1) ≡ c = cc in ap (λ (z : Counted). cols_of z.0) (sym q) ∙ d;
-  count = λ c h. let q : (row, n + 1) ≡ c = cc in subst (λ (z : Counted). 0 < z.1) q (omega arith);
+pub place_of_row : (x : EdgeRows) (source key extra : Values) (n : ℕ) → HasValues x.shape (row_from x.shape source key extra) source key extra → IsOfPlace x source key (Some (extra, n + 1))
+place_of_row x source key extra n v = record {
+  values = λ c h. let q : (extra, n + 1) ≡ c = cc in subst (λ (z : Counted). HasValues x.shape (row_from x.shape source key z.0) source key z.0) q v;
+  count = λ c h. let q : (extra, n + 1) ≡ c = cc in subst (λ (z : Counted). 0 < z.1) q (omega arith);
 }
 
-pub place_of_lowered : (x : EdgeRows) (source key : Pairs) (o : Option Counted) → IsOfPlace x source key o → IsOfPlace x source key (lowered o)
+-- source and key of a row have the edge's width
+pub width_of_row : (shape : EdgeShape) → IsParted shape → (row : Pairs) (source key extra : Values) → HasValues shape row source key extra → AreOfWidth shape source key
+width_of_row shape parted row source key extra v = record {
+  source_width = ap length (sym v.source_is) ∙ length_values shape.target shape.source row parted.target.rising parted.source.rising parted.source_within v.columns;
+  key_width = ap length (sym v.key_is) ∙ length_values shape.target shape.key row parted.target.rising parted.key.rising parted.key_within v.columns;
+}
+
+pub place_of_lowered : (x : EdgeRows) (source key : Values) (o : Option Counted) → IsOfPlace x source key o → IsOfPlace x source key (lowered o)
 place_of_lowered x source key None p = p
 place_of_lowered x source key (Some d) p = record {
-  source_of = λ c h. go (λ c. project x.shape.source c.0 ≡ source) (nat_lt 1 d.1) refl c h (λ n. p.source_of d refl);
-  key_of = λ c h. go (λ c. project x.shape.key c.0 ≡ key) (nat_lt 1 d.1) refl c h (λ n. p.key_of d refl);
-  columns_of = λ c h. go (λ c. cols_of c.0 ≡ x.shape.target) (nat_lt 1 d.1) refl c h (λ n. p.columns_of d refl);
+  values = λ c h. go (λ c. HasValues x.shape (row_from x.shape source key c.0) source key c.0) (nat_lt 1 d.1) refl c h (λ n. p.values d refl);
   count = λ c h. go (λ c. 0 < c.1) (nat_lt 1 d.1) refl c h (λ (n : 1 < d.1). omega arith);
 }
   where
@@ -201,57 +207,67 @@ not_true : (b : Bool) → (b ≡ true → ⊥) → b ≡ false
 not_true true h = absurd (h refl)
 not_true false h = refl
 
--- what is found, if anything, is the row, and its count is the row's
-row_count : (row : Pairs) (o : Option Counted) → IsRowOf o row → count_of_row row o ≡ count_of o
-row_count row None h = refl
-row_count row (Some c) h = ap (λ b. cond b c.1 0) (test_from_same c.0 row h)
+-- the row is the one with its values, as each over the target's columns is
+abbrev pub IsWholeRow : EdgeShape → Pairs → Type 0
+IsWholeRow shape row = row_with shape row (extra_in shape row) ≡ row
 
--- another row has no count there
-other_count : (row q : Pairs) (o : Option Counted) → IsRowOf o row → tuple_eq row q ≡ false → count_of_row q o ≡ 0
-other_count row q None h t = refl
-other_count row q (Some c) h t = ap (λ z. cond (tuple_eq z q) c.1 0) h ∙ ap (λ b. cond b c.1 0) t
+-- what is found, if anything, is the row, and its count is the row's
+row_count : (shape : EdgeShape) (row : Pairs) (o : Option Counted) → IsWholeRow shape row → HasExtra o (extra_in shape row) → count_of_row shape row o ≡ count_of o
+row_count shape row None whole h = refl
+row_count shape row (Some c) whole h = ap (λ b. cond b c.1 0) (test_from_same (row_with shape row c.0) row (ap (row_with shape row) h ∙ whole))
+
+-- another row with the same source and key has no count there
+other_count : (shape : EdgeShape) (row q : Pairs) (o : Option Counted) → IsWholeRow shape row → source_in shape q ≡ source_in shape row → key_in shape q ≡ key_in shape row
+    → HasExtra o (extra_in shape row) → tuple_eq row q ≡ false → count_of_row shape q o ≡ 0
+other_count shape row q None whole s k h t = refl
+other_count shape row q (Some c) whole s k h t =
+    let is : row_with shape q c.0 ≡ row = (λ i. row_from shape (s i) (k i) (h i)) ∙ whole in
+    ap (λ z. cond (tuple_eq z q) c.1 0) is ∙ ap (λ b. cond b c.1 0) t
 
 -- a row's count is that of what is found at its place, where this is the row
 pub row_count_at : (part : Container → Rows) (edges : List EdgeRows) → AreFiled part edges → (e : ℕ) (x : EdgeRows) → slice_get edges e ≡ Some x → (row : Pairs)
-    → IsRowOf (found_at part x.sources.entries (project x.shape.source row) (project x.shape.key row)) row
-    → count_at e row (listing part edges) ≡ count_of (found_at part x.sources.entries (project x.shape.source row) (project x.shape.key row))
-row_count_at part edges a e x number row was =
-    count_listed part edges a e row ∙ ap (λ o. count_of_edge part o row) number ∙ row_count row (found_at part x.sources.entries (project x.shape.source row) (project x.shape.key row)) was
+    → IsWholeRow x.shape row → HasExtra (found_for part x row) (extra_in x.shape row) → count_at e row (listing part edges) ≡ count_of (found_for part x row)
+row_count_at part edges a e x number row whole was =
+    count_listed part edges a e row ∙ ap (λ o. count_of_edge part o row) number ∙ row_count x.shape row (found_for part x row) whole was
 
 module _ (part : Container → Rows) (edges new : List EdgeRows) (e : ℕ) (x : EdgeRows) (number : slice_get edges e ≡ Some x) (a : AreFiled part edges) (b : AreFiled part new) (same : shapes new ≡ shapes edges)
-    (row : Pairs) (w : Option Counted) (mine : IsRowOf w row) (was : IsRowOf (found_at part x.sources.entries (project x.shape.source row) (project x.shape.key row)) row)
-    (set : (d : ℕ) (s k : Pairs) → found_by part new d s k ≡ cond (d == e && (tuple_eq s (project x.shape.source row) && tuple_eq k (project x.shape.key row))) w (found_by part edges d s k)) where
-  at_edge : (q : Pairs) → count_of_row q (found_by part new e (project x.shape.source q) (project x.shape.key q)) ≡ cond (tuple_eq row q) (count_of w) (count_of_row q (found_by part edges e (project x.shape.source q) (project x.shape.key q)))
-  at_edge q = ap (count_of_row q) (set e (project x.shape.source q) (project x.shape.key q)) ∙ by_row (tuple_eq row q) refl
+    (row : Pairs) (whole : IsWholeRow x.shape row) (w : Option Counted) (mine : HasExtra w (extra_in x.shape row)) (was : HasExtra (found_for part x row) (extra_in x.shape row))
+    (set : (d : ℕ) (s k : Values) → found_by part new d s k ≡ cond (d == e && (values_eq s (source_in x.shape row) && values_eq k (key_in x.shape row))) w (found_by part edges d s k)) where
+  -- whether a row has the source and key of this one
+  abbrev has_place : Pairs → Bool
+  has_place q = values_eq (source_in x.shape q) (source_in x.shape row) && values_eq (key_in x.shape q) (key_in x.shape row)
+
+  abbrev found_new : Pairs → Option Counted
+  found_new q = found_by part new e (source_in x.shape q) (key_in x.shape q)
+
+  abbrev found_old : Pairs → Option Counted
+  found_old q = found_by part edges e (source_in x.shape q) (key_in x.shape q)
+
+  at_edge : (q : Pairs) → count_of_row x.shape q (found_new q) ≡ cond (tuple_eq row q) (count_of w) (count_of_row x.shape q (found_old q))
+  at_edge q = ap (count_of_row x.shape q) (set e (source_in x.shape q) (key_in x.shape q)) ∙ by_row (tuple_eq row q) refl
     where
       here : (e == e) ≡ true
       here = eq-eqb e e refl
 
-      by_row : (t : Bool) → tuple_eq row q ≡ t
-          → count_of_row q (cond (e == e && (tuple_eq (project x.shape.source q) (project x.shape.source row) && tuple_eq (project x.shape.key q) (project x.shape.key row))) w (found_by part edges e (project x.shape.source q) (project x.shape.key q)))
-          ≡ cond t (count_of w) (count_of_row q (found_by part edges e (project x.shape.source q) (project x.shape.key q)))
+      by_row : (t : Bool) → tuple_eq row q ≡ t → count_of_row x.shape q (cond (e == e && has_place q) w (found_old q)) ≡ cond t (count_of w) (count_of_row x.shape q (found_old q))
       by_row true t =
           let p : q ≡ row = sym (same_from_test row q t) in
-          let s : tuple_eq (project x.shape.source q) (project x.shape.source row) ≡ true = test_from_same (project x.shape.source q) (project x.shape.source row) (ap (project x.shape.source) p) in
-          let k : tuple_eq (project x.shape.key q) (project x.shape.key row) ≡ true = test_from_same (project x.shape.key q) (project x.shape.key row) (ap (project x.shape.key) p) in
-          ap (λ z. count_of_row q (cond z w (found_by part edges e (project x.shape.source q) (project x.shape.key q))))
-          (and_from (e == e) (tuple_eq (project x.shape.source q) (project x.shape.source row) && tuple_eq (project x.shape.key q) (project x.shape.key row)) here
-          (and_from (tuple_eq (project x.shape.source q) (project x.shape.source row)) (tuple_eq (project x.shape.key q) (project x.shape.key row)) s k))
-          ∙ ap (λ z. count_of_row z w) p ∙ row_count row w mine
-      by_row false t = by_place (e == e && (tuple_eq (project x.shape.source q) (project x.shape.source row) && tuple_eq (project x.shape.key q) (project x.shape.key row))) refl
+          let s : values_eq (source_in x.shape q) (source_in x.shape row) ≡ true = values_test (source_in x.shape q) (source_in x.shape row) (ap (source_in x.shape) p) in
+          let k : values_eq (key_in x.shape q) (key_in x.shape row) ≡ true = values_test (key_in x.shape q) (key_in x.shape row) (ap (key_in x.shape) p) in
+          ap (λ z. count_of_row x.shape q (cond z w (found_old q)))
+          (and_from (e == e) (has_place q) here (and_from (values_eq (source_in x.shape q) (source_in x.shape row)) (values_eq (key_in x.shape q) (key_in x.shape row)) s k))
+          ∙ ap (λ z. count_of_row x.shape z w) p ∙ row_count x.shape row w whole mine
+      by_row false t = by_place (e == e && has_place q) refl
         where
-          by_place : (z : Bool) → (e == e && (tuple_eq (project x.shape.source q) (project x.shape.source row) && tuple_eq (project x.shape.key q) (project x.shape.key row))) ≡ z
-              → count_of_row q (cond z w (found_by part edges e (project x.shape.source q) (project x.shape.key q))) ≡ count_of_row q (found_by part edges e (project x.shape.source q) (project x.shape.key q))
+          by_place : (z : Bool) → (e == e && has_place q) ≡ z → count_of_row x.shape q (cond z w (found_old q)) ≡ count_of_row x.shape q (found_old q)
           by_place true h =
-              let c : (tuple_eq (project x.shape.source q) (project x.shape.source row) && tuple_eq (project x.shape.key q) (project x.shape.key row)) ≡ true =
-              (and_parts (e == e) (tuple_eq (project x.shape.source q) (project x.shape.source row) && tuple_eq (project x.shape.key q) (project x.shape.key row)) h).1 in
-              let p : (tuple_eq (project x.shape.source q) (project x.shape.source row) ≡ true) × (tuple_eq (project x.shape.key q) (project x.shape.key row) ≡ true) =
-              and_parts (tuple_eq (project x.shape.source q) (project x.shape.source row)) (tuple_eq (project x.shape.key q) (project x.shape.key row)) c in
-              let s : project x.shape.source q ≡ project x.shape.source row = same_from_test (project x.shape.source q) (project x.shape.source row) p.0 in
-              let k : project x.shape.key q ≡ project x.shape.key row = same_from_test (project x.shape.key q) (project x.shape.key row) p.1 in
-              let old : found_by part edges e (project x.shape.source q) (project x.shape.key q) ≡ found_at part x.sources.entries (project x.shape.source row) (project x.shape.key row) =
-              ap (λ o. found_of part o (project x.shape.source q) (project x.shape.key q)) number ∙ (λ i. found_at part x.sources.entries (s i) (k i)) in
-              other_count row q w mine t ∙ sym (ap (count_of_row q) old ∙ other_count row q (found_at part x.sources.entries (project x.shape.source row) (project x.shape.key row)) was t)
+              let c : has_place q ≡ true = (and_parts (e == e) (has_place q) h).1 in
+              let p : (values_eq (source_in x.shape q) (source_in x.shape row) ≡ true) × (values_eq (key_in x.shape q) (key_in x.shape row) ≡ true) =
+              and_parts (values_eq (source_in x.shape q) (source_in x.shape row)) (values_eq (key_in x.shape q) (key_in x.shape row)) c in
+              let s : source_in x.shape q ≡ source_in x.shape row = values_same (source_in x.shape q) (source_in x.shape row) p.0 in
+              let k : key_in x.shape q ≡ key_in x.shape row = values_same (key_in x.shape q) (key_in x.shape row) p.1 in
+              let old : found_old q ≡ found_for part x row = ap (λ o. found_of part o (source_in x.shape q) (key_in x.shape q)) number ∙ (λ i. found_at part (sources_of x) (s i) (k i)) in
+              other_count x.shape row q w whole s k mine t ∙ sym (ap (count_of_row x.shape q) old ∙ other_count x.shape row q (found_for part x row) whole s k was t)
           by_place false h = refl
 
   -- the rows with this count for the row
@@ -262,9 +278,9 @@ module _ (part : Container → Rows) (edges new : List EdgeRows) (e : ℕ) (x : 
       ∙ ap (cond (is_row_at d q (e, row, count_of w)) (count_of w)) (sym (count_listed part edges a d q))
       ∙ sym (count-with_count e row (count_of w) (listing part edges) (AreCountedRows-listing part edges a) d q))
     where
-      with_shape : (q : Pairs) (o : Option EdgeRows) → ((y : EdgeRows) → o ≡ Some y → y.shape ≡ x.shape) → count_of_edge part o q ≡ count_of_row q (found_of part o (project x.shape.source q) (project x.shape.key q))
+      with_shape : (q : Pairs) (o : Option EdgeRows) → ((y : EdgeRows) → o ≡ Some y → y.shape ≡ x.shape) → count_of_edge part o q ≡ count_of_row x.shape q (found_of part o (source_in x.shape q) (key_in x.shape q))
       with_shape q None s = refl
-      with_shape q (Some y) s = ap (λ (t : EdgeShape). count_of_row q (found_at part y.sources.entries (project t.source q) (project t.key q))) (s y refl)
+      with_shape q (Some y) s = ap (λ (t : EdgeShape). count_of_row t q (found_at part (sources_of y) (source_in t q) (key_in t q))) (s y refl)
 
       apart : (d : ℕ) → (e == d) ≡ false → (d == e) ≡ false
       apart d t = not_true (d == e) (λ h. false≢true (sym t ∙ eq-eqb e d (sym (eqb-true d e h))))
@@ -277,4 +293,4 @@ module _ (part : Container → Rows) (edges new : List EdgeRows) (e : ℕ) (x : 
           ∙ ap (cond (tuple_eq row q) (count_of w)) (sym (with_shape q (slice_get edges e) (λ y g. let r : y ≡ x = cc in ap (λ (v : EdgeRows). v.shape) r))))
       by_edge d q false t =
           edge_count part part (slice_get new d) (slice_get edges d) q (same_shape new edges same d)
-          (λ s k. set d s k ∙ ap (λ z. cond (z && (tuple_eq s (project x.shape.source row) && tuple_eq k (project x.shape.key row))) w (found_by part edges d s k)) (apart d t))
+          (λ s k. set d s k ∙ ap (λ z. cond (z && (values_eq s (source_in x.shape row) && values_eq k (key_in x.shape row))) w (found_by part edges d s k)) (apart d t))

@@ -1,87 +1,94 @@
 -- What a copy of the containers keeps of them.
-use Rattle.std.specs.Prelude.{◌≡◌, ℕ, zero, suc, Bool, true, false, cond, Option, None, Some, List, [], ◌∷◌, ◌++◌, length, map}
+use Rattle.std.specs.Prelude.{◌≡◌, ℕ, zero, suc, Bool, true, false, cond, ◌==◌, Option, None, Some, List, [], ◌∷◌, ◌++◌, length, map}
 use Rattle.std.specs.List.{IsDistinct}
 use Rattle.std.specs.Map.{keys_of}
 use Rattle.std.specs.Option.{option_map}
 use Rattle.std.specs.FinMap as fin
-use Rattle.std.specs.FinMap.{FinMap, find, get-from_entries}
+use Rattle.std.specs.FinMap.{FinMap, find, get-empty, get-from_entries}
 use Rattle.std.proofs.Common.{refl, sym, ap, subst, ◌∙◌, inl, inr}
 use Rattle.std.proofs.lemmas.List.{length-map}
-use Rattle.rc_tuple.specs.Tuple.{Pairs, project, tuple_cmp, tuple_eq}
-use Rattle.rc_edges.specs.EdgeMap.{Counted, Rows, written}
-use Rattle.rc_edges.specs.RowsLaws.{total, get-written, same_answers}
-use Rattle.rc_maps.specs.HashedLaws.{key_eq, pointwise_same}
-use Rattle.rc_maps.specs.WalkLaws.{apart_by_tuples}
-use Rattle.rc_spec.specs.declared.items.EdgeKind.{EdgeKind}
-use Rattle.rc_fragment.specs.Container.{kind_in, now_in, taken_in}
-use Rattle.rc_fragment.specs.Sources.{AreSame, IsEmptied, SeenContainer, HaveKind, Key, Sources, by_source, seen_container, seen_in, seen_of, found_at, found_in}
+use Rattle.rc_edges.specs.Values.{Values, values_cmp, values_eq}
+use Rattle.rc_edges.specs.EdgeMap.{Counted, Rows}
+use Rattle.rc_maps.specs.Keyed.{AreApart}
+use Rattle.rc_fragment.specs.Container.{Form, form_in, now_in, taken_in}
+use Rattle.rc_fragment.specs.Sources.{AreOfShape, AreSame, AreSeenAlike, IsEmptied, SeenContainer, HaveForm, Sources, form_of, seen_container, sources_of, found_at, found_in}
 use Rattle.rc_fragment.specs.Listing.{AreStored, IsFiled, IsStored, found_by, shapes}
 use Rattle.rc_fragment.specs.Notes.{AreWithin, IsEmptiedAt, IsFragment}
+use Rattle.rc_fragment.specs.RowValues.{HasValues, IsParted, row_from}
 use Rattle.rc_fragment.specs.declared.container.Container.{Container}
 use Rattle.rc_fragment.specs.declared.edge_rows.EdgeRows.{EdgeRows}
 use Rattle.rc_fragment.specs.declared.note.Note.{Note}
 use Rattle.rc_fragment.specs.declared.shape.EdgeShape.{EdgeShape}
+use Rattle.rc_fragment.proofs.ListingLemmas.{find_later}
+use Rattle.rc_edges.specs.RowsLaws.{get-written}
+use Rattle.rc_edges.specs.ValuesLaws.{values_order}
 
--- the seen_container of what a look-up finds
-pub get-seen : (es : Sources) (source : Pairs) → fin.get (seen_of es) source ≡ option_map seen_container (fin.get (by_source es) source)
-get-seen es source = get-from_entries total (seen_in es) source ∙ go es ∙ ap (option_map seen_container) (sym (get-from_entries total (map (λ (e : Key × Container). (e.0.items, e.1)) es) source))
+abbrev pub Seen : Type 0
+Seen = Option SeenContainer
+
+abbrev pub seen : Option Container → Seen
+seen o = option_map seen_container o
+
+-- the first, or else the second
+abbrev pub or_else : Seen → Seen → Seen
+or_else None p = p
+or_else (Some f) p = Some f
+
+-- what is left to be copied together with the copy is, as it is seen, what all containers are
+abbrev pub IsCopied : Sources → List (Values × Container) → Sources → Type 0
+IsCopied all left copy = (s : Values) → or_else (seen (find values_cmp s left)) (seen (fin.get copy s)) ≡ seen (fin.get all s)
+
+pub IsCopied-none : (all : Sources) (es : List (Values × Container)) (copy : Sources) → fin.from_entries es ≡ all → copy ≡ fin.empty → IsCopied all es copy
+IsCopied-none all es copy is none s =
+    ap (λ (z : Sources). or_else (seen (find values_cmp s es)) (seen (fin.get z s))) none ∙ ap (λ o. or_else (seen (find values_cmp s es)) (seen o)) (get-empty values_cmp s)
+    ∙ alone (find values_cmp s es) ∙ ap seen (sym (get-from_entries values_order.total es s) ∙ ap (λ (z : Sources). fin.get z s) is)
   where
-    go : (es : Sources) → find tuple_cmp source (seen_in es) ≡ option_map seen_container (find tuple_cmp source (map (λ (e : Key × Container). (e.0.items, e.1)) es))
-    go [] = refl
-    go (e ∷ es) = ap (cond (tuple_eq source e.0.items) (Some (seen_container e.1))) (go es) ∙ pick (tuple_eq source e.0.items) (find tuple_cmp source (map (λ (e : Key × Container). (e.0.items, e.1)) es))
-      where
-        pick : (b : Bool) (o : Option Container) → cond b (Some (seen_container e.1)) (option_map seen_container o) ≡ option_map seen_container (cond b (Some e.1) o)
-        pick true o = refl
-        pick false o = refl
+    alone : (o : Option Container) → or_else (seen o) None ≡ seen o
+    alone None = refl
+    alone (Some c) = refl
 
--- where one source gets a container, it gets its seen_container
-pub seen_written : (old new : Sources) (source : Pairs) (w : Container) → by_source new ≡ written (by_source old) source (Some w) → seen_of new ≡ written (seen_of old) source (Some (seen_container w))
-seen_written old new source w e = same_answers (seen_of new) (written (seen_of old) source (Some (seen_container w))) (λ q.
-    get-seen new q ∙ ap (λ (z : FinMap tuple_cmp Container). option_map seen_container (fin.get z q)) e ∙ ap (option_map seen_container) (get-written (by_source old) source (Some w) q)
-    ∙ go q (tuple_eq q source) ∙ sym (get-written (seen_of old) source (Some (seen_container w)) q))
+pub IsCopied-more : (all : Sources) (e : Values × Container) (left : List (Values × Container)) (copy new : Sources) (w : Container) → AreApart (e ∷ left)
+    → IsCopied all (e ∷ left) copy → new ≡ fin.insert copy e.0 w → seen_container w ≡ seen_container e.1 → IsCopied all left new
+IsCopied-more all e left copy new w apart h set same s =
+    ap (λ (z : Sources). or_else (seen (find values_cmp s left)) (seen (fin.get z s))) set
+    ∙ ap (λ o. or_else (seen (find values_cmp s left)) (seen o)) (get-written copy e.0 (Some w) s) ∙ go (values_eq s e.0) refl ∙ h s
   where
-    go : (q : Pairs) (b : Bool) → option_map seen_container (cond b (Some w) (fin.get (by_source old) q)) ≡ cond b (Some (seen_container w)) (fin.get (seen_of old) q)
-    go q true = refl
-    go q false = sym (get-seen old q)
+    go : (b : Bool) → values_eq s e.0 ≡ b → or_else (seen (find values_cmp s left)) (seen (cond b (Some w) (fin.get copy s))) ≡ or_else (seen (cond (values_eq s e.0) (Some e.1) (find values_cmp s left))) (seen (fin.get copy s))
+    go true t =
+        ap (λ o. or_else (seen o) (Some (seen_container w))) (find_later e left s t apart) ∙ ap Some same
+        ∙ sym (ap (λ b. or_else (seen (cond b (Some e.1) (find values_cmp s left))) (seen (fin.get copy s))) t)
+    go false t = sym (ap (λ b. or_else (seen (cond b (Some e.1) (find values_cmp s left))) (seen (fin.get copy s))) t)
 
--- no two sources are equal
-pub apart_seen : (es : Sources) → IsDistinct key_eq (keys_of es) → IsDistinct tuple_eq (keys_of (seen_in es))
-apart_seen es h = subst (IsDistinct tuple_eq) (go es) (apart_by_tuples (λ (k : Key). k.items) key_eq (λ x y. pointwise_same x.items y.items) es h)
-  where
-    go : (es : Sources) → keys_of (map (λ (e : Key × Container). (e.0.items, e.1)) es) ≡ keys_of (seen_in es)
-    go [] = refl
-    go (e ∷ es) = ap (λ z. e.0.items ∷ z) (go es)
+pub IsCopied-all : (all copy : Sources) → IsCopied all [] copy → AreSeenAlike all copy
+IsCopied-all all copy h = h
 
--- ---- with the same seen_container the same is found
+-- ---- where the same is seen the same is found
 
-module _ (old new : Sources) (h : seen_of new ≡ seen_of old) where
-  same_seen : (source : Pairs) → option_map seen_container (fin.get (by_source new) source) ≡ option_map seen_container (fin.get (by_source old) source)
-  same_seen source = sym (get-seen new source) ∙ ap (λ (z : FinMap tuple_cmp SeenContainer). fin.get z source) h ∙ get-seen old source
-
-  abbrev seen_at : (face : SeenContainer → Rows) → Option SeenContainer → Pairs → Option Counted
+module _ (old new : Sources) (h : AreSeenAlike old new) where
+  abbrev seen_at : (face : SeenContainer → Rows) → Option SeenContainer → Values → Option Counted
   seen_at face None k = None
   seen_at face (Some f) k = fin.get (face f) k
 
-  pub found_same : (part : Container → Rows) (face : SeenContainer → Rows) → ((c : Container) → face (seen_container c) ≡ part c) → (s k : Pairs) → found_at part new s k ≡ found_at part old s k
-  found_same part face is s k = sym (go (fin.get (by_source new) s)) ∙ ap (λ o. seen_at face o k) (same_seen s) ∙ go (fin.get (by_source old) s)
+  pub found_same : (part : Container → Rows) (face : SeenContainer → Rows) → ((c : Container) → face (seen_container c) ≡ part c) → (s k : Values) → found_at part new s k ≡ found_at part old s k
+  found_same part face is s k = sym (go (fin.get new s)) ∙ ap (λ o. seen_at face o k) (h s) ∙ go (fin.get old s)
     where
       go : (o : Option Container) → seen_at face (option_map seen_container o) k ≡ found_in part o k
       go None = refl
       go (Some c) = ap (λ (z : Rows). fin.get z k) (is c)
 
-  pub kinds_same : (kind : EdgeKind) → HaveKind kind old → HaveKind kind new
-  kinds_same kind all s c there = go (fin.get (by_source old) s) refl (sym (ap (option_map seen_container) there) ∙ same_seen s)
+  pub forms_same : (form : Form) → HaveForm form old → HaveForm form new
+  forms_same form all s c there = go (fin.get old s) refl (sym (ap (option_map seen_container) there) ∙ h s)
     where
-      go : (o : Option Container) → fin.get (by_source old) s ≡ o → Some (seen_container c) ≡ option_map seen_container o → kind_in c ≡ kind
+      go : (o : Option Container) → fin.get old s ≡ o → Some (seen_container c) ≡ option_map seen_container o → form_in c ≡ form
       go None f p = absurd (cc)
       go (Some d) f p =
           let q : seen_container c ≡ seen_container d = cc in
           ap (λ (z : SeenContainer). z.2) q ∙ all s d f
 
-  pub emptied_seen : (s : Pairs) → IsEmptied new s → IsEmptied old s
-  emptied_seen s e = go (fin.get (by_source old) s) refl (sym (ap (option_map seen_container) e.1) ∙ same_seen s)
+  pub emptied_seen : (s : Values) → IsEmptied new s → IsEmptied old s
+  emptied_seen s e = go (fin.get old s) refl (sym (ap (option_map seen_container) e.1) ∙ h s)
     where
-      go : (o : Option Container) → fin.get (by_source old) s ≡ o → Some (seen_container e.0) ≡ option_map seen_container o → IsEmptied old s
+      go : (o : Option Container) → fin.get old s ≡ o → Some (seen_container e.0) ≡ option_map seen_container o → IsEmptied old s
       go None f p = absurd (cc)
       go (Some d) f p =
           let q : seen_container e.0 ≡ seen_container d = cc in
@@ -108,35 +115,33 @@ same_shapes [] (y ∷ ys) h = absurd h
 same_shapes (x ∷ xs) [] h = absurd h
 same_shapes (x ∷ xs) (y ∷ ys) h = λ i. h.0.shape i ∷ same_shapes xs ys h.1 i
 
-pub same_found_now : (xs ys : List EdgeRows) → AreSameEdges xs ys → (e : ℕ) (s k : Pairs) → found_by now_in ys e s k ≡ found_by now_in xs e s k
+pub same_found_now : (xs ys : List EdgeRows) → AreSameEdges xs ys → (e : ℕ) (s k : Values) → found_by now_in ys e s k ≡ found_by now_in xs e s k
 same_found_now [] [] h e s k = refl
 same_found_now [] (y ∷ ys) h e s k = absurd h
 same_found_now (x ∷ xs) [] h e s k = absurd h
 same_found_now (x ∷ xs) (y ∷ ys) h zero s k = h.0.now s k
 same_found_now (x ∷ xs) (y ∷ ys) h (suc e) s k = same_found_now xs ys h.1 e s k
 
-pub same_found_taken : (xs ys : List EdgeRows) → AreSameEdges xs ys → (e : ℕ) (s k : Pairs) → found_by taken_in ys e s k ≡ found_by taken_in xs e s k
+pub same_found_taken : (xs ys : List EdgeRows) → AreSameEdges xs ys → (e : ℕ) (s k : Values) → found_by taken_in ys e s k ≡ found_by taken_in xs e s k
 same_found_taken [] [] h e s k = refl
 same_found_taken [] (y ∷ ys) h e s k = absurd h
 same_found_taken (x ∷ xs) [] h e s k = absurd h
 same_found_taken (x ∷ xs) (y ∷ ys) h zero s k = h.0.taken s k
 same_found_taken (x ∷ xs) (y ∷ ys) h (suc e) s k = same_found_taken xs ys h.1 e s k
 
-pub same_emptied : (xs ys : List EdgeRows) → AreSameEdges xs ys → (e : ℕ) (s : Pairs) → IsEmptiedAt ys e s → IsEmptiedAt xs e s
+pub same_emptied : (xs ys : List EdgeRows) → AreSameEdges xs ys → (e : ℕ) (s : Values) → IsEmptiedAt ys e s → IsEmptiedAt xs e s
 same_emptied [] [] h e s m = m
 same_emptied [] (y ∷ ys) h e s m = absurd h
 same_emptied (x ∷ xs) [] h e s m = absurd h
 same_emptied (x ∷ xs) (y ∷ ys) h zero s m =
     let g : Some y ≡ Some m.0 = m.1 in
     let p : y ≡ m.0 = cc in
-    (x, refl, h.0.emptied s (subst (λ (z : EdgeRows). IsEmptied z.sources.entries s) (sym p) m.2))
+    (x, refl, h.0.emptied s (subst (λ (z : EdgeRows). IsEmptied (sources_of z) s) (sym p) m.2))
 same_emptied (x ∷ xs) (y ∷ ys) h (suc e) s m = same_emptied xs ys h.1 e s m
 
-filed_same : (part : Container → Rows) (x y : EdgeRows) → ((s k : Pairs) → found_at part y.sources.entries s k ≡ found_at part x.sources.entries s k) → y.shape ≡ x.shape → IsFiled part x → IsFiled part y
+filed_same : (part : Container → Rows) (x y : EdgeRows) → ((s k : Values) → found_at part (sources_of y) s k ≡ found_at part (sources_of x) s k) → y.shape ≡ x.shape → IsFiled part x → IsFiled part y
 filed_same part x y same shape f = record {
-  source = λ s k c h. ap (λ (z : EdgeShape). project z.source c.0) shape ∙ f.source s k c (sym (same s k) ∙ h);
-  key = λ s k c h. ap (λ (z : EdgeShape). project z.key c.0) shape ∙ f.key s k c (sym (same s k) ∙ h);
-  columns = λ s k c h. f.columns s k c (sym (same s k) ∙ h) ∙ ap (λ (z : EdgeShape). z.target) (sym shape);
+  values = λ s k c h. subst (λ (z : EdgeShape). HasValues z (row_from z s k c.0) s k c.0) (sym shape) (f.values s k c (sym (same s k) ∙ h));
   counts = λ s k c h. f.counts s k c (sym (same s k) ∙ h);
 }
 
@@ -144,7 +149,8 @@ stored_same : (x y : EdgeRows) → AreSame x y → IsStored x → IsStored y
 stored_same x y h all = record {
   now = filed_same now_in x y h.now h.shape all.now;
   taken = filed_same taken_in x y h.taken h.shape all.taken;
-  kinds = h.kinds;
+  forms = h.forms;
+  parted = subst IsParted (sym h.shape) all.parted;
 }
 
 pub same_stored : (xs ys : List EdgeRows) → AreSameEdges xs ys → AreStored xs → AreStored ys
@@ -155,14 +161,14 @@ same_stored (a ∷ xs) (b ∷ ys) h all y (inl p) = subst IsStored (sym p) (stor
 same_stored (a ∷ xs) (b ∷ ys) h all y (inr m) = same_stored xs ys h.1 (λ x n. all x (inr n)) y m
 
 -- a fragment with the same edges and notes is one
-pub same_fragment : (edges new : List EdgeRows) (notes : List Note) (pairs : Pairs) → IsFragment edges notes pairs → shapes new ≡ shapes edges → AreStored new
-    → ((e : ℕ) (s k : Pairs) → found_by now_in new e s k ≡ found_by now_in edges e s k) → ((e : ℕ) (s k : Pairs) → found_by taken_in new e s k ≡ found_by taken_in edges e s k)
-    → ((e : ℕ) (s : Pairs) → IsEmptiedAt new e s → IsEmptiedAt edges e s) → IsFragment new notes pairs
-same_fragment edges new notes pairs all same stored now taken emptied = record {
+pub same_fragment : (edges new : List EdgeRows) (notes : List Note) (values : Values) → IsFragment edges notes values → shapes new ≡ shapes edges → AreStored new
+    → ((e : ℕ) (s k : Values) → found_by now_in new e s k ≡ found_by now_in edges e s k) → ((e : ℕ) (s k : Values) → found_by taken_in new e s k ≡ found_by taken_in edges e s k)
+    → ((e : ℕ) (s : Values) → IsEmptiedAt new e s → IsEmptiedAt edges e s) → IsFragment new notes values
+same_fragment edges new notes values all same stored now taken emptied = record {
   stored = stored;
   noted = λ e s k. elim (all.noted e s k) [ inl h ↦ inl (now e s k ∙ h ∙ sym (taken e s k)) | inr m ↦ inr m ];
   emptied = λ e s m. all.emptied e s (emptied e s m);
-  within = subst (λ n. AreWithin n (length pairs) notes) len all.within;
+  within = subst (λ n. AreWithin n (length values) notes) len all.within;
 }
   where
     len : length edges ≡ length new

@@ -1,5 +1,5 @@
--- How many pairs a tuple has, and for how many notes there is room.
-use Rattle.std.specs.Prelude.{◌≡◌, ℕ, suc, ◌+◌, ◌-◌, ◌*◌, ◌/◌, ◌<◌, ◌≤◌, Bool, true, false, cond, List, [], ◌∷◌, length, min}
+-- How many values a row has, and for how many notes there is room.
+use Rattle.std.specs.Prelude.{◌≡◌, ℕ, suc, ◌+◌, ◌-◌, ◌*◌, ◌/◌, ◌<◌, ◌≤◌, Bool, true, false, cond, List, [], ◌∷◌, length, map, min}
 use Rattle.std.specs.declared.cmp.Ordering.TheVariants.{Less}
 use Rattle.std.specs.Ordering.{nat_cmp}
 use Rattle.std.proofs.Common.{refl, inl, inr, arith}
@@ -8,9 +8,12 @@ use Rattle.std.proofs.lemmas.Bool.Decides.{nat_tests}
 use Rattle.std.proofs.lemmas.Nat.{le-div}
 use Rattle.std.proofs.Math.Nat.{min-le_left, min-le_right, le-min, div-mul-le_self}
 use Rattle.rc_tuple.specs.RisingSet.{In, IsRising}
-use Rattle.rc_tuple.specs.RisingSetLaws.{in_map}
-use Rattle.rc_tuple.specs.ColSet.{has}
+use Rattle.rc_tuple.specs.RisingSetLaws.{in_map, in_has}
+use Rattle.rc_tuple.specs.ColSet.{has, union}
+use Rattle.rc_tuple.specs.ColSetLaws.{in_minus, union_left, union_right}
 use Rattle.rc_tuple.specs.Tuple.{Pairs, IsTuple, cols_of, project}
+use Rattle.rc_fragment.specs.RowValues.{IsParted, extra_columns, values_at}
+use Rattle.rc_fragment.specs.declared.shape.EdgeShape.{EdgeShape}
 
 -- ---- a tuple has at most 32 pairs
 
@@ -34,32 +37,74 @@ few_pairs t i =
     let e : length (cols_of t) ≡ length t = length-map t (λ (p : ℕ × ℕ). p.0) in
     omega arith
 
-shorter : (n : ℕ) (b : Bool) (p : ℕ × ℕ) (t : Pairs) → length t ≤ n → length (cond b (p ∷ t) t) ≤ suc n
-shorter n true p t h = omega arith
-shorter n false p t h = omega arith
+-- ---- the values of a row at sets of columns that have none in common
 
-pub project_shorter : (xs : List ℕ) (t : Pairs) → length (project xs t) ≤ length t
-project_shorter xs [] = omega arith
-project_shorter xs (p ∷ t) = shorter (length t) (has xs p.0) p (project xs t) (project_shorter xs t)
+-- how many values the pair adds at the columns
+abbrev at_pair : Bool → ℕ
+at_pair b = cond b 1 0
+
+count_more : (cols : List ℕ) (p : ℕ × ℕ) (t : Pairs) → length (values_at cols (p ∷ t)) ≡ at_pair (has cols p.0) + length (values_at cols t)
+count_more cols p t = go (has cols p.0)
+  where
+    go : (b : Bool) → length (map (λ (q : ℕ × ℕ). q.1) (cond b (p ∷ project cols t) (project cols t))) ≡ at_pair b + length (values_at cols t)
+    go true = omega arith
+    go false = omega arith
+
+pub values_shorter : (cols : List ℕ) (t : Pairs) → length (values_at cols t) ≤ length t
+values_shorter cols [] = omega arith
+values_shorter cols (p ∷ t) = omega (arith, count_more cols p t, at_most (has cols p.0), values_shorter cols t)
+  where
+    at_most : (b : Bool) → at_pair b ≤ 1
+    at_most true = omega arith
+    at_most false = omega arith
+
+-- at most one of the sets has a column
+abbrev pub AreDisjoint : List ℕ → List ℕ → List ℕ → Type 0
+AreDisjoint xs ys zs = (c : ℕ) → at_pair (has xs c) + at_pair (has ys c) + at_pair (has zs c) ≤ 1
+
+pub few_values : (xs ys zs : List ℕ) → AreDisjoint xs ys zs → (t : Pairs) → length (values_at xs t) + length (values_at ys t) + length (values_at zs t) ≤ length t
+few_values xs ys zs d [] = omega arith
+few_values xs ys zs d (p ∷ t) = omega (arith, d p.0, count_more xs p t, count_more ys p t, count_more zs p t, few_values xs ys zs d t)
+
+pub parted_columns : (shape : EdgeShape) → IsParted shape → AreDisjoint shape.source shape.key (extra_columns shape)
+parted_columns shape parted c = go (has shape.source c) (has shape.key c) (has (extra_columns shape) c) refl refl refl
+  where
+    both : has shape.source c ≡ true → has shape.key c ≡ true → ⊥
+    both s k = parted.apart c (in_has shape.key c k) (in_has shape.source c s)
+
+    other : has (extra_columns shape) c ≡ true → In c (union shape.source shape.key) → ⊥
+    other x = (in_minus shape.target (union shape.source shape.key) c (in_has (extra_columns shape) c x)).1
+
+    go : (s k x : Bool) → has shape.source c ≡ s → has shape.key c ≡ k → has (extra_columns shape) c ≡ x → at_pair s + at_pair k + at_pair x ≤ 1
+    go true true x e f g = absurd (both e f)
+    go true false true e f g = absurd (other g (union_left shape.source shape.key c (in_has shape.source c e)))
+    go true false false e f g = omega arith
+    go false true true e f g = absurd (other g (union_right shape.source shape.key c (in_has shape.key c f)))
+    go false true false e f g = omega arith
+    go false false true e f g = omega arith
+    go false false false e f g = omega arith
 
 -- ---- room
 
-pub room_some : (a b : ℕ) → 0 < min a (b / 64) → (0 < a) × (64 ≤ b)
+pub room_some : (a b : ℕ) → 0 < min a (b / 32) → (0 < a) × (32 ≤ b)
 room_some a b h =
-    let l : min a (b / 64) ≤ a = min-le_left a (b / 64) in
-    let r : min a (b / 64) ≤ b / 64 = min-le_right a (b / 64) in
-    let d : b / 64 * 64 ≤ b = div-mul-le_self b 64 in
+    let l : min a (b / 32) ≤ a = min-le_left a (b / 32) in
+    let r : min a (b / 32) ≤ b / 32 = min-le_right a (b / 32) in
+    let d : b / 32 * 32 ≤ b = div-mul-le_self b 32 in
     (omega arith, omega arith)
 
-pub room_less : (a b c d : ℕ) → a ≤ c + 1 → b ≤ d + 64 → min a (b / 64) ≤ min c (d / 64) + 1
+pub room_less : (a b c d : ℕ) → a ≤ c + 1 → b ≤ d + 32 → min a (b / 32) ≤ min c (d / 32) + 1
 room_less a b c d h k =
-    let m : ℕ = min a (b / 64) in
-    let l : min a (b / 64) ≤ a = min-le_left a (b / 64) in
-    let r : min a (b / 64) ≤ b / 64 = min-le_right a (b / 64) in
-    let e : b / 64 * 64 ≤ b = div-mul-le_self b 64 in
-    let f : min a (b / 64) - 1 ≤ d / 64 = le-div (min a (b / 64) - 1) d 64 (omega arith) (omega arith) in
-    let g : min a (b / 64) - 1 ≤ min c (d / 64) = le-min (omega arith) f in
+    let m : ℕ = min a (b / 32) in
+    let l : min a (b / 32) ≤ a = min-le_left a (b / 32) in
+    let r : min a (b / 32) ≤ b / 32 = min-le_right a (b / 32) in
+    let e : b / 32 * 32 ≤ b = div-mul-le_self b 32 in
+    let f : min a (b / 32) - 1 ≤ d / 32 = le-div (min a (b / 32) - 1) d 32 (omega arith) (omega arith) in
+    let g : min a (b / 32) - 1 ≤ min c (d / 32) = le-min (omega arith) f in
     omega arith
 
 pub zero_least : (n : ℕ) → 0 ≤ n
 zero_least n = omega arith
+
+pub room_same : (a b c d : ℕ) → a ≡ c → b ≡ d → min a (b / 32) ≤ min c (d / 32)
+room_same a b c d e f = let l : min a (b / 32) ≡ min c (d / 32) = (λ i. min (e i) (f i / 32)) in omega (arith, l)

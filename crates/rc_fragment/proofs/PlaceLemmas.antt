@@ -5,8 +5,7 @@ use Rattle.std.proofs.lemmas.Bool.{false≢true, and_parts, and_from, eqb-true, 
 use Rattle.std.proofs.lemmas.List.{length-map, length-append, length-drop, map-append, drop-append-le, take-append-le}
 use Rattle.rc_tuple.specs.RisingSet.{In}
 use Rattle.rc_tuple.specs.RisingSetLaws.{in_append, append_in_left, append_in_right}
-use Rattle.rc_tuple.specs.Tuple.{Pairs, tuple_eq}
-use Rattle.rc_tuple.specs.TupleLaws.{same_from_test, test_from_same}
+use Rattle.rc_edges.specs.Values.{Values, values_eq}
 use Rattle.rc_edges.specs.EdgeMap.{Counted}
 use Rattle.rc_fragment.specs.Container.{now_in, taken_in}
 use Rattle.rc_fragment.specs.Listing.{found_by, shapes, AreStored}
@@ -14,26 +13,27 @@ use Rattle.rc_fragment.specs.Notes.{Place, AreEmptiedNoted, AreNoted, AreWithin,
 use Rattle.rc_fragment.specs.Sources.{IsSetAt}
 use Rattle.rc_fragment.specs.declared.edge_rows.EdgeRows.{EdgeRows}
 use Rattle.rc_fragment.specs.declared.note.Note.{Note}
+use Rattle.rc_edges.specs.ValuesLaws.{same_from_test as values_same, test_from_same as values_test}
 
 pub same_length : (xs ys : List EdgeRows) → shapes xs ≡ shapes ys → length xs ≡ length ys
 same_length xs ys e = sym (length-map xs (λ (x : EdgeRows). x.shape)) ∙ ap length e ∙ length-map ys (λ (x : EdgeRows). x.shape)
 
-abbrev pub is_place : Place → ℕ → Pairs → Pairs → Bool
-is_place place e s k = e == place.0 && (tuple_eq s place.1 && tuple_eq k place.2)
+abbrev pub is_place : Place → ℕ → Values → Values → Bool
+is_place place e s k = e == place.0 && (values_eq s place.1 && values_eq k place.2)
 
-pub place_is : (place : Place) (e : ℕ) (s k : Pairs) → is_place place e s k ≡ true → (e ≡ place.0) × (s ≡ place.1) × (k ≡ place.2)
+pub place_is : (place : Place) (e : ℕ) (s k : Values) → is_place place e s k ≡ true → (e ≡ place.0) × (s ≡ place.1) × (k ≡ place.2)
 place_is place e s k h =
-    let p : ((e == place.0) ≡ true) × ((tuple_eq s place.1 && tuple_eq k place.2) ≡ true) = and_parts (e == place.0) (tuple_eq s place.1 && tuple_eq k place.2) h in
-    let q : (tuple_eq s place.1 ≡ true) × (tuple_eq k place.2 ≡ true) = and_parts (tuple_eq s place.1) (tuple_eq k place.2) p.1 in
-    (eqb-true e place.0 p.0, same_from_test s place.1 q.0, same_from_test k place.2 q.1)
+    let p : ((e == place.0) ≡ true) × ((values_eq s place.1 && values_eq k place.2) ≡ true) = and_parts (e == place.0) (values_eq s place.1 && values_eq k place.2) h in
+    let q : (values_eq s place.1 ≡ true) × (values_eq k place.2 ≡ true) = and_parts (values_eq s place.1) (values_eq k place.2) p.1 in
+    (eqb-true e place.0 p.0, values_same s place.1 q.0, values_same k place.2 q.1)
 
-pub is_place_of : (place : Place) (e : ℕ) (s k : Pairs) → (e, s, k) ≡ place → is_place place e s k ≡ true
+pub is_place_of : (place : Place) (e : ℕ) (s k : Values) → (e, s, k) ≡ place → is_place place e s k ≡ true
 is_place_of place e s k h =
-    and_from (e == place.0) (tuple_eq s place.1 && tuple_eq k place.2) (eq-eqb e place.0 (ap (λ (z : Place). z.0) h))
-    (and_from (tuple_eq s place.1) (tuple_eq k place.2) (test_from_same s place.1 (ap (λ (z : Place). z.1) h)) (test_from_same k place.2 (ap (λ (z : Place). z.2) h)))
+    and_from (e == place.0) (values_eq s place.1 && values_eq k place.2) (eq-eqb e place.0 (ap (λ (z : Place). z.0) h))
+    (and_from (values_eq s place.1) (values_eq k place.2) (values_test s place.1 (ap (λ (z : Place). z.1) h)) (values_test k place.2 (ap (λ (z : Place). z.2) h)))
 
 -- what is set to what it was stays
-pub set_as_it_was : (old new : ℕ → Pairs → Pairs → Option Counted) (place : Place) → IsSetPlace old new place (old place.0 place.1 place.2) → (e : ℕ) (s k : Pairs) → new e s k ≡ old e s k
+pub set_as_it_was : (old new : ℕ → Values → Values → Option Counted) (place : Place) → IsSetPlace old new place (old place.0 place.1 place.2) → (e : ℕ) (s k : Values) → new e s k ≡ old e s k
 set_as_it_was old new place h e s k = h e s k ∙ go (is_place place e s k) refl
   where
     go : (b : Bool) → is_place place e s k ≡ b → cond b (old place.0 place.1 place.2) (old e s k) ≡ old e s k
@@ -62,11 +62,11 @@ noted_more old new place places v w b h e s k = go (is_place place e s k) refl (
     go false t (inr m) = inr (append_in_left (e, s, k) places (place ∷ []) m)
 
 -- where the source of a place isn't left with no row, it need not be noted
-pub emptied_less : (old new : List EdgeRows) (place : Place) (places : List Place) → ((e : ℕ) (s : Pairs) → IsEmptiedAt new e s → ((e ≡ place.0) × (s ≡ place.1)) ⊎ IsEmptiedAt old e s)
+pub emptied_less : (old new : List EdgeRows) (place : Place) (places : List Place) → ((e : ℕ) (s : Values) → IsEmptiedAt new e s → ((e ≡ place.0) × (s ≡ place.1)) ⊎ IsEmptiedAt old e s)
     → (IsEmptiedAt new place.0 place.1 → ⊥) → AreEmptiedNoted old (place ∷ places) → AreEmptiedNoted new places
 emptied_less old new place places f freed h e s m = elim (f e s m) [
   | inl q ↦ absurd (here q)
-  | inr i ↦ let n : (k : Pairs) × In {A = Place} (e, s, k) (place ∷ places) = h e s i in elim n.1 [ inl p ↦ absurd (here (ap (λ (z : Place). z.0) p, ap (λ (z : Place). z.1) p)) | inr r ↦ (n.0, r) ]
+  | inr i ↦ let n : (k : Values) × In {A = Place} (e, s, k) (place ∷ places) = h e s i in elim n.1 [ inl p ↦ absurd (here (ap (λ (z : Place). z.0) p, ap (λ (z : Place). z.1) p)) | inr r ↦ (n.0, r) ]
 ]
   where
     here : (e ≡ place.0) × (s ≡ place.1) → ⊥
@@ -76,21 +76,21 @@ emptied_less old new place places f freed h e s m = elim (f e s m) [
 pub emptied_more : (old new : List EdgeRows) (place : Place) (places : List Place) (v w : Option Counted) → PlaceBecomes old new place v w → AreEmptiedNoted old places → AreEmptiedNoted new (places ++ place ∷ [])
 emptied_more old new place places v w b h e s m = elim (b.emptied e s m) [
   | inl q ↦ (place.2, append_in_right {A = Place} (e, s, place.2) places (place ∷ []) (inl (λ i. (q.0 i, q.1 i, place.2))))
-  | inr i ↦ let n : (k : Pairs) × In {A = Place} (e, s, k) places = h e s i in (n.0, append_in_left {A = Place} (e, s, n.0) places (place ∷ []) n.1)
+  | inr i ↦ let n : (k : Values) × In {A = Place} (e, s, k) places = h e s i in (n.0, append_in_left {A = Place} (e, s, n.0) places (place ∷ []) n.1)
 ]
 
 -- where nothing is noted the rows are as taken
-pub none_noted : (edges : List EdgeRows) → AreNoted edges [] → (e : ℕ) (s k : Pairs) → found_by now_in edges e s k ≡ found_by taken_in edges e s k
+pub none_noted : (edges : List EdgeRows) → AreNoted edges [] → (e : ℕ) (s k : Values) → found_by now_in edges e s k ≡ found_by taken_in edges e s k
 none_noted edges h e s k = elim (h e s k) [ inl q ↦ q | inr m ↦ absurd m ]
 
 -- what is the same at each place is set to what it was at one
-pub set_from_same : (old new : Pairs → Pairs → Option Counted) → ((s k : Pairs) → new s k ≡ old s k) → (source key : Pairs) → IsSetAt old new source key (old source key)
-set_from_same old new h source key s k = h s k ∙ go (tuple_eq s source && tuple_eq k key) refl
+pub set_from_same : (old new : Values → Values → Option Counted) → ((s k : Values) → new s k ≡ old s k) → (source key : Values) → IsSetAt old new source key (old source key)
+set_from_same old new h source key s k = h s k ∙ go (values_eq s source && values_eq k key) refl
   where
-    go : (b : Bool) → (tuple_eq s source && tuple_eq k key) ≡ b → old s k ≡ cond b (old source key) (old s k)
+    go : (b : Bool) → (values_eq s source && values_eq k key) ≡ b → old s k ≡ cond b (old source key) (old s k)
     go true t =
-        let p : (tuple_eq s source ≡ true) × (tuple_eq k key ≡ true) = and_parts (tuple_eq s source) (tuple_eq k key) t in
-        let a : s ≡ source = same_from_test s source p.0 in let b : k ≡ key = same_from_test k key p.1 in λ i. old (a i) (b i)
+        let p : (values_eq s source ≡ true) × (values_eq k key ≡ true) = and_parts (values_eq s source) (values_eq k key) t in
+        let a : s ≡ source = values_same s source p.0 in let b : k ≡ key = values_same k key p.1 in λ i. old (a i) (b i)
     go false t = refl
 
 -- edges in which each place is as it was have the same places noted
@@ -100,54 +100,54 @@ noted_same old new place places b h e s k =
     let q : found_by taken_in new e s k ≡ found_by taken_in old e s k = set_as_it_was (found_by taken_in old) (found_by taken_in new) place b.taken e s k in
     elim (h e s k) [ inl r ↦ inl (p ∙ r ∙ sym q) | inr m ↦ inr m ]
 
--- ---- notes over a list of pairs that grows
+-- ---- notes over a list of values that grows
 
-part_stays : (xs ys : Pairs) (start end : ℕ) → start ≤ end → end ≤ length xs → take (end - start) (drop start (xs ++ ys)) ≡ take (end - start) (drop start xs)
+part_stays : (xs ys : Values) (start end : ℕ) → start ≤ end → end ≤ length xs → take (end - start) (drop start (xs ++ ys)) ≡ take (end - start) (drop start xs)
 part_stays xs ys start end h k =
     let l : length (drop start xs) ≡ length xs - start = length-drop start xs in
     ap (take (end - start)) (drop-append-le start xs ys (omega arith)) ∙ take-append-le (end - start) (drop start xs) ys (omega arith)
 
-place_stays : (pairs more : Pairs) (n : Note) → IsNoteWithin (length pairs) n → place_of (pairs ++ more) n ≡ place_of pairs n
-place_stays pairs more n w =
-    let a : n.middle ≤ length pairs = omega (arith, w.key, w.within) in
-    λ i. (n.edge, part_stays pairs more n.start n.middle w.source a i, part_stays pairs more n.middle n.end w.key w.within i)
+pub place_stays : (values more : Values) (n : Note) → IsNoteWithin (length values) n → place_of (values ++ more) n ≡ place_of values n
+place_stays values more n w =
+    let a : n.middle ≤ length values = omega (arith, w.key, w.within) in
+    λ i. (n.edge, part_stays values more n.start n.middle w.source a i, part_stays values more n.middle n.end w.key w.within i)
 
-places_stay : (edges : ℕ) (pairs more : Pairs) (notes : List Note) → AreWithin edges (length pairs) notes → places_of (pairs ++ more) notes ≡ places_of pairs notes
-places_stay edges pairs more [] w = refl
-places_stay edges pairs more (n ∷ notes) w =
-    let a : place_of (pairs ++ more) n ≡ place_of pairs n = place_stays pairs more n (w n (inl refl)).1 in
-    let b : places_of (pairs ++ more) notes ≡ places_of pairs notes = places_stay edges pairs more notes (λ m h. w m (inr h)) in
+places_stay : (edges : ℕ) (values more : Values) (notes : List Note) → AreWithin edges (length values) notes → places_of (values ++ more) notes ≡ places_of values notes
+places_stay edges values more [] w = refl
+places_stay edges values more (n ∷ notes) w =
+    let a : place_of (values ++ more) n ≡ place_of values n = place_stays values more n (w n (inl refl)).1 in
+    let b : places_of (values ++ more) notes ≡ places_of values notes = places_stay edges values more notes (λ m h. w m (inr h)) in
     λ i. a i ∷ b i
 
 -- a change at a noted place
-pub fragment_noted : (edges new : List EdgeRows) (notes : List Note) (pairs more : Pairs) (n : Note) (place : Place) (v w : Option Counted) → IsFragment edges notes pairs → PlaceBecomes edges new place v w
-    → place_of (pairs ++ more) n ≡ place → place.0 < length edges → IsNoteWithin (length (pairs ++ more)) n → IsFragment new (notes ++ n ∷ []) (pairs ++ more)
-fragment_noted edges new notes pairs more n place v w f b is known within = record {
+pub fragment_noted : (edges new : List EdgeRows) (notes : List Note) (values more : Values) (n : Note) (place : Place) (v w : Option Counted) → IsFragment edges notes values → PlaceBecomes edges new place v w
+    → place_of (values ++ more) n ≡ place → place.0 < length edges → IsNoteWithin (length (values ++ more)) n → IsFragment new (notes ++ n ∷ []) (values ++ more)
+fragment_noted edges new notes values more n place v w f b is known within = record {
   stored = b.stored;
-  noted = subst (AreNoted new) (sym (map-append (place_of (pairs ++ more)) notes (n ∷ []) ∙ (λ i. places_stay (length edges) pairs more notes f.within i ++ is i ∷ [])))
-      (noted_more edges new place (places_of pairs notes) v w b f.noted);
-  emptied = subst (AreEmptiedNoted new) (sym (map-append (place_of (pairs ++ more)) notes (n ∷ []) ∙ (λ i. places_stay (length edges) pairs more notes f.within i ++ is i ∷ [])))
-      (emptied_more edges new place (places_of pairs notes) v w b f.emptied);
+  noted = subst (AreNoted new) (sym (map-append (place_of (values ++ more)) notes (n ∷ []) ∙ (λ i. places_stay (length edges) values more notes f.within i ++ is i ∷ [])))
+      (noted_more edges new place (places_of values notes) v w b f.noted);
+  emptied = subst (AreEmptiedNoted new) (sym (map-append (place_of (values ++ more)) notes (n ∷ []) ∙ (λ i. places_stay (length edges) values more notes f.within i ++ is i ∷ [])))
+      (emptied_more edges new place (places_of values notes) v w b f.emptied);
   within = λ m h.
       let l : length new ≡ length edges = same_length new edges b.shapes in
-      let longer : length (pairs ++ more) ≡ length pairs + length more = length-append pairs more in
+      let longer : length (values ++ more) ≡ length values + length more = length-append values more in
       elim (in_append m notes (n ∷ []) h) [
-        | inl a ↦ let o : (m.edge < length edges) × IsNoteWithin (length pairs) m = f.within m a in (omega (arith, o.0), record { source = o.1.source; key = o.1.key; within = omega (arith, o.1.within) })
-        | inr (inl e) ↦ let q : n.edge ≡ place.0 = ap (λ (z : Place). z.0) is in let r : m.edge ≡ n.edge = ap (λ (z : Note). z.edge) e in (omega (arith, known), subst (IsNoteWithin (length (pairs ++ more))) (sym e) within)
+        | inl a ↦ let o : (m.edge < length edges) × IsNoteWithin (length values) m = f.within m a in (omega (arith, o.0), record { source = o.1.source; key = o.1.key; within = omega (arith, o.1.within) })
+        | inr (inl e) ↦ let q : n.edge ≡ place.0 = ap (λ (z : Place). z.0) is in let r : m.edge ≡ n.edge = ap (λ (z : Note). z.edge) e in (omega (arith, known), subst (IsNoteWithin (length (values ++ more))) (sym e) within)
         | inr (inr z) ↦ absurd z
       ];
 }
 
 -- where nothing changes
-pub fragment_same : (edges new : List EdgeRows) (notes : List Note) (pairs : Pairs) (place : Place) → IsFragment edges notes pairs → PlaceBecomes edges new place (now_at_place edges place) (taken_at_place edges place)
-    → ((e : ℕ) (s : Pairs) → IsEmptiedAt new e s → IsEmptiedAt edges e s) → IsFragment new notes pairs
-fragment_same edges new notes pairs place f b kept = record {
+pub fragment_same : (edges new : List EdgeRows) (notes : List Note) (values : Values) (place : Place) → IsFragment edges notes values → PlaceBecomes edges new place (now_at_place edges place) (taken_at_place edges place)
+    → ((e : ℕ) (s : Values) → IsEmptiedAt new e s → IsEmptiedAt edges e s) → IsFragment new notes values
+fragment_same edges new notes values place f b kept = record {
   stored = b.stored;
-  noted = noted_same edges new place (places_of pairs notes) b f.noted;
+  noted = noted_same edges new place (places_of values notes) b f.noted;
   emptied = λ e s m. f.emptied e s (kept e s m);
-  within = λ m h. let l : length new ≡ length edges = same_length new edges b.shapes in let o : (m.edge < length edges) × IsNoteWithin (length pairs) m = f.within m h in (omega (arith, o.0), o.1);
+  within = λ m h. let l : length new ≡ length edges = same_length new edges b.shapes in let o : (m.edge < length edges) × IsNoteWithin (length values) m = f.within m h in (omega (arith, o.0), o.1);
 }
 
 -- where all rows are as taken and no container is without a row, nothing need be noted
-pub fragment_clear : (new : List EdgeRows) → AreStored new → ((e : ℕ) (s k : Pairs) → found_by now_in new e s k ≡ found_by taken_in new e s k) → AreEmptiedNoted new [] → IsFragment new [] []
+pub fragment_clear : (new : List EdgeRows) → AreStored new → ((e : ℕ) (s k : Values) → found_by now_in new e s k ≡ found_by taken_in new e s k) → AreEmptiedNoted new [] → IsFragment new [] []
 fragment_clear new stored same freed = record { stored = stored; noted = λ e s k. inl (same e s k); emptied = freed; within = λ n h. absurd h }

@@ -1,6 +1,7 @@
 -- What a container of one of the four kinds keeps.
-use Rattle.rc_tuple.specs.Tuple.{Pairs}
-use Rattle.rc_edges.specs.EdgeMap.{Rows, HasNoOther}
+use Rattle.std.specs.Prelude.{Bool, false}
+use Rattle.rc_edges.specs.Values.{Values}
+use Rattle.rc_edges.specs.EdgeMap.{Rows, HasNoOther, HasWidth}
 use Rattle.rc_spec.specs.declared.items.EdgeKind.{EdgeKind}
 use Rattle.rc_spec.specs.declared.items.EdgeKind.TheVariants as kind
 use Rattle.rc_fragment.specs.declared.container.Container.{Container}
@@ -20,15 +21,26 @@ taken_in (container.Ordered map) = map.taken
 taken_in (container.List map) = map.taken
 taken_in (container.Singleton map) = map.taken
 
-abbrev pub kind_in : Container → EdgeKind
-kind_in (container.Hash map) = kind.Hash
-kind_in (container.Ordered map) = kind.Ordered
-kind_in (container.List map) = kind.List
-kind_in (container.Singleton map) = kind.Singleton
+-- the kind of a container, and whether it takes only keys of one column
+abbrev pub Form : Type 0
+Form = EdgeKind × Bool
 
--- whether it takes a row at the key: a singleton only where no other key is there
-abbrev pub takes : Container → Pairs → Type 0
-takes (container.Hash map) key = Unit {0}
-takes (container.Ordered map) key = Unit {0}
+abbrev pub form_in : Container → Form
+form_in (container.Hash map) = (kind.Hash, map.one_column)
+form_in (container.Ordered map) = (kind.Ordered, map.one_column)
+form_in (container.List map) = (kind.List, false)
+form_in (container.Singleton map) = (kind.Singleton, false)
+
+-- whether a container of the kind takes only keys of one column, where those of its edge are
+abbrev pub takes_one : EdgeKind → Bool → Bool
+takes_one kind.Hash one = one
+takes_one kind.Ordered one = one
+takes_one kind.List one = false
+takes_one kind.Singleton one = false
+
+-- whether it takes a row at the key: one of its width, and a singleton only where no other key is there
+abbrev pub takes : Container → Values → Type 0
+takes (container.Hash map) key = HasWidth map.one_column key
+takes (container.Ordered map) key = HasWidth map.one_column key
 takes (container.List map) key = Unit {0}
 takes (container.Singleton map) key = HasNoOther map.now key

@@ -1,8 +1,9 @@
 -- What a fragment's calls promise.
 use Rattle.std.specs.Prelude.{◌≡◌, ℕ, ◌<◌, ◌≤◌, ◌++◌, List, [], Option, None, Some, length, map}
-use Rattle.std.specs.List.{slice_get}
+use Rattle.std.specs.List.{flat_map, slice_get}
 use Rattle.rc_tuple.specs.RisingSet.{In, IsRising}
-use Rattle.rc_tuple.specs.Tuple.{Pairs, cols_of, project, tuple_cmp}
+use Rattle.rc_tuple.specs.Tuple.{Pairs, cols_of, project}
+use Rattle.rc_edges.specs.Values.{Values, values_cmp}
 use Rattle.rc_spec.specs.CountedRowsLaws.{AreCountedRows}
 use Rattle.rc_spec.specs.Decomposition.{bound}
 use Rattle.rc_spec.specs.Fragments.{EdgeRow}
@@ -13,6 +14,7 @@ use Rattle.rc_fragment.specs.Container.{now_in, taken_in}
 use Rattle.rc_fragment.specs.FragmentRows.{FragmentRows}
 use Rattle.rc_fragment.specs.Listing.{listing}
 use Rattle.rc_fragment.specs.Notes.{IsFragment, room_in}
+use Rattle.rc_fragment.specs.RowValues.{HasValues, extra_columns, values_at}
 use Rattle.rc_fragment.specs.declared.edge_rows.EdgeRows.{EdgeRows}
 use Rattle.rc_fragment.specs.declared.fragment.Fragment.TheInside.{Inside}
 use Rattle.rc_fragment.specs.declared.shape.EdgeShape.{EdgeShape}
@@ -27,11 +29,11 @@ seen a = record {
   changes = length a.notes.items;
 }
 
--- what a fragment keeps: each row in its own place, every changed place noted, no pair where there is no note, and room for what is promised
+-- what a fragment keeps: each row in its own place, every changed place noted, no value where there is no note, and room for what is promised
 pub record IsWhole (a : Inside) : Type 0 where
-  pub fragment : IsFragment a.edges.items a.notes.items a.pairs.items
-  pub unnoted : a.notes.items ≡ [] → a.pairs.items ≡ []
-  pub room : a.room ≤ room_in a.notes a.pairs
+  pub fragment : IsFragment a.edges.items a.notes.items a.noted.items
+  pub unnoted : a.notes.items ≡ [] → a.noted.items ≡ []
+  pub room : a.room ≤ room_in a.notes a.noted
 
 -- the shape of an edge
 abbrev pub shape_of : Spec → Edge → EdgeShape
@@ -74,18 +76,33 @@ pub record AreAllRows (rows : List EdgeRow) (e : ℕ) (ts : List Pairs) : Type 0
   pub only : (t : Pairs) → In t ts → IsThere rows e t
   pub each : (t : Pairs) → IsThere rows e t → In t ts
 
--- what a look-up by source and key answers: the one row of the edge that has them, and none only where the edge has none
-abbrev pub IsLookedUp : EdgeShape → List EdgeRow → ℕ → Pairs → Pairs → Option Pairs → Type 0
-IsLookedUp shape rows e source key None = (u : Pairs) → IsThere rows e u → project shape.source u ≡ source → project shape.key u ≡ key → ⊥
-IsLookedUp shape rows e source key (Some t) =
-    IsThere rows e t × (project shape.source t ≡ source) × (project shape.key t ≡ key) × ((u : Pairs) → IsThere rows e u → project shape.source u ≡ source → project shape.key u ≡ key → u ≡ t)
+-- the row is there, with these values at the columns of source and key
+pub record IsThereWith (shape : EdgeShape) (rows : List EdgeRow) (e : ℕ) (source key : Values) (t : Pairs) : Type 0 where
+  pub there : IsThere rows e t
+  pub source_is : values_at shape.source t ≡ source
+  pub key_is : values_at shape.key t ≡ key
 
--- what a scan by source answers: the edge's rows that have it, rising by their keys
-pub record IsScan (shape : EdgeShape) (rows : List EdgeRow) (e : ℕ) (source : Pairs) (ts : List Pairs) : Type 0 where
-  pub rising : IsRising (λ t u. tuple_cmp (project shape.key t) (project shape.key u)) ts
-  pub only : (t : Pairs) → In t ts → IsThere rows e t × (project shape.source t ≡ source)
-  pub each : (t : Pairs) → IsThere rows e t → project shape.source t ≡ source → In t ts
+-- what a look-up by the values of source and key answers: the extra values of the one row of the edge that has them, and none only where the edge has none
+abbrev pub IsLookedUp : EdgeShape → List EdgeRow → ℕ → Values → Values → Option Values → Type 0
+IsLookedUp shape rows e source key None = (u : Pairs) → IsThereWith shape rows e source key u → ⊥
+IsLookedUp shape rows e source key (Some extra) =
+    (t : Pairs) × IsThereWith shape rows e source key t × (values_at (extra_columns shape) t ≡ extra) × ((u : Pairs) → IsThereWith shape rows e source key u → u ≡ t)
 
--- the list has what a scan answers at its end
-abbrev pub HasScanned : EdgeShape → List EdgeRow → ℕ → Pairs → List Pairs → List Pairs → Type 0
-HasScanned shape rows e source old new = (ts : List Pairs) × (new ≡ old ++ ts) × IsScan shape rows e source ts
+-- the one row of the edge with the values of source and key, and none only where the edge has none
+abbrev pub IsFoundAt : EdgeShape → List EdgeRow → ℕ → Values → Values → Option Pairs → Type 0
+IsFoundAt shape rows e source key None = (u : Pairs) → IsThereWith shape rows e source key u → ⊥
+IsFoundAt shape rows e source key (Some t) = IsThereWith shape rows e source key t × ((u : Pairs) → IsThereWith shape rows e source key u → u ≡ t)
+
+-- the edge's rows that have the source, rising by their keys
+pub record IsScan (shape : EdgeShape) (rows : List EdgeRow) (e : ℕ) (source : Values) (ts : List Pairs) : Type 0 where
+  pub rising : IsRising (λ t u. values_cmp (values_at shape.key t) (values_at shape.key u)) ts
+  pub only : (t : Pairs) → In t ts → IsThere rows e t × (values_at shape.source t ≡ source)
+  pub each : (t : Pairs) → IsThere rows e t → values_at shape.source t ≡ source → In t ts
+
+-- a row's values at the key's columns, and then those at the extra ones
+abbrev pub key_and_extra : EdgeShape → Pairs → Values
+key_and_extra shape t = values_at shape.key t ++ values_at (extra_columns shape) t
+
+-- the list has the keys and extra values of what a scan answers at its end
+abbrev pub HasScanned : EdgeShape → List EdgeRow → ℕ → Values → Values → Values → Type 0
+HasScanned shape rows e source old new = (ts : List Pairs) × (new ≡ old ++ flat_map (key_and_extra shape) ts) × IsScan shape rows e source ts

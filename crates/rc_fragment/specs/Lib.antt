@@ -1,6 +1,7 @@
 pub mod Container
 pub mod Cow
 pub mod Fragment
+pub mod FragmentLaws
 pub mod FragmentRows
 pub mod Holder
 pub mod HolderLaws
@@ -8,4 +9,6 @@ pub mod HoldingLaws
 pub mod Keep
 pub mod Listing
 pub mod Notes
+pub mod RowValues
+pub mod RowValuesLaws
 pub mod Sources

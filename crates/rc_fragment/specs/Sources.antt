@@ -1,105 +1,111 @@
--- The rows of one edge, kept by their source and then by their key.
-use Rattle.std.specs.Prelude.{◌≡◌, ℕ, cond, ◌&&◌, ◌⊎◌, List, [], Option, None, Some, IsSome, map}
+-- The rows of one edge, kept by the values of their source and then by those of their key.
+use Rattle.std.specs.Prelude.{◌≡◌, cond, ◌&&◌, ◌⊎◌, ◌==◌, [], Option, None, Some, IsSome, length}
+use Rattle.std.specs.Option.{option_map}
 use Rattle.std.specs.FinMap as fin
 use Rattle.std.specs.FinMap.{FinMap}
-use Rattle.std.proofs.Common.{Vec, Global}
-use Rattle.rc_tuple.specs.Tuple.{Pairs, tuple_cmp, tuple_eq}
+use Rattle.rc_tuple.specs.Tuple.{Pairs}
+use Rattle.rc_edges.specs.Values.{Values, values_cmp, values_eq}
 use Rattle.rc_edges.specs.EdgeMap.{Counted, Rows, listed}
-use Rattle.rc_spec.specs.declared.items.EdgeKind.{EdgeKind}
+use Rattle.rc_maps.specs.HashTable.{entries_of, has_one_column}
 use Rattle.rc_spec.specs.declared.items.EdgeKind.TheVariants.{Singleton}
-use Rattle.rc_fragment.specs.Container.{now_in, taken_in, kind_in}
+use Rattle.rc_fragment.specs.Container.{Form, now_in, taken_in, form_in, takes_one}
+use Rattle.rc_fragment.specs.RowValues.{row_from}
 use Rattle.rc_fragment.specs.declared.container.Container.{Container}
 use Rattle.rc_fragment.specs.declared.edge_rows.EdgeRows.{EdgeRows}
+use Rattle.rc_fragment.specs.declared.shape.EdgeShape.{EdgeShape}
 
-abbrev pub Key : Type 0
-Key = Vec (ℕ × ℕ) Global
-
--- the containers by their sources, in the map's own order
+-- the containers by the values of their sources
 abbrev pub Sources : Type 0
-Sources = List (Key × Container)
+Sources = FinMap values_cmp Container
 
--- the same, as a map from tuples
-abbrev pub by_source : Sources → FinMap tuple_cmp Container
-by_source es = fin.from_entries (map (λ e. (e.0.items, e.1)) es)
+abbrev pub sources_of : EdgeRows → Sources
+sources_of rows = entries_of rows.sources
 
 -- what is found at a key of a source's container, if the source has one
-abbrev pub found_in : (Container → Rows) → Option Container → Pairs → Option Counted
+abbrev pub found_in : (Container → Rows) → Option Container → Values → Option Counted
 found_in part None key = None
 found_in part (Some c) key = fin.get (part c) key
 
--- the row and count at a source and a key, of the rows now or of those as taken
-abbrev pub found_at : (Container → Rows) → Sources → Pairs → Pairs → Option Counted
-found_at part es source key = found_in part (fin.get (by_source es) source) key
+-- the extra values and the count at a source and a key, of the rows now or of those as taken
+abbrev pub found_at : (Container → Rows) → Sources → Values → Values → Option Counted
+found_at part sources source key = found_in part (fin.get sources source) key
 
-abbrev pub now_at : EdgeRows → Pairs → Pairs → Option Counted
-now_at rows source key = found_at now_in rows.sources.entries source key
+abbrev pub now_at : EdgeRows → Values → Values → Option Counted
+now_at rows source key = found_at now_in (sources_of rows) source key
 
-abbrev pub taken_at : EdgeRows → Pairs → Pairs → Option Counted
-taken_at rows source key = found_at taken_in rows.sources.entries source key
+abbrev pub taken_at : EdgeRows → Values → Values → Option Counted
+taken_at rows source key = found_at taken_in (sources_of rows) source key
 
--- each container is of this kind
-abbrev pub HaveKind : EdgeKind → Sources → Type 0
-HaveKind kind es = (source : Pairs) (c : Container) → fin.get (by_source es) source ≡ Some c → kind_in c ≡ kind
+-- the form of an edge's containers
+abbrev pub form_of : EdgeShape → Form
+form_of shape = (shape.kind, takes_one shape.kind (length shape.key == 1))
 
--- each container is of the edge's kind
-abbrev pub AreOfKind : EdgeRows → Type 0
-AreOfKind rows = HaveKind rows.shape.kind rows.sources.entries
+-- each container is of this form
+abbrev pub HaveForm : Form → Sources → Type 0
+HaveForm form sources = (source : Values) (c : Container) → fin.get sources source ≡ Some c → form_in c ≡ form
+
+-- the containers are of the edge's form, and so is what keeps them by their sources
+pub record AreOfShape (rows : EdgeRows) : Type 0 where
+  pub forms : HaveForm (form_of rows.shape) (sources_of rows)
+  pub width : has_one_column rows.sources ≡ (length rows.shape.source == 1)
 
 -- the source has a container that keeps no row, neither now nor as taken
-abbrev pub IsEmptied : Sources → Pairs → Type 0
-IsEmptied es source = (c : Container) × (fin.get (by_source es) source ≡ Some c) × (now_in c ≡ fin.empty) × (taken_in c ≡ fin.empty)
+abbrev pub IsEmptied : Sources → Values → Type 0
+IsEmptied sources source = (c : Container) × (fin.get sources source ≡ Some c) × (now_in c ≡ fin.empty) × (taken_in c ≡ fin.empty)
 
 -- what is found at each source and key is what was, except at this one
-abbrev pub IsSetAt : (Pairs → Pairs → Option Counted) → (Pairs → Pairs → Option Counted) → Pairs → Pairs → Option Counted → Type 0
-IsSetAt old new source key w = (s k : Pairs) → new s k ≡ cond (tuple_eq s source && tuple_eq k key) w (old s k)
+abbrev pub IsSetAt : (Values → Values → Option Counted) → (Values → Values → Option Counted) → Values → Values → Option Counted → Type 0
+IsSetAt old new source key w = (s k : Values) → new s k ≡ cond (values_eq s source && values_eq k key) w (old s k)
 
 -- the edge's rows with this at the source and the key, now and as taken, where no other source's container is left with no row
-pub record Becomes (old new : EdgeRows) (source key : Pairs) (v w : Option Counted) : Type 0 where
+pub record Becomes (old new : EdgeRows) (source key : Values) (v w : Option Counted) : Type 0 where
   pub now : IsSetAt (now_at old) (now_at new) source key v
   pub taken : IsSetAt (taken_at old) (taken_at new) source key w
-  pub emptied : (s : Pairs) → IsEmptied new.sources.entries s → (s ≡ source) ⊎ IsEmptied old.sources.entries s
-  pub kinds : AreOfKind new
+  pub emptied : (s : Values) → IsEmptied (sources_of new) s → (s ≡ source) ⊎ IsEmptied (sources_of old) s
+  pub forms : AreOfShape new
   pub shape : new.shape ≡ old.shape
 
 -- what is at the source and the key is, now and as taken, what it was as taken
-abbrev pub Reverts : EdgeRows → EdgeRows → Pairs → Pairs → Type 0
+abbrev pub Reverts : EdgeRows → EdgeRows → Values → Values → Type 0
 Reverts old new source key = Becomes old new source key (taken_at old source key) (taken_at old source key)
 
 -- and what it was now
-abbrev pub Settles : EdgeRows → EdgeRows → Pairs → Pairs → Type 0
+abbrev pub Settles : EdgeRows → EdgeRows → Values → Values → Type 0
 Settles old new source key = Becomes old new source key (now_at old source key) (now_at old source key)
 
 -- in a singleton no other key of the source has a row
-abbrev pub IsSingle : EdgeRows → Pairs → Pairs → Type 0
-IsSingle rows source key = rows.shape.kind ≡ Singleton → (k : Pairs) → IsSome (now_at rows source k) → k ≡ key
+abbrev pub IsSingle : EdgeRows → Values → Values → Type 0
+IsSingle rows source key = rows.shape.kind ≡ Singleton → (k : Values) → IsSome (now_at rows source k) → k ≡ key
 
--- the rows of a source, rising by their keys
-abbrev pub listed_in : Option Container → List Pairs
+-- the keys and extra values of a source's rows, rising by the keys
+abbrev pub listed_in : Option Container → Values
 listed_in None = []
 listed_in (Some c) = listed (now_in c)
 
--- the row is kept at some source and key
+-- the row is kept, by its values, at some source and key
 abbrev pub IsStoredRow : EdgeRows → Pairs → Type 0
-IsStoredRow rows t = (source : Pairs) × (key : Pairs) × (n : ℕ) × (now_at rows source key ≡ Some (t, n))
+IsStoredRow rows t = (source : Values) × (key : Values) × (c : Counted) × (now_at rows source key ≡ Some c) × (t ≡ row_from rows.shape source key c.0)
+
+-- source and key have as many values as the edge's have columns
+pub record AreOfWidth (shape : EdgeShape) (source key : Values) : Type 0 where
+  pub source_width : length source ≡ length shape.source
+  pub key_width : length key ≡ length shape.key
 
 -- two edges' rows that are the same, where no more containers keep no row
 pub record AreSame (old new : EdgeRows) : Type 0 where
-  pub now : (s k : Pairs) → now_at new s k ≡ now_at old s k
-  pub taken : (s k : Pairs) → taken_at new s k ≡ taken_at old s k
-  pub emptied : (s : Pairs) → IsEmptied new.sources.entries s → IsEmptied old.sources.entries s
-  pub kinds : AreOfKind new
+  pub now : (s k : Values) → now_at new s k ≡ now_at old s k
+  pub taken : (s k : Values) → taken_at new s k ≡ taken_at old s k
+  pub emptied : (s : Values) → IsEmptied (sources_of new) s → IsEmptied (sources_of old) s
+  pub forms : AreOfShape new
   pub shape : new.shape ≡ old.shape
 
 -- all that is seen of a container
 abbrev pub SeenContainer : Type 0
-SeenContainer = Rows × Rows × EdgeKind
+SeenContainer = Rows × Rows × Form
 
 abbrev pub seen_container : Container → SeenContainer
-seen_container c = (now_in c, taken_in c, kind_in c)
+seen_container c = (now_in c, taken_in c, form_in c)
 
--- the same of all containers, by their sources
-abbrev pub seen_in : Sources → List (Pairs × SeenContainer)
-seen_in es = map (λ e. (e.0.items, seen_container e.1)) es
-
-abbrev pub seen_of : Sources → FinMap tuple_cmp SeenContainer
-seen_of es = fin.from_entries (seen_in es)
+-- two maps of containers that answer alike, by what is seen of them
+abbrev pub AreSeenAlike : Sources → Sources → Type 0
+AreSeenAlike old new = (s : Values) → option_map seen_container (fin.get new s) ≡ option_map seen_container (fin.get old s)

@@ -2,13 +2,13 @@
 
 ghost use Rattle.std.specs.Prelude.{◌≡◌, ◌<◌, ◌^◌, ◌++◌, ◌↔◌, IsTrue, OnOk, OnErr, IfOk, IsSome, option_copied};
 ghost use Rattle.std.specs.FinMap as fin;
-ghost use Rattle.rc_edges.specs.EdgeMap.{IsRowOf, count_at, listed, once_less, once_more, row_of, with_key_of};
-ghost use Rattle.rc_fragment.specs.Container.{kind_in, now_in, takes, taken_in};
+ghost use Rattle.rc_edges.specs.EdgeMap.{HasExtra, count_at, extra_of, listed, once_less, once_more, with_key_of};
+ghost use Rattle.rc_fragment.specs.Container.{form_in, now_in, takes, takes_one, taken_in};
 
 use rc_edges::{EdgeMap, ListMap, OneMap};
-use rc_maps::{HashEdge, OrderedEdge};
+use rc_maps::{HashEdge, OrderedEdge, Seed};
 use rc_spec::EdgeKind;
-use rc_tuple::{Memory, Tuple, Tuples};
+use rc_tuple::Memory;
 use std::alloc::Global;
 
 /// The rows of an edge at one row of its source, in a container of the edge's kind.
@@ -21,44 +21,45 @@ pub enum Container {
 }
 
 impl Container {
-    /// The container of the kind with no row, which takes no memory.
-    pub fn new(alloc: Global, kind: EdgeKind) -> Self
+    /// The container of the kind with no row, which takes no memory. Where a table is to have keys of
+    /// one column alone, they are plain numbers in it.
+    pub fn new(alloc: Global, seed: Seed, kind: EdgeKind, one_column: bool) -> Self
         ensures now { now_in result ≡ fin.empty }
         ensures taken { taken_in result ≡ fin.empty }
-        ensures kind { kind_in result ≡ kind }
+        ensures form { form_in result ≡ (kind, takes_one kind one_column) }
     {
         match kind {
-            EdgeKind::Hash => Container::Hash(HashEdge::new(alloc)),
-            EdgeKind::Ordered => Container::Ordered(OrderedEdge::new(alloc)),
+            EdgeKind::Hash => Container::Hash(HashEdge::new(alloc, seed, one_column)),
+            EdgeKind::Ordered => Container::Ordered(OrderedEdge::new(alloc, one_column)),
             EdgeKind::List => Container::List(ListMap::new(alloc)),
             EdgeKind::Singleton => Container::Singleton(OneMap::new(alloc)),
         }
     }
 
     /// Adds the row at the key with the count 1, or raises its count by 1.
-    pub fn add(&mut self, key: &Tuple, row: &Tuple) -> Result<(), Memory>
+    pub fn add(&mut self, key: &[u64], extra: &[u64]) -> Result<(), Memory>
         requires room { count_at (now_in self.old) key.now < 2 ^ 63 }
-        requires same { IsRowOf (fin.get (now_in self.old) key.now) row.now }
+        requires same { HasExtra (fin.get (now_in self.old) key.now) extra.now }
         requires single { takes self.old key.now }
-        ensures ok { OnOk result (now_in self.new ≡ once_more (now_in self.old) key.now row.now) }
+        ensures ok { OnOk result (now_in self.new ≡ once_more (now_in self.old) key.now extra.now) }
         ensures err { OnErr result (now_in self.new ≡ now_in self.old) }
         ensures taken { taken_in self.new ≡ taken_in self.old }
-        ensures kind { kind_in self.new ≡ kind_in self.old }
+        ensures form { form_in self.new ≡ form_in self.old }
     {
         match self {
-            Container::Hash(map) => map.add(key, row),
-            Container::Ordered(map) => map.add(key, row),
-            Container::List(map) => map.add(key, row),
-            Container::Singleton(map) => map.add(key, row),
+            Container::Hash(map) => map.add(key, extra),
+            Container::Ordered(map) => map.add(key, extra),
+            Container::List(map) => map.add(key, extra),
+            Container::Singleton(map) => map.add(key, extra),
         }
     }
 
     /// Lowers the count at the key by 1, and takes the row out at 0.
-    pub fn sub(&mut self, key: &[(u8, u64)])
+    pub fn sub(&mut self, key: &[u64])
         requires { IsSome (fin.get (now_in self.old) key.now) }
         ensures now { now_in self.new ≡ once_less (now_in self.old) key.now }
         ensures taken { taken_in self.new ≡ taken_in self.old }
-        ensures kind { kind_in self.new ≡ kind_in self.old }
+        ensures form { form_in self.new ≡ form_in self.old }
     {
         match self {
             Container::Hash(map) => map.sub(key),
@@ -69,10 +70,10 @@ impl Container {
     }
 
     /// Makes the row and the count at the key what they were as taken.
-    pub fn revert(&mut self, key: &[(u8, u64)])
+    pub fn revert(&mut self, key: &[u64])
         ensures now { now_in self.new ≡ with_key_of (now_in self.old) key.now (taken_in self.old) }
         ensures taken { taken_in self.new ≡ taken_in self.old }
-        ensures kind { kind_in self.new ≡ kind_in self.old }
+        ensures form { form_in self.new ≡ form_in self.old }
     {
         match self {
             Container::Hash(map) => map.revert(key),
@@ -83,10 +84,10 @@ impl Container {
     }
 
     /// Makes the row and the count at the key count as taken.
-    pub fn settle(&mut self, key: &[(u8, u64)])
+    pub fn settle(&mut self, key: &[u64])
         ensures now { now_in self.new ≡ now_in self.old }
         ensures taken { taken_in self.new ≡ with_key_of (taken_in self.old) key.now (now_in self.old) }
-        ensures kind { kind_in self.new ≡ kind_in self.old }
+        ensures form { form_in self.new ≡ form_in self.old }
     {
         match self {
             Container::Hash(map) => map.settle(key),
@@ -96,9 +97,9 @@ impl Container {
         }
     }
 
-    /// The row at the key, if there is one.
-    pub fn get(&self, key: &[(u8, u64)]) -> Option<&Tuple>
-        ensures { option_copied result ≡ row_of (fin.get (now_in self.now) key.now) }
+    /// The extra values of the row at the key, if there is one.
+    pub fn get(&self, key: &[u64]) -> Option<&[u64]>
+        ensures { option_copied result ≡ extra_of (fin.get (now_in self.now) key.now) }
     {
         match self {
             Container::Hash(map) => map.get(key),
@@ -108,16 +109,28 @@ impl Container {
         }
     }
 
-    /// Adds the rows at the end of the list, rising by their keys.
-    pub fn scan(&self, out: &mut Tuples) -> Result<(), Memory>
-        ensures ok { OnOk result (out.new ≡ out.old ++ listed (now_in self.now)) }
-        ensures err { OnErr result (out.new ≡ out.old) }
+    /// Adds of each row its key and then its extra values at the end of the list, rising by the keys.
+    pub fn scan(&self, out: &mut Vec<u64>) -> Result<(), Memory>
+        ensures ok { OnOk result (out.new.items ≡ out.old.items ++ listed (now_in self.now)) }
+        ensures err { OnErr result (out.new.items ≡ out.old.items) }
     {
         match self {
             Container::Hash(map) => map.scan(out),
             Container::Ordered(map) => map.scan(out),
             Container::List(map) => map.scan(out),
             Container::Singleton(map) => map.scan(out),
+        }
+    }
+
+    /// How many rows there are.
+    pub fn len(&self) -> u64
+        ensures { result ≡ fin.len (now_in self.now) }
+    {
+        match self {
+            Container::Hash(map) => map.len(),
+            Container::Ordered(map) => map.len(),
+            Container::List(map) => map.len(),
+            Container::Singleton(map) => map.len(),
         }
     }
 
@@ -137,7 +150,7 @@ impl Container {
     pub fn copy(&self) -> Result<Self, Memory>
         ensures now { IfOk result (λ copy. now_in copy ≡ now_in self.now) }
         ensures taken { IfOk result (λ copy. taken_in copy ≡ taken_in self.now) }
-        ensures kind { IfOk result (λ copy. kind_in copy ≡ kind_in self.now) }
+        ensures form { IfOk result (λ copy. form_in copy ≡ form_in self.now) }
     {
         match self {
             Container::Hash(map) => Ok(Container::Hash(map.copy()?)),

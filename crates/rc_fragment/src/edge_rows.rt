@@ -1,61 +1,71 @@
 //! The rows of one edge.
 
-ghost use Rattle.std.specs.Prelude.{◌≡◌, ◌+◌, ◌<◌, ◌^◌, ◌++◌, Some, None, OnOk, OnErr, IfOk, IsSome, option_copied};
+ghost use Rattle.std.specs.Prelude.{◌≡◌, ◌+◌, ◌<◌, ◌^◌, ◌++◌, Some, OnOk, OnErr, IfOk, IsSome, option_copied};
 ghost use Rattle.std.specs.FinMap as fin;
 ghost use Rattle.rc_tuple.specs.RisingSet.{In};
 ghost use Rattle.rc_tuple.specs.Tuple.{Pairs};
-ghost use Rattle.rc_edges.specs.EdgeMap.{IsRowOf, count_of, lowered, row_of, written};
-ghost use Rattle.rc_fragment.specs.Sources.{AreOfKind, AreSame, Becomes, IsEmptied, IsStoredRow, IsSingle, Reverts, Settles, by_source, seen_of, listed_in, now_at, taken_at};
+ghost use Rattle.rc_edges.specs.EdgeMap.{HasExtra, count_of, extra_of, lowered};
+ghost use Rattle.rc_maps.specs.HashTable.{entries_of, has_one_column};
+ghost use Rattle.rc_fragment.specs.Container.{now_in};
+ghost use Rattle.rc_fragment.specs.Listing.{IsFiled, row_found, source_rows};
+ghost use Rattle.rc_fragment.specs.RowValues.{IsParted};
+ghost use Rattle.rc_fragment.specs.Sources.{AreOfShape, AreOfWidth, AreSame, AreSeenAlike, Becomes, IsEmptied, IsStoredRow, IsSingle, Reverts, Settles, sources_of, listed_in, now_at, taken_at};
 
 use crate::EdgeShape;
 use crate::container::Container;
+use crate::rows::{push_rows, row_of};
+use rc_maps::{HashTable, Seed};
 use rc_tuple::{Memory, Tuple, Tuples};
 use std::alloc::Global;
-use std::collections::HashMap;
 
 /// The rows of one edge in containers of the edge's kind, one for each row of the edge's source that
-/// has some. A look-up takes one of the source and one of the key, and no memory.
+/// has some. A look-up takes one of the source and one of the key, each by its values in the order of
+/// the columns, and no memory.
 #[derive(Drop, Debug)]
 pub struct EdgeRows {
     pub shape: EdgeShape,
-    pub sources: HashMap<Vec<(u8, u64)>, Container>,
+    pub sources: HashTable<Container>,
+    pub seed: Seed,
     pub alloc: Global,
 }
 
 impl EdgeRows {
     /// No row of an edge of this shape.
-    pub fn new(alloc: Global, shape: EdgeShape) -> Self
+    pub fn new(alloc: Global, seed: Seed, shape: EdgeShape) -> Self
         ensures shape { result.shape ≡ shape }
-        ensures empty { by_source result.sources.entries ≡ fin.empty }
+        ensures empty { sources_of result ≡ fin.empty }
+        ensures form { AreOfShape result }
     {
         EdgeRows {
             shape,
-            sources: HashMap::new(alloc),
+            sources: HashTable::new(alloc, seed, shape.source.len() == 1),
+            seed,
             alloc,
         }
     }
 
     /// Adds the row with the count 1, or raises its count by 1.
-    pub fn add(&mut self, source: &Tuple, key: &Tuple, row: &Tuple) -> Result<(), Memory>
-        requires kinds { AreOfKind self.old }
+    pub fn add(&mut self, source: &[u64], key: &[u64], extra: &[u64]) -> Result<(), Memory>
+        requires forms { AreOfShape self.old }
+        requires width { AreOfWidth self.old.shape source.now key.now }
         requires room { count_of (now_at self.old source.now key.now) < 2 ^ 63 }
-        requires same { IsRowOf (now_at self.old source.now key.now) row.now }
+        requires same { HasExtra (now_at self.old source.now key.now) extra.now }
         requires single { IsSingle self.old source.now key.now }
-        ensures ok { OnOk result (Becomes self.old self.new source.now key.now (Some (row.now, count_of (now_at self.old source.now key.now) + 1)) (taken_at self.old source.now key.now)) }
+        ensures ok { OnOk result (Becomes self.old self.new source.now key.now (Some (extra.now, count_of (now_at self.old source.now key.now) + 1)) (taken_at self.old source.now key.now)) }
         ensures err { OnErr result (AreSame self.old self.new) }
     {
-        if let Some(container) = self.sources.get_mut(source.pairs()) {
-            container.add(key, row)?;
+        if let Some(container) = self.sources.get_mut(source) {
+            container.add(key, extra)?;
             return Ok(());
         }
-        let mut container = Container::new(self.alloc, self.shape.kind);
-        container.add(key, row)?;
-        put(&mut self.sources, self.alloc, source.pairs(), container)
+        let mut container = Container::new(self.alloc, self.seed, self.shape.kind, key.len() == 1);
+        container.add(key, extra)?;
+        self.sources.insert(source, container)
     }
 
     /// Lowers the count at the source and the key by 1, and takes the row out at 0.
-    pub fn sub(&mut self, source: &[(u8, u64)], key: &[(u8, u64)])
-        requires kinds { AreOfKind self.old }
+    pub fn sub(&mut self, source: &[u64], key: &[u64])
+        requires forms { AreOfShape self.old }
         requires there { IsSome (now_at self.old source.now key.now) }
         ensures { Becomes self.old self.new source.now key.now (lowered (now_at self.old source.now key.now)) (taken_at self.old source.now key.now) }
     {
@@ -67,39 +77,39 @@ impl EdgeRows {
 
     /// Makes what is at the source and the key what it was as taken. A container that keeps no row then
     /// is freed.
-    pub fn revert(&mut self, source: &[(u8, u64)], key: &[(u8, u64)])
-        requires kinds { AreOfKind self.old }
+    pub fn revert(&mut self, source: &[u64], key: &[u64])
+        requires forms { AreOfShape self.old }
         ensures becomes { Reverts self.old self.new source.now key.now }
-        ensures freed { IsEmptied self.new.sources.entries source.now → ⊥ }
+        ensures freed { IsEmptied (sources_of self.new) source.now → ⊥ }
     {
         let Some(container) = self.sources.get_mut(source) else {
             return;
         };
         container.revert(key);
         if container.is_gone() {
-            take_out(&mut self.sources, source);
+            let _ = self.sources.remove(source);
         }
     }
 
     /// Makes what is at the source and the key count as taken. A container that keeps no row then is
     /// freed.
-    pub fn settle(&mut self, source: &[(u8, u64)], key: &[(u8, u64)])
-        requires kinds { AreOfKind self.old }
+    pub fn settle(&mut self, source: &[u64], key: &[u64])
+        requires forms { AreOfShape self.old }
         ensures becomes { Settles self.old self.new source.now key.now }
-        ensures freed { IsEmptied self.new.sources.entries source.now → ⊥ }
+        ensures freed { IsEmptied (sources_of self.new) source.now → ⊥ }
     {
         let Some(container) = self.sources.get_mut(source) else {
             return;
         };
         container.settle(key);
         if container.is_gone() {
-            take_out(&mut self.sources, source);
+            let _ = self.sources.remove(source);
         }
     }
 
-    /// The row at the source and the key, if there is one.
-    pub fn get(&self, source: &[(u8, u64)], key: &[(u8, u64)]) -> Option<&Tuple>
-        ensures { option_copied result ≡ row_of (now_at self.now source.now key.now) }
+    /// The extra values of the row at the source and the key, if there is one.
+    pub fn get(&self, source: &[u64], key: &[u64]) -> Option<&[u64]>
+        ensures { option_copied result ≡ extra_of (now_at self.now source.now key.now) }
     {
         match self.sources.get(source) {
             Some(container) => container.get(key),
@@ -107,11 +117,11 @@ impl EdgeRows {
         }
     }
 
-    /// Adds the rows at the source at the end of the list, rising by their keys. Where memory is
-    /// wanted the list stays as it was.
-    pub fn scan(&self, source: &[(u8, u64)], out: &mut Tuples) -> Result<(), Memory>
-        ensures ok { OnOk result (out.new ≡ out.old ++ listed_in (fin.get (by_source self.now.sources.entries) source.now)) }
-        ensures err { OnErr result (out.new ≡ out.old) }
+    /// Adds of each row at the source its key and then its extra values at the end of the list, rising
+    /// by the keys. Where memory is wanted the list stays as it was.
+    pub fn scan(&self, source: &[u64], out: &mut Vec<u64>) -> Result<(), Memory>
+        ensures ok { OnOk result (out.new.items ≡ out.old.items ++ listed_in (fin.get (sources_of self.now) source.now)) }
+        ensures err { OnErr result (out.new.items ≡ out.old.items) }
     {
         match self.sources.get(source) {
             Some(container) => container.scan(out),
@@ -119,63 +129,89 @@ impl EdgeRows {
         }
     }
 
+    /// The row at the source and the key, if there is one.
+    pub fn row_at(&self, source: &[u64], key: &[u64]) -> Result<Option<Tuple>, Memory>
+        requires filed { IsFiled now_in self.now }
+        requires parted { IsParted self.now.shape }
+        ensures { IfOk result (λ row. row ≡ row_found self.now.shape source.now key.now (now_at self.now source.now key.now)) }
+    {
+        let Some(extra) = self.get(source, key) else {
+            return Ok(None);
+        };
+        let row = row_of(self.alloc, &self.shape, source, key, extra)?;
+        Ok(Some(row))
+    }
+
+    /// The rows at the source, rising by their keys.
+    pub fn rows_at(&self, source: &[u64]) -> Result<Tuples, Memory>
+        requires filed { IsFiled now_in self.now }
+        requires parted { IsParted self.now.shape }
+        ensures { IfOk result (λ rows. rows ≡ source_rows self.now.shape source.now (fin.get (sources_of self.now) source.now)) }
+    {
+        let mut values = Vec::new(self.alloc);
+        let mut rows = Tuples::new(self.alloc);
+        if let Some(container) = self.sources.get(source) {
+            push_rows(&self.shape, source, container, &mut values, &mut rows)?;
+        }
+        Ok(rows)
+    }
+
     /// All rows, in no particular order.
     pub fn all(&self) -> Result<Tuples, Memory>
+        requires filed { IsFiled now_in self.now }
+        requires parted { IsParted self.now.shape }
         ensures only { IfOk result (λ rows. (t : Pairs) → In t rows → IsStoredRow self.now t) }
         ensures each { IfOk result (λ rows. (t : Pairs) → IsStoredRow self.now t → In t rows) }
     {
+        let sources = self.sources.keyed(self.alloc)?;
+        let mut values = Vec::new(self.alloc);
         let mut rows = Tuples::new(self.alloc);
-        for (_, container) in &self.sources {
-            container.scan(&mut rows)?;
+        for source in &sources {
+            push_rows(
+                &self.shape,
+                source.key,
+                source.value,
+                &mut values,
+                &mut rows,
+            )?;
         }
         Ok(rows)
     }
 
     /// The same rows once more, now and as taken. Costs all rows.
     pub fn copy(&self) -> Result<Self, Memory>
-        requires { AreOfKind self.now }
+        requires { AreOfShape self.now }
         ensures { IfOk result (λ copy. AreSame self.now copy) }
     {
         Ok(EdgeRows {
             shape: self.shape,
-            sources: copy_of(self.alloc, &self.sources)?,
+            sources: copy_of(
+                self.alloc,
+                self.seed,
+                self.shape.source.len() == 1,
+                &self.sources,
+            )?,
+            seed: self.seed,
             alloc: self.alloc,
         })
     }
 }
 
-/// Gives a source a container. Where memory is wanted nothing changes.
-fn put(
-    sources: &mut HashMap<Vec<(u8, u64)>, Container>,
-    alloc: Global,
-    source: &[(u8, u64)],
-    container: Container,
-) -> Result<(), Memory>
-    ensures ok { OnOk result (by_source sources.new.entries ≡ written (by_source sources.old.entries) source.now (Some container)) }
-    ensures err { OnErr result (sources.new.entries ≡ sources.old.entries) }
-{
-    let pairs = Vec::from_slice(alloc, source)?;
-    sources.insert(pairs, container)?;
-    Ok(())
-}
-
-/// Takes out the container of the source.
-fn take_out(sources: &mut HashMap<Vec<(u8, u64)>, Container>, source: &[(u8, u64)])
-    ensures { by_source sources.new.entries ≡ written (by_source sources.old.entries) source.now None }
-{
-    let _ = sources.remove(source);
-}
-
 /// The same containers once more, by the same sources.
 fn copy_of(
     alloc: Global,
-    sources: &HashMap<Vec<(u8, u64)>, Container>,
-) -> Result<HashMap<Vec<(u8, u64)>, Container>, Memory>
-    ensures { IfOk result (λ copy. seen_of copy.entries ≡ seen_of sources.now.entries) }
+    seed: Seed,
+    one_column: bool,
+    sources: &HashTable<Container>,
+) -> Result<HashTable<Container>, Memory>
+    requires { has_one_column sources.now ≡ one_column }
+    ensures seen { IfOk result (λ copy. AreSeenAlike (entries_of sources.now) (entries_of copy)) }
+    ensures width { IfOk result (λ copy. has_one_column copy ≡ one_column) }
 {
-    let mut copy = HashMap::new(alloc);
-    for (source, container) in sources {
-        put(&mut copy, alloc, source.as_slice(), container.copy()?)?;
+    let keyed = sources.keyed(alloc)?;
+    let mut copy = HashTable::new(alloc, seed, one_column);
+    for source in &keyed {
+        copy.insert(source.key, source.value.copy()?)?;
     }
     Ok(copy)
 }

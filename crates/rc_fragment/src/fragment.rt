@@ -2,7 +2,7 @@
 
 ghost use Rattle.std.specs.Prelude.{◌≡◌, ◌<◌, ◌^◌, length, OnOk, OnErr, IfOk, option_copied};
 ghost use Rattle.rc_spec.specs.CountedRows.{count_at, lowered, raised};
-ghost use Rattle.rc_fragment.specs.Fragment.{AreAllRows, AreRowsOf, HasAlone, HasColumns, HasScanned, HasShape, HasSingle, IsLookedUp, IsThere, edge_table, shape_of};
+ghost use Rattle.rc_fragment.specs.Fragment.{AreAllRows, AreRowsOf, HasAlone, HasColumns, HasScanned, HasShape, HasSingle, IsFoundAt, IsLookedUp, IsScan, IsThere, edge_table, shape_of};
 ghost use Rattle.rc_fragment.specs.FragmentRows.{changed, no_rows, rolled_back, settled, with_promise, without_promise};
 ghost use Rattle.rc_fragment.specs.Listing.{AreEmpty, AreStored, found_by, shapes};
 ghost use Rattle.rc_fragment.specs.Container.{now_in, taken_in};
@@ -12,11 +12,15 @@ ghost use Rattle.rc_fragment.specs.declared.shape.EdgeShape.{EdgeShape};
 use crate::EdgeShape;
 use crate::changes::{add_noted, revert_noted, settle_noted, sub_noted};
 use crate::edge_rows::EdgeRows;
-use crate::note::{Note, PAIRS_OF_NOTE};
+use crate::note::{Note, VALUES_OF_NOTE};
+use rc_maps::Seed;
 use rc_spec::{Accepted, Edge, Spec};
 use rc_tuple::{Memory, Tuple, Tuples};
 use std::alloc::Global;
 use std::marker::Model;
+
+/// The seed of the hash tables of a fragment for which none is chosen: digits of pi.
+const FIXED_SEED: (u64, u64) = (0x243F_6A88_85A3_08D3, 0x1319_8A2E_0370_7344);
 
 /// The rows of all edges that fall on one lock stripe (PLDI 2012, lock striping): each edge and source
 /// has its rows in a container of the edge's kind.
@@ -28,7 +32,7 @@ use std::marker::Model;
 pub struct Fragment {
     edges: Vec<EdgeRows>,
     notes: Vec<Note>,
-    pairs: Vec<(u8, u64)>,
+    noted: Vec<u64>,
     room: usize,
 }
 
@@ -47,13 +51,22 @@ impl Model for Fragment {
 impl Fragment {
     /// The fragment of an accepted specification's stripe with no row. It has the edge table of the
     /// specification; no call changes the table.
+    /// Its hash tables have one fixed seed, so whoever chooses the values can make them collide; where
+    /// that matters, `with_seed` takes another.
     pub fn empty(alloc: Global, accepted: &Accepted) -> Result<Fragment, Memory>
         ensures { IfOk result (λ fragment. fragment ≡ no_rows (edge_table accepted.now)) }
     {
+        Fragment::with_seed(alloc, Seed::new(FIXED_SEED.0, FIXED_SEED.1), accepted)
+    }
+
+    /// The same, with hash tables of this seed.
+    pub fn with_seed(alloc: Global, seed: Seed, accepted: &Accepted) -> Result<Fragment, Memory>
+        ensures { IfOk result (λ fragment. fragment ≡ no_rows (edge_table accepted.now)) }
+    {
         Ok(Fragment {
-            edges: empty_edges(alloc, accepted)?,
+            edges: empty_edges(alloc, seed, accepted)?,
             notes: Vec::new(alloc),
-            pairs: Vec::new(alloc),
+            noted: Vec::new(alloc),
             room: 0,
         })
     }
@@ -66,7 +79,7 @@ impl Fragment {
     {
         let promised = changes as usize;
         self.notes.reserve(promised)?;
-        self.pairs.reserve(promised * PAIRS_OF_NOTE)?;
+        self.noted.reserve(promised * VALUES_OF_NOTE)?;
         self.room = self.room.max(promised);
         Ok(())
     }
@@ -92,7 +105,7 @@ impl Fragment {
         ensures ok { OnOk result (self.new ≡ changed (raised edge row.now) self.old) }
         ensures err { OnErr result (self.new ≡ self.old) }
     {
-        add_noted(&mut self.edges, &mut self.notes, &mut self.pairs, edge, row)?;
+        add_noted(&mut self.edges, &mut self.notes, &mut self.noted, edge, row)?;
         self.room -= 1;
         Ok(())
     }
@@ -105,7 +118,7 @@ impl Fragment {
         requires there { IsThere self.old.now edge row.now }
         ensures { self.new ≡ changed (lowered edge row.now) self.old }
     {
-        sub_noted(&mut self.edges, &mut self.notes, &mut self.pairs, edge, row);
+        sub_noted(&mut self.edges, &mut self.notes, &mut self.noted, edge, row);
         self.room -= 1;
     }
 
@@ -114,7 +127,7 @@ impl Fragment {
     pub fn revert(&mut self)
         ensures { self.new ≡ rolled_back self.old }
     {
-        revert_noted(&mut self.edges, &mut self.notes, &mut self.pairs);
+        revert_noted(&mut self.edges, &mut self.notes, &mut self.noted);
     }
 
     /// Makes the rows now count as taken (a commit). Takes no memory. Costs the changes since they were
@@ -122,14 +135,15 @@ impl Fragment {
     pub fn settle(&mut self)
         ensures { self.new ≡ settled self.old }
     {
-        settle_noted(&mut self.edges, &mut self.notes, &mut self.pairs);
+        settle_noted(&mut self.edges, &mut self.notes, &mut self.noted);
     }
 
-    /// The row of the edge with these pairs at the source's and at the key's columns; `None` exactly
-    /// where there is none. Costs a hash look-up of the source and a look-up of the key: one of a hash
-    /// in an edge of kind hash, logarithmic in one of kind ordered, and linear in the rows of the
-    /// source in one of kind list. Takes no memory.
-    pub fn lookup(&self, edge: u8, source: &[(u8, u64)], key: &[(u8, u64)]) -> Option<&Tuple>
+    /// Of the row of the edge with these values at the source's and at the key's columns, each in column
+    /// order, the values at the extra columns, those of the target that neither has, in column order;
+    /// `None` exactly where there is no such row. Costs a hash look-up of the source and a look-up of
+    /// the key: one of a hash in an edge of kind hash, logarithmic in one of kind ordered, and linear in
+    /// the rows of the source in one of kind list. Takes no memory.
+    pub fn lookup(&self, edge: u8, source: &[u64], key: &[u64]) -> Option<&[u64]>
         requires { edge < length self.now.table }
         ensures { (shape : EdgeShape) → HasShape self.now.table edge shape → IsLookedUp shape self.now.now edge source.now key.now (option_copied result) }
     {
@@ -137,15 +151,37 @@ impl Fragment {
         rows.get(source, key)
     }
 
-    /// Adds the rows of the edge with these pairs at the source's columns at the end of the list,
-    /// rising by their keys. Where memory is wanted the list stays as it was.
-    pub fn scan(&self, edge: u8, source: &[(u8, u64)], out: &mut Tuples) -> Result<(), Memory>
+    /// Adds of each row of the edge with these values at the source's columns the values at the key's
+    /// and then those at the extra columns at the end of the list, rising by the keys. A row without
+    /// key and extra columns adds nothing: `lookup` tells whether it is there. Where memory is wanted
+    /// the list stays as it was.
+    pub fn scan(&self, edge: u8, source: &[u64], out: &mut Vec<u64>) -> Result<(), Memory>
         requires { edge < length self.now.table }
-        ensures ok { OnOk result ((shape : EdgeShape) → HasShape self.now.table edge shape → HasScanned shape self.now.now edge source.now out.old out.new) }
-        ensures err { OnErr result (out.new ≡ out.old) }
+        ensures ok { OnOk result ((shape : EdgeShape) → HasShape self.now.table edge shape → HasScanned shape self.now.now edge source.now out.old.items out.new.items) }
+        ensures err { OnErr result (out.new.items ≡ out.old.items) }
     {
         let rows = &self.edges[edge as usize];
         rows.scan(source, out)
+    }
+
+    /// The row of the edge with these values at the source's and at the key's columns, if there is one,
+    /// as a tuple of its own. Costs what `lookup` does, and memory for the row.
+    pub fn row_at(&self, edge: u8, source: &[u64], key: &[u64]) -> Result<Option<Tuple>, Memory>
+        requires { edge < length self.now.table }
+        ensures { IfOk result (λ row. (shape : EdgeShape) → HasShape self.now.table edge shape → IsFoundAt shape self.now.now edge source.now key.now row) }
+    {
+        let rows = &self.edges[edge as usize];
+        rows.row_at(source, key)
+    }
+
+    /// The rows of the edge with these values at the source's columns, rising by their keys, as tuples
+    /// of their own. Costs what `scan` does, and memory for each row.
+    pub fn rows_at(&self, edge: u8, source: &[u64]) -> Result<Tuples, Memory>
+        requires { edge < length self.now.table }
+        ensures { IfOk result (λ rows. (shape : EdgeShape) → HasShape self.now.table edge shape → IsScan shape self.now.now edge source.now rows) }
+    {
+        let rows = &self.edges[edge as usize];
+        rows.rows_at(source)
     }
 
     /// A law, in the form of a call that does nothing: the rows of every fragment are counted, each is
@@ -174,7 +210,7 @@ impl Fragment {
         Ok(Fragment {
             edges: copy_edges(alloc, &self.edges)?,
             notes: Vec::from_slice(alloc, self.notes.as_slice())?,
-            pairs: Vec::from_slice(alloc, self.pairs.as_slice())?,
+            noted: Vec::from_slice(alloc, self.noted.as_slice())?,
             room: 0,
         })
     }
@@ -197,14 +233,14 @@ fn copy_edges(alloc: Global, edges: &Vec<EdgeRows>) -> Result<Vec<EdgeRows>, Mem
 }
 
 /// The edges of a specification with no row.
-fn empty_edges(alloc: Global, accepted: &Accepted) -> Result<Vec<EdgeRows>, Memory>
+fn empty_edges(alloc: Global, seed: Seed, accepted: &Accepted) -> Result<Vec<EdgeRows>, Memory>
     ensures shapes { IfOk result (λ edges. shapes edges.items ≡ edge_table accepted.now) }
     ensures empty { IfOk result (λ edges. AreEmpty edges.items) }
 {
     let spec = accepted.spec();
     let mut edges = Vec::new(alloc);
     for edge in spec.edges.list() {
-        edges.push(EdgeRows::new(alloc, shape_of(spec, edge)))?;
+        edges.push(EdgeRows::new(alloc, seed, shape_of(spec, edge)))?;
     }
     Ok(edges)
 }

@@ -12,7 +12,9 @@ mod keep;
 mod laws;
 mod note;
 mod places;
+mod rows;
 mod shape;
+mod values;
 
 pub use cow::CowFragment;
 pub use fragment::Fragment;
@@ -21,3 +23,4 @@ pub use holder::Holder;
 pub use keep::Keep;
 pub use laws::fragments_are_readable;
 pub use shape::EdgeShape;
+pub use values::values_at;

@@ -1,17 +1,17 @@
 //! Notes of the places that changed since a fragment was taken.
 
 ghost use Rattle.std.specs.Prelude.{◌≡◌, ◌+◌, ◌≤◌, ◌<◌, ◌-◌, ◌++◌, [], ◌∷◌, drop, length, take, vec_len, vec_capacity};
-ghost use Rattle.rc_tuple.specs.Tuple.{project};
 ghost use Rattle.rc_fragment.specs.Notes.{IsNoteWithin, key_of, place_of, room_in, source_of};
+ghost use Rattle.rc_fragment.specs.RowValues.{IsParted, extra_columns, values_at};
 
 use crate::EdgeShape;
 use rc_tuple::{ColSet, Tuple};
 
-/// How many pairs a note may take: those of a source and of a key, each with at most 32 columns.
-pub const PAIRS_OF_NOTE: usize = 64;
+/// How many values a note may take while its change is made: those of a row, with at most 32 columns.
+pub const VALUES_OF_NOTE: usize = 32;
 
-/// A changed place: the edge, and where the pairs of the source and of the key stand in the list of
-/// the noted pairs, one behind the other.
+/// A changed place: the edge, and where the values of the source and of the key stand in the list of
+/// the noted values, one behind the other.
 #[derive(Clone, Copy, Debug)]
 pub struct Note {
     pub edge: u8,
@@ -21,71 +21,86 @@ pub struct Note {
 }
 
 impl Note {
-    /// The pairs of the source.
-    pub fn source<'a>(&self, pairs: &'a [(u8, u64)]) -> &'a [(u8, u64)]
-        requires { IsNoteWithin (length pairs.now) self.now }
-        ensures { result.now ≡ source_of pairs.now self.now }
+    /// The values of the source.
+    pub fn source<'a>(&self, values: &'a [u64]) -> &'a [u64]
+        requires { IsNoteWithin (length values.now) self.now }
+        ensures { result.now ≡ source_of values.now self.now }
     {
-        part(pairs, self.start, self.middle)
+        part(values, self.start, self.middle)
     }
 
-    /// The pairs of the key.
-    pub fn key<'a>(&self, pairs: &'a [(u8, u64)]) -> &'a [(u8, u64)]
-        requires { IsNoteWithin (length pairs.now) self.now }
-        ensures { result.now ≡ key_of pairs.now self.now }
+    /// The values of the key.
+    pub fn key<'a>(&self, values: &'a [u64]) -> &'a [u64]
+        requires { IsNoteWithin (length values.now) self.now }
+        ensures { result.now ≡ key_of values.now self.now }
     {
-        part(pairs, self.middle, self.end)
+        part(values, self.middle, self.end)
+    }
+
+    /// The values behind the note's.
+    pub fn behind<'a>(&self, values: &'a [u64]) -> &'a [u64]
+        requires { IsNoteWithin (length values.now) self.now }
+        ensures { result.now ≡ drop self.now.end values.now }
+    {
+        &values[self.end..]
     }
 }
 
-/// The pairs from one place up to another.
-fn part(pairs: &[(u8, u64)], start: usize, end: usize) -> &[(u8, u64)]
+/// The values from one place up to another.
+fn part(values: &[u64], start: usize, end: usize) -> &[u64]
     requires order { start ≤ end }
-    requires within { end ≤ length pairs.now }
-    ensures { result.now ≡ take (end - start) (drop start pairs.now) }
+    requires within { end ≤ length values.now }
+    ensures { result.now ≡ take (end - start) (drop start values.now) }
 {
-    &pairs[start..end]
+    &values[start..end]
 }
 
-/// Notes the row's source and key. Takes no memory.
+/// Notes the row's source and key. There is room for its extra values behind them then. Takes no
+/// memory.
 pub fn note_row(
     notes: &mut Vec<Note>,
-    pairs: &mut Vec<(u8, u64)>,
+    values: &mut Vec<u64>,
     edge: u8,
     row: &Tuple,
-    shape: EdgeShape,
+    shape: &EdgeShape,
 ) -> Note
-    requires { 0 < room_in notes.old pairs.old }
-    ensures place { place_of pairs.new.items result ≡ (edge, project shape.source row.now, project shape.key row.now) }
-    ensures within { IsNoteWithin (length pairs.new.items) result }
+    requires room { 0 < room_in notes.old values.old }
+    requires parted { IsParted shape.now }
+    ensures place { place_of values.new.items result ≡ (edge, values_at shape.now.source row.now, values_at shape.now.key row.now) }
+    ensures within { IsNoteWithin (length values.new.items) result }
+    ensures start { result.start ≡ length values.old.items }
+    ensures end { result.end ≡ length values.new.items }
     ensures notes { notes.new.items ≡ notes.old.items ++ result ∷ [] }
-    ensures pairs { pairs.new.items ≡ pairs.old.items ++ (project shape.source row.now ++ project shape.key row.now) }
-    ensures room { room_in notes.old pairs.old ≤ room_in notes.new pairs.new + 1 }
+    ensures values { values.new.items ≡ values.old.items ++ (values_at shape.now.source row.now ++ values_at shape.now.key row.now) }
+    ensures room { room_in notes.old values.old ≤ room_in notes.new values.new + 1 }
+    ensures notes_capacity { vec_capacity notes.new ≡ vec_capacity notes.old }
+    ensures values_capacity { vec_capacity values.new ≡ vec_capacity values.old }
+    ensures spare { vec_len values.new + length (values_at (extra_columns shape.now) row.now) ≤ vec_capacity values.new }
 {
-    let start = pairs.len();
-    push_projection(pairs, row.pairs(), shape.source);
-    let middle = pairs.len();
-    push_projection(pairs, row.pairs(), shape.key);
+    let start = values.len();
+    push_values(values, row.pairs(), shape.source);
+    let middle = values.len();
+    push_values(values, row.pairs(), shape.key);
     let note = Note {
         edge,
         start,
         middle,
-        end: pairs.len(),
+        end: values.len(),
     };
     notes.push_reserved(note);
     note
 }
 
-/// Adds those of the pairs whose columns the set has at the end. Takes no memory.
-fn push_projection(out: &mut Vec<(u8, u64)>, pairs: &[(u8, u64)], cols: ColSet)
-    requires { vec_len out.old + length pairs.now ≤ vec_capacity out.old }
-    ensures items { out.new.items ≡ out.old.items ++ project cols pairs.now }
-    ensures len { vec_len out.new ≤ vec_len out.old + length pairs.now }
+/// Adds the values at those of the row's columns that the set has at the end. Takes no memory.
+pub fn push_values(out: &mut Vec<u64>, row: &[(u8, u64)], cols: ColSet)
+    requires { vec_len out.old + length (values_at cols row.now) ≤ vec_capacity out.old }
+    ensures items { out.new.items ≡ out.old.items ++ values_at cols row.now }
+    ensures len { vec_len out.new ≡ vec_len out.old + length (values_at cols row.now) }
     ensures capacity { vec_capacity out.new ≡ vec_capacity out.old }
 {
-    for pair in pairs {
+    for pair in row {
         if cols.has(pair.0) {
-            out.push_reserved(*pair);
+            out.push_reserved(pair.1);
         }
     }
 }

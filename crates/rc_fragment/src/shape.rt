@@ -1,3 +1,7 @@
+ghost use Rattle.std.specs.Prelude.{◌≡◌};
+ghost use Rattle.rc_tuple.specs.ColSet.{IsColSet};
+ghost use Rattle.rc_fragment.specs.RowValues.{extra_columns};
+
 use rc_spec::EdgeKind;
 use rc_tuple::ColSet;
 
@@ -9,4 +13,14 @@ pub struct EdgeShape {
     pub key: ColSet,
     pub target: ColSet,
     pub kind: EdgeKind,
+}
+
+impl EdgeShape {
+    /// The columns of the target that neither source nor key has.
+    pub fn extra(&self) -> ColSet
+        ensures columns { result ≡ extra_columns self.now }
+        ensures set { IsColSet result }
+    {
+        self.target.minus(self.source.union(self.key))
+    }
 }

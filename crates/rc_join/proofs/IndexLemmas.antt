@@ -12,11 +12,7 @@ use Rattle.rc_tuple.specs.RisingSetLaws.{in_append}
 use Rattle.rc_tuple.specs.ColSet.{Within}
 use Rattle.rc_tuple.specs.Tuple.{Pairs, IsTuple, cols_of, merges_of, project, tuple_cmp, tuple_eq}
 use Rattle.rc_tuple.specs.TupleLaws.{rising_pairs, same_from_test}
-use Rattle.rc_edges.specs.EdgeMap.{written}
-use Rattle.rc_edges.specs.RowsLaws.{get-written}
-use Rattle.rc_maps.specs.Keyed.{Key}
-use Rattle.rc_maps.specs.KeyedLaws.{get-whole, whole-changed}
-use Rattle.rc_maps.specs.HashedLaws.{pointwise_same, test, key_eq}
+use Rattle.rc_join.proofs.TupleKeys.{Key, get-whole, get-written, key_eq, pointwise_same, test, whole-changed, written}
 use Rattle.rc_spec.specs.JoinLaws.{join_by_columns}
 use Rattle.rc_spec.specs.Contents.{join}
 use Rattle.rc_join.specs.Index.{Entries, IsAdded, IsIndexed, found_at, tuples_in, tuples_of, whole_of}

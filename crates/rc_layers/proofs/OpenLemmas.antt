@@ -16,11 +16,12 @@ use Rattle.rc_spec.specs.declared.items.EdgeKind.TheVariants.{Singleton}
 use Rattle.rc_spec.specs.declared.lock.Mode.{Mode}
 use Rattle.rc_spec.specs.declared.lock.Mode.TheVariants.{Exclusive}
 use Rattle.rc_spec.specs.declared.spec.Spec.{Spec}
-use Rattle.rc_fragment.specs.Fragment.{HasScanned, HasShape, IsThere, edge_table, shape_of}
+use Rattle.rc_fragment.specs.Fragment.{HasShape, IsScan, IsThere, edge_table, shape_of}
 use Rattle.rc_fragment.specs.FragmentRows.{FragmentRows}
 use Rattle.rc_fragment.specs.Holder.{AreOffered, GoesOn, HasRoom, HeldStripe, HasTaken, Holding, IsAbove, IsHeld, IsHeldExclusive, LentStripe, changed_at, held_of, just_taken, offered_at, reverted, with_now, with_room, with_room_at}
 use Rattle.rc_fragment.specs.HoldingLaws.{held-taken}
 use Rattle.rc_fragment.specs.Keep.{KeptRows}
+use Rattle.rc_fragment.specs.RowValues.{values_at}
 use Rattle.rc_fragment.specs.declared.shape.EdgeShape.{EdgeShape}
 use Rattle.rc_instance.specs.Instance.{held_from, kept_stripe, table_of}
 use Rattle.rc_layers.specs.Open.{AreExclusive, AreFew, IsBeside, IsOfSpec, MayBeAdded}
@@ -156,8 +157,8 @@ not_held held stripe n a l w = let k : w.0.stripe < stripe = a w.0 w.1 in let e 
 
 -- ---- a row that may be added
 
-pub may_be_added : (table : List EdgeShape) (shape : EdgeShape) (rows : List EdgeRow) (e : ℕ) (row source : Pairs) (found : List Pairs) → HasShape table e shape
-    → source ≡ project shape.source row → ((s : EdgeShape) → HasShape table e s → HasScanned s rows e source [] found)
+pub may_be_added : (table : List EdgeShape) (shape : EdgeShape) (rows : List EdgeRow) (e : ℕ) (row : Pairs) (source : List ℕ) (found : List Pairs) → HasShape table e shape
+    → source ≡ values_at shape.source row → ((s : EdgeShape) → HasShape table e s → IsScan s rows e source found)
     → ((u : Pairs) → In u found → IsBeside shape row u) → MayBeAdded table rows e row
 may_be_added table shape rows e row source found has from scanned beside = record {
   alone = λ s h u there p q.
@@ -169,7 +170,7 @@ may_be_added table shape rows e row source found has from scanned beside = recor
 }
   where
     among : (u : Pairs) → IsThere rows e u → project shape.source u ≡ project shape.source row → In u found
-    among u there p = let w = scanned shape has in subst (In u) (sym w.1) (w.2.each u there (p ∙ sym from))
+    among u there p = (scanned shape has).each u there (ap (map (λ (q : ℕ × ℕ). q.1)) p ∙ sym from)
 
 pub moved : (old new : List EdgeShape) (ws vs : List EdgeRow) (e : ℕ) (row : Pairs) → old ≡ new → ws ≡ vs → MayBeAdded old ws e row → MayBeAdded new vs e row
 moved old new ws vs e row a b m = subst (λ z. MayBeAdded z vs e row) a (subst (λ z. MayBeAdded old z e row) b m)

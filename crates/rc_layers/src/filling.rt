@@ -12,10 +12,10 @@ ghost use Rattle.rc_layers.specs.Open.{AreExclusive, AreFew, IsBeside, IsOfSpec,
 
 use crate::rows::{fragment_of, has, same, shape_of, stripes_of};
 use crate::stop::Stop;
-use rc_fragment::{EdgeShape, Fragment, Holder, Keep, TakeStop};
+use rc_fragment::{EdgeShape, Fragment, Holder, Keep, TakeStop, values_at};
 use rc_instance::{Instance, InstanceRoom};
 use rc_spec::{Accepted, EdgeKind, Mode, band_start, stripe_of};
-use rc_tuple::{Tuple, Tuples, Vals};
+use rc_tuple::{Tuple, Vals};
 use std::alloc::Global;
 
 // ---- rows
@@ -94,9 +94,8 @@ fn may_be_added(fragment: &Fragment, shape: &EdgeShape, edge: u8, row: &Tuple) -
     requires { HasShape fragment.now.table edge shape.now }
     ensures { IfOk result (λ yes. IsTrue yes → MayBeAdded fragment.now.table fragment.now.now edge row.now) }
 {
-    let source = row.project(shape.source)?;
-    let mut rows = Tuples::new(row.alloc());
-    fragment.scan(edge, source.pairs(), &mut rows)?;
+    let source = values_at(row, shape.source)?;
+    let rows = fragment.rows_at(edge, &source)?;
     let is_free = is_beside_each(shape, row, rows.list())?;
     Ok(is_free)
 }

@@ -9,7 +9,7 @@ ghost use Rattle.rc_instance.specs.Instance.{holding};
 ghost use Rattle.rc_layers.specs.Open.{AreExclusive, IsOfSpec};
 
 use crate::stop::Stop;
-use rc_fragment::{EdgeShape, Fragment, Holder};
+use rc_fragment::{EdgeShape, Fragment, Holder, values_at};
 use rc_instance::Instance;
 use rc_spec::{Accepted, stripe_total};
 use rc_text::{push_bytes, push_u64};
@@ -68,12 +68,12 @@ pub(crate) fn has(
     requires { HasShape fragment.now.table edge shape.now }
     ensures { IfOk result (λ found. IsTrue found → IsThere fragment.now.now edge row.now) }
 {
-    let source = row.project(shape.source)?;
-    let key = row.project(shape.key)?;
-    let Some(found) = fragment.lookup(edge, source.pairs(), key.pairs()) else {
+    let source = values_at(row, shape.source)?;
+    let key = values_at(row, shape.key)?;
+    let Some(found) = fragment.row_at(edge, &source, &key)? else {
         return Ok(false);
     };
-    if !same(found, row) {
+    if !same(&found, row) {
         return Err(Stop::Found);
     }
     Ok(true)

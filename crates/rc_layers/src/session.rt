@@ -18,7 +18,7 @@ use rc_fragment::{Fragment, Holder};
 use rc_instance::Instance;
 use rc_spec::{Accepted, Mode};
 use rc_text::push_bytes;
-use rc_tuple::{Memory, Tuple, Tuples, Vals};
+use rc_tuple::{Memory, Tuple};
 use rc_values::Ranks;
 use std::alloc::Global;
 
@@ -445,9 +445,7 @@ fn push_scan(
     if values.len() != source.len() as usize {
         return Err(Stop::Line);
     }
-    let source = Tuple::new(source, Vals::from_slice(alloc, values)?)?;
-    let mut rows = Tuples::new(alloc);
-    fragment.scan(edge, source.pairs(), &mut rows)?;
+    let rows = fragment.rows_at(edge, values)?;
     let ranks = Ranks::build(Vec::new(alloc))?;
     push_count("scan", rows.list().len(), out)?;
     push_tuples(accepted, &ranks, rows.list(), out)?;

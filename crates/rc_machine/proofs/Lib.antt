@@ -3,6 +3,7 @@ pub mod LentLemmas
 mod LockLemmas
 mod PlaceLemmas
 mod ReadLemmas
+mod SeekLemmas
 pub mod RevertLemmas
 pub mod RunLemmas
 pub mod StepLemmas

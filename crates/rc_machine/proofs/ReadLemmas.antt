@@ -1,5 +1,5 @@
 -- What the containers of held stripes answer a binding, merged with it, is its part of a join.
-use Rattle.std.specs.Prelude.{◌≡◌, ℕ, zero, suc, ◌+◌, ◌<◌, ◌≤◌, true, List, [], ◌∷◌, ◌++◌, ◌⊎◌, None, Some, filter, length, take, get_or, Result, Ok, Err, IfOk, OnErr, OnOk}
+use Rattle.std.specs.Prelude.{◌≡◌, ℕ, zero, suc, ◌+◌, ◌<◌, ◌≤◌, true, List, [], ◌∷◌, ◌++◌, ◌⊎◌, None, Some, filter, length, map, take, get_or, Result, Ok, Err, IfOk, OnErr, OnOk}
 use Rattle.std.specs.List.{flat_map, range_with_len}
 use Rattle.std.specs.Option.{option_map}
 use Rattle.std.specs.Ordering.{nat_cmp}
@@ -27,7 +27,8 @@ use Rattle.rc_spec.specs.PlacementLaws.{class_of_known}
 use Rattle.rc_spec.specs.Stripes.{physical_stripe}
 use Rattle.rc_bindings.specs.Bindings.{BindingList, OneBinding, with_tuples}
 use Rattle.rc_fragment.specs.declared.shape.EdgeShape.{EdgeShape}
-use Rattle.rc_fragment.specs.Fragment.{HasScanned, HasShape, IsLookedUp, IsThere, edge_table, shape_of}
+use Rattle.rc_fragment.specs.Fragment.{HasShape, IsLookedUp, IsScan, IsThere, IsThereWith, edge_table, shape_of}
+use Rattle.rc_fragment.specs.RowValues.{values_at}
 use Rattle.rc_fragment.specs.Holder.{HeldStripe, Holding, IsHeld, IsLent, held_of}
 use Rattle.rc_fragment.specs.FragmentRows.{FragmentRows}
 use Rattle.rc_plan.specs.declared.statement.ReadMode.TheVariants.{Lookup, Scan}
@@ -94,7 +95,7 @@ appended b e rows old us f g = record {
 
 module _ (spec : Spec) (sealed : IsSealed spec) (e : ℕ) (known : e < length spec.edges) (b : Pairs) (tuple : IsTuple b) (rows : List EdgeRow)
     (columns : (w : EdgeRow) → In w rows → cols_of w.1 ≡ bound spec (edge_at spec w.0).to) where
-  shape : EdgeShape
+  abbrev pub shape : EdgeShape
   shape = shape_of spec (edge_at spec e)
 
   target : List ℕ
@@ -118,27 +119,36 @@ module _ (spec : Spec) (sealed : IsSealed spec) (e : ℕ) (known : e < length sp
   key_there : IsReader spec e Lookup b → (u : Pairs) → IsThere rows e u → agrees b u ≡ true → project (edge_at spec e).key u ≡ project (edge_at spec e).key b
   key_there reads u t g = same_there (edge_at spec e).key (λ c m. a3.inside c (union_right (bound spec (edge_at spec e).from) (edge_at spec e).key c m)) reads.key u t g
 
+  -- such a row has the values by which it is looked up
+  there_with : (source key : List ℕ) → source ≡ values_at shape.source b → key ≡ values_at shape.key b → IsReader spec e Lookup b
+      → (u : Pairs) → IsThere rows e u → agrees b u ≡ true → IsThereWith shape rows e source key u
+  there_with source key by_source by_key reads u t g = record {
+    there = t;
+    source_is = ap (map (λ (p : ℕ × ℕ). p.1)) (source_there reads u t g) ∙ sym by_source;
+    key_is = ap (map (λ (p : ℕ × ℕ). p.1)) (key_there reads u t g) ∙ sym by_key;
+  }
+
   module _ (old : List Pairs) where
-    pub looked_up_none : (source key : Pairs) → source ≡ project (bound spec (edge_at spec e).from) b → key ≡ project (edge_at spec e).key b → IsReader spec e Lookup b
-        → IsLookedUp (shape_of spec (edge_at spec e)) rows e source key None → HasMerged b e rows old old
+    pub looked_up_none : (source key : List ℕ) → source ≡ values_at shape.source b → key ≡ values_at shape.key b → IsReader spec e Lookup b
+        → IsLookedUp shape rows e source key None → HasMerged b e rows old old
     looked_up_none source key by_source by_key reads h = record {
       kept = λ c m. m;
       only = λ c m. inl m;
-      each = λ c m. absurd (h m.0 m.1 (source_there reads m.0 m.1 m.2 ∙ sym by_source) (key_there reads m.0 m.1 m.2 ∙ sym by_key));
+      each = λ c m. absurd (h m.0 (there_with source key by_source by_key reads m.0 m.1 m.2));
     }
 
-    pub looked_up_some : (t source key : Pairs) → source ≡ project (bound spec (edge_at spec e).from) b → key ≡ project (edge_at spec e).key b → IsReader spec e Lookup b
-        → IsLookedUp (shape_of spec (edge_at spec e)) rows e source key (Some t) → HasMerged b e rows old (old ++ merges_of b (t ∷ []))
-    looked_up_some t source key by_source by_key reads h = appended b e rows old (t ∷ [])
-        (λ u m. elim m [ inl q ↦ subst (λ z. IsThere rows e z) (sym q) h.0 | inr z ↦ absurd z ])
-        (λ u m g. inl (h.3 u m (source_there reads u m g ∙ sym by_source) (key_there reads u m g ∙ sym by_key)))
+    pub looked_up_some : (extra source key : List ℕ) → source ≡ values_at shape.source b → key ≡ values_at shape.key b → IsReader spec e Lookup b
+        → (h : IsLookedUp shape rows e source key (Some extra)) → HasMerged b e rows old (old ++ merges_of b (h.0 ∷ []))
+    looked_up_some extra source key by_source by_key reads h = appended b e rows old (h.0 ∷ [])
+        (λ u m. elim m [ inl q ↦ subst (λ z. IsThere rows e z) (sym q) h.1.there | inr z ↦ absurd z ])
+        (λ u m g. inl (h.3 u (there_with source key by_source by_key reads u m g)))
 
-    pub scanned : (ts : List Pairs) (source : Pairs) → source ≡ project (bound spec (edge_at spec e).from) b → IsReader spec e Scan b
-        → HasScanned (shape_of spec (edge_at spec e)) rows e source [] ts → HasMerged b e rows old (old ++ merges_of b ts)
+    pub scanned : (ts : List Pairs) (source : List ℕ) → source ≡ values_at shape.source b → IsReader spec e Scan b
+        → IsScan shape rows e source ts → HasMerged b e rows old (old ++ merges_of b ts)
     scanned ts source by_source reads h = appended b e rows old ts
-        (λ u m. (h.2.only u (subst (In u) h.1 m)).0)
-        (λ u m g. subst (In u) (sym h.1)
-        (h.2.each u m (same_there (bound spec (edge_at spec e).from) (λ c n. a3.inside c (union_left (bound spec (edge_at spec e).from) (edge_at spec e).key c n)) reads.source u m g ∙ sym by_source)))
+        (λ u m. (h.only u m).0)
+        (λ u m g. h.each u m (ap (map (λ (p : ℕ × ℕ). p.1))
+        (same_there shape.source (λ c n. a3.inside c (union_left shape.source shape.key c n)) reads.source u m g) ∙ sym by_source))
 
 -- ---- the answers of several stripes
 

@@ -23,7 +23,7 @@ use rc_bindings::{Binding, Bindings};
 use rc_fragment::{Fragment, Holder};
 use rc_plan::ReadMode;
 use rc_spec::{Spec, band_start};
-use rc_tuple::{Memory, Tuples};
+use rc_tuple::{ColSet, Memory};
 use std::alloc::Global;
 use std::mem;
 
@@ -111,6 +111,7 @@ fn push_from_band<H: Holder>(
     requires good { AreGood spec.now (held_of (H.seen holder.now)) }
     requires takes { TakesMerges spec.now edge binding.now found.old }
     requires class { class < length spec.now.classes }
+    requires own { cols_of binding.now.tuple ≡ binding.now.columns }
     requires tuple { IsTuple binding.now.tuple }
     requires reader { IsReader spec.now edge mode binding.now.tuple }
     requires held { (stripe : ℕ) → In stripe (band spec.now class) → In stripe (stripes_held (held_of (H.seen holder.now))) }
@@ -150,6 +151,7 @@ fn push_found<H: Holder>(
     requires good { AreGood spec.now (held_of (H.seen holder.now)) }
     requires takes { TakesMerges spec.now edge binding.now found.old }
     requires held { In stripe (stripes_held (held_of (H.seen holder.now))) }
+    requires own { cols_of binding.now.tuple ≡ binding.now.columns }
     requires tuple { IsTuple binding.now.tuple }
     requires reader { IsReader spec.now edge mode binding.now.tuple }
     ensures merged { OnOk result (HasMergedOn binding.now.tuple edge (held_of (H.seen holder.now)) (stripe ∷ []) found.old.tuples found.new.tuples) }
@@ -158,6 +160,10 @@ fn push_found<H: Holder>(
     let fragment = holder.fragment(stripe);
     match mode {
         ReadMode::Lookup => push_looked_up(found, finder, fragment, spec, edge, binding),
+        // Without a key a source has one row, which a scan's list may not tell.
+        ReadMode::Scan if spec.edge(edge).key.is_empty() => {
+            push_looked_up(found, finder, fragment, spec, edge, binding)
+        }
         ReadMode::Scan => push_scanned(found, finder, fragment, spec, edge, binding),
     }
 }
@@ -176,18 +182,23 @@ fn push_looked_up(
     requires table { fragment.now.table ≡ edge_table spec.now }
     requires columns { (w : EdgeRow) → In w fragment.now.now → cols_of w.1 ≡ bound spec.now (edge_at spec.now w.0).to }
     requires takes { TakesMerges spec.now edge binding.now found.old }
+    requires own { cols_of binding.now.tuple ≡ binding.now.columns }
     requires tuple { IsTuple binding.now.tuple }
     requires reader { IsReader spec.now edge read_mode.Lookup binding.now.tuple }
     ensures merged { OnOk result (HasMerged binding.now.tuple edge fragment.now.now found.old.tuples found.new.tuples) }
     ensures same { OnOk result (HasMoreTuples found.old found.new) }
 {
     let read = spec.edge(edge);
+    let source = spec.bound(read.from);
     finder.source.clear();
-    binding.push_projection(spec.bound(read.from), &mut finder.source)?;
+    binding.push_values(source, &mut finder.source)?;
     finder.key.clear();
-    binding.push_projection(read.key, &mut finder.key)?;
+    binding.push_values(read.key, &mut finder.key)?;
     match fragment.lookup(edge, &finder.source, &finder.key) {
-        Some(row) => found.push_merge(binding, row),
+        Some(values) => {
+            let extra = spec.bound(read.to).minus(source.union(read.key));
+            found.push_row(binding, ColSet::empty(), &[], extra, values)
+        }
         None => Ok(()),
     }
 }
@@ -206,15 +217,22 @@ fn push_scanned(
     requires table { fragment.now.table ≡ edge_table spec.now }
     requires columns { (w : EdgeRow) → In w fragment.now.now → cols_of w.1 ≡ bound spec.now (edge_at spec.now w.0).to }
     requires takes { TakesMerges spec.now edge binding.now found.old }
+    requires own { cols_of binding.now.tuple ≡ binding.now.columns }
     requires tuple { IsTuple binding.now.tuple }
     requires reader { IsReader spec.now edge read_mode.Scan binding.now.tuple }
+    requires keyed { (edge_at spec.now edge).key ≡ [] → ⊥ }
     ensures merged { OnOk result (HasMerged binding.now.tuple edge fragment.now.now found.old.tuples found.new.tuples) }
     ensures same { OnOk result (HasMoreTuples found.old found.new) }
 {
     let read = spec.edge(edge);
+    let source = spec.bound(read.from);
     finder.source.clear();
-    binding.push_projection(spec.bound(read.from), &mut finder.source)?;
-    let mut rows = Tuples::new(*finder.source.allocator());
-    fragment.scan(edge, &finder.source, &mut rows)?;
-    found.push_merges(binding, rows.list())
+    binding.push_values(source, &mut finder.source)?;
+    finder.rows.clear();
+    fragment.scan(edge, &finder.source, &mut finder.rows)?;
+    let key = read.key;
+    let extra = spec.bound(read.to).minus(source.union(key));
+    let keys = key.len() as usize;
+    let extras = extra.len() as usize;
+    found.push_rows(binding, key, keys, extra, extras, &finder.rows)
 }

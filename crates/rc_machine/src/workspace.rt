@@ -7,7 +7,7 @@ use rc_bindings::Bindings;
 use std::alloc::Global;
 
 /// The bindings of a run, and space that its statements use one after another: for the bindings that a Read finds, for
-/// the pairs by which it looks up, and for the stripes that a Lock takes.
+/// the values by which it looks up, and for the stripes that a Lock takes.
 #[derive(Debug, Drop)]
 pub(crate) struct Workspace {
     pub(crate) bindings: Bindings,
@@ -16,11 +16,12 @@ pub(crate) struct Workspace {
     pub(crate) stripes: Vec<u32>,
 }
 
-/// The pairs by which a row is looked up.
+/// The values by which rows are looked up, and those of rows that a scan finds.
 #[derive(Debug, Drop)]
 pub(crate) struct Finder {
-    pub(crate) source: Vec<(u8, u64)>,
-    pub(crate) key: Vec<(u8, u64)>,
+    pub(crate) source: Vec<u64>,
+    pub(crate) key: Vec<u64>,
+    pub(crate) rows: Vec<u64>,
 }
 
 impl Workspace {
@@ -37,6 +38,7 @@ impl Workspace {
             finder: Finder {
                 source: Vec::new(alloc),
                 key: Vec::new(alloc),
+                rows: Vec::new(alloc),
             },
             stripes: Vec::new(alloc),
         }

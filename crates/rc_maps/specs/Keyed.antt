@@ -1,52 +1,39 @@
--- A map of std from the pairs of keys to entries, as the rows of a container.
-use Rattle.std.specs.Prelude.{◌≡◌, ℕ, Bool, false, Option, Some, List, map, is_some}
-use Rattle.std.specs.FinMap as fin
-use Rattle.std.specs.FinMap.{FinMap}
+-- Entries of tables, by their keys' values.
+use Rattle.std.specs.Prelude.{ℕ, Bool, List, [], ◌∷◌, T, map, is_some}
+use Rattle.std.specs.FinMap.{is_sorted}
 use Rattle.std.specs.List.{IsDistinct}
 use Rattle.std.specs.Map.{keys_of}
 use Rattle.std.proofs.Common.{Vec, Global}
-use Rattle.rc_tuple.specs.Tuple.{Pairs, tuple_cmp, tuple_eq}
-use Rattle.rc_edges.specs.EdgeMap.{Kept, row_of}
-use Rattle.rc_edges.specs.Entry.{now_of, is_gone, rows_in}
-use Rattle.rc_edges.specs.ListMap.{Items}
+use Rattle.rc_edges.specs.Values.{Values, values_cmp, values_eq}
+use Rattle.rc_edges.specs.EdgeMap.{extra_of}
+use Rattle.rc_edges.specs.Entry.{now_of}
+use Rattle.rc_edges.specs.ListMap.{rows_of as rows_in_order}
 use Rattle.rc_edges.specs.declared.entry.Entry.{Entry}
-use Rattle.rc_maps.specs.declared.keyed_row.KeyedRow.{KeyedRow}
+use Rattle.rc_maps.specs.declared.keyed.Keyed.{Keyed}
 
-abbrev pub Key : Type 0
-Key = Vec (ℕ × ℕ) Global
+-- entries by plain numbers, as those by lists of one value
+abbrev pub by_one : {X : Type 0} → List (ℕ × X) → List (Values × X)
+by_one es = map (λ e. (e.0 ∷ [], e.1)) es
 
--- the entries of a map, in its own order
-abbrev pub Entries : Type 0
-Entries = List (Key × Entry)
-
--- the same, by tuples
-abbrev pub items_of : Entries → Items
-items_of es = map (λ e. (e.0.items, e.1)) es
-
-abbrev pub whole_of : Entries → FinMap tuple_cmp Entry
-whole_of es = fin.from_entries (items_of es)
-
-abbrev pub kept_by : Entries → Kept
-kept_by es = rows_in (whole_of es)
-
--- each entry has a row, now or as taken
-abbrev pub NoneIsGone : FinMap tuple_cmp Entry → Type 0
-NoneIsGone es = (key : Pairs) (e : Entry) → fin.get es key ≡ Some e → is_gone e ≡ false
+-- entries by vectors, as those by their values
+abbrev pub by_many : {X : Type 0} → List (Vec ℕ Global × X) → List (Values × X)
+by_many es = map (λ e. (e.0.items, e.1)) es
 
 -- no two keys are equal
-abbrev pub AreApart : Entries → Type 0
-AreApart es = IsDistinct tuple_eq (keys_of (items_of es))
+abbrev pub AreApart : {X : Type 0} → List (Values × X) → Type 0
+AreApart es = IsDistinct values_eq (keys_of es)
 
--- the row now, if there is one
-abbrev pub row_now : Entry → Option Pairs
-row_now e = row_of (now_of e)
+-- a value with its key's values
+abbrev pub pair_of : {X : Type 0} → Keyed X → Values × X
+pair_of k = (k.key.now, k.value.now)
+
+-- the keys are distinct and rise
+abbrev pub IsKeyed : {X : Type 0} → List (Values × X) → Type 0
+IsKeyed es = T (is_sorted values_cmp es)
 
 abbrev pub has_row : Entry → Bool
-has_row e = is_some (row_now e)
+has_row e = is_some (extra_of (now_of e))
 
--- a row with its key, by tuples
-abbrev pub pair_of : KeyedRow → Pairs × Pairs
-pair_of r = (r.key.now, r.row.now)
-
-abbrev pub rows_of : List KeyedRow → List Pairs
-rows_of rs = map (λ r. r.row.now) rs
+-- of each row now its key and its extra values, in the walk's order
+abbrev pub rows_of : List (Keyed Entry) → Values
+rows_of all = rows_in_order (map pair_of all)

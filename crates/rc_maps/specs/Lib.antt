@@ -1,5 +1,10 @@
+pub mod EntryLaws
+pub mod HashLaws
+pub mod HashTable
 pub mod Keyed
-pub mod KeyedLaws
-pub mod WalkLaws
-pub mod HashedLaws
 pub mod OrderedLaws
+pub mod OrderedTable
+pub mod Seed
+pub mod TableEdge
+pub mod TableLaws
+pub mod WalkLaws

@@ -1,9 +1,16 @@
-//! The containers of an edge over hash maps and ordered maps.
+//! The containers of an edge over hash tables and ordered tables, and the tables.
 #![tactic(auto)]
 
-mod hash_edge;
-mod keyed_row;
-mod ordered_edge;
+mod entry_table;
+mod hash_table;
+mod keyed;
+mod ordered_table;
+mod seed;
+mod table_edge;
 
-pub use hash_edge::HashEdge;
-pub use ordered_edge::OrderedEdge;
+pub use entry_table::EntryTable;
+pub use hash_table::HashTable;
+pub use keyed::Keyed;
+pub use ordered_table::OrderedTable;
+pub use seed::{Seed, SeededHasher};
+pub use table_edge::{HashEdge, OrderedEdge, TableEdge};

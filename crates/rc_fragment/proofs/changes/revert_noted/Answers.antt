@@ -12,19 +12,19 @@ use Rattle.rc_fragment.proofs.changes.revert_noted.Goals as goal
 pub revert_places-requires-clause-within : goal.revert_places-requires-clause-within
 revert_places-requires-clause-within c = λ m h.
     let a : In m c.args.notes.now.items = subst (In m) c.deref.ensures.value h in
-    let w : (m.edge < length c.args.edges.now.items) × IsNoteWithin (length c.args.pairs.now.items) m = c.requires.within m a in
+    let w : (m.edge < length c.args.edges.now.items) × IsNoteWithin (length c.args.values.now.items) m = c.requires.within m a in
     (w.0, subst (λ z. IsNoteWithin (length z) m) (sym c.deref-2.ensures.value) w.1)
 
 pub revert_places-requires-clause-emptied : goal.revert_places-requires-clause-emptied
 revert_places-requires-clause-emptied c =
     let edges : List EdgeRows = c.args.edges.now.items in
     subst (λ z. AreEmptiedNoted edges (places_of z c.deref.result.now)) (sym c.deref-2.ensures.value)
-    (subst (λ z. AreEmptiedNoted edges (places_of c.args.pairs.now.items z)) (sym c.deref.ensures.value) c.requires.emptied)
+    (subst (λ z. AreEmptiedNoted edges (places_of c.args.values.now.items z)) (sym c.deref.ensures.value) c.requires.emptied)
 
 pub returns-clause-fragment : goal.returns-clause-fragment
 returns-clause-fragment c =
     let new : List EdgeRows = c.revert_places.new.edges.items in
-    subst (λ z. IsFragment new z c.forget.new.pairs.items) (sym c.forget.ensures.notes) (subst (IsFragment new []) (sym c.forget.ensures.pairs)
+    subst (λ z. IsFragment new z c.forget.new.values.items) (sym c.forget.ensures.notes) (subst (IsFragment new []) (sym c.forget.ensures.values)
     (fragment_clear new c.revert_places.ensures.stored (λ e s k. c.revert_places.ensures.now e s k ∙ sym (c.revert_places.ensures.taken e s k)) c.revert_places.ensures.freed))
 
 pub returns-clause-now : goal.returns-clause-now

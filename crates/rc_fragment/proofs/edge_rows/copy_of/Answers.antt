@@ -1,29 +1,52 @@
-use Rattle.std.proofs.Common.{◌≡◌, Some, ap, subst, ◌∙◌}
-use Rattle.std.specs.Prelude.{List}
-use Rattle.rc_tuple.specs.Tuple.{Pairs}
-use Rattle.rc_edges.specs.EdgeMap.{written}
-use Rattle.rc_maps.specs.WalkLaws.{IsCopied, IsCopied-none, IsCopied-more, IsCopied-all}
-use Rattle.rc_fragment.specs.Sources.{SeenContainer, Sources, seen_container, seen_in, seen_of}
-use Rattle.rc_fragment.proofs.CopyLemmas.{apart_seen, seen_written}
+use Rattle.std.proofs.Common.{◌≡◌, ◌+◌, ◌∷◌, ℕ, drop, sym, ap, subst, ◌∙◌}
+use Rattle.std.specs.Prelude.{List, map}
+use Rattle.std.specs.FinMap as fin
+use Rattle.rc_tuple.specs.RisingSet.{In}
+use Rattle.rc_tuple.specs.RisingSetLaws.{get_or_in, map_in}
+use Rattle.std.proofs.lemmas.List.{drop_all, drop_more}
+use Rattle.rc_edges.specs.Values.{Values}
+use Rattle.rc_edges.specs.EdgeMap.{HasWidth}
+use Rattle.rc_maps.specs.HashTable.{entries_of}
+use Rattle.rc_maps.specs.Keyed.{AreApart, pair_of}
+use Rattle.rc_maps.specs.declared.keyed.Keyed.{Keyed}
+use Rattle.rc_fragment.specs.Sources.{seen_container}
+use Rattle.rc_fragment.specs.declared.container.Container.{Container}
+use Rattle.rc_fragment.proofs.CopyLemmas.{IsCopied, IsCopied-all, IsCopied-more, IsCopied-none}
+use Rattle.rc_fragment.proofs.WalkLemmas.{apart_from, got_from, width_there}
 use Rattle.rc_fragment.proofs.edge_rows.copy_of.Goals as goal
 
 pub loop-source-init : goal.loop-source-init
 loop-source-init c =
-    let es : Sources = c.args.sources.now.entries in
-    IsCopied-none (seen_in es) (seen_in c.into_iter-source-iterator.result) (seen_in c.new-copy.result.entries) (ap seen_in c.into_iter-source-iterator.ensures.into_iter_gives.0) (ap seen_in c.new-copy.ensures.empty) (apart_seen es c.into_iter-source-iterator.ensures.into_iter_gives.4)
+    let items : List (Keyed Container) = c.deref-source-items.result.now in
+    record {
+      copied = IsCopied-none (entries_of c.args.sources.now) (map pair_of items) (entries_of c.new-copy.result)
+          (ap (λ (z : List (Keyed Container)). fin.from_entries (map pair_of z)) c.deref-source-items.ensures.value ∙ c.in_ok-keyed.ensures.entries) c.new-copy.ensures.empty;
+      width = c.new-copy.ensures.width;
+    }
+
+pub insert-requires : goal.insert-requires
+insert-requires c =
+    let all : List (Keyed Container) = c.in_ok-keyed.keyed.items in
+    let item : Keyed Container = c.source-item.result in
+    let n : In item all = subst (In item) c.deref-source-items.ensures.value
+    (subst (λ z. In z c.deref-source-items.result.now) (sym c.source-item.is) (get_or_in c.deref-source-items.result.now c.loop-source.source-index item c.loop-source-test.true)) in
+    subst (λ b. HasWidth b item.key.now) (c.requires ∙ sym c.loop-source.invariant.width)
+    (width_there c.args.sources.now item.key.now item.value.now
+    (got_from (entries_of c.args.sources.now) (map pair_of all) c.in_ok-keyed.ensures.entries c.in_ok-keyed.ensures.apart (pair_of item) (map_in pair_of item all n)))
 
 pub loop-source-preserved : goal.loop-source-preserved
 loop-source-preserved c =
-    let all : List (Pairs × SeenContainer) = seen_in c.args.sources.now.entries in
-    let left : Sources = c.next.new.self in
-    let e : Pairs × SeenContainer = (c.in-Some.source.now.items, seen_container c.in-Some.container.now) in
-    let copy : Sources = c.loop-source.copy.entries in
-    let same : seen_container c.in_ok-copy.field-0 ≡ seen_container c.in-Some.container.now = λ i. (c.in_ok-copy.ensures.now i, c.in_ok-copy.ensures.taken i, c.in_ok-copy.ensures.kind i) in
-    let w : seen_of c.put.new.sources.entries ≡ written (seen_of copy) e.0 (Some e.1) =
-    seen_written copy c.put.new.sources.entries c.as_slice.result.now c.in_ok-copy.field-0 c.in_ok-put.ensures.ok ∙ (λ i. written (seen_of copy) (c.as_slice.ensures.value i) (Some (same i))) in
-    IsCopied-more all (seen_in left) (seen_in copy) (seen_in c.put.new.sources.entries) e
-    (subst (λ z. IsCopied all z (seen_in copy)) (ap seen_in c.in-Some.ensures.steps) c.loop-source.invariant) w
-
-pub returns : goal.returns
-returns c = IsCopied-all (seen_in c.args.sources.now.entries) (seen_in c.loop-source.copy.entries)
-    (subst (λ z. IsCopied (seen_in c.args.sources.now.entries) (seen_in z) (seen_in c.loop-source.copy.entries)) c.in-None.ensures.steps.0 c.loop-source.invariant)
+    let items : List (Keyed Container) = c.deref-source-items.result.now in
+    let i : ℕ = c.loop-source.source-index in
+    let item : Keyed Container = c.source-item.result in
+    let left : List (Values × Container) = map pair_of (drop (i + 1) items) in
+    let next : drop i items ≡ item ∷ drop (i + 1) items = drop_more items i item c.loop-source-test.true ∙ ap (λ (z : Keyed Container). z ∷ drop (i + 1) items) (sym c.source-item.is) in
+    let apart : AreApart (pair_of item ∷ left) =
+    subst (λ (z : List (Keyed Container)). AreApart (map pair_of z)) next
+    (apart_from i items (subst (λ (z : List (Keyed Container)). AreApart (map pair_of z)) (sym c.deref-source-items.ensures.value) c.in_ok-keyed.ensures.apart)) in
+    let same : seen_container c.in_ok-copy.field-0 ≡ seen_container item.value.now = λ j. (c.in_ok-copy.ensures.now j, c.in_ok-copy.ensures.taken j, c.in_ok-copy.ensures.form j) in
+    record {
+      copied = IsCopied-more (entries_of c.args.sources.now) (pair_of item) left (entries_of c.loop-source.copy) (entries_of c.insert.new.self) c.in_ok-copy.field-0 apart
+          (subst (λ (z : List (Keyed Container)). IsCopied (entries_of c.args.sources.now) (map pair_of z) (entries_of c.loop-source.copy)) next c.loop-source.invariant.copied) c.in_ok-insert.ensures.ok same;
+      width = c.in_ok-insert.ensures.width ∙ c.loop-source.invariant.width;
+    }

@@ -1,6 +1,12 @@
-use Rattle.rc_fragment.specs.Sources.{seen_in}
-use Rattle.rc_maps.specs.WalkLaws.{IsCopied}
+use Rattle.std.proofs.Common.{◌≡◌, drop}
+use Rattle.std.specs.Prelude.{map}
+use Rattle.rc_maps.specs.HashTable.{entries_of, has_one_column}
+use Rattle.rc_maps.specs.Keyed.{pair_of}
+use Rattle.rc_fragment.proofs.CopyLemmas.{IsCopied}
 use Rattle.rc_fragment.proofs.edge_rows.copy_of.Given as goal
 
 abbrev pub invariant-loop-source : goal.invariant-loop-source
-invariant-loop-source l = IsCopied (seen_in l.sources.entries) (seen_in l.source-iterator) (seen_in l.copy.entries)
+invariant-loop-source l = record {
+  copied : IsCopied (entries_of l.sources) (map pair_of (drop l.source-index l.source-items)) (entries_of l.copy);
+  width : has_one_column l.copy ≡ l.one_column;
+}

@@ -12,7 +12,7 @@ copy-requires c =
     let items : List EdgeRows = c.deref-edge-items.result.now in
     let x : EdgeRows = c.edge-item.result in
     let m : In x items = subst (λ z. In z items) (sym c.edge-item.is) (get_or_in items c.loop-edge.edge-index x c.loop-edge-test.true) in
-    (c.requires x (subst (In x) c.deref-edge-items.ensures.value m)).kinds
+    (c.requires x (subst (In x) c.deref-edge-items.ensures.value m)).forms
 
 pub loop-edge-preserved : goal.loop-edge-preserved
 loop-edge-preserved c =

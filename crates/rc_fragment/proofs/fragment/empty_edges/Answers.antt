@@ -2,15 +2,18 @@ use Rattle.std.proofs.Common.{◌≡◌, ◌+◌, ◌<◌, ◌++◌, ◌∷◌, 
 use Rattle.std.specs.Prelude.{List, map}
 use Rattle.std.proofs.lemmas.List.{map-append, take_more}
 use Rattle.rc_tuple.specs.RisingSet.{In}
-use Rattle.rc_tuple.specs.RisingSetLaws.{in_append}
+use Rattle.std.specs.FinMap as fin
+use Rattle.rc_tuple.specs.RisingSetLaws.{get_or_in, in_append}
 use Rattle.rc_spec.specs.Acceptance.{IsSealed}
 use Rattle.rc_spec.specs.DecompositionLaws.{edge_known}
 use Rattle.rc_spec.specs.InRange.{IsEdgeAmong}
 use Rattle.rc_spec.specs.declared.items.Edge.{Edge}
 use Rattle.rc_spec.specs.declared.spec.Spec.{Spec}
 use Rattle.rc_fragment.specs.Fragment.{shape_of}
+use Rattle.rc_fragment.specs.FragmentLaws.{parted_edge}
 use Rattle.rc_fragment.specs.Listing.{shapes}
-use Rattle.rc_fragment.specs.Sources.{by_source}
+use Rattle.rc_fragment.specs.RowValues.{IsParted}
+use Rattle.rc_fragment.specs.Sources.{AreOfShape, sources_of}
 use Rattle.rc_fragment.specs.declared.edge_rows.EdgeRows.{EdgeRows}
 use Rattle.rc_fragment.proofs.fragment.empty_edges.Goals as goal
 
@@ -38,6 +41,8 @@ loop-edge-preserved c =
     let y : EdgeRows = c.new.result in
     let e : Edge = c.edge-item.result in
     let items : List Edge = c.list-edge-items.result.now in
+    let sealed : IsSealed spec = subst IsSealed (sym c.spec-spec.ensures.value) c.spec-spec.ensures.sealed in
+    let known : In e spec.edges = subst (In e) c.list-edge-items.ensures (subst (λ z. In z items) (sym c.edge-item.is) (get_or_in items i e c.loop-edge-test.true)) in
     let pushed : c.push.new.self.items ≡ old ++ y ∷ [] = c.in_ok-push.ensures.items in
     let s : y.shape ≡ shape_of spec e = c.new.ensures.shape ∙ c.shape_of.ensures in
     let more : take (i + 1) items ≡ take i items ++ e ∷ [] = take_more items i e c.loop-edge-test.true ∙ ap (λ (z : Edge). take i items ++ z ∷ []) (sym c.edge-item.is) in
@@ -46,7 +51,7 @@ loop-edge-preserved c =
           ∙ sym (ap (map (shape_of spec)) more ∙ map-append (shape_of spec) (take i items) (e ∷ []));
       empty = λ z m. elim (in_append z old (y ∷ []) (subst (In z) pushed m)) [
         | inl a ↦ c.loop-edge.invariant.empty z a
-        | inr (inl p) ↦ ap (λ (w : EdgeRows). by_source w.sources.entries) p ∙ c.new.ensures.empty
+        | inr (inl p) ↦ subst (λ (w : EdgeRows). (sources_of w ≡ fin.empty) × AreOfShape w × IsParted w.shape) (sym p) (c.new.ensures.empty, c.new.ensures.form, subst IsParted (sym s) (parted_edge spec sealed e known))
         | inr (inr q) ↦ absurd q
       ];
     }

@@ -88,13 +88,13 @@ returns-clause-joined g c =
     let held = held_of (g.H.Holder.seen c.args.holder.now) in
     let l = c.loop-at-test.false in
     let n = c.len-at-end.ensures in
-    ap (λ (z : BindingList). z.tuples) (c.swap.ensures.x_after ∙ c.in_ok-sort.ensures)
+    ap (λ (z : BindingList). z.tuples) (c.swap.ensures.x_after ∙ c.in_ok-sort.ensures.ok)
     ∙ merges_join bs c.args.edge held c.loop-at.space.found.tuples
     (subst (λ z. AreMerges z c.args.edge held c.loop-at.space.found.tuples) (take_all c.loop-at.at bs (omega (arith, l, n))) c.loop-at.invariant.merged)
 
 pub returns-clause-wide : goal.returns-clause-wide
 returns-clause-wide g c = record {
-  bindings = ap (λ (z : BindingList). z.width) (c.swap.ensures.x_after ∙ c.in_ok-sort.ensures ∙ ap (λ z. with_tuples z (gather tuple_cmp c.loop-at.space.found.tuples)) c.loop-at.invariant.same)
+  bindings = ap (λ (z : BindingList). z.width) (c.swap.ensures.x_after ∙ c.in_ok-sort.ensures.ok ∙ ap (λ z. with_tuples z (gather tuple_cmp c.loop-at.space.found.tuples)) c.loop-at.invariant.same)
       ∙ ap (λ (z : BindingList). z.width) c.begin.ensures ∙ c.requires.wide.found;
   found = ap (λ (z : BindingList). z.width) (c.swap.ensures.y_after ∙ c.loop-at.invariant.bindings) ∙ c.requires.wide.bindings;
 }

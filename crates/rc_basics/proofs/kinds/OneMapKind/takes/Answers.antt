@@ -1,6 +1,9 @@
-use Rattle.rc_basics.proofs.kinds.OneMapKind.takes.Goals as goal
+use Rattle.std.proofs.Common.{sym, ◌∙◌}
+use Rattle.std.specs.FinMap.{empty_of_len}
+use Rattle.std.proofs.lemmas.Bool.{eqb-true}
 use Rattle.rc_basics.proofs.KindLemmas.{nothing_else}
+use Rattle.rc_basics.proofs.kinds.OneMapKind.takes.Goals as goal
 
--- src/kinds.rt:41:5
 pub returns : goal.returns
-returns c gone other there = nothing_else c.args.self.now.now c.args.arg2.now (c.is_gone.ensures.0 gone).0 other there
+returns c none other there =
+    nothing_else c.args.self.now.now c.args.arg2.now (empty_of_len c.args.self.now.now (sym c.len.ensures ∙ eqb-true c.len.result 0 none)) other there

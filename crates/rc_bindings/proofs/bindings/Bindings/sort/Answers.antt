@@ -11,8 +11,8 @@ use Rattle.rc_bindings.specs.BindingsLaws.{in_tuples_in, rising_tuples_in}
 use Rattle.rc_bindings.proofs.bindings.Bindings.sort.Goals as goal
 use Rattle.rc_bindings.proofs.bindings.Bindings.sort.Goals.{In-loop-tuple}
 
-pub returns-then-rises : goal.returns-then-rises
-returns-then-rises c = ap (with_tuples c.args.self.now) (sym (gather-rising tuple_cmp tuple_order c.args.self.now.tuples (c.if-rises.ensures refl)))
+pub returns-then-rises-clause-ok : goal.returns-then-rises-clause-ok
+returns-then-rises-clause-ok c = ap (with_tuples c.args.self.now) (sym (gather-rising tuple_cmp tuple_order c.args.self.now.tuples (c.if-rises.ensures.0 refl)))
 
 -- the tuples that are put back
 items : (c : In-loop-tuple) → c.deref-tuple-items.result.now ≡ gather tuple_cmp c.args.self.now.tuples
@@ -54,8 +54,8 @@ loop-tuple-preserved c =
     c.in_ok-push_projection.ensures.ok ∙ ap (λ z. with_tuples old (old.tuples ++ z ∷ [])) whole ∙ ap (λ (z : BindingList). with_tuples z (z.tuples ++ t ∷ [])) c.loop-tuple.invariant
     ∙ ap (with_tuples c.args.self.now) next
 
-pub returns : goal.returns
-returns c =
+pub returns-clause-ok : goal.returns-clause-ok
+returns-clause-ok c =
     let all = c.deref-tuple-items.result.now in
     let l = c.loop-tuple-test.false in
     c.loop-tuple.invariant ∙ ap (with_tuples c.args.self.now) (take_all c.loop-tuple.tuple-index all (omega (arith, l))

@@ -1,6 +1,6 @@
 use Rattle.std.proofs.Common.{None, sym, ap, subst, ◌∙◌}
 use Rattle.rc_edges.specs.RowsLaws.{written_again}
-use Rattle.rc_tuple.specs.Tuple.{Pairs}
+use Rattle.rc_edges.specs.Values.{Values}
 use Rattle.rc_edges.specs.EdgeMap.{Kept, written}
 use Rattle.rc_edges.specs.ListMap.{IsAt, IsGap}
 use Rattle.rc_edges.specs.ListMapLaws.{kept_but, now_none, taken_none, taken_at, writes_at, set_now, stays_taken}
@@ -9,7 +9,7 @@ use Rattle.rc_edges.proofs.list_map.ListMapEdgeMap.revert.Goals as goal
 pub returns-in_default-clause-now : goal.returns-in_default-clause-now
 returns-in_default-clause-now c =
     let m : Kept = c.args.self.now in
-    let key : Pairs = c.args.key.now in
+    let key : Values = c.args.key.now in
     let es = c.self.inside.items.items in
     let h : IsGap key es c.in_default.field-0 = subst (λ z. IsGap key z c.in_default.field-0) c.deref.ensures.value c.in_default.ensures.gap in
     let k = c.self.invariant.keyed in
@@ -18,7 +18,7 @@ returns-in_default-clause-now c =
 pub sweep-requires-clause-keyed : goal.sweep-requires-clause-keyed
 sweep-requires-clause-keyed c =
     let m : Kept = c.args.self.now in
-    let key : Pairs = c.args.key.now in
+    let key : Values = c.args.key.now in
     let es = c.self.inside.items.items in
     let i = c.index_mut-item.result.now in
     let h : IsAt key es c.in-Ok.at = subst (λ z. IsAt key z c.in-Ok.at) c.deref.ensures.value c.in-Ok.ensures.found in
@@ -27,7 +27,7 @@ sweep-requires-clause-keyed c =
 pub returns-clause-now : goal.returns-clause-now
 returns-clause-now c =
     let m : Kept = c.args.self.now in
-    let key : Pairs = c.args.key.now in
+    let key : Values = c.args.key.now in
     let es = c.self.inside.items.items in
     let i = c.index_mut-item.result.now in
     let h : IsAt key es c.in-Ok.at = subst (λ z. IsAt key z c.in-Ok.at) c.deref.ensures.value c.in-Ok.ensures.found in
@@ -37,7 +37,7 @@ returns-clause-now c =
 pub returns-clause-taken : goal.returns-clause-taken
 returns-clause-taken c =
     let m : Kept = c.args.self.now in
-    let key : Pairs = c.args.key.now in
+    let key : Values = c.args.key.now in
     let es = c.self.inside.items.items in
     let i = c.index_mut-item.result.now in
     let h : IsAt key es c.in-Ok.at = subst (λ z. IsAt key z c.in-Ok.at) c.deref.ensures.value c.in-Ok.ensures.found in

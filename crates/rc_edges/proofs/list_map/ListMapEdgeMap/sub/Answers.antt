@@ -2,7 +2,7 @@ use Rattle.std.proofs.Common.{◌≡◌, sym, ap, subst, ◌∙◌}
 use Rattle.std.specs.FinMap as fin
 use Rattle.std.specs.Prelude.{IsSome}
 use Rattle.std.proofs.lemmas.Bool.{false≢true}
-use Rattle.rc_tuple.specs.Tuple.{Pairs}
+use Rattle.rc_edges.specs.Values.{Values}
 use Rattle.rc_edges.specs.EdgeMap.{Kept, lowered, written}
 use Rattle.rc_edges.specs.Entry.{now_of}
 use Rattle.rc_edges.specs.ListMap.{IsAt, IsGap}
@@ -12,7 +12,7 @@ use Rattle.rc_edges.proofs.list_map.ListMapEdgeMap.sub.Goals as goal
 pub unreachable-requires : goal.unreachable-requires
 unreachable-requires c =
     let m : Kept = c.args.self.now in
-    let key : Pairs = c.args.key.now in
+    let key : Values = c.args.key.now in
     let es = c.self.inside.items.items in
     let h : IsGap key es c.in_default.field-0 = subst (λ z. IsGap key z c.in_default.field-0) c.deref.ensures.value c.in_default.ensures.gap in
     absurd (false≢true (subst IsSome (now_none m key es c.in_default.field-0 c.self.view_is c.self.invariant.keyed h) c.requires))
@@ -20,7 +20,7 @@ unreachable-requires c =
 pub lower-requires : goal.lower-requires
 lower-requires c =
     let m : Kept = c.args.self.now in
-    let key : Pairs = c.args.key.now in
+    let key : Values = c.args.key.now in
     let es = c.self.inside.items.items in
     let i = c.index_mut-item.result.now in
     let h : IsAt key es c.in-Ok.at = subst (λ z. IsAt key z c.in-Ok.at) c.deref.ensures.value c.in-Ok.ensures.found in
@@ -30,7 +30,7 @@ lower-requires c =
 pub sweep-requires-clause-keyed : goal.sweep-requires-clause-keyed
 sweep-requires-clause-keyed c =
     let m : Kept = c.args.self.now in
-    let key : Pairs = c.args.key.now in
+    let key : Values = c.args.key.now in
     let es = c.self.inside.items.items in
     let i = c.index_mut-item.result.now in
     let h : IsAt key es c.in-Ok.at = subst (λ z. IsAt key z c.in-Ok.at) c.deref.ensures.value c.in-Ok.ensures.found in
@@ -39,7 +39,7 @@ sweep-requires-clause-keyed c =
 pub returns-clause-now : goal.returns-clause-now
 returns-clause-now c =
     let m : Kept = c.args.self.now in
-    let key : Pairs = c.args.key.now in
+    let key : Values = c.args.key.now in
     let es = c.self.inside.items.items in
     let i = c.index_mut-item.result.now in
     let h : IsAt key es c.in-Ok.at = subst (λ z. IsAt key z c.in-Ok.at) c.deref.ensures.value c.in-Ok.ensures.found in
@@ -49,7 +49,7 @@ returns-clause-now c =
 pub returns-clause-taken : goal.returns-clause-taken
 returns-clause-taken c =
     let m : Kept = c.args.self.now in
-    let key : Pairs = c.args.key.now in
+    let key : Values = c.args.key.now in
     let es = c.self.inside.items.items in
     let i = c.index_mut-item.result.now in
     let h : IsAt key es c.in-Ok.at = subst (λ z. IsAt key z c.in-Ok.at) c.deref.ensures.value c.in-Ok.ensures.found in

@@ -1,34 +1,42 @@
 use Rattle.std.proofs.Common.{◌≡◌, ◌++◌, sym, ap, subst, ◌∙◌}
-use Rattle.std.specs.Prelude.{List}
-use Rattle.std.proofs.lemmas.List.{append_assoc, append-nil}
+use Rattle.std.specs.Prelude.{List, map}
+use Rattle.std.proofs.lemmas.List.{append-nil, drop_all}
 use Rattle.rc_tuple.specs.RisingSet.{In}
+use Rattle.rc_tuple.specs.RisingSetLaws.{get_or_in, map_in}
 use Rattle.rc_tuple.specs.Tuple.{Pairs}
-use Rattle.rc_edges.specs.EdgeMap.{listed}
-use Rattle.rc_fragment.specs.Container.{now_in}
-use Rattle.rc_fragment.specs.Sources.{Sources}
-use Rattle.rc_fragment.proofs.WalkLemmas.{rows_walked, walked_kept, kept_walked}
+use Rattle.rc_edges.specs.Values.{Values}
+use Rattle.rc_maps.specs.Keyed.{pair_of}
+use Rattle.rc_maps.specs.declared.keyed.Keyed.{Keyed}
+use Rattle.rc_fragment.specs.declared.container.Container.{Container}
+use Rattle.rc_fragment.specs.declared.edge_rows.EdgeRows.{EdgeRows}
+use Rattle.rc_fragment.proofs.WalkLemmas.{filed_here, kept_walked, rows_walked, walked_kept}
 use Rattle.rc_fragment.proofs.edge_rows.EdgeRows.all.Goals as goal
 
-pub loop-container-init : goal.loop-container-init
-loop-container-init c = λ i. c.new-rows.ensures i ++ rows_walked (c.into_iter-container-iterator.ensures.into_iter_gives.0 i)
-
-pub loop-container-preserved : goal.loop-container-preserved
-loop-container-preserved c =
-    let rows : List Pairs = c.loop-container.rows in
-    let left : Sources = c.next.new.self in
-    ap (λ z. z ++ rows_walked left) c.in_ok-scan.ensures.ok ∙ append_assoc rows (listed (now_in c.in-Some.container.now)) (rows_walked left)
-    ∙ ap (λ z. rows ++ rows_walked z) (sym c.in-Some.ensures.steps) ∙ c.loop-container.invariant
+pub push_rows-requires-clause-filed : goal.push_rows-requires-clause-filed
+push_rows-requires-clause-filed c =
+    let all : List (Keyed Container) = c.in_ok-sources.sources.items in
+    let item : Keyed Container = c.source-item.result in
+    let n : In item all = subst (In item) c.deref-source-items.ensures.value
+    (subst (λ z. In z c.deref-source-items.result.now) (sym c.source-item.is) (get_or_in c.deref-source-items.result.now c.loop-source.source-index item c.loop-source-test.true)) in
+    let es : List (Values × Container) = map pair_of all in
+    filed_here c.args.self.now es c.in_ok-sources.ensures.entries c.in_ok-sources.ensures.apart c.requires.filed (pair_of item) (map_in pair_of item all n)
 
 pub returns-clause-only : goal.returns-clause-only
 returns-clause-only c =
-    let rows : List Pairs = c.loop-container.rows in
-    let es : Sources = c.args.self.now.sources.entries in
-    let q : rows ≡ rows_walked es = sym (append-nil rows) ∙ ap (λ z. rows ++ rows_walked z) (sym c.in-None.ensures.steps.0) ∙ c.loop-container.invariant in
-    λ t m. walked_kept es c.into_iter-container-iterator.ensures.into_iter_gives.4 t (subst (In t) q m)
+    let x : EdgeRows = c.args.self.now in
+    let rows : List Pairs = c.loop-source.rows in
+    let all : List (Keyed Container) = c.in_ok-sources.sources.items in
+    let q : rows ≡ rows_walked x.shape (map pair_of all) =
+    sym (append-nil rows) ∙ ap (λ z. rows ++ rows_walked x.shape (map pair_of z)) (sym (drop_all c.loop-source.source-index c.deref-source-items.result.now c.loop-source-test.false)) ∙ c.loop-source.invariant
+    ∙ ap (λ z. rows_walked x.shape (map pair_of z)) c.deref-source-items.ensures.value in
+    λ t m. walked_kept x (map pair_of all) c.in_ok-sources.ensures.entries c.in_ok-sources.ensures.apart t (subst (In t) q m)
 
 pub returns-clause-each : goal.returns-clause-each
 returns-clause-each c =
-    let rows : List Pairs = c.loop-container.rows in
-    let es : Sources = c.args.self.now.sources.entries in
-    let q : rows ≡ rows_walked es = sym (append-nil rows) ∙ ap (λ z. rows ++ rows_walked z) (sym c.in-None.ensures.steps.0) ∙ c.loop-container.invariant in
-    λ t k. subst (In t) (sym q) (kept_walked es k.0 k.1 t k.2 k.3)
+    let x : EdgeRows = c.args.self.now in
+    let rows : List Pairs = c.loop-source.rows in
+    let all : List (Keyed Container) = c.in_ok-sources.sources.items in
+    let q : rows ≡ rows_walked x.shape (map pair_of all) =
+    sym (append-nil rows) ∙ ap (λ z. rows ++ rows_walked x.shape (map pair_of z)) (sym (drop_all c.loop-source.source-index c.deref-source-items.result.now c.loop-source-test.false)) ∙ c.loop-source.invariant
+    ∙ ap (λ z. rows_walked x.shape (map pair_of z)) c.deref-source-items.ensures.value in
+    λ t k. subst (In t) (sym q) (kept_walked x (map pair_of all) c.in_ok-sources.ensures.entries t k)

@@ -1,6 +1,8 @@
-use Rattle.std.proofs.Common.{◌≡◌, ◌++◌}
+use Rattle.std.proofs.Common.{◌≡◌, ◌++◌, drop}
+use Rattle.std.specs.Prelude.{map}
+use Rattle.rc_maps.specs.Keyed.{pair_of}
 use Rattle.rc_fragment.proofs.WalkLemmas.{rows_walked}
 use Rattle.rc_fragment.proofs.edge_rows.EdgeRows.all.Given as goal
 
-abbrev pub invariant-loop-container : goal.invariant-loop-container
-invariant-loop-container l = l.rows ++ rows_walked l.container-iterator ≡ rows_walked l.self.sources.entries
+abbrev pub invariant-loop-source : goal.invariant-loop-source
+invariant-loop-source l = l.rows ++ rows_walked l.self.shape (map pair_of (drop l.source-index l.source-items)) ≡ rows_walked l.self.shape (map pair_of l.source-items)

@@ -1,42 +1,39 @@
-use Rattle.std.proofs.Common.{◌≡◌, Some, None, rules, refl, sym, ap, subst, ◌∙◌}
-use Rattle.std.specs.Prelude.{IsSome}
+use Rattle.std.proofs.Common.{◌≡◌, ◌+◌, ◌<◌, ◌^◌, ◌==◌, lit<, inl, inr, Option, Some, None, refl, sym, ap, subst, ◌∙◌}
+use Rattle.std.specs.Prelude.{IsSome, length}
+use Rattle.std.specs.Option.{OnSome}
 use Rattle.std.specs.FinMap as fin
 use Rattle.std.proofs.lemmas.Bool.{false≢true}
-use Rattle.rc_tuple.specs.Tuple.{Pairs}
-use Rattle.rc_edges.specs.EdgeMap.{lowered, written}
-use Rattle.rc_fragment.specs.Container.{now_in, taken_in}
-use Rattle.rc_fragment.specs.Sources.{Sources, by_source, found_in}
+use Rattle.rc_edges.specs.Values.{Values}
+use Rattle.rc_edges.specs.EdgeMap.{Counted, HasExtra, count_of, lowered, written}
+use Rattle.rc_maps.specs.HashTable.{IsSet, entries_of}
+use Rattle.rc_fragment.specs.Container.{now_in, taken_in, takes_one}
+use Rattle.rc_fragment.specs.Sources.{AreOfShape, Becomes, HaveForm, IsEmptied, IsSetAt, Sources, form_of, found_at, found_in, sources_of}
 use Rattle.rc_fragment.specs.declared.container.Container.{Container}
-use Rattle.rc_fragment.proofs.SourcesLemmas.{found, changed, set_by, set_kind, again, emptied_written}
+use Rattle.rc_fragment.specs.declared.edge_rows.EdgeRows.{EdgeRows}
+use Rattle.rc_fragment.proofs.SourcesLemmas.{set_by, set_form, again, emptied_written}
 use Rattle.rc_fragment.proofs.edge_rows.EdgeRows.sub.Goals as goal
-
-pub unreachable-requires : goal.unreachable-requires
-unreachable-requires c =
-    let es : Sources = c.args.self.now.sources.entries in
-    false≢true (subst (λ z. IsSome (found_in now_in z c.args.key.now)) (found c.args.source.now None es c.in_default.ensures.value) c.requires.there)
-
-pub sub-requires : goal.sub-requires
-sub-requires c =
-    let es : Sources = c.args.self.now.sources.entries in
-    subst (λ z. IsSome (found_in now_in z c.args.key.now)) (found c.args.source.now (Some c.in-Some.container.now) es c.in-Some.ensures.value) c.requires.there
 
 pub returns : goal.returns
 returns c =
-    let source : Pairs = c.args.source.now in
-    let key : Pairs = c.args.key.now in
-    let es : Sources = c.args.self.now.sources.entries in
+    let x : EdgeRows = c.args.self.now in
+    let source : Values = c.args.source.now in
+    let key : Values = c.args.key.now in
+    let es : Sources = sources_of x in
     let v : Container = c.in-Some.container.now in
     let w : Container = c.sub.new.self in
-    let f : fin.get (by_source es) source ≡ Some v = found source (Some v) es c.in-Some.ensures.value in
-    let u = (c.get_mut.follows.holds w).3 (search rules) in
-    let set : Sources = (c.get_mut.follows.lender w).entries in
-    let e : by_source set ≡ written (by_source es) source (Some w) = changed source (Some w) es set u.3 u.1 in
+    let f : fin.get es source ≡ Some v = sym c.in-Some.ensures.value in
+    let u : IsSet x.sources (c.get_mut.follows.lender w) source w = subst (λ r. OnSome r (IsSet x.sources (c.get_mut.follows.lender w) source w)) c.in-Some.is (c.get_mut.follows.holds w) in
+    let set : Sources = entries_of (c.get_mut.follows.lender w) in
+    let e : set ≡ written es source (Some w) = u.entries in
     record {
-      now = set_by es set source (Some v) w f e now_in (now_in v) key (lowered (found_in now_in (fin.get (by_source es) source) key))
+      now = set_by es set source (Some v) w f e now_in (now_in v) key (lowered (found_in now_in (fin.get es source) key))
           (c.sub.ensures.now ∙ ap (λ z. written (now_in v) key (lowered (found_in now_in z key))) (sym f)) (λ k. refl);
-      taken = set_by es set source (Some v) w f e taken_in (taken_in v) key (found_in taken_in (fin.get (by_source es) source) key)
+      taken = set_by es set source (Some v) w f e taken_in (taken_in v) key (found_in taken_in (fin.get es source) key)
           (again (taken_in w) (taken_in v) key c.sub.ensures.taken ∙ ap (λ z. written (taken_in v) key (found_in taken_in z key)) (sym f)) (λ k. refl);
       emptied = emptied_written es set source (Some w) e;
-      kinds = set_kind es set source (Some v) w f e c.args.self.now.shape.kind c.requires.kinds (c.sub.ensures.kind ∙ c.requires.kinds source v f);
+      forms = record {
+        forms = set_form es set source (Some v) w f e (form_of x.shape) c.requires.forms.forms (c.sub.ensures.form ∙ c.requires.forms.forms source v f);
+        width = u.width ∙ c.requires.forms.width;
+      };
       shape = refl;
     }

@@ -17,10 +17,10 @@ invariant_of-result c =
     let new : List EdgeRows = c.in_ok-copy_edges.field-0.items in
     let e = c.in_ok-copy_edges.ensures in
     let n : c.in_ok-from_slice.field-0.items ≡ c.self.inside.notes.items = c.in_ok-from_slice.ensures.items ∙ c.as_slice.ensures.value in
-    let p : c.in_ok-from_slice-2.field-0.items ≡ c.self.inside.pairs.items = c.in_ok-from_slice-2.ensures.items ∙ c.as_slice-2.ensures.value in
+    let p : c.in_ok-from_slice-2.field-0.items ≡ c.self.inside.noted.items = c.in_ok-from_slice-2.ensures.items ∙ c.as_slice-2.ensures.value in
     record {
       fragment = subst (IsFragment new c.in_ok-from_slice.field-0.items) (sym p)
-          (subst (λ z. IsFragment new z c.self.inside.pairs.items) (sym n) (same_fragment edges new c.self.inside.notes.items c.self.inside.pairs.items c.self.invariant.fragment e.shapes e.stored e.now e.taken e.emptied));
+          (subst (λ z. IsFragment new z c.self.inside.noted.items) (sym n) (same_fragment edges new c.self.inside.notes.items c.self.inside.noted.items c.self.invariant.fragment e.shapes e.stored e.now e.taken e.emptied));
       unnoted = λ none. p ∙ c.self.invariant.unnoted (sym n ∙ none);
       room = zero_least _;
     }

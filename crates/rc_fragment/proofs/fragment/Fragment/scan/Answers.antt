@@ -1,13 +1,10 @@
 use Rattle.std.proofs.Common.{◌≡◌, ◌<◌, ℕ, length, Some, sym, subst, arith}
 use Rattle.std.specs.Prelude.{List}
 use Rattle.std.specs.List.{slice_get}
-use Rattle.std.specs.FinMap as fin
 use Rattle.std.proofs.lemmas.List.{length-map}
-use Rattle.rc_tuple.specs.Tuple.{Pairs}
 use Rattle.rc_fragment.specs.Fragment.{HasShape, HasScanned}
 use Rattle.rc_fragment.specs.FragmentRows.{FragmentRows}
 use Rattle.rc_fragment.specs.Listing.{shapes}
-use Rattle.rc_fragment.specs.Sources.{by_source, listed_in}
 use Rattle.rc_fragment.specs.declared.edge_rows.EdgeRows.{EdgeRows}
 use Rattle.rc_fragment.specs.declared.shape.EdgeShape.{EdgeShape}
 use Rattle.rc_fragment.proofs.ChangeLemmas.{found_edge}
@@ -23,7 +20,6 @@ returns-clause-ok c =
     let l : e < length (shapes edges) = subst (λ (z : FragmentRows). e < length z.table) (sym c.self.view_is) c.requires in
     let m : length (shapes edges) ≡ length edges = length-map edges (λ (z : EdgeRows). z.shape) in
     let n : slice_get edges e ≡ Some x = found_edge edges e x (omega arith) c.index-rows.ensures in
-    let ts : List Pairs = listed_in (fin.get (by_source x.sources.entries) c.args.source.now) in
     on_ok_from _ _ c.scan.result c.scan.ensures.ok (λ is.
-    subst (λ (z : FragmentRows). (shape : EdgeShape) → HasShape z.table e shape → HasScanned shape z.now e c.args.source.now c.args.out.now c.scan.new.out) c.self.view_is
-    (λ shape hs. (ts, is, scan_law edges c.self.invariant.fragment.stored e x n c.args.source.now shape hs)))
+    subst (λ (z : FragmentRows). (shape : EdgeShape) → HasShape z.table e shape → HasScanned shape z.now e c.args.source.now c.args.out.now.items c.scan.new.out.items) c.self.view_is
+    (scan_law edges c.self.invariant.fragment.stored e x n c.args.source.now c.args.out.now.items c.scan.new.out.items is))

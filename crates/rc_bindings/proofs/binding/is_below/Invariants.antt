@@ -1,7 +1,0 @@
-use Rattle.std.proofs.Common.{◌≡◌, ℕ, ◌<◌}
-use Rattle.rc_tuple.specs.RisingSet.{In}
-use Rattle.rc_bindings.specs.Registers.{register}
-use Rattle.rc_bindings.proofs.binding.is_below.Given as goal
-
-abbrev pub invariant-loop-col : goal.invariant-loop-col
-invariant-loop-col l = (k : ℕ) → In k l.cols → k < l.col → register l.registers k ≡ register l.others k

@@ -1,0 +1,33 @@
+use Rattle.std.proofs.Common.{◌≡◌, ◌++◌, map, sym, ap, subst, ◌∙◌}
+use Rattle.std.specs.List.{All}
+use Rattle.std.proofs.lemmas.List.{append-nil}
+use Rattle.rc_edges.specs.EdgeMap.{HasWidth}
+use Rattle.rc_maps.specs.Keyed.{AreApart, by_many, by_one, pair_of}
+use Rattle.rc_maps.specs.HashTable.{has_one_column}
+use Rattle.rc_maps.specs.HashLaws.{apart_many, apart_one}
+use Rattle.rc_maps.specs.TableLaws.{one_widths}
+use Rattle.rc_maps.proofs.hash_table.HashTable.keyed.Goals as goal
+
+pub returns-in-None-clause-apart : goal.returns-in-None-clause-apart
+returns-in-None-clause-apart g c =
+    let all = c.loop-key.all.items in
+    let gives = c.into_iter-key-iterator.ensures.into_iter_gives in
+    let e : map pair_of all ≡ by_one c.in-One.map.entries =
+    sym (append-nil (map pair_of all)) ∙ ap (λ z. map pair_of all ++ by_one z) (sym c.in-None.ensures.steps.0) ∙ c.loop-key.invariant ∙ ap by_one gives.0 in
+    subst AreApart (sym e) (apart_one c.in-One.map.entries gives.4)
+
+pub returns-in-None-clause-widths : goal.returns-in-None-clause-widths
+returns-in-None-clause-widths g c =
+    let all = c.loop-key.all.items in
+    let gives = c.into_iter-key-iterator.ensures.into_iter_gives in
+    let e : map pair_of all ≡ by_one c.in-One.map.entries =
+    sym (append-nil (map pair_of all)) ∙ ap (λ z. map pair_of all ++ by_one z) (sym c.in-None.ensures.steps.0) ∙ c.loop-key.invariant ∙ ap by_one gives.0 in
+    subst (λ z. All (λ k. HasWidth (has_one_column z) k.key.now) all) (sym c.in-One.is) (one_widths all c.in-One.map.entries e)
+
+pub returns-in-None-2-clause-apart : goal.returns-in-None-2-clause-apart
+returns-in-None-2-clause-apart g c =
+    let all = c.loop-key-2.all.items in
+    let gives = c.into_iter-key-iterator-in-Many.ensures.into_iter_gives in
+    let e : map pair_of all ≡ by_many c.in-Many.map.entries =
+    sym (append-nil (map pair_of all)) ∙ ap (λ z. map pair_of all ++ by_many z) (sym c.in-None-2.ensures.steps.0) ∙ c.loop-key-2.invariant ∙ ap by_many gives.0 in
+    subst AreApart (sym e) (apart_many c.in-Many.map.entries gives.4)

@@ -1,0 +1,77 @@
+//! What the tables under an edge's containers have in common.
+
+ghost use Rattle.std.specs.Prelude.{◌≡◌, ◌↔◌, Bool, IsTrue, map, OnOk, OnErr, IfOk, option_copied};
+ghost use Rattle.std.specs.Borrow.{sem};
+ghost use Rattle.std.specs.List.{All};
+ghost use Rattle.std.specs.Option.{option_copied_mut};
+ghost use Rattle.std.specs.FinMap as fin;
+ghost use Rattle.std.specs.FinMap.{FinMap};
+ghost use Rattle.rc_edges.specs.Values.{Values, values_cmp};
+ghost use Rattle.rc_edges.specs.EdgeMap.{HasWidth};
+ghost use Rattle.rc_edges.specs.Entry.{rows_in};
+ghost use Rattle.rc_edges.specs.declared.entry.Entry as entry;
+ghost use Rattle.rc_maps.specs.Keyed.{AreApart, IsKeyed, pair_of};
+ghost use Rattle.rc_maps.specs.TableEdge.{lends_entry};
+
+use crate::Keyed;
+use rc_edges::Entry;
+use rc_tuple::Memory;
+use std::alloc::Global;
+
+/// A table of entries by their keys.
+pub trait EntryTable: Sized {
+    /// The entries by their keys.
+    ghost entries: { Self → FinMap values_cmp entry.Entry };
+
+    /// Whether only keys of one column are taken.
+    ghost one_column: { Self → Bool };
+
+    /// Whether only keys of one column are taken.
+    fn takes_one_column(&self) -> bool
+        ensures { result ≡ one_column self.now };
+
+    /// The entry at the key, if there is one.
+    fn entry(&self, key: &[u64]) -> Option<&Entry>
+        ensures { option_copied result ≡ fin.get (entries self.now) key.now };
+
+    /// The entry at the key, if there is one, to be changed.
+    fn entry_mut(&mut self, key: &[u64]) -> Option<&mut Entry>
+        ensures* writes_back { sem 𝓛 (lends_entry Self.row entries one_column self.entry key.now result) }
+        ensures value { option_copied_mut result ≡ fin.get (entries self.old) key.now };
+
+    /// Puts the entry at the key. Where memory is wanted nothing changes.
+    fn put(&mut self, key: &[u64], entry: Entry) -> Result<(), Memory>
+        requires { HasWidth (one_column self.old) key.now }
+        ensures ok { OnOk result (entries self.new ≡ fin.insert (entries self.old) key.now entry) }
+        ensures err { OnErr result (entries self.new ≡ entries self.old) }
+        ensures width { one_column self.new ≡ one_column self.old };
+
+    /// Takes out the entry at the key, if there is one.
+    fn take_out(&mut self, key: &[u64])
+        ensures entries { entries self.new ≡ fin.remove (entries self.old) key.now }
+        ensures width { one_column self.new ≡ one_column self.old };
+
+    /// Each entry with its key, in the table's order.
+    fn all(&self, alloc: Global) -> Result<Vec<Keyed<'_, Entry>>, Memory>
+        ensures apart { IfOk result (λ all. AreApart (map pair_of all.items)) }
+        ensures entries { IfOk result (λ all. fin.from_entries (map pair_of all.items) ≡ entries self.now) }
+        ensures widths { IfOk result (λ all. All (λ k. HasWidth (one_column self.now) k.key.now) all.items) };
+
+    /// Each entry with its key, rising by the keys.
+    fn rising(&self, alloc: Global) -> Result<Vec<Keyed<'_, Entry>>, Memory>
+        ensures rising { IfOk result (λ all. IsKeyed (map pair_of all.items)) }
+        ensures entries { IfOk result (λ all. fin.from_entries (map pair_of all.items) ≡ entries self.now) };
+
+    /// How many entries have a row now.
+    fn count(&self) -> u64
+        ensures { result ≡ fin.len (rows_in (entries self.now)).now };
+
+    /// Whether there is no entry.
+    fn has_none(&self) -> bool
+        ensures { IsTrue result ↔ (entries self.now ≡ fin.empty) };
+
+    /// A table with no entry that takes the same keys. Takes no memory.
+    fn another(&self, alloc: Global) -> Self
+        ensures empty { entries result ≡ fin.empty }
+        ensures width { one_column result ≡ one_column self.now };
+}

@@ -1,0 +1,166 @@
+//! The containers of the kinds hash and ordered.
+
+ghost use Rattle.std.specs.Prelude.{◌≡◌, IfOk};
+ghost use Rattle.rc_edges.specs.EdgeMap.{HasWidth};
+ghost use Rattle.rc_maps.specs.TableEdge.{none_of};
+
+use crate::keyed::add_rows;
+use crate::{EntryTable, HashTable, OrderedTable, Seed};
+use rc_edges::{EdgeMap, Entry};
+use rc_tuple::Memory;
+use std::alloc::Global;
+use std::marker::Model;
+
+/// Entries in a table by their keys.
+///
+/// `get` looks up once; `add`, `sub`, `revert` and `settle` do once, and a second time where an
+/// entry comes or goes. `scan`, `len` and `copy` walk all entries.
+#[derive(Drop, Debug)]
+pub struct TableEdge<T: EntryTable> {
+    table: T,
+    alloc: Global,
+}
+
+/// A container over a hash table. It suits an edge with many keys at a row of its source. `scan`
+/// sorts references to the rows by their keys, in O(n log n) for n entries.
+pub type HashEdge = TableEdge<HashTable<Entry>>;
+
+/// A container over a search tree, in the order of keys. It suits an edge with many keys at a row of
+/// its source whose rows are often listed. `copy` costs O(n log n) for n entries.
+pub type OrderedEdge = TableEdge<OrderedTable<Entry>>;
+
+impl<T: EntryTable> Model for TableEdge<T> {
+    ghost use Rattle.rc_maps.specs.TableEdge.{TableRows, table_rows_code};
+
+    ghost Value = { TableRows };
+
+    ghost coded = { table_rows_code };
+
+    ghost use Rattle.rc_maps.specs.TableEdge.{NoneIsGone, rows_by};
+
+    ghost view = { λ a. rows_by (T.one_column a.table) (T.entries a.table) };
+
+    ghost invariant = { λ a. NoneIsGone (T.entries a.table) };
+}
+
+impl<T: EntryTable> TableEdge<T> {
+    /// Whether only keys of one column are taken.
+    pub fn takes_one_column(&self) -> bool
+        ensures { result ≡ self.now.one_column }
+    {
+        self.table.takes_one_column()
+    }
+}
+
+impl TableEdge<HashTable<Entry>> {
+    /// The container with no row, which takes no memory: it takes keys of one column alone, or any.
+    pub fn new(alloc: Global, seed: Seed, one_column: bool) -> Self
+        ensures { result ≡ none_of one_column }
+    {
+        TableEdge {
+            table: HashTable::new(alloc, seed, one_column),
+            alloc,
+        }
+    }
+}
+
+impl TableEdge<OrderedTable<Entry>> {
+    /// The container with no row, which takes no memory: it takes keys of one column alone, or any.
+    pub fn new(alloc: Global, one_column: bool) -> Self
+        ensures { result ≡ none_of one_column }
+    {
+        TableEdge {
+            table: OrderedTable::new(alloc, one_column),
+            alloc,
+        }
+    }
+}
+
+impl<T: EntryTable + Drop> EdgeMap for TableEdge<T> {
+    ghost rows = { λ map. map.now };
+
+    ghost rows_taken = { λ map. map.taken };
+
+    ghost one_column = { λ map. map.one_column };
+
+    ghost may_take = { λ map key. HasWidth map.one_column key };
+
+    fn add(&mut self, key: &[u64], extra: &[u64]) -> Result<(), Memory> {
+        if let Some(entry) = self.table.entry_mut(key) {
+            entry.raise(extra)?;
+            return Ok(());
+        }
+        let entry = Entry::new(self.alloc, extra)?;
+        self.table.put(key, entry)?;
+        Ok(())
+    }
+
+    fn sub(&mut self, key: &[u64]) {
+        let Some(entry) = self.table.entry_mut(key) else {
+            unreachable!();
+        };
+        entry.lower();
+        if entry.is_gone() {
+            self.table.take_out(key);
+        }
+    }
+
+    fn revert(&mut self, key: &[u64]) {
+        let Some(entry) = self.table.entry_mut(key) else {
+            return;
+        };
+        entry.revert();
+        if entry.is_gone() {
+            self.table.take_out(key);
+        }
+    }
+
+    fn settle(&mut self, key: &[u64]) {
+        let Some(entry) = self.table.entry_mut(key) else {
+            return;
+        };
+        entry.settle();
+        if entry.is_gone() {
+            self.table.take_out(key);
+        }
+    }
+
+    fn get(&self, key: &[u64]) -> Option<&[u64]> {
+        match self.table.entry(key) {
+            Some(entry) => entry.extra(),
+            None => None,
+        }
+    }
+
+    fn scan(&self, out: &mut Vec<u64>) -> Result<(), Memory> {
+        let rows = self.table.rising(self.alloc)?;
+        add_rows(&rows, out)
+    }
+
+    fn len(&self) -> u64 {
+        self.table.count()
+    }
+
+    fn is_gone(&self) -> bool {
+        self.table.has_none()
+    }
+
+    fn copy(&self) -> Result<Self, Memory> {
+        Ok(TableEdge {
+            table: copy_of(self.alloc, &self.table)?,
+            alloc: self.alloc,
+        })
+    }
+}
+
+/// A table with the same entries.
+fn copy_of<T: EntryTable + Drop>(alloc: Global, table: &T) -> Result<T, Memory>
+    ensures entries { IfOk result (λ copy. T.entries copy ≡ T.entries table.now) }
+    ensures width { IfOk result (λ copy. T.one_column copy ≡ T.one_column table.now) }
+{
+    let mut copy = table.another(alloc);
+    for keyed in &table.all(alloc)? {
+        copy.put(keyed.key, keyed.value.copy()?)?;
+    }
+    Ok(copy)
+}
