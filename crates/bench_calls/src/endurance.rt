@@ -5,6 +5,7 @@ ghost use Rattle.rc_store.specs.Store.{IsFree};
 use crate::fault::Fault;
 use crate::mix::Mix;
 use crate::session::{How, make_all};
+use rc_maps::Seed;
 use rc_row::{Keeping, Pass};
 use rc_spec::Call;
 use rc_store::{Store, Waking};
@@ -28,6 +29,7 @@ pub fn endure<R: Wait>(
     let calls = mix.calls(alloc, compiled.accepted().spec(), nodes, 1, each)?;
     let (store, mut passes) = Store::build(
         alloc,
+        Seed::fixed(),
         compiled,
         1,
         MOST_CALLS,

@@ -8,6 +8,7 @@ ghost use Rattle.std.specs.Thread.{IsSync};
 use crate::fault::Fault;
 use crate::mix::Mix;
 use crate::session::{How, make_all};
+use rc_maps::Seed;
 use rc_plan::Compiled;
 use rc_row::{Keeping, Pass};
 use rc_spec::Call;
@@ -114,7 +115,15 @@ fn store(
     requires { (1 ≤ passes) × (passes ≤ 255) }
     ensures { IfOk result (λ r. (r.0.row.key.passes ≡ passes) × (r.1.items ≡ new_passes r.0.row)) }
 {
-    Store::build(alloc, compiled, passes, u64::from(each), keeping, Waking)
+    Store::build(
+        alloc,
+        Seed::fixed(),
+        compiled,
+        passes,
+        u64::from(each),
+        keeping,
+        Waking,
+    )
 }
 
 /// One thread makes all calls.

@@ -6,6 +6,7 @@ ghost use Rattle.rc_fragment.specs.Fragment.{edge_table};
 use crate::fault::Fault;
 use crate::store::{has, insert, remove, row_count};
 use rc_fragment::Fragment;
+use rc_maps::Seed;
 use rc_spec::Accepted;
 use rc_tuple::{Memory, Tuple};
 use std::alloc::Global;
@@ -171,7 +172,7 @@ pub fn measure_fragment<C: Clock>(
     accepted: &Accepted,
     size: u64,
 ) -> Result<Measures, Fault> {
-    let mut fragment = Fragment::empty(alloc, accepted)?;
+    let mut fragment = Fragment::empty(alloc, Seed::fixed(), accepted)?;
     let size = fill(alloc, &mut fragment, accepted, size)?;
     measure_filled(alloc, clock, &mut fragment, accepted, size)
 }

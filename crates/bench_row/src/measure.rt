@@ -8,6 +8,7 @@ ghost use Rattle.std.specs.Thread.{IsSync};
 use crate::fault::Fault;
 use crate::peer::lock_often;
 use crate::work::{Work, do_often};
+use rc_maps::Seed;
 use rc_mutate::compile;
 use rc_place::accept;
 use rc_reader::read_spec_only;
@@ -46,7 +47,7 @@ fn row(alloc: Global, passes: u32) -> Result<(Row, Vec<Pass>), Fault>
 {
     let accepted = accept(alloc, read_spec_only(alloc, GRAPH)?)?;
     let compiled = compile(alloc, accepted)?;
-    let (row, passes) = Row::build(alloc, &compiled, passes, Keeping::Counts)?;
+    let (row, passes) = Row::build(alloc, Seed::fixed(), &compiled, passes, Keeping::Counts)?;
     if row.stripes() < FEWEST {
         return Err(Fault::Refused);
     }

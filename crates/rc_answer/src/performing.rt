@@ -21,6 +21,7 @@ use crate::status::{Status, Stop};
 use crate::writing::{write_accepted, write_report};
 use rc_command::TextCommand;
 use rc_io::Sink;
+use rc_maps::Seed;
 use rc_mutate::compile;
 use rc_place::accept;
 use rc_reader::{read_spec, read_spec_only};
@@ -37,6 +38,7 @@ use std::thread::Threads;
 pub(crate) fn make_run<R: Threads + Wait + Sync, G: Gate + Sync>(
     rt: &R,
     alloc: Global,
+    hash_seed: Seed,
     accepted: Accepted,
     work: &Work,
     gate: &G,
@@ -50,8 +52,8 @@ pub(crate) fn make_run<R: Threads + Wait + Sync, G: Gate + Sync>(
 {
     let compiled = compile(alloc, accepted)?;
     let _ = compiled.accepted();
-    let closed = run_work(rt, alloc, compiled, work, gate)?;
-    let last = closed.rows(alloc)?;
+    let closed = run_work(rt, alloc, hash_seed, compiled, work, gate)?;
+    let last = closed.rows(alloc, hash_seed)?;
     Ok(Ran { closed, last })
 }
 
@@ -84,6 +86,7 @@ fn write_run<K: Sink>(alloc: Global, sink: &mut K, ran: &Ran, work: &Work) -> Re
 fn perform<R: Threads + Wait + Sync, K: Sink, G: Gate + Sync>(
     rt: &R,
     alloc: Global,
+    hash_seed: Seed,
     sink: &mut K,
     accepted: Accepted,
     work: &Work,
@@ -100,7 +103,7 @@ fn perform<R: Threads + Wait + Sync, K: Sink, G: Gate + Sync>(
     ensures failed { IsErrOf result Stop.Sink → Rose (K.faults sink.old) (K.faults sink.new) }
     ensures count { K.faults sink.old ≤ K.faults sink.new }
 {
-    let ran = make_run(rt, alloc, accepted, work, gate)?;
+    let ran = make_run(rt, alloc, hash_seed, accepted, work, gate)?;
     write_run(alloc, sink, &ran, work)?;
     Ok(ran)
 }
@@ -157,6 +160,7 @@ fn answer_alone<K: Sink>(
 fn run<R: Threads + Wait + Sync, K: Sink, G: Gate + Sync>(
     rt: &R,
     alloc: Global,
+    hash_seed: Seed,
     text: &[u8],
     sink: &mut K,
     gate: &G,
@@ -182,19 +186,20 @@ fn run<R: Threads + Wait + Sync, K: Sink, G: Gate + Sync>(
         Ok(work) => work,
         Err(refusal) => return refuse_run(alloc, sink, refusal),
     };
-    with_run(perform(rt, alloc, sink, accepted, &work, gate))
+    with_run(perform(rt, alloc, hash_seed, sink, accepted, &work, gate))
 }
 
 /// Answers a text of at most 2^24 bytes as the command asks, and writes the answer line by line: what the command asks of
 /// a text that keeps its rules, else the refusal of the first broken one. `run` makes the calls of its workload by threads
-/// that run beside each other, and hands out what they left; the gate is told of each point that a call reaches. Costs the
-/// text's length and, for `run`, what the plans of its calls cost.
+/// that run beside each other, and hands out what they left; the gate is told of each point that a call reaches, and the
+/// seed is that of the store's hash tables. Costs the text's length and, for `run`, what the plans of its calls cost.
 ///
 /// `Err` where memory is wanted, with nothing or a first part of the answer written, and where a write fails, with a first
 /// part written.
 pub fn answer<R: Threads + Wait + Sync, K: Sink, G: Gate + Sync>(
     rt: &R,
     alloc: Global,
+    hash_seed: Seed,
     command: TextCommand,
     text: &[u8],
     sink: &mut K,
@@ -213,6 +218,6 @@ pub fn answer<R: Threads + Wait + Sync, K: Sink, G: Gate + Sync>(
     match command {
         TextCommand::Check => without_run(answer_alone(alloc, Asked::Acceptance, text, sink)),
         TextCommand::Plan => without_run(answer_alone(alloc, Asked::Plans, text, sink)),
-        TextCommand::Run => run(rt, alloc, text, sink, gate),
+        TextCommand::Run => run(rt, alloc, hash_seed, text, sink, gate),
     }
 }

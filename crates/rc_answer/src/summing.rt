@@ -16,6 +16,7 @@ use crate::status::{Status, Stop};
 use crate::writing::write_text;
 use rc_generate::{generate, print_summary, sample_spec};
 use rc_io::Sink;
+use rc_maps::Seed;
 use rc_place::{AcceptFault, accept};
 use rc_shards::summarise;
 use rc_spec::Accepted;
@@ -61,6 +62,7 @@ fn write_summary<K: Sink>(alloc: Global, sink: &mut K, ran: &Ran) -> Result<(), 
 fn perform_big<R: Threads + Wait + Sync, K: Sink, G: Gate + Sync>(
     rt: &R,
     alloc: Global,
+    hash_seed: Seed,
     seed: u32,
     calls: u32,
     sink: &mut K,
@@ -75,7 +77,7 @@ fn perform_big<R: Threads + Wait + Sync, K: Sink, G: Gate + Sync>(
 {
     let accepted = accepted_sample(alloc)?;
     let work = generate(alloc, seed, calls)?;
-    let ran = make_run(rt, alloc, accepted, &work, gate)?;
+    let ran = make_run(rt, alloc, hash_seed, accepted, &work, gate)?;
     write_summary(alloc, sink, &ran)?;
     Ok(ran)
 }
@@ -90,6 +92,7 @@ fn perform_big<R: Threads + Wait + Sync, K: Sink, G: Gate + Sync>(
 pub fn answer_big<R: Threads + Wait + Sync, K: Sink, G: Gate + Sync>(
     rt: &R,
     alloc: Global,
+    hash_seed: Seed,
     seed: u32,
     calls: u32,
     sink: &mut K,
@@ -104,5 +107,5 @@ pub fn answer_big<R: Threads + Wait + Sync, K: Sink, G: Gate + Sync>(
     ensures failed { IsErrOf result Stop.Sink → Rose (K.faults sink.old) (K.faults sink.new) }
     ensures count { K.faults sink.old ≤ K.faults sink.new }
 {
-    with_run(perform_big(rt, alloc, seed, calls, sink, gate))
+    with_run(perform_big(rt, alloc, hash_seed, seed, calls, sink, gate))
 }

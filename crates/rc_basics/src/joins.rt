@@ -4,6 +4,7 @@ use crate::fault::Fault;
 use crate::reading::{first_word, text_of, tuple};
 use crate::showing::push_pairs;
 use rc_join::join;
+use rc_maps::Seed;
 
 /// Joins the tuples of the lines `left` with those of the lines `right`, and lists what comes of it.
 pub(crate) fn list_join(input: &[u8], out: &mut Vec<u8>) -> Result<(), Fault> {
@@ -17,7 +18,7 @@ pub(crate) fn list_join(input: &[u8], out: &mut Vec<u8>) -> Result<(), Fault> {
             _ => return Err(Fault::NoForm),
         }
     }
-    for tuple in join(alloc, &left, &right)?.list() {
+    for tuple in join(alloc, Seed::fixed(), &left, &right)?.list() {
         push_pairs(out, tuple.pairs())?;
         out.push(b'\n')?;
     }

@@ -3,6 +3,7 @@
 
 use rc_case::{Case, End, LineFault, Script, Tally};
 use rc_io::{MemSink, MemSource, read_all};
+use rc_maps::Seed;
 use rc_store::OpenGate;
 use rc_top::relc;
 use rc_tuple::Memory;
@@ -25,7 +26,15 @@ fn answer<R: Threads + Wait + Sync>(rt: &R, alloc: Global, case: &Case) -> Resul
     let mut source = MemSource::new(case.input.clone()?, piece, streams.failed_reads.clone()?);
     let mut sink = MemSink::new(alloc, ROOM, piece, streams.failed_writes.clone()?)?;
     let words = &case.words;
-    let outcome = relc(rt, alloc, words, &mut source, &mut sink, &OpenGate);
+    let outcome = relc(
+        rt,
+        alloc,
+        Seed::fixed(),
+        words,
+        &mut source,
+        &mut sink,
+        &OpenGate,
+    );
     Ok(End {
         status: outcome.status.code(),
         left: left_in(alloc, &mut source),

@@ -19,9 +19,6 @@ use rc_tuple::{Memory, Tuple, Tuples};
 use std::alloc::Global;
 use std::marker::Model;
 
-/// The seed of the hash tables of a fragment for which none is chosen: digits of pi.
-const FIXED_SEED: (u64, u64) = (0x243F_6A88_85A3_08D3, 0x1319_8A2E_0370_7344);
-
 /// The rows of all edges that fall on one lock stripe (PLDI 2012, lock striping): each edge and source
 /// has its rows in a container of the edge's kind.
 ///
@@ -51,16 +48,8 @@ impl Model for Fragment {
 impl Fragment {
     /// The fragment of an accepted specification's stripe with no row. It has the edge table of the
     /// specification; no call changes the table.
-    /// Its hash tables have one fixed seed, so whoever chooses the values can make them collide; where
-    /// that matters, `with_seed` takes another.
-    pub fn empty(alloc: Global, accepted: &Accepted) -> Result<Fragment, Memory>
-        ensures { IfOk result (λ fragment. fragment ≡ no_rows (edge_table accepted.now)) }
-    {
-        Fragment::with_seed(alloc, Seed::new(FIXED_SEED.0, FIXED_SEED.1), accepted)
-    }
-
-    /// The same, with hash tables of this seed.
-    pub fn with_seed(alloc: Global, seed: Seed, accepted: &Accepted) -> Result<Fragment, Memory>
+    /// The seed is that of its hash tables.
+    pub fn empty(alloc: Global, seed: Seed, accepted: &Accepted) -> Result<Fragment, Memory>
         ensures { IfOk result (λ fragment. fragment ≡ no_rows (edge_table accepted.now)) }
     {
         Ok(Fragment {

@@ -10,6 +10,7 @@ ghost use Rattle.rc_instance.specs.Fragments.{IsEmptyFragment, each_at};
 ghost use Rattle.rc_instance.specs.Instance.{table_of_fragments};
 
 use rc_fragment::{CowFragment, Fragment, Keep};
+use rc_maps::Seed;
 use rc_spec::{Accepted, Mode, stripe_total};
 use rc_tuple::Memory;
 use std::alloc::Global;
@@ -17,6 +18,7 @@ use std::alloc::Global;
 /// A fragment with no row for each stripe of an accepted specification.
 pub(crate) fn empty_fragments(
     alloc: Global,
+    seed: Seed,
     accepted: &Accepted,
 ) -> Result<Vec<CowFragment>, Memory>
     ensures stripes { IfOk result (λ fragments. length fragments.items ≡ stripe_total accepted.now) }
@@ -26,7 +28,7 @@ pub(crate) fn empty_fragments(
 {
     let mut fragments = Vec::new(alloc);
     for _ in 0..stripe_total(accepted.spec()) {
-        let fragment = Fragment::empty(alloc, accepted)?;
+        let fragment = Fragment::empty(alloc, seed, accepted)?;
         fragments.push(CowFragment::alone_or_kept(Keep::of(fragment)))?;
     }
     Ok(fragments)

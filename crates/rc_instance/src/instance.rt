@@ -14,6 +14,7 @@ use crate::held_numbers::HeldNumbers;
 use crate::represent::joined_rows;
 use crate::room::{InstanceRoom, with_kept};
 use rc_fragment::{CowFragment, Fragment, Holder, Keep, TakeStop};
+use rc_maps::Seed;
 use rc_spec::{Accepted, MAX_STRIPES, Mode};
 use rc_tuple::{Memory, Tuple, Tuples};
 use std::alloc::Global;
@@ -42,15 +43,16 @@ impl Model for Instance {
 
 impl Instance {
     /// The instance of an accepted specification with no tuple: each stripe is free and has no row.
-    /// It is of the empty relation, and so sound for the specification.
-    pub fn empty(alloc: Global, accepted: &Accepted) -> Result<Instance, Memory>
+    /// It is of the empty relation, and so sound for the specification. The seed is that of its hash
+    /// tables.
+    pub fn empty(alloc: Global, seed: Seed, accepted: &Accepted) -> Result<Instance, Memory>
         ensures stripes { IfOk result (λ instance. length instance ≡ stripe_total accepted.now) }
         ensures table { IfOk result (λ instance. table_of instance ≡ edge_table accepted.now) }
         ensures empty { IfOk result (λ instance. IsEmpty instance) }
         ensures relation { IfOk result (λ instance. IsOfRelation accepted.now instance []) }
     {
         Ok(Instance {
-            fragments: empty_fragments(alloc, accepted)?,
+            fragments: empty_fragments(alloc, seed, accepted)?,
             held: [None; MAX_STRIPES],
             numbers: HeldNumbers::none(),
             alloc,
@@ -98,13 +100,18 @@ impl Instance {
     /// The tuples that the instance represents, rising: the join of the rows now of all edges. Where no
     /// stripe is held and the instance is of a relation, they are that relation. Costs all rows, for each
     /// edge a hash of them and of the tuples joined so far. (The natural join of a decomposition's
-    /// contents, PLDI 2011.)
-    pub fn represents(&self, alloc: Global, accepted: &Accepted) -> Result<Tuples, Memory>
+    /// contents, PLDI 2011.) The seed is that of the hash tables by which they are joined.
+    pub fn represents(
+        &self,
+        alloc: Global,
+        seed: Seed,
+        accepted: &Accepted,
+    ) -> Result<Tuples, Memory>
         requires { table_of self.now ≡ edge_table accepted.now }
         ensures rows { IfOk result (λ tuples. tuples ≡ represented_by accepted.now (rows_of self.now)) }
         ensures relation { IfOk result (λ tuples. (r : List Pairs) → held_from 0 self.now ≡ [] → IsOfRelation accepted.now self.now r → tuples ≡ r) }
     {
-        joined_rows(alloc, &self.fragments, accepted.spec())
+        joined_rows(alloc, seed, &self.fragments, accepted.spec())
     }
 }
 

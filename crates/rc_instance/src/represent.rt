@@ -10,6 +10,7 @@ ghost use Rattle.rc_instance.specs.Instance.{rows_of_fragments};
 
 use rc_fragment::CowFragment;
 use rc_join::join;
+use rc_maps::Seed;
 use rc_spec::Spec;
 use rc_tuple::{ColSet, Memory, Tuple, Tuples, Vals};
 use std::alloc::Global;
@@ -17,6 +18,7 @@ use std::alloc::Global;
 /// The join of the rows of all edges over all fragments, begun with the one tuple without columns.
 pub(crate) fn joined_rows(
     alloc: Global,
+    seed: Seed,
     fragments: &[CowFragment],
     spec: &Spec,
 ) -> Result<Tuples, Memory>
@@ -28,7 +30,7 @@ pub(crate) fn joined_rows(
     joined.push(Tuple::new(ColSet::empty(), Vals::new(alloc))?)?;
     for edge in 0..spec.edges.list().len() as u8 {
         let rows = rows_of_edge(alloc, fragments, edge)?;
-        joined = join(alloc, joined.list(), rows.list())?;
+        joined = join(alloc, seed, joined.list(), rows.list())?;
     }
     Ok(joined)
 }

@@ -8,17 +8,19 @@ ghost use Rattle.rc_spec.specs.Contents.{join};
 ghost use Rattle.rc_join.specs.Index.{found_at, tuples_of};
 
 use crate::index::{Index, index_by};
+use rc_maps::Seed;
 use rc_tuple::{ColSet, Memory, Tuple, Tuples, distinct};
 use std::alloc::Global;
 
 /// The natural join of two lists of tuples: the merges of each pair that agrees, rising, each once.
 /// Tuples are brought together by their values at the columns that all of both lists have, so where
 /// the lists have one column set each, only tuples that agree are merged. (A hash join.)
-pub fn join(alloc: Global, left: &[Tuple], right: &[Tuple]) -> Result<Tuples, Memory>
+/// The seed is that of its hash table.
+pub fn join(alloc: Global, seed: Seed, left: &[Tuple], right: &[Tuple]) -> Result<Tuples, Memory>
     ensures { IfOk result (λ joined. joined ≡ join left.now right.now) }
 {
     let columns = shared_columns(left).inter(shared_columns(right));
-    let index = index_by(alloc, right, columns)?;
+    let index = index_by(alloc, seed, right, columns)?;
     let mut merges = Vec::new(alloc);
     for tuple in left {
         push_found(&mut merges, &index, tuple, columns)?;

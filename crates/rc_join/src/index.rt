@@ -3,22 +3,24 @@
 ghost use Rattle.std.specs.Prelude.{◌≡◌, IfOk, OnOk};
 ghost use Rattle.rc_join.specs.Index.{IsAdded, IsIndexed};
 
+use rc_maps::Seed;
 use rc_tuple::{ColSet, Memory, Tuple};
 use std::alloc::Global;
 use std::collections::HashMap;
 
 /// The tuples that have the same pairs at the columns by which they are looked up.
-pub(crate) type Index<'a> = HashMap<Vec<(u8, u64)>, Vec<&'a Tuple>>;
+pub(crate) type Index<'a> = HashMap<Vec<(u8, u64)>, Vec<&'a Tuple>, Seed>;
 
 /// The tuples by their pairs at the columns.
 pub(crate) fn index_by(
     alloc: Global,
+    seed: Seed,
     tuples: &[Tuple],
     columns: ColSet,
 ) -> Result<Index<'_>, Memory>
     ensures { IfOk result (λ index. IsIndexed columns tuples.now index.entries) }
 {
-    let mut index = HashMap::new(alloc);
+    let mut index = HashMap::with_hasher(alloc, seed);
     for tuple in tuples {
         let key = tuple.project(columns)?;
         add(alloc, &mut index, key.pairs(), tuple)?;

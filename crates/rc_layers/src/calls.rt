@@ -17,6 +17,7 @@ use crate::stops::run_up_to;
 use rc_fragment::Holder;
 use rc_instance::Instance;
 use rc_machine::{Stop as RunStop, run_plan};
+use rc_maps::Seed;
 use rc_mutate::compile;
 use rc_plan::Compiled;
 use rc_reader::{ReadRefusal, read_spec};
@@ -73,7 +74,7 @@ impl Sides {
         ensures relation { IfOk result (λ sides. IsOfRelation compiled.now.spec sides.instance sides.relation) }
     {
         Ok(Sides {
-            instance: Instance::empty(alloc, compiled.accepted())?,
+            instance: Instance::empty(alloc, Seed::fixed(), compiled.accepted())?,
             relation: PlainRel::empty(alloc),
         })
     }

@@ -11,6 +11,7 @@ use crate::rows::push_held;
 use crate::stop::Stop;
 use crate::stops::push_stops;
 use crate::writing::{push_count, push_tuples};
+use rc_maps::Seed;
 use rc_plan::Compiled;
 use rc_spec::Call;
 use rc_tuple::Tuple;
@@ -168,7 +169,9 @@ fn push_represented(
     requires { IsOfRelation compiled.now.spec sides.now.instance sides.now.relation }
 {
     let accepted = compiled.accepted();
-    let tuples = sides.instance.represents(*out.allocator(), accepted)?;
+    let tuples = sides
+        .instance
+        .represents(*out.allocator(), Seed::fixed(), accepted)?;
     let rows = sides.relation.rows();
     push_count("represents", tuples.list().len(), out)?;
     if !are_same(tuples.list(), rows) {

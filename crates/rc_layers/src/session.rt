@@ -16,6 +16,7 @@ use crate::stop::Stop;
 use crate::writing::{push_count, push_tuples};
 use rc_fragment::{Fragment, Holder};
 use rc_instance::Instance;
+use rc_maps::Seed;
 use rc_spec::{Accepted, Mode};
 use rc_text::push_bytes;
 use rc_tuple::{Memory, Tuple};
@@ -71,7 +72,7 @@ fn act_lines(
 fn begin(alloc: Global, accepted: &Accepted) -> Result<Session, Stop>
     ensures { IfOk result (IsAt accepted.now) }
 {
-    let instance = Instance::empty(alloc, accepted)?;
+    let instance = Instance::empty(alloc, Seed::fixed(), accepted)?;
     Ok(Session {
         instance,
         stage: Stage::Fresh,
@@ -127,7 +128,7 @@ fn push_represented(session: &Session, accepted: &Accepted, out: &mut Vec<u8>) -
     requires { IsAt accepted.now session.now }
 {
     let alloc = *out.allocator();
-    let tuples = session.instance.represents(alloc, accepted)?;
+    let tuples = session.instance.represents(alloc, Seed::fixed(), accepted)?;
     let ranks = Ranks::build(Vec::new(alloc))?;
     push_count("represents", tuples.list().len(), out)?;
     push_tuples(accepted, &ranks, tuples.list(), out)?;

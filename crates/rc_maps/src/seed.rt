@@ -22,7 +22,13 @@ impl Seed {
         Seed { first, last }
     }
 
-    /// A seed from the system's random numbers.
+    /// One seed, the same everywhere, so that anyone can tell which keys collide: where the keys are
+    /// known, or the system has no random numbers.
+    pub fn fixed() -> Seed {
+        Seed::new(0x243F_6A88_85A3_08D3, 0x1319_8A2E_0370_7344)
+    }
+
+    /// A seed from the system's random numbers. `Err` where the system has none.
     pub fn draw(rt: &impl RandomSource) -> io::Result<Seed> {
         let mut bytes = [0; 16];
         rt.fill_bytes(&mut bytes)?;

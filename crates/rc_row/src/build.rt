@@ -15,6 +15,7 @@ use crate::waiting::Waiting;
 use atomic_table::{Refused, Seat, Table};
 use rc_fragment::{Fragment, Keep};
 use rc_journal::Part;
+use rc_maps::Seed;
 use rc_plan::Compiled;
 use rc_spec::{Accepted, stripe_total};
 use rc_tuple::Memory;
@@ -23,10 +24,11 @@ use std::snapshot::Snapshot;
 
 impl Row {
     /// Makes a row of a specification with its plans, all of whose stripes are free and have no row, with its passes by
-    /// number, 1 to 255 of them, which keep of their entries what is said. Only want of memory refuses it. Costs the stripes
-    /// and, for each pass, room for a fragment of each stripe.
+    /// number, 1 to 255 of them, which keep of their entries what is said. The seed is that of its hash tables. Only want of
+    /// memory refuses it. Costs the stripes and, for each pass, room for a fragment of each stripe.
     pub fn build(
         alloc: Global,
+        seed: Seed,
         compiled: &Compiled,
         passes: u32,
         keeping: Keeping,
@@ -39,7 +41,7 @@ impl Row {
         let stripes = stripe_total(compiled.accepted().spec()) as usize;
         let mut held = rooms(alloc, passes as usize, stripes)?;
         let mut dealt = Vec::with_capacity(alloc, passes as usize)?;
-        let (row, mut seat) = match open(alloc, compiled, passes, keeping) {
+        let (row, mut seat) = match open(alloc, seed, compiled, passes, keeping) {
             Ok(made) => made,
             Err(Memory) => {
                 dealt.destroy_empty();
@@ -88,6 +90,7 @@ impl Row {
 /// A row with its opener, who deals the passes.
 fn open(
     alloc: Global,
+    seed: Seed,
     compiled: &Compiled,
     passes: u32,
     keeping: Keeping,
@@ -103,7 +106,7 @@ fn open(
         passes,
     };
     let words = vec![in alloc; 0u64; WORDS_OF_A_LINE * (2 * stripes + 1)]?;
-    let slots = empty_slots(alloc, compiled.accepted())?;
+    let slots = empty_slots(alloc, seed, compiled.accepted())?;
     match Table::new(alloc, words.as_slice(), slots, &key) {
         Ok((table, seat)) => Ok((
             Row {
@@ -119,14 +122,14 @@ fn open(
 }
 
 /// A slot for each stripe, with a fragment that has no row.
-fn empty_slots(alloc: Global, accepted: &Accepted) -> Result<Vec<Option<Keep>>, Memory>
+fn empty_slots(alloc: Global, seed: Seed, accepted: &Accepted) -> Result<Vec<Option<Keep>>, Memory>
     ensures count { IfOk result (λ slots. length slots.items ≡ stripe_total accepted.now) }
     ensures empty { IfOk result (λ slots. All (λ slot. slot ≡ Some (kept_of accepted.now [])) slots.items) }
 {
     let stripes = stripe_total(accepted.spec()) as usize;
     let mut slots = Vec::with_capacity(alloc, stripes)?;
     for _ in 0..stripes {
-        let fragment = Fragment::empty(alloc, accepted)?;
+        let fragment = Fragment::empty(alloc, seed, accepted)?;
         slots.push(Some(Keep::of(fragment)))?;
     }
     Ok(slots)

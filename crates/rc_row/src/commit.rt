@@ -97,7 +97,8 @@ impl Row {
         self.commit_step::<E>(seat)
     }
 
-    /// The pass has seen the whole history as it stands, and answers how long that is. Takes no memory.
+    /// Reads from the commit word how long the history is, and answers it: the pass has seen so much of it, which is no less
+    /// than it had seen. Takes no memory.
     pub fn look(&self, pass: &mut Pass) -> u64
         requires { IsPassOf self.now pass.old }
         ensures pass { IsPassOf self.now pass.new }

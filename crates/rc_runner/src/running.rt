@@ -12,6 +12,7 @@ ghost use Rattle.rc_runner.specs.Running.{HasRun, numbers_of, stands_of};
 
 use crate::calling::make_round;
 use crate::telling::tell;
+use rc_maps::Seed;
 use rc_plan::Compiled;
 use rc_row::{Keeping, Pass};
 use rc_store::{Closed, Gate, Store, Waking};
@@ -62,11 +63,12 @@ fn close(store: Store<Waking>, passes: Vec<Pass>) -> Result<Closed, Memory>
 
 /// Makes all calls of a workload on a store of its own, and closes it: pass k makes the calls of thread k, in order; the
 /// threads of a round run beside each other, and each round after the one before. The journal is a run of the workload, and
-/// the instance is of the relation that it leaves. The gate is told of each point that a call reaches. Only want of memory
-/// refuses it. (PLDI 2012, serializable transactions.)
+/// the instance is of the relation that it leaves. The gate is told of each point that a call reaches. The seed is that of the
+/// store's hash tables. Only want of memory refuses it. (PLDI 2012, serializable transactions.)
 pub fn run_work<R: Threads + Wait + Sync, G: Gate + Sync>(
     rt: &R,
     alloc: Global,
+    hash_seed: Seed,
     compiled: Compiled,
     work: &Work,
     gate: &G,
@@ -79,6 +81,7 @@ pub fn run_work<R: Threads + Wait + Sync, G: Gate + Sync>(
 {
     let (store, mut passes) = Store::build(
         alloc,
+        hash_seed,
         compiled,
         work.threads,
         MOST_CALLS,

@@ -7,6 +7,7 @@ ghost use Rattle.rc_store.specs.Closed.{HasOneHistory};
 
 use rc_instance::Instance;
 use rc_journal::Journal;
+use rc_maps::Seed;
 use rc_plan::Compiled;
 use rc_tuple::{Memory, Tuples};
 use std::alloc::Global;
@@ -66,13 +67,14 @@ impl Closed {
     }
 
     /// The rows of the relation that the history leaves, rising. Costs as much as the fragments have rows, and for each edge a
-    /// hash of them.
-    pub fn rows(&self, alloc: Global) -> Result<Tuples, Memory>
+    /// hash of them, with this seed.
+    pub fn rows(&self, alloc: Global, seed: Seed) -> Result<Tuples, Memory>
         ensures { IfOk result (λ rows. (r : List Pairs)
             → IsOfRelation self.now.compiled.spec self.now.instance r → rows ≡ r) }
     {
         self.has_one_history();
-        self.instance.represents(alloc, self.compiled.accepted())
+        self.instance
+            .represents(alloc, seed, self.compiled.accepted())
     }
 
     /// A law, in the form of a call that does nothing: there is a legal history of which these are the entries, where they

@@ -6,6 +6,7 @@ ghost use Rattle.rc_row.specs.Passes.{IsPassOf, compiled_of, core_of, new_passes
 ghost use Rattle.rc_row.specs.Standings.{with_core};
 
 use crate::wakes::Wakes;
+use rc_maps::Seed;
 use rc_plan::Compiled;
 use rc_row::{Keeping, Note, Pass, Row};
 use rc_tuple::Memory;
@@ -37,10 +38,12 @@ impl<W> Model for Store<W> {
 
 impl<W: Wakes> Store<W> {
     /// Makes a store with no tuple, and its passes by number, 1 to 255 of them, each of which may make so many entries and
-    /// keeps of them what is said. Only want of memory refuses it. Costs the stripes and, for each pass, room for a
-    /// fragment of each stripe.
+    /// keeps of them what is said. The seed is that of its hash tables: where who chooses the values isn't trusted, one that
+    /// was drawn at random. Only want of memory refuses it. Costs the stripes and, for each pass, room for a fragment of each
+    /// stripe.
     pub fn build(
         alloc: Global,
+        seed: Seed,
         compiled: Compiled,
         passes: u32,
         limit: u64,
@@ -54,7 +57,7 @@ impl<W: Wakes> Store<W> {
         ensures row { IfOk result (λ r. (r.0.row.key.passes ≡ passes) × (r.0.row.keeping ≡ keeping)) }
         ensures passes { IfOk result (λ r. r.1.items ≡ new_passes r.0.row) }
     {
-        let (row, dealt) = Row::build(alloc, &compiled, passes, keeping)?;
+        let (row, dealt) = Row::build(alloc, seed, &compiled, passes, keeping)?;
         let store = Store {
             row,
             compiled,
@@ -92,7 +95,8 @@ impl<W: Wakes> Store<W> {
         self.row.learn(pass, note);
     }
 
-    /// The pass has seen the whole history as it stands, and answers how long that is. Takes no memory.
+    /// Looks how long the history is, and answers it: the pass has seen so much of it, which is no less than it had seen.
+    /// Takes no memory.
     pub fn look(&self, pass: &mut Pass) -> u64
         requires { IsPassOf self.now.row pass.old }
         ensures pass { IsPassOf self.now.row pass.new }

@@ -6,6 +6,7 @@ ghost use Rattle.rc_store.specs.Store.{IsFree};
 
 use crate::graph::{Calls, compiled};
 use crate::trial::{LIMIT, Outcome, Trial, busy, goes_well, tried};
+use rc_maps::Seed;
 use rc_row::{Keeping, Pass};
 use rc_spec::{Call, Found, fits};
 use rc_store::{Gate, OpenGate, Point, Store, Waking};
@@ -187,7 +188,15 @@ enum Meeting {
 /// Whether the calls of two passes of a new store meet so.
 fn meet<R: Threads + Wait + Sync>(rt: &R, alloc: Global, meeting: Meeting) -> Result<bool, Fail> {
     let (calls, compiled) = (Calls::of(alloc, 1)?, compiled(alloc)?);
-    let (store, mut passes) = Store::build(alloc, compiled, 2, LIMIT, Keeping::Counts, Waking)?;
+    let (store, mut passes) = Store::build(
+        alloc,
+        Seed::fixed(),
+        compiled,
+        2,
+        LIMIT,
+        Keeping::Counts,
+        Waking,
+    )?;
     let one = passes.remove(0);
     let two = passes.remove(0);
     passes.destroy_empty();

@@ -5,6 +5,7 @@ ghost use Rattle.std.specs.Prelude.{None};
 use crate::graph::GRAPH;
 use crate::run_tests::words_of;
 use rc_io::{Failed, MemSink, Source};
+use rc_maps::Seed;
 use rc_store::OpenGate;
 use rc_top::relc;
 use std::alloc::Global;
@@ -55,7 +56,15 @@ fn asked<R: Threads + Wait + Sync>(
     };
     let mut sink = MemSink::new(alloc, ROOM, ROOM, Vec::new(alloc))?;
     let words = words_of(alloc, arguments)?;
-    relc(rt, alloc, &words, &mut source, &mut sink, &OpenGate);
+    relc(
+        rt,
+        alloc,
+        Seed::fixed(),
+        &words,
+        &mut source,
+        &mut sink,
+        &OpenGate,
+    );
     Ok((source.asked, source.ends))
 }
 

@@ -5,6 +5,7 @@ ghost use Rattle.rc_row.specs.Passes.{AreIdlePasses, core_of, new_passes, stripe
 ghost use Rattle.rc_tests.specs.Free.{IsFreePass};
 
 use crate::graph::compiled;
+use rc_maps::Seed;
 use rc_row::{Keeping, Pass, Row};
 use rc_spec::Found;
 use rc_tuple::Memory;
@@ -42,7 +43,7 @@ fn row(alloc: Global, passes: u32) -> Result<(Row, Vec<Pass>), Fail>
     ensures some { IfOk result (λ r. 0 < stripes_of r.0) }
 {
     let compiled = compiled(alloc)?;
-    let (row, passes) = Row::build(alloc, &compiled, passes, Keeping::Entries)?;
+    let (row, passes) = Row::build(alloc, Seed::fixed(), &compiled, passes, Keeping::Entries)?;
     if row.stripes() == 0 {
         return Err(Fail::new("no stripe"));
     }

@@ -5,6 +5,7 @@ use crate::gate_tests::wait_for;
 use crate::graph::GRAPH;
 use crate::shared_tests::is_legal;
 use rc_io::{MemSink, MemSource};
+use rc_maps::Seed;
 use rc_store::{Gate, OpenGate, Point};
 use rc_text::{push_bytes, push_u64};
 use rc_top::{Outcome, Ran, Status, relc};
@@ -42,7 +43,7 @@ fn outcome<R: Threads + Wait + Sync, G: Gate + Sync>(
     push_bytes(&mut text, work)?;
     let mut source = MemSource::new(text, 1 << 20, Vec::new(alloc));
     let words = words_of(alloc, &["run"])?;
-    Ok(relc(rt, alloc, &words, &mut source, sink, gate))
+    Ok(relc(rt, alloc, Seed::fixed(), &words, &mut source, sink, gate))
 }
 
 // ---- a call that is held
@@ -250,7 +251,7 @@ fn status_of_big<R: Threads + Wait + Sync, G: Gate + Sync>(
 ) -> Result<Status, Memory> {
     let mut source = MemSource::new(Vec::new(alloc), 1, Vec::new(alloc));
     let words = words_of(alloc, &["big", "7", calls])?;
-    let outcome = relc(rt, alloc, &words, &mut source, sink, gate);
+    let outcome = relc(rt, alloc, Seed::fixed(), &words, &mut source, sink, gate);
     Ok(outcome.status)
 }
 

@@ -8,6 +8,7 @@ ghost use Rattle.rc_tests.specs.Free.{AreFew};
 use crate::gate_tests::{TURNS, place};
 use crate::graph::{Calls, compiled, insert, remove, successors};
 use crate::trial::{LIMIT, Outcome, Trial, goes_well, rows, tried};
+use rc_maps::Seed;
 use rc_rel::PlainRel;
 use rc_row::{Keeping, Pass};
 use rc_spec::{Call, fits};
@@ -156,7 +157,7 @@ pub(crate) fn is_legal(alloc: Global, closed: &Closed) -> Result<bool, Fail> {
             }
         }
     }
-    let left = closed.rows(alloc)?;
+    let left = closed.rows(alloc, Seed::fixed())?;
     Ok(are_same(plain.rows(), left.list()))
 }
 
@@ -175,7 +176,15 @@ fn store_of_eight(alloc: Global) -> Result<(Store<Waking>, Vec<Pass>), Fail>
     ensures passes { IfOk result (λ r. r.1.items ≡ new_passes r.0.row) }
 {
     let compiled = compiled(alloc)?;
-    Ok(Store::build(alloc, compiled, 8, 1 << 20, Keeping::Entries, Waking)?)
+    Ok(Store::build(
+        alloc,
+        Seed::fixed(),
+        compiled,
+        8,
+        1 << 20,
+        Keeping::Entries,
+        Waking,
+    )?)
 }
 
 /// Whether the calls of eight threads are one legal history, each thread's all answered.

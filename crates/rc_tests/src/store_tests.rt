@@ -5,6 +5,7 @@ ghost use Rattle.rc_row.specs.Passes.{AreIdlePasses, new_passes};
 
 use crate::graph::{Calls, compiled};
 use crate::trial::{LIMIT, Outcome, Trial, goes_well, rows, tried};
+use rc_maps::Seed;
 use rc_rel::{Entry, replay};
 use rc_row::{Keeping, Pass};
 use rc_store::{Closed, Quiet, Store};
@@ -38,7 +39,7 @@ fn store(alloc: Global, keeping: Keeping) -> Result<(Store<Quiet>, Vec<Pass>), F
     ensures passes { IfOk result (λ r. r.1.items ≡ new_passes r.0.row) }
 {
     let compiled = compiled(alloc)?;
-    Ok(Store::build(alloc, compiled, 2, LIMIT, keeping, Quiet)?)
+    Ok(Store::build(alloc, Seed::fixed(), compiled, 2, LIMIT, keeping, Quiet)?)
 }
 
 /// The passes, in room for them, once each has made calls: the first, the second, and the first again.
@@ -110,7 +111,7 @@ fn has_rows_of(alloc: Global, closed: &Closed, entries: &[Entry]) -> Result<bool
     closed.has_one_history();
     let accepted = closed.compiled().accepted();
     let left = replay(alloc, accepted.spec(), entries)?;
-    let had = closed.rows(alloc)?;
+    let had = closed.rows(alloc, Seed::fixed())?;
     let are_same = left
         .rows()
         .iter()

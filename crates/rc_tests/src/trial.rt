@@ -5,6 +5,7 @@ ghost use Rattle.rc_row.specs.Passes.{core_of};
 ghost use Rattle.rc_store.specs.Store.{IsFree};
 
 use crate::graph::{Calls, compiled};
+use rc_maps::Seed;
 use rc_row::{Keeping, Pass};
 use rc_spec::{Call, Found, Reply, fits};
 use rc_store::{Receipt, Store, TryFault, Wakes};
@@ -45,7 +46,15 @@ fn goes_well_on<W: Wakes, T: Trial<W>>(
     trial: &T,
 ) -> Result<bool, Fail> {
     let compiled = compiled(alloc)?;
-    let (store, mut passes) = Store::build(alloc, compiled, 2, LIMIT, keeping, wakes)?;
+    let (store, mut passes) = Store::build(
+        alloc,
+        Seed::fixed(),
+        compiled,
+        2,
+        LIMIT,
+        keeping,
+        wakes,
+    )?;
     let one = passes.remove(0);
     let two = passes.remove(0);
     passes.destroy_empty();

@@ -15,6 +15,7 @@ ghost use Rattle.rc_command.specs.declared.command.TextCommand.TheVariants as co
 use rc_answer::{Outcome, Status, Stop, answer, answer_big, refuse_size};
 use rc_command::{Command, TextCommand, command_in};
 use rc_io::{ReadFault, Sink, Source, WriteFault, read_all, write_all};
+use rc_maps::Seed;
 use rc_store::Gate;
 use rc_text::MAX_TEXT_BYTES;
 use rc_tuple::Memory;
@@ -38,10 +39,12 @@ use std::thread::Threads;
 /// what they left: whatever was read, the journal is one legal history, every state of which satisfies the dependencies,
 /// and the rows are those that it leaves; it is a run of the workload that the told bytes have, or of the generated one,
 /// and what was written are the plans and the report, or the summary, of these very values. The gate is told of each
-/// point that a call reaches.
+/// point that a call reaches. The seed is that of the store's hash tables: with one
+/// that was drawn at random, no list of colliding keys can be written down beforehand.
 pub fn relc<R: Threads + Wait + Sync, S: Source, K: Sink, G: Gate + Sync>(
     rt: &R,
     alloc: Global,
+    hash_seed: Seed,
     words: &[String],
     source: &mut S,
     sink: &mut K,
@@ -103,8 +106,12 @@ pub fn relc<R: Threads + Wait + Sync, S: Source, K: Sink, G: Gate + Sync>(
         → (result.status ≡ Status.Done) ⊎ (result.status ≡ Status.OutOfMemory) }
 {
     match command_in(alloc, words) {
-        Ok(Some(Command::OfText(command))) => answer_text(rt, alloc, command, source, sink, gate),
-        Ok(Some(Command::Big { seed, calls })) => big(rt, alloc, seed, calls, sink, gate),
+        Ok(Some(Command::OfText(command))) => answer_text(
+            rt, alloc, hash_seed, command, source, sink, gate,
+        ),
+        Ok(Some(Command::Big { seed, calls })) => big(
+            rt, alloc, hash_seed, seed, calls, sink, gate,
+        ),
         Ok(None) => Outcome::without_run(usage(sink)),
         Err(Memory) => Outcome::without_run(Status::OutOfMemory),
     }
@@ -147,6 +154,7 @@ fn status_of(answer: Result<Status, Stop>) -> Status
 fn big<R: Threads + Wait + Sync, K: Sink, G: Gate + Sync>(
     rt: &R,
     alloc: Global,
+    hash_seed: Seed,
     seed: u32,
     calls: u32,
     sink: &mut K,
@@ -162,13 +170,14 @@ fn big<R: Threads + Wait + Sync, K: Sink, G: Gate + Sync>(
         → Rose (K.faults sink.old) (K.faults sink.new) }
     ensures sink_count { K.faults sink.old ≤ K.faults sink.new }
 {
-    outcome_of(answer_big(rt, alloc, seed, calls, sink, gate))
+    outcome_of(answer_big(rt, alloc, hash_seed, seed, calls, sink, gate))
 }
 
 /// Reads the source to its end, and answers its text as the command asks.
 fn answer_text<R: Threads + Wait + Sync, S: Source, K: Sink, G: Gate + Sync>(
     rt: &R,
     alloc: Global,
+    hash_seed: Seed,
     command: TextCommand,
     source: &mut S,
     sink: &mut K,
@@ -194,7 +203,7 @@ fn answer_text<R: Threads + Wait + Sync, S: Source, K: Sink, G: Gate + Sync>(
     ensures sink_count { K.faults sink.old ≤ K.faults sink.new }
 {
     match read_all(alloc, source, MAX_TEXT_BYTES as u64) {
-        Ok(text) => outcome_of(answer(rt, alloc, command, &text, sink, gate)),
+        Ok(text) => outcome_of(answer(rt, alloc, hash_seed, command, &text, sink, gate)),
         Err(ReadFault::TooLong) => Outcome::without_run(status_of(refuse_size(sink))),
         Err(ReadFault::Source) => Outcome::without_run(Status::SourceFailed),
         Err(ReadFault::Memory) => Outcome::without_run(Status::OutOfMemory),

@@ -2,6 +2,7 @@
 #![tactic(auto)]
 
 use rc_io::{StdSink, StdSource};
+use rc_maps::Seed;
 use rc_store::OpenGate;
 use rc_top::{Status, relc};
 use std::alloc::Global;
@@ -20,8 +21,22 @@ fn main(rt: HostRuntime) -> ExitCode {
     };
     let mut source = StdSource::new(rt.reader());
     let mut sink = StdSink::new(io::writer(&rt));
-    let outcome = relc(&rt, alloc, &words, &mut source, &mut sink, &OpenGate);
+    let outcome = relc(
+        &rt,
+        alloc,
+        hash_seed(&rt),
+        &words,
+        &mut source,
+        &mut sink,
+        &OpenGate,
+    );
     ExitCode::from(outcome.status.code())
+}
+
+/// The seed of hash tables: drawn at random, or where the system has no random numbers the one that
+/// anyone may know, with which a run may be slow and answers the same.
+fn hash_seed(rt: &HostRuntime) -> Seed {
+    Seed::draw(rt).unwrap_or(Seed::fixed())
 }
 
 /// The words of the command line, the program's name first.

@@ -4,4 +4,4 @@ use Rattle.rc_join.proofs.IndexLemmas.{found}
 use Rattle.rc_join.proofs.index.index_by.Goals as goal
 
 pub loop-tuple-init : goal.loop-tuple-init
-loop-tuple-init c key = ap (λ es. found_at es key) c.new-index.ensures.empty ∙ ap tuples_in (found key None [] refl)
+loop-tuple-init c key = ap (λ es. found_at es key) c.with_hasher-index.ensures.empty ∙ ap tuples_in (found key None [] refl)

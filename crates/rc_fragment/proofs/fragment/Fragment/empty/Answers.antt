@@ -4,7 +4,7 @@ use Rattle.rc_fragment.specs.Container.{now_in, taken_in}
 use Rattle.rc_fragment.specs.Notes.{IsFragment}
 use Rattle.rc_fragment.proofs.NoteLemmas.{zero_least}
 use Rattle.rc_fragment.proofs.RowLemmas.{none_listed, empty_fragment}
-use Rattle.rc_fragment.proofs.fragment.Fragment.with_seed.Goals as goal
+use Rattle.rc_fragment.proofs.fragment.Fragment.empty.Goals as goal
 
 pub invariant_of-result : goal.invariant_of-result
 invariant_of-result c = record {
