@@ -1,0 +1,180 @@
+/* relc.h: a relation that several threads share, kept by the decomposition and the locks of its
+ * specification.
+ *
+ * Ownership.  relc_open gives a store, relc_open_session a session of it: a thread's own end.
+ *             Whoever opens closes, by relc_close_session and relc_close_store, each handle once,
+ *             in any order: sessions live on when their store is closed. Nothing that a call takes
+ *             is kept: texts, names, values and frames are read and written during the call alone.
+ * Threads.    A session is used by one call at a time. It may move to another thread, where the
+ *             move is ordered, as by a lock or by the start or the end of a thread. Different
+ *             sessions are used at the same time. Of the functions that take a store one is called
+ *             at a time for that store, beside calls on its sessions.
+ * Codes.      Each function answers a code; RELC_DONE is 0. A call that is refused has changed
+ *             nothing in the store, nor in the session but for RELC_UNSEEN; a relc_frame or a
+ *             relc_operation_frame is as before but for what RELC_BUSY tells. Nothing aborts,
+ *             nothing waits, and nothing is printed.
+ * Memory.     Every byte that is lent is initialised: frames (= {0}), and the places that store
+ *             and session are written to (= NULL). No pointer is NULL, not even that of a text of
+ *             no bytes. No function is called from a signal handler, nor in a forked child of a
+ *             process with threads.
+ *
+ * What the functions promise is proved (crates/rc_c), but for the two that close; that callers
+ * keep what is said here, and that this header agrees with crates/rc_embed/src/frame.rt and
+ * open_frame.rt, is not. */
+#ifndef RELC_H
+#define RELC_H
+
+#include <stddef.h>
+#include <stdint.h>
+
+#ifdef __cplusplus
+extern "C" {
+#endif
+
+/* the most columns, and so the most values of a call or of a row */
+#define RELC_VALUES 32
+
+/* the longest name of an operation, and the longest refusal */
+#define RELC_NAME 16
+#define RELC_REFUSAL 64
+
+/* A store with the sessions that are left to begin, and a session. */
+typedef struct relc_store relc_store;
+typedef struct relc_session relc_session;
+
+enum relc_code {
+    RELC_DONE = 0,
+    RELC_MEMORY = 1,       /* memory was wanted */
+    RELC_BUSY = 2,         /* another session stood in the way: stripe, found, who of the frame */
+    RELC_SPENT = 3,        /* the session has made as many calls as its store lets it */
+    RELC_OPERATION = 4,    /* no operation has this number, or this name */
+    RELC_VALUE_COUNT = 5,  /* the operation takes another number of values */
+    RELC_PREPARED = 6,     /* a call is prepared, and neither committed nor cancelled */
+    RELC_NOT_PREPARED = 7, /* no call is prepared */
+    RELC_NO_ROW = 8,       /* the reply has no such row */
+    RELC_OPTIONS = 9,      /* passes or limit are out of their ranges */
+    RELC_TOO_LONG = 10,    /* the text is longer than 2^24 bytes */
+    RELC_LINE = 11,        /* the text breaks a line rule: refusal of the frame */
+    RELC_RULE = 12,        /* the specification breaks a rule of acceptance: the same */
+    RELC_NONE_LEFT = 13,   /* as many sessions were begun as the store has passes */
+    RELC_UNSEEN = 14       /* the session has seen less than what was to be learned */
+};
+
+/* kinds of a reply */
+enum relc_kind {
+    RELC_ROWS = 0,     /* a query's distinct rows, rising, at most 256: number of them */
+    RELC_MANY = 1,     /* a query has more than 256: their number */
+    RELC_INSERTED = 2, /* the tuple was added */
+    RELC_PRESENT = 3,  /* a tuple with the same pattern values is there */
+    RELC_CONFLICT = 4, /* it would break the dependency with this number, counted from 1 */
+    RELC_REMOVED = 5,  /* the tuple was taken out: its values are row 0 */
+    RELC_ABSENT = 6    /* no tuple matches */
+};
+
+/* what a busy stripe had; session number n is the one that was begun as the n-th, from 0 */
+enum relc_found {
+    RELC_WRITER = 0,  /* session number `who` writes it */
+    RELC_READERS = 1, /* `who` sessions read it; one that finds a writer counts until it is out */
+    RELC_LATCH = 2    /* session number `who` begins to read it */
+};
+
+/* How a store is to be opened, and why it is not. */
+typedef struct relc_open_frame {
+    uint32_t passes;               /* asked: how many sessions there may be, 1 to 255 */
+    uint32_t length;               /* told: how many bytes the refusal has; 0 but for RELC_LINE
+                                      and RELC_RULE */
+    uint64_t limit;                /* asked: how many calls each session may make, 1 to 2^48 */
+    uint64_t seed[2];              /* asked: the secret of the store's hash tables: two numbers
+                                      drawn at random (getrandom) and told to nobody, where who
+                                      chooses the values isn't trusted; else any, as 0 */
+    uint8_t refusal[RELC_REFUSAL]; /* told with RELC_LINE and RELC_RULE: as `relc check` prints it,
+                                      `refused S3 line 12` or `refused A6 edge e2` */
+} relc_open_frame;
+
+/* Which operation is meant, and what its calls give and are told. */
+typedef struct relc_operation_frame {
+    uint32_t length;              /* asked: how many bytes the name has, at most RELC_NAME */
+    uint32_t op;                  /* told: the number by which it is called */
+    uint32_t kind;                /* told: 0 for a query, 1 for an insert, 2 for a remove */
+    uint32_t count;               /* told: how many values a call gives */
+    uint64_t width;               /* told: how many values a row of its reply has */
+    uint8_t name[RELC_NAME];      /* asked */
+    uint8_t columns[RELC_VALUES]; /* told: the columns of a call's values, by their numbers in the
+                                     specification */
+} relc_operation_frame;
+
+/* What a session is asked, and what it tells. What isn't told stays as it was. */
+typedef struct relc_frame {
+    uint32_t op;                  /* asked: the operation's number */
+    uint32_t count;               /* asked: how many values there are */
+    uint64_t values[RELC_VALUES]; /* asked: in the order of the operation's columns */
+    uint32_t kind;                /* told: an enum relc_kind */
+    uint32_t found;               /* told with RELC_BUSY: an enum relc_found */
+    uint32_t stripe;              /* told with RELC_BUSY: the stripe, over all classes */
+    uint32_t who;                 /* told with RELC_BUSY: see enum relc_found */
+    uint64_t number;              /* told: of rows, or of the dependency */
+    uint64_t place;               /* told by relc_try_call and relc_commit, and not by relc_begin:
+                                     the call's place in the one history of all calls */
+    uint64_t nth;                 /* told with it: the call's number among the session's own */
+    uint64_t seen;                /* asked and told by relc_learn: the length of a history that a
+                                     session has seen */
+    uint64_t row;                 /* asked by relc_row: which row, from 0 */
+    uint64_t width;               /* told by relc_row: how many values it has */
+    uint64_t cells[RELC_VALUES];  /* told by relc_row: its values, in the order of the query's
+                                     outputs, or of the columns of the tuple that was removed */
+} relc_frame;
+
+/* Opens a store by its specification's text. RELC_DONE: *store is the caller's. Else RELC_OPTIONS,
+ * RELC_TOO_LONG, RELC_LINE or RELC_RULE, in that order of tests, or RELC_MEMORY, and *store is not
+ * written. */
+uint32_t relc_open(const uint8_t *text, size_t length, relc_open_frame *frame, relc_store **store);
+
+/* Looks an operation up by its name, once. RELC_DONE or RELC_OPERATION. */
+uint32_t relc_operation(relc_store *store, relc_operation_frame *frame);
+
+/* Begins a session, the n-th of its store with number n, from 0. RELC_DONE: *session is the
+ * caller's. Else RELC_NONE_LEFT or RELC_MEMORY, and *session is not written. The pass of a session that was closed is not given to another: keep
+ * sessions, and hand them on from thread to thread. */
+uint32_t relc_open_session(relc_store *store, relc_session **session);
+
+/* Calls an operation, and waits for nobody. RELC_DONE: the call stands in the history of all calls
+ * at `place`, with the reply that `kind` and `number` tell. Else RELC_PREPARED, RELC_OPERATION,
+ * RELC_VALUE_COUNT, RELC_SPENT, in that order of tests, then RELC_MEMORY or RELC_BUSY. */
+uint32_t relc_try_call(relc_session *session, relc_frame *frame);
+
+/* Prepares a call: its stripes are taken, and its reply is told; relc_commit or relc_cancel
+ * follows. Codes as relc_try_call. Until then other sessions that need those stripes are
+ * RELC_BUSY. */
+uint32_t relc_begin(relc_session *session, relc_frame *frame);
+
+/* Commits the prepared call, which has the reply that was told. It takes no memory. RELC_DONE or
+ * RELC_NOT_PREPARED. */
+uint32_t relc_commit(relc_session *session, relc_frame *frame);
+
+/* Cancels the prepared call, as if it had not begun. It takes no memory, and neither reads nor
+ * writes the frame. RELC_DONE or RELC_NOT_PREPARED. */
+uint32_t relc_cancel(relc_session *session, relc_frame *frame);
+
+/* Learns that another session of the store has seen `seen` calls of the history: later calls of
+ * this one stand after all of them. RELC_DONE: `seen` tells how many this one has seen then, at
+ * least as many. RELC_UNSEEN: it has seen fewer, as where no session of the store has seen so many.
+ * In both cases it has seen what stood in the history then, and its later calls stand after that:
+ * RELC_UNSEEN is the one refusal that changes the session. With `seen` 0 it is never RELC_UNSEEN.
+ * Else RELC_PREPARED. */
+uint32_t relc_learn(relc_session *session, relc_frame *frame);
+
+/* Copies row `row` into `cells`: of the reply of the prepared call, where one is, else of the last
+ * call that was made. RELC_DONE or RELC_NO_ROW. */
+uint32_t relc_row(relc_session *session, relc_frame *frame);
+
+/* Closes a store. Its sessions may go on. */
+void relc_close_store(relc_store *store);
+
+/* Closes a session, and cancels the call that it has prepared, where there is one. */
+void relc_close_session(relc_session *session);
+
+#ifdef __cplusplus
+}
+#endif
+
+#endif

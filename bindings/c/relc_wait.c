@@ -1,0 +1,108 @@
+/* An event count over POSIX threads. A waiter is counted before it tries, and whoever gives stripes
+ * back looks for waiters after that. A refused call may have stood in another one's way for a
+ * moment, and doesn't ring here: so nobody sleeps longer than a millisecond before it tries again,
+ * by a clock that isn't set. */
+#include "relc_wait.h"
+
+#include <pthread.h>
+#include <stdatomic.h>
+#include <stdlib.h>
+#include <time.h>
+
+#define TRIES 20
+#define NAP 1000000L /* nanoseconds */
+
+struct relc_waiting {
+    atomic_uint waiters;
+    unsigned epoch; /* under the lock */
+    pthread_mutex_t lock;
+    pthread_cond_t rung;
+};
+
+/* a condition whose sleeps are timed by the monotonic clock */
+static int open_rung(pthread_cond_t *rung)
+{
+    pthread_condattr_t attr;
+    if (pthread_condattr_init(&attr) != 0)
+        return 0;
+    int opened = pthread_condattr_setclock(&attr, CLOCK_MONOTONIC) == 0
+        && pthread_cond_init(rung, &attr) == 0;
+    pthread_condattr_destroy(&attr);
+    return opened;
+}
+
+relc_waiting *relc_open_waiting(void)
+{
+    relc_waiting *waiting = calloc(1, sizeof *waiting);
+    if (waiting == NULL)
+        return NULL;
+    if (pthread_mutex_init(&waiting->lock, NULL) == 0) {
+        if (open_rung(&waiting->rung))
+            return waiting;
+        pthread_mutex_destroy(&waiting->lock);
+    }
+    free(waiting);
+    return NULL;
+}
+
+void relc_close_waiting(relc_waiting *waiting)
+{
+    pthread_cond_destroy(&waiting->rung);
+    pthread_mutex_destroy(&waiting->lock);
+    free(waiting);
+}
+
+void relc_ring(relc_waiting *waiting)
+{
+    if (atomic_load(&waiting->waiters) == 0)
+        return;
+    pthread_mutex_lock(&waiting->lock);
+    waiting->epoch++;
+    pthread_cond_broadcast(&waiting->rung);
+    pthread_mutex_unlock(&waiting->lock);
+}
+
+/* sleeps until somebody has rung since the epoch was read, or for the length of a nap */
+static void nap(relc_waiting *waiting, unsigned before)
+{
+    struct timespec until;
+    clock_gettime(CLOCK_MONOTONIC, &until);
+    until.tv_nsec += NAP;
+    if (until.tv_nsec >= 1000000000L) {
+        until.tv_sec++;
+        until.tv_nsec -= 1000000000L;
+    }
+    pthread_mutex_lock(&waiting->lock);
+    int slept = 0;
+    while (waiting->epoch == before && slept == 0)
+        slept = pthread_cond_timedwait(&waiting->rung, &waiting->lock, &until);
+    pthread_mutex_unlock(&waiting->lock);
+}
+
+static unsigned epoch_of(relc_waiting *waiting)
+{
+    pthread_mutex_lock(&waiting->lock);
+    unsigned epoch = waiting->epoch;
+    pthread_mutex_unlock(&waiting->lock);
+    return epoch;
+}
+
+uint32_t relc_call(relc_waiting *waiting, relc_session *session, relc_frame *frame)
+{
+    uint32_t code = RELC_BUSY;
+    for (int tries = 0; tries < TRIES && code == RELC_BUSY; tries++)
+        code = relc_try_call(session, frame);
+    if (code == RELC_BUSY) {
+        atomic_fetch_add(&waiting->waiters, 1);
+        for (;;) {
+            unsigned before = epoch_of(waiting);
+            code = relc_try_call(session, frame);
+            if (code != RELC_BUSY)
+                break;
+            nap(waiting, before);
+        }
+        atomic_fetch_sub(&waiting->waiters, 1);
+    }
+    relc_ring(waiting);
+    return code;
+}

@@ -1,0 +1,32 @@
+/* relc_wait.h: calls that wait, over relc_try_call. Not proved: tested. One relc_waiting is shared
+ * by all threads that call on one store. Calls that are made, committed or cancelled beside it ring
+ * it by relc_ring. */
+#ifndef RELC_WAIT_H
+#define RELC_WAIT_H
+
+#include "relc.h"
+
+#ifdef __cplusplus
+extern "C" {
+#endif
+
+typedef struct relc_waiting relc_waiting;
+
+/* NULL where memory or a lock is wanted. Whoever opens it closes it, once nobody calls by it. */
+relc_waiting *relc_open_waiting(void);
+void relc_close_waiting(relc_waiting *waiting);
+
+/* Calls as relc_try_call does, and waits while the answer is RELC_BUSY. Nothing is promised of when
+ * it returns. Wait for nothing while you have a prepared call on another session: where it is that
+ * call's stripes that are wanted, the wait has no end. */
+uint32_t relc_call(relc_waiting *waiting, relc_session *session, relc_frame *frame);
+
+/* Wakes those that wait: to be called after each relc_try_call, relc_commit, relc_cancel or
+ * relc_close_session that stands alone. */
+void relc_ring(relc_waiting *waiting);
+
+#ifdef __cplusplus
+}
+#endif
+
+#endif

@@ -1,0 +1,80 @@
+//! Errors.
+
+use std::fmt;
+
+/// What stood in the way of a call. A session's number is that of `Session::number`.
+#[derive(Clone, Copy, Debug, PartialEq, Eq)]
+pub enum Found {
+    /// The session with this number writes the stripe.
+    Writer(u32),
+    /// So many sessions read it. One that finds a writer counts until it is out again.
+    Readers(u32),
+    /// The session with this number begins to read it.
+    Latch(u32),
+}
+
+/// Why something isn't done. The store is as before, and so is the session but for `Unseen`.
+#[derive(Clone, Debug, PartialEq, Eq)]
+pub enum Error {
+    /// Memory was wanted.
+    Memory,
+    /// There are not 1 to 255 sessions, or not 1 to 2^48 calls each.
+    Options,
+    /// The text is longer than 2^24 bytes.
+    TooLong,
+    /// The specification is refused: the first broken rule, with its line or its item, as
+    /// `relc check` prints it.
+    Refused(String),
+    /// No operation has this name.
+    Unknown(String),
+    /// The operation is of another kind.
+    Kind(String),
+    /// The operation takes, or its rows have, another number of values.
+    Arity {
+        /// How many values there are.
+        has: usize,
+        /// How many were asked for.
+        asked: usize,
+    },
+    /// All sessions are out, or spent.
+    NoneLeft,
+    /// The operation is another store's.
+    Foreign,
+    /// Another session was in the way at this stripe. Only calls that don't wait are told so.
+    Busy {
+        /// The stripe, over all classes.
+        stripe: u32,
+        /// What was found.
+        found: Found,
+    },
+    /// The session has made as many calls as its store lets it.
+    Spent,
+    /// A prepared call was forgotten, and is neither committed nor cancelled. Drop the session: its
+    /// call is cancelled.
+    Prepared,
+    /// The session has looked, and has seen less than what was to be learned: as where no session
+    /// of this store has seen so much.
+    Unseen,
+}
+
+impl fmt::Display for Error {
+    fn fmt(&self, f: &mut fmt::Formatter<'_>) -> fmt::Result {
+        match self {
+            Error::Memory => write!(f, "memory was wanted"),
+            Error::Options => write!(f, "1 to 255 sessions, and 1 to 2^48 calls each"),
+            Error::TooLong => write!(f, "the text is longer than 2^24 bytes"),
+            Error::Refused(why) => write!(f, "{why}"),
+            Error::Unknown(name) => write!(f, "no operation is named {name}"),
+            Error::Kind(name) => write!(f, "the operation {name} is of another kind"),
+            Error::Arity { has, asked } => write!(f, "{has} values, and {asked} were asked for"),
+            Error::NoneLeft => write!(f, "all sessions are out, or spent"),
+            Error::Foreign => write!(f, "the operation is another store's"),
+            Error::Busy { stripe, found } => write!(f, "busy at stripe {stripe}: {found:?}"),
+            Error::Spent => write!(f, "the session has made all its calls"),
+            Error::Prepared => write!(f, "a prepared call was forgotten"),
+            Error::Unseen => write!(f, "the session has seen less than that"),
+        }
+    }
+}
+
+impl std::error::Error for Error {}

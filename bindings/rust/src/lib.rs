@@ -1,0 +1,32 @@
+//! Relations that several threads share: a store is opened by a specification's text, each thread
+//! has a session of it, and operations are called by names that were looked up once.
+//!
+//! ```no_run
+//! # fn main() -> Result<(), relc::Error> {
+//! # let text = include_str!("../../../examples/graph.relc").split("\nwork").next().unwrap();
+//! let store = relc::Store::open(text, relc::Options::sessions(8))?;
+//! let insert = store.insert::<3>("ins")?;
+//! let successors = store.query::<1, 2>("succ")?;
+//! let mut session = store.session()?;
+//! session.call(insert, [1, 2, 10])?;
+//! for [node, weight] in session.call(successors, [1])?.rows() {
+//!     println!("{node} {weight}");
+//! }
+//! # Ok(())
+//! # }
+//! ```
+//!
+//! What the calls of the archive promise is proved (`crates/rc_c`); this crate, and that it agrees
+//! with the archive, are tested.
+
+mod error;
+mod operation;
+mod session;
+mod store;
+mod sys;
+mod waiting;
+
+pub use error::{Error, Found};
+pub use operation::{Answer, Insert, Inserted, Operation, Query, Remove};
+pub use session::{Position, Prepared, Session};
+pub use store::{Options, Store};

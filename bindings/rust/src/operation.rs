@@ -1,0 +1,143 @@
+//! Operations that were looked up, and what their calls answer.
+
+use crate::session::Session;
+use crate::sys;
+
+/// The number of an operation, and of its store among all that the program opened.
+#[derive(Clone, Copy, Debug)]
+pub struct Number {
+    pub(crate) op: u32,
+    pub(crate) store: u64,
+}
+
+/// An operation of a store, which takes `N` values: an [`Insert`], a [`Remove`] or a [`Query`].
+pub trait Operation<const N: usize>: Copy + Sealed<Reading = Self::Reply> {
+    /// What its calls answer.
+    type Reply;
+}
+
+/// What only this crate implements: so an operation takes as many values as its store said.
+pub trait Sealed {
+    type Reading;
+
+    fn number(&self) -> Number;
+
+    /// Reads the reply of the call that the session's frame tells of.
+    fn read(session: &mut Session) -> Self::Reading;
+}
+
+/// A kind of reply that the contract of the operation rules out.
+fn no_such_kind(kind: u32) -> ! {
+    unreachable!("the operation has no reply of kind {kind}")
+}
+
+/// A row of the session's reply that is there.
+fn row<const N: usize>(session: &mut Session, at: u64) -> [u64; N] {
+    session
+        .row(at)
+        .expect("a reply has the rows that it counts")
+}
+
+/// An insert of tuples of `N` values, in the order of the columns.
+#[derive(Clone, Copy, Debug)]
+pub struct Insert<const N: usize>(pub(crate) Number);
+
+/// What an insert answers.
+#[derive(Clone, Copy, Debug, PartialEq, Eq)]
+pub enum Inserted {
+    /// The tuple was added.
+    Added,
+    /// A tuple with the same pattern values is there.
+    Present,
+    /// It would break the dependency with this number, counted from 1.
+    Conflict(u64),
+}
+
+impl<const N: usize> Operation<N> for Insert<N> {
+    type Reply = Inserted;
+}
+
+impl<const N: usize> Sealed for Insert<N> {
+    type Reading = Inserted;
+
+    fn number(&self) -> Number {
+        self.0
+    }
+
+    fn read(session: &mut Session) -> Inserted {
+        match session.frame.kind {
+            sys::INSERTED => Inserted::Added,
+            sys::PRESENT => Inserted::Present,
+            sys::CONFLICT => Inserted::Conflict(session.frame.number),
+            kind => no_such_kind(kind),
+        }
+    }
+}
+
+/// A remove by a pattern of `K` values; a removed tuple has `N`, in the order of the columns.
+#[derive(Clone, Copy, Debug)]
+pub struct Remove<const K: usize, const N: usize>(pub(crate) Number);
+
+impl<const K: usize, const N: usize> Operation<K> for Remove<K, N> {
+    type Reply = Option<[u64; N]>;
+}
+
+impl<const K: usize, const N: usize> Sealed for Remove<K, N> {
+    type Reading = Option<[u64; N]>;
+
+    fn number(&self) -> Number {
+        self.0
+    }
+
+    fn read(session: &mut Session) -> Option<[u64; N]> {
+        match session.frame.kind {
+            sys::REMOVED => Some(row(session, 0)),
+            sys::ABSENT => None,
+            kind => no_such_kind(kind),
+        }
+    }
+}
+
+/// A query by a pattern of `K` values, whose rows have `N`.
+#[derive(Clone, Copy, Debug)]
+pub struct Query<const K: usize, const N: usize>(pub(crate) Number);
+
+/// What a query answers.
+#[derive(Clone, Debug, PartialEq, Eq)]
+pub enum Answer<const N: usize> {
+    /// Its distinct rows, rising, at most 256.
+    Rows(Vec<[u64; N]>),
+    /// It has more: so many.
+    Many(u64),
+}
+
+impl<const N: usize> Answer<N> {
+    /// The rows; none where there are more than 256.
+    pub fn rows(self) -> Vec<[u64; N]> {
+        match self {
+            Answer::Rows(rows) => rows,
+            Answer::Many(_) => Vec::new(),
+        }
+    }
+}
+
+impl<const K: usize, const N: usize> Operation<K> for Query<K, N> {
+    type Reply = Answer<N>;
+}
+
+impl<const K: usize, const N: usize> Sealed for Query<K, N> {
+    type Reading = Answer<N>;
+
+    fn number(&self) -> Number {
+        self.0
+    }
+
+    fn read(session: &mut Session) -> Answer<N> {
+        let number = session.frame.number;
+        match session.frame.kind {
+            sys::ROWS => Answer::Rows((0..number).map(|at| row(session, at)).collect()),
+            sys::MANY => Answer::Many(number),
+            kind => no_such_kind(kind),
+        }
+    }
+}

@@ -1,0 +1,261 @@
+//! Sessions.
+
+use crate::error::{Error, Found};
+use crate::operation::Operation;
+use crate::store::{Begun, Shared};
+use crate::sys::{self, Frame};
+use std::ffi::c_void;
+use std::mem::ManuallyDrop;
+use std::sync::Arc;
+
+/// How often a call that waits tries before it sleeps.
+const TRIES: u32 = 20;
+
+/// Where a call stands in the one history of all calls of its store.
+#[derive(Clone, Copy, Debug, PartialEq, Eq)]
+pub struct Position {
+    /// Its place, counted from 0.
+    pub place: u64,
+    /// Its number among the calls of its session, counted from 0. A session that is handed out
+    /// again goes on counting.
+    pub nth: u64,
+}
+
+/// A thread's end of a store.
+pub struct Session {
+    shared: Arc<Shared>,
+    begun: ManuallyDrop<Begun>,
+    /// It has made all its calls.
+    spent: bool,
+    pub(crate) frame: Box<Frame>,
+}
+
+impl Drop for Session {
+    fn drop(&mut self) {
+        // a call that was prepared and forgotten gives its stripes back
+        if self.ask(sys::relc_cancel) == sys::DONE {
+            self.shared.events.ring();
+        }
+        // SAFETY: it is taken once, here.
+        let begun = unsafe { ManuallyDrop::take(&mut self.begun) };
+        if self.spent {
+            begun.close();
+        } else {
+            self.shared.keep(begun);
+        }
+    }
+}
+
+impl Session {
+    pub(crate) fn new(shared: Arc<Shared>, begun: Begun) -> Session {
+        Session {
+            shared,
+            begun: ManuallyDrop::new(begun),
+            spent: false,
+            frame: Box::new(Frame::new()),
+        }
+    }
+
+    /// Its number among the sessions of its store, in the order in which they were begun, from 0:
+    /// by it `Found` names a session. One that is handed out again has the number that it had.
+    pub fn number(&self) -> u32 {
+        self.begun.number
+    }
+
+    /// Calls one of the session's exports.
+    fn ask(&mut self, export: unsafe extern "C" fn(*mut c_void, *mut Frame) -> u32) -> u32 {
+        // SAFETY: `&mut self` lets one call at a time use the session, and the frame is initialised
+        // and lent for the call.
+        unsafe { export(self.begun.handle.0.as_ptr(), &mut *self.frame) }
+    }
+
+    fn put<const N: usize, O: Operation<N>>(
+        &mut self,
+        op: &O,
+        values: [u64; N],
+    ) -> Result<(), Error> {
+        let number = op.number();
+        if number.store != self.shared.number() {
+            return Err(Error::Foreign);
+        }
+        self.frame.op = number.op;
+        self.frame.count = N as u32;
+        self.frame.values[..N].copy_from_slice(&values);
+        Ok(())
+    }
+
+    /// The error of a code other than 0 of a call.
+    fn error(&mut self, code: u32) -> Error {
+        self.spent |= code == sys::SPENT;
+        match code {
+            sys::BUSY => Error::Busy {
+                stripe: self.frame.stripe,
+                found: match self.frame.found {
+                    sys::WRITER => Found::Writer(self.frame.who),
+                    sys::READERS => Found::Readers(self.frame.who),
+                    sys::LATCH => Found::Latch(self.frame.who),
+                    found => unreachable!("a stripe has nothing of kind {found}"),
+                },
+            },
+            sys::SPENT => Error::Spent,
+            sys::PREPARED => Error::Prepared,
+            sys::MEMORY => Error::Memory,
+            other => {
+                unreachable!("an operation that was looked up is never refused by code {other}")
+            }
+        }
+    }
+
+    fn position(&self) -> Position {
+        Position {
+            place: self.frame.place,
+            nth: self.frame.nth,
+        }
+    }
+
+    /// Row `row` of the last reply.
+    pub(crate) fn row<const N: usize>(&mut self, row: u64) -> Option<[u64; N]> {
+        self.frame.row = row;
+        if self.ask(sys::relc_row) != sys::DONE {
+            return None;
+        }
+        self.frame.cells[..self.frame.width as usize]
+            .try_into()
+            .ok()
+    }
+
+    /// Calls the operation, and waits for nobody: the reply, with the call's place in the history.
+    pub fn try_call_placed<const N: usize, O: Operation<N>>(
+        &mut self,
+        op: O,
+        values: [u64; N],
+    ) -> Result<(O::Reply, Position), Error> {
+        self.put(&op, values)?;
+        let code = self.ask(sys::relc_try_call);
+        self.shared.events.ring();
+        match code {
+            sys::DONE => {
+                let position = self.position();
+                Ok((O::read(self), position))
+            }
+            code => Err(self.error(code)),
+        }
+    }
+
+    /// Calls the operation, and waits for nobody.
+    pub fn try_call<const N: usize, O: Operation<N>>(
+        &mut self,
+        op: O,
+        values: [u64; N],
+    ) -> Result<O::Reply, Error> {
+        self.try_call_placed(op, values).map(|answer| answer.0)
+    }
+
+    /// Calls the operation, and waits while another session is in the way: the reply, with the
+    /// call's place in the history. Call nothing that waits while the thread has a prepared call on
+    /// another session: where it is that call's stripes that are wanted, the wait has no end.
+    pub fn call_placed<const N: usize, O: Operation<N>>(
+        &mut self,
+        op: O,
+        values: [u64; N],
+    ) -> Result<(O::Reply, Position), Error> {
+        for _ in 0..TRIES {
+            match self.try_call_placed(op, values) {
+                Err(Error::Busy { .. }) => std::hint::spin_loop(),
+                answer => return answer,
+            }
+        }
+        let shared = self.shared.clone();
+        let code = shared.events.wait(|| match self.ask(sys::relc_try_call) {
+            sys::BUSY => None,
+            code => Some(code),
+        });
+        shared.events.ring();
+        match code {
+            sys::DONE => {
+                let position = self.position();
+                Ok((O::read(self), position))
+            }
+            code => Err(self.error(code)),
+        }
+    }
+
+    /// Calls the operation, and waits while another session is in the way, as `call_placed` does.
+    pub fn call<const N: usize, O: Operation<N>>(
+        &mut self,
+        op: O,
+        values: [u64; N],
+    ) -> Result<O::Reply, Error> {
+        self.call_placed(op, values).map(|answer| answer.0)
+    }
+
+    /// Prepares a call, and waits for nobody: it has its reply, and holds its stripes until it is
+    /// committed, or dropped.
+    pub fn begin<const N: usize, O: Operation<N>>(
+        &mut self,
+        op: O,
+        values: [u64; N],
+    ) -> Result<Prepared<'_, O::Reply>, Error> {
+        self.put(&op, values)?;
+        match self.ask(sys::relc_begin) {
+            sys::DONE => Ok(Prepared {
+                reply: Some(O::read(self)),
+                session: self,
+            }),
+            code => {
+                self.shared.events.ring();
+                Err(self.error(code))
+            }
+        }
+    }
+
+    /// Sees what stands in the history now: later calls come after all of it. Answers how much that
+    /// is; it is above the place of each of the session's calls.
+    pub fn look(&mut self) -> Result<u64, Error> {
+        self.learn(0)
+    }
+
+    /// Learns that another session of the store has seen so much: later calls of this one come
+    /// after all of it. Answers how much this one has seen then, at least as much. It looks also
+    /// where it has seen less and answers `Unseen`.
+    pub fn learn(&mut self, seen: u64) -> Result<u64, Error> {
+        self.frame.seen = seen;
+        match self.ask(sys::relc_learn) {
+            sys::DONE => Ok(self.frame.seen),
+            sys::UNSEEN => Err(Error::Unseen),
+            code => Err(self.error(code)),
+        }
+    }
+}
+
+/// A call that has its reply and holds its stripes. One that is dropped is cancelled.
+pub struct Prepared<'s, R> {
+    session: &'s mut Session,
+    /// None once it is committed.
+    reply: Option<R>,
+}
+
+impl<R> Prepared<'_, R> {
+    /// The reply that the call has if it is committed.
+    pub fn reply(&self) -> &R {
+        self.reply.as_ref().expect("it is there until the commit")
+    }
+
+    /// Makes the call. It isn't refused.
+    pub fn commit(mut self) -> (R, Position) {
+        let code = self.session.ask(sys::relc_commit);
+        debug_assert_eq!(code, sys::DONE, "a call is prepared");
+        self.session.shared.events.ring();
+        let reply = self.reply.take().expect("it is there until the commit");
+        (reply, self.session.position())
+    }
+}
+
+impl<R> Drop for Prepared<'_, R> {
+    fn drop(&mut self) {
+        if self.reply.is_some() {
+            self.session.ask(sys::relc_cancel);
+            self.session.shared.events.ring();
+        }
+    }
+}

@@ -1,0 +1,235 @@
+//! Stores.
+
+use crate::error::Error;
+use crate::operation::{Insert, Number, Query, Remove};
+use crate::session::Session;
+use crate::sys;
+use crate::waiting::EventCount;
+use std::ffi::c_void;
+use std::hash::{BuildHasher, Hasher, RandomState};
+use std::ptr::{self, NonNull};
+use std::sync::atomic::{AtomicU64, Ordering::Relaxed};
+use std::sync::{Arc, Mutex, MutexGuard, PoisonError};
+
+/// How much a store is opened for.
+#[derive(Clone, Copy, Debug)]
+pub struct Options {
+    /// How many sessions there may be at a time, 1 to 255.
+    pub sessions: u32,
+    /// How many calls each may make over all that it is handed out to, 1 to 2^48.
+    pub limit: u64,
+}
+
+impl Options {
+    /// So many sessions, without a limit that is ever met.
+    pub fn sessions(sessions: u32) -> Options {
+        Options {
+            sessions,
+            limit: 1 << 48,
+        }
+    }
+}
+
+/// A store with no tuple at first, which threads share: clones are the same store.
+#[derive(Clone)]
+pub struct Store {
+    shared: Arc<Shared>,
+}
+
+/// A handle of the archive's.
+pub(crate) struct Handle(pub(crate) NonNull<c_void>);
+
+/// A store of the archive's, and how many sessions were begun of it.
+struct Opened {
+    handle: Handle,
+    begun: u32,
+}
+
+/// A session of the archive's, and its number among those of its store.
+pub(crate) struct Begun {
+    pub(crate) handle: Handle,
+    pub(crate) number: u32,
+}
+
+// SAFETY: what lies behind a handle may go to another thread (`sessions_are_send` and
+// `stores_are_send` of rc_embed are proved), and it is used by one call at a time: a session's by
+// `&mut Session`, the store's under its lock.
+unsafe impl Send for Handle {}
+
+impl Begun {
+    /// Closes the session.
+    pub(crate) fn close(self) {
+        // SAFETY: the handle came from relc_open_session, and this is the last use of it.
+        unsafe { sys::relc_close_session(self.handle.0.as_ptr()) }
+    }
+}
+
+pub(crate) struct Shared {
+    number: u64,
+    store: Mutex<Opened>,
+    /// Sessions that were dropped before they were spent, to be handed out again.
+    idle: Mutex<Vec<Begun>>,
+    pub(crate) events: EventCount,
+}
+
+/// What a poisoned lock guards here is never half done.
+fn locked<T>(lock: &Mutex<T>) -> MutexGuard<'_, T> {
+    lock.lock().unwrap_or_else(PoisonError::into_inner)
+}
+
+impl Shared {
+    pub(crate) fn number(&self) -> u64 {
+        self.number
+    }
+
+    /// Keeps a session that holds nothing.
+    pub(crate) fn keep(&self, session: Begun) {
+        locked(&self.idle).push(session);
+    }
+}
+
+impl Drop for Shared {
+    fn drop(&mut self) {
+        for session in locked(&self.idle).drain(..) {
+            session.close();
+        }
+        let store = locked(&self.store).handle.0.as_ptr();
+        // SAFETY: the handle came from relc_open, and nobody has it any more.
+        unsafe { sys::relc_close_store(store) }
+    }
+}
+
+/// The secret of a store's hash tables: two numbers drawn at random.
+fn drawn_seed() -> [u64; 2] {
+    [(); 2].map(|()| RandomState::new().build_hasher().finish())
+}
+
+impl Store {
+    /// Opens a store by its specification's text. The secret of its hash tables is drawn at
+    /// random, so that nobody who gives it values can tell which collide.
+    pub fn open(text: &str, options: Options) -> Result<Store, Error> {
+        static STORES: AtomicU64 = AtomicU64::new(0);
+        let mut frame = sys::OpenFrame {
+            passes: options.sessions,
+            length: 0,
+            limit: options.limit,
+            seed: drawn_seed(),
+            refusal: [0; sys::REFUSAL],
+        };
+        let mut store = ptr::null_mut();
+        // SAFETY: text and frame are lent for the call, and `store` is written by it where it
+        // answers 0.
+        let code = unsafe { sys::relc_open(text.as_ptr(), text.len(), &mut frame, &mut store) };
+        match code {
+            sys::DONE => {}
+            sys::OPTIONS => return Err(Error::Options),
+            sys::TOO_LONG => return Err(Error::TooLong),
+            sys::LINE | sys::RULE => {
+                let refusal = &frame.refusal[..frame.length as usize];
+                return Err(Error::Refused(
+                    String::from_utf8_lossy(refusal).into_owned(),
+                ));
+            }
+            sys::MEMORY => return Err(Error::Memory),
+            code => unreachable!("a store is never refused by code {code}"),
+        }
+        let shared = Shared {
+            number: STORES.fetch_add(1, Relaxed),
+            store: Mutex::new(Opened {
+                handle: Handle(NonNull::new(store).ok_or(Error::Memory)?),
+                begun: 0,
+            }),
+            idle: Mutex::new(Vec::new()),
+            events: EventCount::default(),
+        };
+        Ok(Store {
+            shared: Arc::new(shared),
+        })
+    }
+
+    /// A session, for one thread at a time: a new one while there is one, and then one that was
+    /// dropped before it was spent.
+    pub fn session(&self) -> Result<Session, Error> {
+        let mut store = locked(&self.shared.store);
+        let mut session = ptr::null_mut();
+        // SAFETY: the lock lets one call at a time use the store.
+        match unsafe { sys::relc_open_session(store.handle.0.as_ptr(), &mut session) } {
+            sys::DONE => {
+                let begun = Begun {
+                    handle: Handle(NonNull::new(session).ok_or(Error::Memory)?),
+                    number: store.begun,
+                };
+                store.begun += 1;
+                Ok(Session::new(self.shared.clone(), begun))
+            }
+            sys::NONE_LEFT => match locked(&self.shared.idle).pop() {
+                Some(begun) => Ok(Session::new(self.shared.clone(), begun)),
+                None => Err(Error::NoneLeft),
+            },
+            sys::MEMORY => Err(Error::Memory),
+            code => unreachable!("a session is never refused by code {code}"),
+        }
+    }
+
+    /// The insert with this name, of tuples of `N` values.
+    pub fn insert<const N: usize>(&self, name: &str) -> Result<Insert<N>, Error> {
+        self.operation(name, sys::INSERT, N, None).map(Insert)
+    }
+
+    /// The remove with this name, by a pattern of `K` values, of tuples of `N`.
+    pub fn remove<const K: usize, const N: usize>(
+        &self,
+        name: &str,
+    ) -> Result<Remove<K, N>, Error> {
+        self.operation(name, sys::REMOVE, K, Some(N)).map(Remove)
+    }
+
+    /// The query with this name, by a pattern of `K` values, for rows of `N`.
+    pub fn query<const K: usize, const N: usize>(&self, name: &str) -> Result<Query<K, N>, Error> {
+        self.operation(name, sys::QUERY, K, Some(N)).map(Query)
+    }
+
+    fn operation(
+        &self,
+        name: &str,
+        kind: u32,
+        count: usize,
+        width: Option<usize>,
+    ) -> Result<Number, Error> {
+        let unknown = || Error::Unknown(name.into());
+        let mut frame = sys::OperationFrame {
+            length: name.len() as u32,
+            op: 0,
+            kind: 0,
+            count: 0,
+            width: 0,
+            name: [0; sys::NAME],
+            columns: [0; sys::VALUES],
+        };
+        frame
+            .name
+            .get_mut(..name.len())
+            .ok_or_else(unknown)?
+            .copy_from_slice(name.as_bytes());
+        // SAFETY: the lock lets one call at a time use the store.
+        let code = unsafe {
+            sys::relc_operation(locked(&self.shared.store).handle.0.as_ptr(), &mut frame)
+        };
+        if code != sys::DONE {
+            return Err(unknown());
+        }
+        if frame.kind != kind {
+            return Err(Error::Kind(name.into()));
+        }
+        for (has, asked) in [(u64::from(frame.count), Some(count)), (frame.width, width)] {
+            if let Some(asked) = asked.filter(|asked| *asked != has as usize) {
+                let has = has as usize;
+                return Err(Error::Arity { has, asked });
+            }
+        }
+        Ok(Number {
+            op: frame.op,
+            store: self.shared.number,
+        })
+    }
+}

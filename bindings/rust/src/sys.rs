@@ -1,0 +1,129 @@
+//! The exports of librelc, as `bindings/c/relc.h` declares them: its codes, frames and functions.
+
+use std::ffi::c_void;
+use std::mem::{offset_of, size_of};
+
+/// The most values of a call or of a row.
+pub const VALUES: usize = 32;
+/// The longest name of an operation.
+pub const NAME: usize = 16;
+/// The longest refusal.
+pub const REFUSAL: usize = 64;
+
+// What a function answers.
+pub const DONE: u32 = 0;
+pub const MEMORY: u32 = 1;
+pub const BUSY: u32 = 2;
+pub const SPENT: u32 = 3;
+pub const PREPARED: u32 = 6;
+pub const OPTIONS: u32 = 9;
+pub const TOO_LONG: u32 = 10;
+pub const LINE: u32 = 11;
+pub const RULE: u32 = 12;
+pub const NONE_LEFT: u32 = 13;
+pub const UNSEEN: u32 = 14;
+
+// Kinds of a reply.
+pub const ROWS: u32 = 0;
+pub const MANY: u32 = 1;
+pub const INSERTED: u32 = 2;
+pub const PRESENT: u32 = 3;
+pub const CONFLICT: u32 = 4;
+pub const REMOVED: u32 = 5;
+pub const ABSENT: u32 = 6;
+
+// What a busy stripe had.
+pub const WRITER: u32 = 0;
+pub const READERS: u32 = 1;
+pub const LATCH: u32 = 2;
+
+// Kinds of an operation.
+pub const QUERY: u32 = 0;
+pub const INSERT: u32 = 1;
+pub const REMOVE: u32 = 2;
+
+#[repr(C)]
+pub struct OpenFrame {
+    pub passes: u32,
+    pub length: u32,
+    pub limit: u64,
+    pub seed: [u64; 2],
+    pub refusal: [u8; REFUSAL],
+}
+
+#[repr(C)]
+pub struct OperationFrame {
+    pub length: u32,
+    pub op: u32,
+    pub kind: u32,
+    pub count: u32,
+    pub width: u64,
+    pub name: [u8; NAME],
+    pub columns: [u8; VALUES],
+}
+
+#[repr(C)]
+pub struct Frame {
+    pub op: u32,
+    pub count: u32,
+    pub values: [u64; VALUES],
+    pub kind: u32,
+    pub found: u32,
+    pub stripe: u32,
+    pub who: u32,
+    pub number: u64,
+    pub place: u64,
+    pub nth: u64,
+    pub seen: u64,
+    pub row: u64,
+    pub width: u64,
+    pub cells: [u64; VALUES],
+}
+
+// the sizes and places of the structs of rc_embed
+const _: () = assert!(size_of::<OpenFrame>() == 96 && offset_of!(OpenFrame, seed) == 16);
+const _: () = assert!(offset_of!(OpenFrame, limit) == 8 && offset_of!(OpenFrame, refusal) == 32);
+const _: () = assert!(size_of::<OperationFrame>() == 72 && offset_of!(OperationFrame, name) == 24);
+const _: () = assert!(size_of::<Frame>() == 584 && offset_of!(Frame, kind) == 264);
+const _: () = assert!(offset_of!(Frame, number) == 280 && offset_of!(Frame, cells) == 328);
+
+impl Frame {
+    /// A frame of zeros: every byte that is lent is initialised.
+    pub fn new() -> Frame {
+        Frame {
+            op: 0,
+            count: 0,
+            values: [0; VALUES],
+            kind: 0,
+            found: 0,
+            stripe: 0,
+            who: 0,
+            number: 0,
+            place: 0,
+            nth: 0,
+            seen: 0,
+            row: 0,
+            width: 0,
+            cells: [0; VALUES],
+        }
+    }
+}
+
+unsafe extern "C" {
+    pub fn relc_open(
+        text: *const u8,
+        length: usize,
+        frame: *mut OpenFrame,
+        store: *mut *mut c_void,
+    ) -> u32;
+    pub fn relc_operation(store: *mut c_void, frame: *mut OperationFrame) -> u32;
+    pub fn relc_open_session(store: *mut c_void, session: *mut *mut c_void) -> u32;
+    pub fn relc_try_call(session: *mut c_void, frame: *mut Frame) -> u32;
+    pub fn relc_begin(session: *mut c_void, frame: *mut Frame) -> u32;
+    pub fn relc_commit(session: *mut c_void, frame: *mut Frame) -> u32;
+    pub fn relc_cancel(session: *mut c_void, frame: *mut Frame) -> u32;
+    pub fn relc_row(session: *mut c_void, frame: *mut Frame) -> u32;
+    pub fn relc_learn(session: *mut c_void, frame: *mut Frame) -> u32;
+    pub fn relc_close_store(store: *mut c_void);
+    pub fn relc_close_session(session: *mut c_void);
+}

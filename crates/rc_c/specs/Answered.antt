@@ -1,0 +1,46 @@
+-- What functions on a handle leave of it, beside what they answer.
+use base.Fml.{Fml, fex, fsep, ftrue}
+use denote.RattleType.{RattleType}
+use denote.RawPtr.{Ptr, lies_at}
+use Rattle.std.specs.Prelude.{◌≡◌, ◌↔◌, ◌⊎◌, ◌∷◌, [], ℕ}
+use Rattle.std.specs.Borrow.{full_share}
+use Rattle.rc_row.specs.Passes.{PassSeen, spec_of}
+use Rattle.rc_embed.specs.declared.frame.Frame.{Frame}
+use Rattle.rc_embed.specs.declared.open_frame.OperationFrame.{OperationFrame}
+use Rattle.rc_embed.specs.Codes as codes
+use Rattle.rc_embed.specs.Frames.{AnswersCancel, AnswersRow}
+use Rattle.rc_embed.specs.OpenFrames.{AnswersOperation}
+use Rattle.rc_embed.specs.Opened.{OpenSeen}
+use Rattle.rc_embed.specs.Session.{SessionSeen}
+
+-- a value of the type lies at the pointer again, and this is so of it
+abbrev pub lies_again : (T : RattleType) → Ptr → (T.Denot → Type 0) → Fml
+lies_again T pointer IsSo =
+    fex T.Denot (λ after. fsep (fex (IsSo after) (λ _. ftrue)) (lies_at T full_share pointer after))
+
+-- the prepared call is cancelled, and the frame is the same
+pub record AnswersSameFrame (old : SessionSeen) (before : Frame)
+    (new : SessionSeen) (after : Frame) (code : ℕ) : Type 0 where
+  pub same : after ≡ before
+  pub cancelled : AnswersCancel old new code
+
+-- the session is the same, and the frame has the row of its reply
+pub record AnswersSameRow (old : SessionSeen) (before : Frame)
+    (new : SessionSeen) (after : Frame) (code : ℕ) : Type 0 where
+  pub same : new ≡ old
+  pub row : AnswersRow old before after code
+
+-- the store is the same, and the frame tells of the operation
+pub record AnswersSameOperation (old : OpenSeen) (before : OperationFrame)
+    (new : OpenSeen) (after : OperationFrame) (code : ℕ) : Type 0 where
+  pub same : new ≡ old
+  pub told : AnswersOperation (spec_of old.store.row) before after code
+
+-- the store is the same, but for its first pass where a session was begun; or it has none, or
+-- memory was wanted
+pub record AnswersSession (old new : OpenSeen) (code : ℕ) : Type 0 where
+  pub store : new.store ≡ old.store
+  pub begun : code ≡ codes.done → (pass : PassSeen) × (old.passes ≡ pass ∷ new.passes)
+  pub none : code ≡ codes.none_left ↔ old.passes ≡ []
+  pub one_of : (code ≡ codes.done) ⊎ (code ≡ codes.memory) ⊎ (code ≡ codes.none_left)
+  pub same : (code ≡ codes.done → ⊥) → new ≡ old

@@ -1,0 +1,231 @@
+//! Stores for callers in other languages: each function takes a handle and a frame, and answers a
+//! code. What is done stands in `rc_embed`; here are the handles alone. (`bindings/c/relc.h` says
+//! what each function wants.)
+#![tactic(auto)]
+
+ghost use Rattle.std.specs.Prelude.{◌≡◌};
+ghost use Rattle.std.specs.Borrow.{full_share, sem};
+ghost use Rattle.std.specs.Ptr.{lies_at, room_at};
+ghost use Rattle.rc_embed.specs.Codes as codes;
+ghost use Rattle.rc_embed.specs.Frames.{AnswersBegin, AnswersCall, AnswersCommit, AnswersLearn};
+ghost use Rattle.rc_embed.specs.OpenFrames.{HasOpened, IsRefusedBy};
+ghost use Rattle.rc_embed.specs.Opened.{OpenSeen};
+ghost use Rattle.rc_embed.specs.Session.{SessionSeen};
+ghost use Rattle.rc_embed.specs.contracts.opening.OpenStore as stores;
+ghost use Rattle.rc_embed.specs.contracts.session.Session as sessions;
+ghost use Rattle.rc_c.specs.Answered.{AnswersSameFrame, AnswersSameOperation, AnswersSameRow};
+ghost use Rattle.rc_c.specs.Answered.{AnswersSession, lies_again};
+
+use rc_embed::{
+    DONE, Frame, MEMORY, OpenFrame, OpenStore, OperationFrame, Session, open_by, session_code,
+};
+use std::alloc::Global;
+
+/// Opens a store by the text, as the frame asks, and hands out a pointer to it; else the frame
+/// tells why not. (No pointer is written then.)
+#[unsafe(no_mangle)]
+pub extern "C" fn relc_open(
+    alloc: Global,
+    text: &[u8],
+    frame: &mut OpenFrame,
+    out: &mut *mut u8,
+) -> u32
+    ensures opened { result ≡ codes.done → HasOpened text.now frame.old frame.new }
+    ensures refused { (result ≡ codes.done → ⊥) → IsRefusedBy text.now frame.old frame.new result }
+{
+    let store = match open_by(alloc, text, frame) {
+        Ok(store) => store,
+        Err(code) => return code,
+    };
+    match Box::new(alloc, store) {
+        Ok(held) => {
+            *out = Box::into_raw(held) as *mut u8;
+            DONE
+        }
+        Err(_) => MEMORY,
+    }
+}
+
+/// Looks the operation up that the frame names.
+fn operation_on(store: &mut OpenStore, frame: &mut OperationFrame) -> u32
+    ensures { AnswersSameOperation store.old frame.old store.new frame.new result }
+{
+    store.operation_by(frame)
+}
+
+/// Looks the operation up that the frame names, in the store at the pointer.
+#[unsafe(no_mangle)]
+pub unsafe extern "C" fn relc_operation(store: *mut u8, frame: &mut OperationFrame) -> u32
+    ghost held: { OpenSeen }
+    requires* { sem 𝓛 (lies_at stores.the_row full_share store held) }
+    ensures* { sem 𝓛 (lies_again stores.the_row store
+        (λ after. AnswersSameOperation held frame.old after frame.new result)) }
+{
+    operation_on(&mut *(store as *mut OpenStore), frame)
+}
+
+/// Begins a session of the store, and hands out a pointer to it.
+fn open_session_on(store: &mut OpenStore, out: &mut *mut u8) -> u32
+    ensures { AnswersSession store.old store.new result }
+{
+    match store.session() {
+        Ok(held) => {
+            *out = Box::into_raw(held) as *mut u8;
+            DONE
+        }
+        Err(fault) => session_code(fault),
+    }
+}
+
+/// Begins a session of the store at the pointer, and hands out a pointer to it. (None is written
+/// where none begins.)
+#[unsafe(no_mangle)]
+pub unsafe extern "C" fn relc_open_session(store: *mut u8, out: &mut *mut u8) -> u32
+    ghost held: { OpenSeen }
+    requires* { sem 𝓛 (lies_at stores.the_row full_share store held) }
+    ensures* { sem 𝓛 (lies_again stores.the_row store (λ after. AnswersSession held after result)) }
+{
+    open_session_on(&mut *(store as *mut OpenStore), out)
+}
+
+/// Makes the call that the frame asks for, and waits for nobody.
+fn try_call_on(session: &mut Session, frame: &mut Frame) -> u32
+    ensures { AnswersCall session.old frame.old session.new frame.new result }
+{
+    session.try_call_by(frame)
+}
+
+/// Makes the call that the frame asks for, by the session at the pointer, and waits for nobody.
+#[unsafe(no_mangle)]
+pub unsafe extern "C" fn relc_try_call(session: *mut u8, frame: &mut Frame) -> u32
+    ghost held: { SessionSeen }
+    requires* { sem 𝓛 (lies_at sessions.the_row full_share session held) }
+    ensures* { sem 𝓛 (lies_again sessions.the_row session
+        (λ after. AnswersCall held frame.old after frame.new result)) }
+{
+    try_call_on(&mut *(session as *mut Session), frame)
+}
+
+/// Prepares the call that the frame asks for, and waits for nobody.
+fn prepare_on(session: &mut Session, frame: &mut Frame) -> u32
+    ensures { AnswersBegin session.old frame.old session.new frame.new result }
+{
+    session.begin_by(frame)
+}
+
+/// Prepares the call that the frame asks for, by the session at the pointer, and waits for nobody.
+#[unsafe(no_mangle)]
+pub unsafe extern "C" fn relc_begin(session: *mut u8, frame: &mut Frame) -> u32
+    ghost held: { SessionSeen }
+    requires* { sem 𝓛 (lies_at sessions.the_row full_share session held) }
+    ensures* { sem 𝓛 (lies_again sessions.the_row session
+        (λ after. AnswersBegin held frame.old after frame.new result)) }
+{
+    prepare_on(&mut *(session as *mut Session), frame)
+}
+
+/// Commits the prepared call.
+fn commit_on(session: &mut Session, frame: &mut Frame) -> u32
+    ensures { AnswersCommit session.old frame.old session.new frame.new result }
+{
+    session.commit_by(frame)
+}
+
+/// Commits the call that the session at the pointer has prepared.
+#[unsafe(no_mangle)]
+pub unsafe extern "C" fn relc_commit(session: *mut u8, frame: &mut Frame) -> u32
+    ghost held: { SessionSeen }
+    requires* { sem 𝓛 (lies_at sessions.the_row full_share session held) }
+    ensures* { sem 𝓛 (lies_again sessions.the_row session
+        (λ after. AnswersCommit held frame.old after frame.new result)) }
+{
+    commit_on(&mut *(session as *mut Session), frame)
+}
+
+/// Cancels the prepared call. (The frame is neither read nor written: so the exports have one
+/// shape.)
+fn cancel_on(session: &mut Session, frame: &mut Frame) -> u32
+    ensures { AnswersSameFrame session.old frame.old session.new frame.new result }
+{
+    let _ = frame;
+    session.cancel_by()
+}
+
+/// Cancels the call that the session at the pointer has prepared.
+#[unsafe(no_mangle)]
+pub unsafe extern "C" fn relc_cancel(session: *mut u8, frame: &mut Frame) -> u32
+    ghost held: { SessionSeen }
+    requires* { sem 𝓛 (lies_at sessions.the_row full_share session held) }
+    ensures* { sem 𝓛 (lies_again sessions.the_row session
+        (λ after. AnswersSameFrame held frame.old after frame.new result)) }
+{
+    cancel_on(&mut *(session as *mut Session), frame)
+}
+
+/// Copies a row of the reply.
+fn row_on(session: &mut Session, frame: &mut Frame) -> u32
+    ensures { AnswersSameRow session.old frame.old session.new frame.new result }
+{
+    session.row_by(frame)
+}
+
+/// Copies the row that the frame asks for, of the reply of the session at the pointer.
+#[unsafe(no_mangle)]
+pub unsafe extern "C" fn relc_row(session: *mut u8, frame: &mut Frame) -> u32
+    ghost held: { SessionSeen }
+    requires* { sem 𝓛 (lies_at sessions.the_row full_share session held) }
+    ensures* { sem 𝓛 (lies_again sessions.the_row session
+        (λ after. AnswersSameRow held frame.old after frame.new result)) }
+{
+    row_on(&mut *(session as *mut Session), frame)
+}
+
+/// Learns what the frame tells of another session.
+fn learn_on(session: &mut Session, frame: &mut Frame) -> u32
+    ensures { AnswersLearn session.old frame.old session.new frame.new result }
+{
+    session.learn_by(frame)
+}
+
+/// Lets the session at the pointer learn what the frame tells of another.
+#[unsafe(no_mangle)]
+pub unsafe extern "C" fn relc_learn(session: *mut u8, frame: &mut Frame) -> u32
+    ghost held: { SessionSeen }
+    requires* { sem 𝓛 (lies_at sessions.the_row full_share session held) }
+    ensures* { sem 𝓛 (lies_again sessions.the_row session
+        (λ after. AnswersLearn held frame.old after frame.new result)) }
+{
+    learn_on(&mut *(session as *mut Session), frame)
+}
+
+/// Drops the store.
+fn let_store_go(_store: OpenStore) {}
+
+/// Ends the store at the pointer; its sessions live on. The memory behind the pointer is the
+/// caller's again, to be freed.
+#[unsafe(no_mangle)]
+pub unsafe extern "C" fn relc_end_store(store: *mut u8)
+    ghost held: { OpenSeen }
+    requires* { sem 𝓛 (lies_at stores.the_row full_share store held) }
+    ensures* { sem 𝓛 (room_at stores.the_row store) }
+{
+    let_store_go(std::ptr::read(store as *const OpenStore))
+}
+
+/// Drops the session. A call that it has prepared is cancelled before: nobody else could give its
+/// stripes back.
+fn let_session_go(session: Session) {
+    let mut session = session;
+    let _ = session.cancel();
+}
+
+/// Ends the session at the pointer, and cancels the call that it has prepared, if any. The memory
+/// behind the pointer is the caller's again, to be freed.
+#[unsafe(no_mangle)]
+pub unsafe extern "C" fn relc_end_session(session: *mut u8)
+    ghost held: { SessionSeen }
+    requires* { sem 𝓛 (lies_at sessions.the_row full_share session held) }
+    ensures* { sem 𝓛 (room_at sessions.the_row session) }
+{
+    let_session_go(std::ptr::read(session as *const Session))
+}

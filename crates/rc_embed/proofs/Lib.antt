@@ -1,0 +1,6 @@
+pub mod AskedLemmas
+pub mod CopyLemmas
+pub mod NumberLemmas
+pub mod PassLemmas
+pub mod SendLemmas
+pub mod SessionLemmas

@@ -1,0 +1,62 @@
+-- What the functions over frames answer: 0, or the number of a fault.
+use Rattle.std.specs.Prelude.{ℕ}
+
+-- it is done
+abbrev pub done : ℕ
+done = 0
+
+-- memory was wanted
+abbrev pub memory : ℕ
+memory = 1
+
+-- something stood in the way of a stripe
+abbrev pub busy : ℕ
+busy = 2
+
+-- the session has made as many calls as its store lets it
+abbrev pub spent : ℕ
+spent = 3
+
+-- no operation has the number, or the name
+abbrev pub operation : ℕ
+operation = 4
+
+-- the operation takes another number of values
+abbrev pub value_count : ℕ
+value_count = 5
+
+-- a call is prepared
+abbrev pub prepared : ℕ
+prepared = 6
+
+-- no call is prepared
+abbrev pub not_prepared : ℕ
+not_prepared = 7
+
+-- the reply has no such row, or the frame no room for it
+abbrev pub no_row : ℕ
+no_row = 8
+
+-- the options are out of their ranges
+abbrev pub options : ℕ
+options = 9
+
+-- the text is longer than 2^24 bytes
+abbrev pub too_long : ℕ
+too_long = 10
+
+-- the text breaks a line rule
+abbrev pub line : ℕ
+line = 11
+
+-- the specification breaks a rule of acceptance
+abbrev pub rule : ℕ
+rule = 12
+
+-- no pass is left
+abbrev pub none_left : ℕ
+none_left = 13
+
+-- the session has seen less than what was to be learned
+abbrev pub unseen : ℕ
+unseen = 14

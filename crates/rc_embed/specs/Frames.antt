@@ -1,0 +1,179 @@
+-- Frames, by which callers in other languages ask and are told.
+use Rattle.std.specs.Prelude.{◌≡◌, ◌⊎◌, ℕ, ◌<◌, ◌≤◌, List, ◌++◌, length, take, drop}
+use Rattle.std.specs.Prelude.{Option, Some, None, IfSome}
+use Rattle.std.specs.List.{slice_get}
+use Rattle.rc_spec.specs.declared.call.Reply.{Reply}
+use Rattle.rc_spec.specs.declared.call.Reply.TheVariants.{Rows, Many, Inserted, Present}
+use Rattle.rc_spec.specs.declared.call.Reply.TheVariants.{Conflict, Removed, Absent}
+use Rattle.rc_spec.specs.declared.lock.Found.{Found}
+use Rattle.rc_spec.specs.declared.lock.Found.TheVariants as finds
+use Rattle.rc_embed.specs.declared.fault.CallFault.{CallFault}
+use Rattle.rc_embed.specs.declared.fault.CallFault.TheVariants as faults
+use Rattle.rc_embed.specs.declared.frame.Frame.{Frame}
+use Rattle.rc_embed.specs.declared.session.Position.{Position}
+use Rattle.rc_embed.specs.Codes as codes
+use Rattle.rc_embed.specs.Refused.{HasCallCause, fault_for}
+use Rattle.rc_embed.specs.Replies.{rows_told}
+use Rattle.rc_embed.specs.Session.{HasCalled, HasCancelled, HasCommitted, HasLearned, HasPrepared}
+use Rattle.rc_embed.specs.Session.{IsIdle, IsUnchanged, IsUnseenBy, SessionSeen, reply_of}
+
+-- the code of a fault
+abbrev pub call_code : CallFault → ℕ
+call_code faults.Memory = codes.memory
+call_code (faults.Busy stripe found) = codes.busy
+call_code faults.Spent = codes.spent
+call_code faults.UnknownOperation = codes.operation
+call_code faults.Values = codes.value_count
+call_code faults.Prepared = codes.prepared
+
+abbrev pub kind_code : Reply → ℕ
+kind_code (Rows rows) = 0
+kind_code (Many n) = 1
+kind_code Inserted = 2
+kind_code Present = 3
+kind_code (Conflict n) = 4
+kind_code (Removed t) = 5
+kind_code Absent = 6
+
+-- the number of rows, or of the dependency that would be broken
+abbrev pub number_in : Reply → ℕ
+number_in (Rows rows) = length rows
+number_in (Many n) = n
+number_in Inserted = 0
+number_in Present = 0
+number_in (Conflict n) = n
+number_in (Removed t) = 1
+number_in Absent = 0
+
+-- the values that a frame asks with
+abbrev pub asked_values : Frame → List ℕ
+asked_values frame = take frame.count frame.values
+
+-- ---- what is told
+
+abbrev pub with_reply : Option Reply → Frame → Frame
+with_reply None frame = frame
+with_reply (Some reply) frame = record frame { kind = kind_code reply; number = number_in reply }
+
+abbrev pub with_place : Position → Frame → Frame
+with_place at frame = record frame { place = at.place; nth = at.nth }
+
+abbrev pub place_told : Frame → Position
+place_told frame = record { place = frame.place; nth = frame.nth }
+
+abbrev pub with_found : Found → Frame → Frame
+with_found (finds.Pass k) frame = record frame { found = 0; who = k }
+with_found (finds.Readers n) frame = record frame { found = 1; who = n }
+with_found (finds.Latch k) frame = record frame { found = 2; who = k }
+
+-- the stripe that was busy, and what was found there
+abbrev pub with_fault : CallFault → Frame → Frame
+with_fault faults.Memory frame = frame
+with_fault (faults.Busy stripe found) frame = with_found found (record frame { stripe = stripe })
+with_fault faults.Spent frame = frame
+with_fault faults.UnknownOperation frame = frame
+with_fault faults.Values frame = frame
+with_fault faults.Prepared frame = frame
+
+-- ---- what calls by frames answer
+
+-- the frame has the kind and the number of the session's reply
+pub record HasReply (session : SessionSeen) (frame : Frame) : Type 0 where
+  pub reply : Reply
+  pub is : reply_of session ≡ Some reply
+  pub kind : frame.kind ≡ kind_code reply
+  pub number : frame.number ≡ number_in reply
+
+-- it has them and the call's place, and is the same in all else
+pub record HasTold (session : SessionSeen) (before after : Frame) : Type 0 where
+  pub reply : HasReply session after
+  pub same : after ≡ with_reply (reply_of session) (with_place (place_told after) before)
+
+-- a call was refused with a fault for a cause, and nothing changed; the frame tells what was in the
+-- way
+pub record IsRefused (old : SessionSeen) (before : Frame)
+    (new : SessionSeen) (after : Frame) (code : ℕ) : Type 0 where
+  pub fault : CallFault
+  pub code_is : code ≡ call_code fault
+  pub cause : HasCallCause old new before.op (asked_values before) fault
+  pub unchanged : IsUnchanged old new
+  pub told : after ≡ with_fault fault before
+
+-- What is so of an asked call whether it is made or prepared. One that has a fault of its own is
+-- refused for it, before its values are read: session and frame are the same. Any other is made, or
+-- refused for what stood in its way.
+pub record AnswersAsked (MadeSo : Type 0)
+    (old : SessionSeen) (before : Frame) (new : SessionSeen) (after : Frame) (code : ℕ)
+    : Type 0 where
+  pub store : new.store ≡ old.store
+  pub exact : IfSome (fault_for old before.op before.count)
+      (λ fault. (code ≡ call_code fault) × (new ≡ old) × (after ≡ before))
+  pub made : code ≡ codes.done → MadeSo
+  pub refused : fault_for old before.op before.count ≡ None
+      → (code ≡ codes.done → ⊥) → IsRefused old before new after code
+
+-- The call that the frame asks for is made, at the place and with the reply that the frame tells.
+abbrev pub AnswersCall : SessionSeen → Frame → SessionSeen → Frame → ℕ → Type 0
+AnswersCall old before new after code =
+    AnswersAsked
+    (HasCalled old before.op (asked_values before) new (place_told after)
+    × HasTold new before after)
+    old before new after code
+
+-- The call that the frame asks for is prepared, with the reply that the frame tells.
+abbrev pub AnswersBegin : SessionSeen → Frame → SessionSeen → Frame → ℕ → Type 0
+AnswersBegin old before new after code =
+    AnswersAsked
+    (HasPrepared old before.op (asked_values before) new × HasReply new after
+    × (after ≡ with_reply (reply_of new) before))
+    old before new after code
+
+-- The prepared call is made, at the place and with the reply that the frame tells; or none is
+-- prepared.
+pub record AnswersCommit (old : SessionSeen) (before : Frame)
+    (new : SessionSeen) (after : Frame) (code : ℕ) : Type 0 where
+  pub store : new.store ≡ old.store
+  pub made : code ≡ codes.done → HasCommitted old new (place_told after) × HasTold new before after
+  pub refused : (code ≡ codes.done → ⊥)
+      → (code ≡ codes.not_prepared) × IsIdle old.state × (new ≡ old) × (after ≡ before)
+
+-- The prepared call is not made; or none is prepared.
+pub record AnswersCancel (old new : SessionSeen) (code : ℕ) : Type 0 where
+  pub store : new.store ≡ old.store
+  pub cancelled : code ≡ codes.done → HasCancelled old new
+  pub refused : (code ≡ codes.done → ⊥)
+      → (code ≡ codes.not_prepared) × IsIdle old.state × (new ≡ old)
+
+-- a session learns nothing: a call is prepared, or the history isn't as long as what was told
+abbrev pub IsUntaught : SessionSeen → Frame → SessionSeen → ℕ → Type 0
+IsUntaught old before new code =
+    ((code ≡ codes.prepared) × (IsIdle old.state → ⊥) × (new ≡ old))
+    ⊎ ((code ≡ codes.unseen) × IsUnseenBy old before.seen new)
+
+abbrev pub with_seen : ℕ → Frame → Frame
+with_seen seen frame = record frame { seen = seen }
+
+-- The session has learned what the frame told, and the frame what the session has seen.
+pub record AnswersLearn (old : SessionSeen) (before : Frame)
+    (new : SessionSeen) (after : Frame) (code : ℕ) : Type 0 where
+  pub store : new.store ≡ old.store
+  pub learned : code ≡ codes.done
+      → HasLearned old before.seen new after.seen × (after ≡ with_seen after.seen before)
+  pub refused : (code ≡ codes.done → ⊥) → IsUntaught old before new code × (after ≡ before)
+
+-- the row stands over the frame's first cells
+abbrev pub with_row : List ℕ → Frame → Frame
+with_row row frame =
+    record frame { width = length row; cells = row ++ drop (length row) frame.cells }
+
+-- the row was told; there is none, or the frame has no room for it
+abbrev pub IsRowTold : Option (List ℕ) → Frame → Frame → ℕ → Type 0
+IsRowTold None before after code = (code ≡ codes.no_row) × (after ≡ before)
+IsRowTold (Some row) before after code =
+    (length row ≤ 32 → (code ≡ codes.done) × (after ≡ with_row row before))
+    × (32 < length row → (code ≡ codes.no_row) × (after ≡ before))
+
+-- the row of the session's reply that the frame asks for
+abbrev pub AnswersRow : SessionSeen → Frame → Frame → ℕ → Type 0
+AnswersRow session before after code =
+    IsRowTold (slice_get (rows_told (reply_of session)) before.row) before after code

@@ -1,0 +1,12 @@
+pub mod Asked
+pub mod Closing
+pub mod Codes
+pub mod Frames
+pub mod OpenFrames
+pub mod Opened
+pub mod OpenedInside
+pub mod Refused
+pub mod Replies
+pub mod Session
+pub mod SessionInside
+pub mod SharedInside

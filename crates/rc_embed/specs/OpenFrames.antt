@@ -1,0 +1,136 @@
+-- Frames by which stores are opened and operations looked up.
+use Rattle.std.specs.Prelude.{◌≡◌, ℕ, ◌<◌, ◌≤◌, List, [], ◌++◌, length, take, Option, Some, None}
+use Rattle.std.specs.Prelude as text
+use Rattle.rc_maps.specs.declared.seed.Seed.{Seed}
+use Rattle.rc_spec.specs.declared.items.OpKind.{OpKind}
+use Rattle.rc_spec.specs.declared.items.OpKind.TheVariants as kinds
+use Rattle.rc_spec.specs.declared.spec.Spec.{Spec}
+use Rattle.rc_spec.specs.Acceptance.{IsItemOf}
+use Rattle.rc_spec.specs.Names.{op_names}
+use Rattle.rc_spec.specs.Placement.{op_at}
+use Rattle.rc_spec.specs.RefusalText.{refusal_text}
+use Rattle.rc_reader.specs.declared.refusal.LineRule.{LineRule}
+use Rattle.rc_reader.specs.Names.{number_among}
+use Rattle.rc_reader.specs.RuleText.{rule_text}
+use Rattle.rc_work.specs.CallColumns.{columns_at}
+use Rattle.rc_embed.specs.declared.fault.OpenFault.{OpenFault}
+use Rattle.rc_embed.specs.declared.fault.OpenFault.TheVariants.{Memory, Options, TooLong, Line}
+use Rattle.rc_embed.specs.declared.fault.OpenFault.TheVariants.{Rule}
+use Rattle.rc_embed.specs.declared.fault.SessionFault.{SessionFault}
+use Rattle.rc_embed.specs.declared.fault.SessionFault.TheVariants as sessions
+use Rattle.rc_embed.specs.declared.open_frame.OpenFrame.{OpenFrame}
+use Rattle.rc_embed.specs.declared.open_frame.OperationFrame.{OperationFrame}
+use Rattle.rc_embed.specs.declared.opening.Options as asked
+use Rattle.rc_embed.specs.Codes as codes
+use Rattle.rc_embed.specs.Opened.{IsOpened, IsRefusedFor, OpenSeen}
+
+-- ---- stores
+
+-- what a frame asks for, with a seed, of which no clause depends
+abbrev pub options_asked : OpenFrame → Seed → asked.Options
+options_asked frame seed = record { passes = frame.passes; limit = frame.limit; seed = seed }
+
+-- the code of a fault
+abbrev pub open_code : OpenFault → ℕ
+open_code Memory = codes.memory
+open_code Options = codes.options
+open_code TooLong = codes.too_long
+open_code (Line rule line) = codes.line
+open_code (Rule spec refusal) = codes.rule
+
+-- the code of a session that does not begin
+abbrev pub session_code : SessionFault → ℕ
+session_code sessions.Memory = codes.memory
+session_code sessions.NoneLeft = codes.none_left
+
+-- the refusal of a text for its first broken line rule
+abbrev pub line_text : LineRule → ℕ → List ℕ
+line_text rule line =
+    text.codes "refused " ++ rule_text rule ++ text.codes " line " ++ text.decimal line
+
+-- the refusal of a text, as the command line prints it, and nothing for other faults
+abbrev pub fault_text : OpenFault → List ℕ
+fault_text Memory = []
+fault_text Options = []
+fault_text TooLong = []
+fault_text (Line rule line) = line_text rule line
+fault_text (Rule spec refusal) = refusal_text spec refusal
+
+-- the item that breaks a rule is one of the specification's
+abbrev pub HasItem : OpenFault → Type 0
+HasItem Memory = Unit {0}
+HasItem Options = Unit {0}
+HasItem TooLong = Unit {0}
+HasItem (Line rule line) = Unit {0}
+HasItem (Rule spec refusal) = IsItemOf spec refusal.item
+
+-- a text has the fault: it breaks a line rule or a rule of acceptance, and its refusal is told
+abbrev pub BreaksRule : OpenFault → Type 0
+BreaksRule Memory = ⊥
+BreaksRule Options = ⊥
+BreaksRule TooLong = ⊥
+BreaksRule (Line rule line) = Unit {0}
+BreaksRule (Rule spec refusal) = Unit {0}
+
+-- the frame tells the refusal, where it has room for it
+pub record HasRefusal (text : List ℕ) (frame : OpenFrame) : Type 0 where
+  pub told : length text ≤ 64
+      → (frame.length ≡ length text) × (take frame.length frame.refusal ≡ text)
+  pub long : 64 < length text → frame.length ≡ 0
+
+-- the text gives a specification that keeps all rules, and this is a new store of it, as the frame
+-- asks
+abbrev pub IsOpenedBy : List ℕ → OpenFrame → OpenSeen → Type 0
+IsOpenedBy text frame store = (seed : Seed) × IsOpened text (options_asked frame seed) store
+
+-- a store was opened by the text, as the frame asks, and the frame tells no refusal
+pub record HasOpened (text : List ℕ) (before after : OpenFrame) : Type 0 where
+  pub store : OpenSeen
+  pub opened : IsOpenedBy text before store
+  pub none : after.length ≡ 0
+
+-- no store was opened, for a cause, which the code and the frame tell
+pub record IsRefusedBy (text : List ℕ) (before after : OpenFrame) (code : ℕ) : Type 0 where
+  pub fault : OpenFault
+  pub seed : Seed
+  pub cause : IsRefusedFor text (options_asked before seed) fault
+  pub code_is : code ≡ open_code fault
+  pub told : HasRefusal (fault_text fault) after
+
+-- ---- operations
+
+abbrev pub op_kind_code : OpKind → ℕ
+op_kind_code (kinds.Query outs) = 0
+op_kind_code kinds.Insert = 1
+op_kind_code kinds.Remove = 2
+
+-- how many values a row of the reply has
+abbrev pub row_width : Spec → OpKind → ℕ
+row_width spec (kinds.Query outs) = length outs
+row_width spec kinds.Insert = 0
+row_width spec kinds.Remove = length spec.columns
+
+-- the frame tells of the operation with this number
+pub record TellsOperation (spec : Spec) (op : ℕ) (frame : OperationFrame) : Type 0 where
+  pub number : frame.op ≡ op
+  pub kind : frame.kind ≡ op_kind_code (op_at spec op).kind
+  pub count : frame.count ≡ length (columns_at spec op)
+  pub width : frame.width ≡ row_width spec (op_at spec op).kind
+  pub columns : take frame.count frame.columns ≡ columns_at spec op
+
+-- the name that is asked for stays
+pub record KeepsName (before after : OperationFrame) : Type 0 where
+  pub length : after.length ≡ before.length
+  pub name : after.name ≡ before.name
+
+abbrev pub IsToldOperation : Spec → Option ℕ → OperationFrame → OperationFrame → ℕ → Type 0
+IsToldOperation spec None before after code = (code ≡ codes.operation) × (after ≡ before)
+IsToldOperation spec (Some op) before after code =
+    (code ≡ codes.done) × TellsOperation spec op after × KeepsName before after
+
+-- the operation that the frame names, where there is one
+pub record AnswersOperation (spec : Spec) (before after : OperationFrame) (code : ℕ) : Type 0 where
+  pub wide : 16 < before.length → (code ≡ codes.operation) × (after ≡ before)
+  pub named : before.length ≤ 16
+      → IsToldOperation spec
+      (number_among (op_names spec.ops) (take before.length before.name)) before after code

@@ -1,0 +1,89 @@
+-- What opening a store answers, and what it hands out.
+use Rattle.std.specs.Prelude.{◌≡◌, ℕ, ◌<◌, ◌≤◌, ◌^◌, List, ◌∷◌, None, Result, Ok, Err, length}
+use Rattle.rc_spec.specs.declared.spec.Spec.{Spec}
+use Rattle.rc_spec.specs.declared.refusal.Refusal.{Refusal}
+use Rattle.rc_spec.specs.Acceptance.{IsAccepted, IsFirstBroken, IsItemOf}
+use Rattle.rc_spec.specs.Placement.{op_at}
+use Rattle.rc_plan.specs.Compiled.{plan_at}
+use Rattle.rc_query.specs.Planned.{IsPlanned}
+use Rattle.rc_reader.specs.Grammar.{spec_of}
+use Rattle.rc_row.specs.declared.keeping.Keeping.TheVariants.{Counts}
+use Rattle.rc_row.specs.Passes as rows
+use Rattle.rc_row.specs.Passes.{PassSeen, compiled_of, new_passes}
+use Rattle.rc_store.specs.Store.{StoreSeen}
+use Rattle.rc_embed.specs.declared.fault.OpenFault.{OpenFault}
+use Rattle.rc_embed.specs.declared.fault.OpenFault.TheVariants.{Memory, Options, TooLong, Line}
+use Rattle.rc_embed.specs.declared.fault.OpenFault.TheVariants.{Rule}
+use Rattle.rc_embed.specs.declared.opening.Options as asked
+use Rattle.rc_embed.specs.declared.session.State.TheVariants.{Idle}
+use Rattle.rc_embed.specs.Session.{SessionSeen}
+
+-- an open store: the store, and the passes that no session has
+pub record OpenSeen : Type 0 where
+  pub store : StoreSeen
+  pub passes : List PassSeen
+
+-- the passes and the limit are in their ranges
+pub record AreInBounds (options : asked.Options) : Type 0 where
+  pub some : 1 ≤ options.passes
+  pub passes : options.passes ≤ 255
+  pub limited : 1 ≤ options.limit
+  pub limit : options.limit ≤ 2 ^ 48
+
+-- A new store of the specification, whose operations have their planned plans, with all of its
+-- passes, by number. None of them has made a call, and none keeps its entries.
+pub record IsStoreOf (spec : Spec) (options : asked.Options) (opened : OpenSeen) : Type 0 where
+  pub of_spec : rows.spec_of opened.store.row ≡ spec
+  pub planned : (op : ℕ) → op < length spec.ops
+      → IsPlanned spec (op_at spec op) (plan_at (compiled_of opened.store.row).plans op)
+  pub counts : opened.store.row.keeping ≡ Counts
+  pub number : opened.store.row.key.passes ≡ options.passes
+  pub limit : opened.store.limit ≡ options.limit
+  pub passes : opened.passes ≡ new_passes opened.store.row
+
+-- the text gives an accepted specification, and this is a new store of it
+pub record IsOpened (text : List ℕ) (options : asked.Options) (opened : OpenSeen) : Type 0 where
+  pub spec : Spec
+  pub allowed : AreInBounds options
+  pub short : length text ≤ 2 ^ 24
+  pub read : spec_of text ≡ Ok spec
+  pub accepted : IsAccepted spec
+  pub store : IsStoreOf spec options opened
+
+-- the text gives a specification that isn't accepted, and this is the first rule that it breaks,
+-- with the first item that breaks it
+pub record IsRuleOf (text : List ℕ) (spec : Spec) (refusal : Refusal) : Type 0 where
+  pub read : spec_of text ≡ Ok spec
+  pub first : IsFirstBroken spec refusal
+  pub item : IsItemOf spec refusal.item
+
+-- why there is this fault: for the options first, then for the text's length, then for its first
+-- broken line rule
+abbrev pub IsRefusedFor : List ℕ → asked.Options → OpenFault → Type 0
+IsRefusedFor text options Memory = AreInBounds options × (length text ≤ 2 ^ 24)
+IsRefusedFor text options Options = AreInBounds options → ⊥
+IsRefusedFor text options TooLong = AreInBounds options × (2 ^ 24 < length text)
+IsRefusedFor text options (Line rule line) =
+    AreInBounds options × (length text ≤ 2 ^ 24)
+    × (spec_of text ≡ Err (record { rule = rule; line = line }))
+IsRefusedFor text options (Rule spec refusal) =
+    AreInBounds options × (length text ≤ 2 ^ 24) × IsRuleOf text spec refusal
+
+-- what reading an accepted specification answers
+abbrev pub ReadsAccepted : List ℕ → Result Spec OpenFault → Type 0
+ReadsAccepted text (Ok spec) = (spec_of text ≡ Ok spec) × IsAccepted spec
+ReadsAccepted text (Err Memory) = Unit {0}
+ReadsAccepted text (Err Options) = ⊥
+ReadsAccepted text (Err TooLong) = ⊥
+ReadsAccepted text (Err (Line rule line)) = spec_of text ≡ Err (record { rule = rule; line = line })
+ReadsAccepted text (Err (Rule spec refusal)) = IsRuleOf text spec refusal
+
+-- a session of the store with this pass: no call is prepared, and none was made
+abbrev pub new_session : StoreSeen → PassSeen → SessionSeen
+new_session store pass = record { store = store; state = Idle pass; last = None }
+
+-- it is a new session, with the first of the passes
+pub record HasDealt (old new : OpenSeen) (session : SessionSeen) : Type 0 where
+  pub pass : PassSeen
+  pub was : old.passes ≡ pass ∷ new.passes
+  pub is : session ≡ new_session old.store pass

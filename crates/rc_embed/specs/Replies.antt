@@ -1,0 +1,38 @@
+-- Replies as a caller reads them: a kind, a number, and rows of values.
+use Rattle.std.specs.Prelude.{◌≡◌, ℕ, ◌<◌, ◌≤◌, List, [], ◌∷◌, ◌++◌, length, map, drop}
+use Rattle.std.specs.Prelude.{Option, Some, None}
+use Rattle.rc_tuple.specs.Tuple.{Pairs}
+use Rattle.rc_spec.specs.declared.call.Reply.{Reply}
+use Rattle.rc_spec.specs.declared.call.Reply.TheVariants.{Rows, Many, Inserted, Present}
+use Rattle.rc_spec.specs.declared.call.Reply.TheVariants.{Conflict, Removed, Absent}
+
+-- a tuple's values, in the order of its columns
+abbrev pub values_of : Pairs → List ℕ
+values_of t = map (λ p. p.1) t
+
+-- the rows that a reply has: those of a query, or the one tuple that was removed
+abbrev pub rows_in : Reply → List (List ℕ)
+rows_in (Rows rows) = rows
+rows_in (Many n) = []
+rows_in Inserted = []
+rows_in Present = []
+rows_in (Conflict n) = []
+rows_in (Removed t) = values_of t ∷ []
+rows_in Absent = []
+
+-- no reply has no row
+abbrev pub rows_told : Option Reply → List (List ℕ)
+rows_told None = []
+rows_told (Some reply) = rows_in reply
+
+-- What copying a row over the first places answers: how many values it has, or nothing where there
+-- is no room for it.
+abbrev pub IsCopied : {X : Type 0} → List X → List X → List X → Option ℕ → Type 0
+IsCopied row old new None = (new ≡ old) × (length old < length row)
+IsCopied row old new (Some width) =
+    (width ≡ length row) × (width ≤ length old) × (new ≡ row ++ drop (length row) old)
+
+-- what copying the row that was found answers
+abbrev pub IsCopiedIf : Option (List ℕ) → List ℕ → List ℕ → Option ℕ → Type 0
+IsCopiedIf None old new copied = (new ≡ old) × (copied ≡ None)
+IsCopiedIf (Some row) old new copied = IsCopied row old new copied

@@ -1,0 +1,52 @@
+//! Calls.
+
+ghost use Rattle.std.specs.Prelude.{◌≡◌, Err, IfSome, None};
+ghost use Rattle.rc_embed.specs.Refused.{Answers, fault_of};
+ghost use Rattle.rc_embed.specs.Session.{HasCalled};
+
+use crate::fault::{CallFault, call_fault};
+use crate::session::{Position, Session, State};
+use rc_store::Receipt;
+
+impl Session {
+    /// Calls the operation with this number with these values, in the order of its columns, and
+    /// waits for nobody. The call stands once in the history of all calls, with the reply that the
+    /// session then has. (PLDI 2012, serializable transactions.)
+    ///
+    /// `Prepared`, `UnknownOperation`, `Values` and `Spent` come exactly where the call has that
+    /// fault, and before all else; in that order. `Busy` comes only where another session held a
+    /// stripe that the call's plan names. After any fault history and session are as before. Costs
+    /// what the call's plan costs.
+    pub fn try_call(&mut self, op: u32, values: &[u64]) -> Result<Position, CallFault>
+        ensures answers { Answers (HasCalled self.old op values.now self.new)
+            self.old op values.now self.new result }
+        ensures refused { IfSome (fault_of self.old op values.now)
+            (λ fault. (result ≡ Err fault) × (self.new ≡ self.old)) }
+    {
+        // A read of a field tells the check what holds of every session.
+        let _ = &self.state;
+        if let Some(fault) = self.fault_for(op, values.len()) {
+            return Err(fault);
+        }
+        self.call_idle(op, values)
+    }
+
+    /// Makes a call that has no fault of its own.
+    fn call_idle(&mut self, op: u32, values: &[u64]) -> Result<Position, CallFault>
+        requires { fault_of self.old op values.now ≡ None }
+        ensures { Answers (HasCalled self.old op values.now self.new)
+            self.old op values.now self.new result }
+    {
+        let State::Idle(pass) = &mut self.state else {
+            unreachable!()
+        };
+        let call = self.shared.call_of(self.alloc, op, values)?;
+        match self.shared.store.try_call(pass, &call) {
+            Ok(Receipt { place, nth, reply }) => {
+                self.last = reply;
+                Ok(Position { place, nth })
+            }
+            Err(fault) => Err(call_fault(fault)),
+        }
+    }
+}

@@ -1,0 +1,122 @@
+//! How a store takes sessions back, and how it is closed.
+
+ghost use Rattle.std.specs.Prelude.{◌≡◌, ◌≤◌, ◌↔◌, IfErr, IfOk, IsTrue, OnOk, length, map};
+ghost use Rattle.std.specs.List.{range_with_len};
+ghost use Rattle.rc_store.specs.Closed.{HasClosed};
+ghost use Rattle.rc_embed.specs.Closing.{HasAllPasses, HasTakenBack, IsBackOf, IsPlaceOf};
+ghost use Rattle.rc_embed.specs.Closing.{number_of, pass_count};
+ghost use Rattle.rc_embed.specs.Session.{IsIdle};
+
+use crate::opening::OpenStore;
+use crate::session::{Session, State};
+use crate::shared::Shared;
+use rc_row::Pass;
+use rc_store::{Closed, Quiet, StoreBack};
+use std::sync::Arc;
+
+/// Why a store isn't closed, with what comes back of it.
+#[derive(Drop)]
+pub enum CloseBack {
+    /// Some pass isn't the store's: a session has it, or was dropped with it. The store is as it
+    /// was.
+    Outside(OpenStore),
+    /// Memory was wanted. These are the store and its passes, by number: `close` of `rc_store` may
+    /// be tried on them again.
+    Memory(StoreBack<Quiet>),
+}
+
+impl OpenStore {
+    /// Takes a session of this store back: its pass is the store's again, among the others by its
+    /// number, and serves the next session that begins. Its last reply is gone. Takes no memory.
+    ///
+    /// `Err`, with session and store as they were, exactly where the session has prepared a call,
+    /// or the store has as many passes as it was opened with. (The second doesn't come, since each
+    /// pass is one session's alone; no clause says that it doesn't.)
+    pub fn take_back(&mut self, session: Session) -> Result<(), Session>
+        requires { session.store ≡ self.old.store }
+        ensures taken { OnOk result (HasTakenBack self.old self.new session) }
+        ensures back { IfErr result (λ back. (back ≡ session) × (self.new ≡ self.old)) }
+        ensures cause { IfErr result
+            (λ _. IsIdle session.state → pass_count self.old ≤ length self.old.passes) }
+    {
+        let State::Idle(pass) = &session.state else {
+            return Err(session);
+        };
+        if self.passes.len() >= self.count as usize {
+            return Err(session);
+        }
+        let at = place_of(&self.passes, pass.number());
+        let Ok(()) = self.passes.insert(at, session.into_pass()) else {
+            unreachable!()
+        };
+        Ok(())
+    }
+
+    /// Ends the store, all of whose passes are its own: the calls of all sessions that it ever had
+    /// are one legal history, in which each pass's entries are its own, and the relation that the
+    /// history leaves comes with it. (PLDI 2012, serializable transactions.)
+    ///
+    /// `Outside` comes where a pass isn't the store's (and where a session of it stands outside,
+    /// which then has one; no clause says that this is the one other cause). Costs the stripes and
+    /// the passes.
+    pub fn close(self) -> Result<Closed, CloseBack>
+        ensures all { IfOk result (λ _. HasAllPasses self) }
+        ensures closed { IfOk result (HasClosed self.store self.passes) }
+        ensures back { IfErr result (IsBackOf self) }
+    {
+        if !are_all(&self.passes, self.count) {
+            return Err(CloseBack::Outside(self));
+        }
+        let OpenStore {
+            shared,
+            alloc,
+            passes,
+            count,
+        } = self;
+        match Arc::try_unwrap(shared) {
+            Ok(
+                Shared {
+                    store,
+                    columns: _,
+                    limit: _,
+                },
+            ) => match store.close(passes) {
+                Ok(closed) => Ok(closed),
+                Err(back) => Err(CloseBack::Memory(back)),
+            },
+            Err(shared) => Err(CloseBack::Outside(OpenStore {
+                shared,
+                alloc,
+                passes,
+                count,
+            })),
+        }
+    }
+}
+
+/// The place of a number among passes: behind the first ones that have lower numbers.
+fn place_of(passes: &[Pass], number: u32) -> usize
+    ensures { IsPlaceOf number passes.now result }
+{
+    for (at, pass) in passes.iter().enumerate() {
+        if pass.number() >= number {
+            return at;
+        }
+    }
+    passes.len()
+}
+
+/// Whether these are so many passes, by number.
+fn are_all(passes: &[Pass], count: u32) -> bool
+    ensures { IsTrue result ↔ (map number_of passes.now ≡ range_with_len 0 count) }
+{
+    if passes.len() != count as usize {
+        return false;
+    }
+    for (at, pass) in passes.iter().enumerate() {
+        if pass.number() as usize != at {
+            return false;
+        }
+    }
+    true
+}

@@ -1,0 +1,33 @@
+//! What the functions over frames answer: 0, or the number of a fault. `bindings/c/relc.h` has the
+//! same numbers.
+
+/// It is done.
+pub const DONE: u32 = 0;
+/// Memory was wanted.
+pub const MEMORY: u32 = 1;
+/// Something stood in the way of a stripe.
+pub const BUSY: u32 = 2;
+/// The session has made as many calls as its store lets it.
+pub const SPENT: u32 = 3;
+/// No operation has the number, or the name.
+pub const OPERATION: u32 = 4;
+/// The operation takes another number of values.
+pub const VALUE_COUNT: u32 = 5;
+/// A call is prepared.
+pub const PREPARED: u32 = 6;
+/// No call is prepared.
+pub const NOT_PREPARED: u32 = 7;
+/// The reply has no such row, or the frame no room for it.
+pub const NO_ROW: u32 = 8;
+/// The options are out of their ranges.
+pub const OPTIONS: u32 = 9;
+/// The text is longer than 2^24 bytes.
+pub const TOO_LONG: u32 = 10;
+/// The text breaks a line rule.
+pub const LINE: u32 = 11;
+/// The specification breaks a rule of acceptance.
+pub const RULE: u32 = 12;
+/// No pass is left.
+pub const NONE_LEFT: u32 = 13;
+/// The session has seen less than what was to be learned.
+pub const UNSEEN: u32 = 14;

@@ -1,0 +1,98 @@
+//! Why something isn't done.
+
+ghost use Rattle.std.specs.Prelude.{◌≡◌};
+ghost use Rattle.rc_embed.specs.Refused.{call_fault};
+ghost use Rattle.rc_embed.specs.declared.fault.CallFault.TheVariants as call_faults;
+ghost use Rattle.rc_embed.specs.declared.fault.OpenFault.TheVariants as open_faults;
+
+use rc_reader::LineRule;
+use rc_spec::{Found, Refusal, Spec};
+use rc_store::TryFault;
+use rc_tuple::Memory;
+
+/// Why no store is opened.
+#[derive(Debug, Drop)]
+pub enum OpenFault {
+    /// Memory was wanted.
+    Memory,
+    /// There are not 1 to 255 passes, or not 1 to 2^48 calls.
+    Options,
+    /// The text is longer than 2^24 bytes.
+    TooLong,
+    /// The text breaks a line rule: the first, and its line, counted from 1.
+    Line { rule: LineRule, line: u32 },
+    /// The specification breaks a rule of acceptance: the specification, its first broken rule and
+    /// the first item that breaks it.
+    Rule(Spec, Refusal),
+}
+
+impl From<Memory> for OpenFault {
+    ghost from_gives = { λ _ fault. fault ≡ open_faults.Memory };
+
+    fn from(_: Memory) -> Self {
+        OpenFault::Memory
+    }
+}
+
+/// Why no session begins. The store is as before.
+#[derive(Clone, Copy, Debug, PartialEq, Eq)]
+pub enum SessionFault {
+    /// Memory was wanted.
+    Memory,
+    /// Each pass has a session, or has had one.
+    NoneLeft,
+}
+
+/// Why a call isn't made, or isn't begun. The session is as before.
+#[derive(Clone, Copy, Debug, PartialEq, Eq)]
+pub enum CallFault {
+    /// Memory was wanted.
+    Memory,
+    /// Something stood in the way of a stripe that the call's plan names.
+    Busy {
+        /// The number of the stripe, over all classes.
+        stripe: u32,
+        /// What was found in the way.
+        found: Found,
+    },
+    /// The session has made as many calls as its store lets it.
+    Spent,
+    /// No operation has this number.
+    UnknownOperation,
+    /// The operation takes another number of values.
+    Values,
+    /// A call is prepared, and neither committed nor cancelled.
+    Prepared,
+}
+
+/// No call is prepared. The session is as before.
+#[derive(Clone, Copy, Debug, PartialEq, Eq)]
+pub struct NotPrepared;
+
+impl From<Memory> for CallFault {
+    ghost from_gives = { λ _ fault. fault ≡ call_faults.Memory };
+
+    fn from(_: Memory) -> Self {
+        CallFault::Memory
+    }
+}
+
+/// Why a session doesn't learn what another one has seen.
+#[derive(Clone, Copy, Debug, PartialEq, Eq)]
+pub enum LearnFault {
+    /// A call is prepared. The session is as before.
+    Prepared,
+    /// The session has looked, and has seen less than that.
+    Unseen,
+}
+
+/// The fault of a call that the store refused.
+pub(crate) fn call_fault(fault: TryFault) -> CallFault
+    ensures { result ≡ call_fault fault }
+{
+    match fault {
+        TryFault::Memory => CallFault::Memory,
+        TryFault::Busy { stripe, found } => CallFault::Busy { stripe, found },
+        TryFault::Spent => CallFault::Spent,
+    }
+}

@@ -1,0 +1,28 @@
+//! A store in a caller's own program: it is opened by a specification's text, and its operations
+//! are called by their numbers with plain numbers as values. All that a caller gives is tested
+//! here, so that none of it can break a condition of the store; nothing here waits. (PLDI 2012,
+//! concurrent relations.)
+#![tactic(auto)]
+
+mod calls;
+mod closing;
+mod codes;
+mod fault;
+mod frame;
+mod laws;
+mod open_frame;
+mod opening;
+mod prepared;
+mod replies;
+mod session;
+mod shared;
+mod telling;
+
+pub use closing::CloseBack;
+pub use codes::{DONE, MEMORY};
+pub use fault::{CallFault, LearnFault, NotPrepared, OpenFault, SessionFault};
+pub use frame::{Frame, MAX_VALUES};
+pub use laws::{sessions_are_send, stores_are_send};
+pub use open_frame::{OpenFrame, OperationFrame, open_by, session_code};
+pub use opening::{OpenStore, Options, open};
+pub use session::{Position, Session};

@@ -1,0 +1,194 @@
+//! Frames by which stores are opened and operations looked up.
+
+ghost use Rattle.std.specs.Prelude.{◌≡◌, IfErr, IfOk};
+ghost use Rattle.rc_row.specs.Passes.{spec_of};
+ghost use Rattle.rc_embed.specs.OpenFrames.{AnswersOperation, BreaksRule, HasItem, HasRefusal};
+ghost use Rattle.rc_embed.specs.OpenFrames.{IsOpenedBy, IsRefusedBy, fault_text, line_text};
+ghost use Rattle.rc_embed.specs.OpenFrames.{op_kind_code, open_code, row_width, session_code};
+
+use crate::codes::{DONE, LINE, MEMORY, NONE_LEFT, OPERATION, OPTIONS, RULE, TOO_LONG};
+use crate::fault::{OpenFault, SessionFault};
+use crate::frame::MAX_VALUES;
+use crate::opening::{OpenStore, Options, open};
+use crate::replies::copy_over;
+use rc_maps::Seed;
+use rc_reader::LineRule;
+use rc_spec::{Op, OpKind, Spec, print_refusal};
+use rc_tuple::Memory;
+use std::alloc::Global;
+
+/// The longest refusal that a frame has room for.
+pub const MAX_REFUSAL: usize = 64;
+
+/// How a store is to be opened, and why it is not.
+#[repr(C)]
+#[derive(Drop)]
+pub struct OpenFrame {
+    /// Asked: how many sessions there may be, 1 to 255.
+    pub passes: u32,
+    /// Told of a text that is refused: how many bytes the refusal has.
+    pub length: u32,
+    /// Asked: how many calls each session may make, 1 to 2^48.
+    pub limit: u64,
+    /// Asked: the secret of the store's hash tables, two numbers drawn at random and told to
+    /// nobody, where who chooses the values isn't trusted.
+    pub seed: [u64; 2],
+    /// Told of a text that is refused: the refusal, as the command line prints it.
+    pub refusal: [u8; MAX_REFUSAL],
+}
+
+/// The code of a store that is not opened.
+fn open_code(fault: &OpenFault) -> u32
+    ensures { result ≡ open_code fault.now }
+{
+    match fault {
+        OpenFault::Memory => MEMORY,
+        OpenFault::Options => OPTIONS,
+        OpenFault::TooLong => TOO_LONG,
+        OpenFault::Line { rule: _, line: _ } => LINE,
+        OpenFault::Rule(_, _) => RULE,
+    }
+}
+
+/// The code of a session that does not begin.
+pub fn session_code(fault: SessionFault) -> u32
+    ensures { result ≡ session_code fault }
+{
+    match fault {
+        SessionFault::Memory => MEMORY,
+        SessionFault::NoneLeft => NONE_LEFT,
+    }
+}
+
+/// The refusal of a text, as the command line prints it, without a line feed; nothing for other
+/// faults.
+fn fault_text(alloc: Global, fault: &OpenFault) -> Result<Vec<u8>, Memory>
+    requires { HasItem fault.now }
+    ensures text { IfOk result (λ text. text.items ≡ fault_text fault.now) }
+    ensures memory { IfErr result (λ _. BreaksRule fault.now) }
+{
+    match fault {
+        OpenFault::Line { rule, line } => line_text(alloc, *rule, *line),
+        OpenFault::Rule(spec, refusal) => print_refusal(alloc, spec, refusal),
+        OpenFault::Memory | OpenFault::Options | OpenFault::TooLong => Ok(Vec::new(alloc)),
+    }
+}
+
+/// The refusal of a text for its first broken line rule.
+fn line_text(alloc: Global, rule: LineRule, line: u32) -> Result<Vec<u8>, Memory>
+    ensures { IfOk result (λ text. text.items ≡ line_text rule line) }
+{
+    let text = format!(in alloc; "refused {rule} line {line}")?;
+    Ok(text.into_bytes())
+}
+
+impl OpenFrame {
+    /// Tells why no store was opened, and answers the code. Memory is wanted for a refusal alone.
+    fn tell_fault(&mut self, alloc: Global, fault: &OpenFault) -> Result<u32, Memory>
+        requires { HasItem fault.now }
+        ensures code { IfOk result (λ code. code ≡ open_code fault.now) }
+        ensures told { IfOk result (λ _. HasRefusal (fault_text fault.now) self.new) }
+        ensures memory { IfErr result (λ _. BreaksRule fault.now × (self.new.length ≡ 0)) }
+    {
+        self.length = 0;
+        let text = fault_text(alloc, fault)?;
+        if let Some(length) = copy_over(&text, &mut self.refusal) {
+            self.length = length as u32;
+        }
+        Ok(open_code(fault))
+    }
+}
+
+/// Opens a store by the text, as the frame asks, or tells the frame why not and answers the code.
+/// Where memory is wanted for the refusal, that is the code.
+pub fn open_by(alloc: Global, text: &[u8], frame: &mut OpenFrame) -> Result<OpenStore, u32>
+    ensures opened { IfOk result (IsOpenedBy text.now frame.old) }
+    ensures none { IfOk result (λ _. frame.new.length ≡ 0) }
+    ensures refused { IfErr result (IsRefusedBy text.now frame.old frame.new) }
+{
+    frame.length = 0;
+    let options = Options {
+        passes: frame.passes,
+        limit: frame.limit,
+        seed: Seed::new(frame.seed[0], frame.seed[1]),
+    };
+    match open(alloc, text, options) {
+        Ok(store) => Ok(store),
+        Err(fault) => match frame.tell_fault(alloc, &fault) {
+            Ok(code) => Err(code),
+            Err(_) => Err(MEMORY),
+        },
+    }
+}
+
+/// Which operation is meant, and what its calls give and are told.
+#[repr(C)]
+#[derive(Drop)]
+pub struct OperationFrame {
+    /// Asked: how many bytes the name has, at most 16.
+    pub length: u32,
+    /// Told: the number by which it is called.
+    pub op: u32,
+    /// Told: 0 for a query, 1 for an insert, 2 for a remove.
+    pub kind: u32,
+    /// Told: how many values a call gives.
+    pub count: u32,
+    /// Told: how many values a row of its reply has.
+    pub width: u64,
+    /// Asked: the bytes of the name.
+    pub name: [u8; MAX_NAME],
+    /// Told: the columns of the values that a call gives, by their numbers, in the order in which
+    /// it gives them.
+    pub columns: [u8; MAX_VALUES],
+}
+
+/// The longest name.
+pub const MAX_NAME: usize = 16;
+
+/// The code of an operation's kind.
+fn kind_of(op: &Op) -> u32
+    ensures { result ≡ op_kind_code op.now.kind }
+{
+    match &op.kind {
+        OpKind::Query { outs: _ } => 0,
+        OpKind::Insert => 1,
+        OpKind::Remove => 2,
+    }
+}
+
+/// How many values a row of the operation's reply has.
+fn width_of(spec: &Spec, op: &Op) -> usize
+    ensures { result ≡ row_width spec.now op.now.kind }
+{
+    match &op.kind {
+        OpKind::Query { outs } => outs.list().len(),
+        OpKind::Insert => 0,
+        OpKind::Remove => spec.columns.list().len(),
+    }
+}
+
+impl OpenStore {
+    /// Looks the operation up that the frame names, and tells the frame its number and what its
+    /// calls give and are told.
+    pub fn operation_by(&self, frame: &mut OperationFrame) -> u32
+        ensures { AnswersOperation (spec_of self.now.store.row) frame.old frame.new result }
+    {
+        let length = frame.length as usize;
+        if length > MAX_NAME {
+            return OPERATION;
+        }
+        let Some(number) = self.operation(&frame.name[..length]) else {
+            return OPERATION;
+        };
+        let spec = self.spec();
+        let op = spec.op(number as u8);
+        frame.op = number;
+        frame.kind = kind_of(op);
+        frame.width = width_of(spec, op) as u64;
+        let Some(count) = copy_over(self.shared.columns(number), &mut frame.columns) else {
+            unreachable!()
+        };
+        frame.count = count as u32;
+        DONE
+    }
+}

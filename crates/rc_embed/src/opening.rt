@@ -1,0 +1,249 @@
+//! How a store is opened, and what it hands out.
+
+ghost use Rattle.std.specs.Prelude.{◌≡◌, ◌<◌, ◌≤◌, ◌^◌, ◌↔◌, [], Err, IfErr, IfOk, IfSome, IsTrue};
+ghost use Rattle.std.specs.Prelude.{length, option_copied};
+ghost use Rattle.std.specs.Arc.{arc_value};
+ghost use Rattle.rc_spec.specs.InRange.{IsInRange};
+ghost use Rattle.rc_spec.specs.Names.{IsWellNamed, op_names};
+ghost use Rattle.rc_reader.specs.Names.{number_among};
+ghost use Rattle.rc_row.specs.Passes.{spec_of};
+ghost use Rattle.rc_store.specs.Store.{IsFree};
+ghost use Rattle.rc_embed.specs.Asked.{columns_of_all, known_columns};
+ghost use Rattle.rc_embed.specs.Opened.{AreInBounds, HasDealt, IsOpened, IsRefusedFor, IsStoreOf};
+ghost use Rattle.rc_embed.specs.Opened.{ReadsAccepted, new_session};
+ghost use Rattle.rc_embed.specs.declared.fault.OpenFault.TheVariants as faults;
+ghost use Rattle.rc_embed.specs.declared.fault.SessionFault.TheVariants as session_faults;
+
+use crate::fault::{OpenFault, SessionFault};
+use crate::session::{Session, State};
+use crate::shared::Shared;
+use rc_maps::Seed;
+use rc_mutate::compile;
+use rc_place::{AcceptFault, accept};
+use rc_reader::{ReadRefusal, number_among, read_spec_only};
+use rc_row::{Keeping, Pass};
+use rc_spec::{Accepted, Spec};
+use rc_store::{Quiet, Store};
+use rc_tuple::{Cols, Memory};
+use rc_work::columns_at;
+use std::alloc::{AllocFailed, Global};
+use std::marker::Model;
+use std::sync::Arc;
+
+/// The longest text that is read.
+pub const MAX_TEXT: usize = 1 << 24;
+
+/// How much a store is opened for.
+#[derive(Clone, Copy, Debug)]
+pub struct Options {
+    /// How many sessions there may be, 1 to 255.
+    pub passes: u32,
+    /// How many calls each may make, 1 to 2^48.
+    pub limit: u64,
+    /// The secret of the store's hash tables: two numbers drawn at random, and told to nobody,
+    /// where who chooses the values isn't trusted.
+    pub seed: Seed,
+}
+
+impl Options {
+    /// Whether the passes and the limit are in their ranges.
+    fn are_in_bounds(self) -> bool
+        ensures { IsTrue result ↔ AreInBounds self }
+    {
+        1 <= self.passes && self.passes <= 255 && 1 <= self.limit && self.limit <= 1 << 48
+    }
+}
+
+/// A store that was opened, with the passes that no session has. Its sessions live on when it is
+/// dropped.
+#[derive(Drop)]
+pub struct OpenStore {
+    pub(crate) shared: Arc<Shared, Global>,
+    pub(crate) alloc: Global,
+    pub(crate) passes: Vec<Pass>,
+    /// How many passes the store has, its sessions' too.
+    pub(crate) count: u32,
+}
+
+impl Model for OpenStore {
+    ghost use Rattle.rc_embed.specs.Opened.{OpenSeen};
+
+    ghost Value = { OpenSeen };
+
+    ghost use Rattle.rc_embed.specs.OpenedInside.{IsWholeOpen, open_seen};
+
+    ghost view = { open_seen };
+
+    ghost invariant = { IsWholeOpen };
+}
+
+/// Opens a store with no tuple by the text of its specification, for so many sessions. Costs what
+/// reading and planning cost, and for each session room for a fragment of each stripe.
+pub fn open(alloc: Global, text: &[u8], options: Options) -> Result<OpenStore, OpenFault>
+    ensures opened { IfOk result (IsOpened text.now options) }
+    ensures refused { IfErr result (IsRefusedFor text.now options) }
+{
+    if !options.are_in_bounds() {
+        return Err(OpenFault::Options);
+    }
+    if text.len() > MAX_TEXT {
+        return Err(OpenFault::TooLong);
+    }
+    let accepted = read_accepted(alloc, text)?;
+    open_accepted(alloc, accepted, options)
+}
+
+/// Reads a specification that stands alone, and tests its rules.
+fn read_accepted(alloc: Global, text: &[u8]) -> Result<Accepted, OpenFault>
+    requires { length text.now ≤ 2 ^ 24 }
+    ensures reads { ReadsAccepted text.now result }
+    ensures named { IfOk result IsWellNamed }
+{
+    let spec = match read_spec_only(alloc, text) {
+        Ok(spec) => spec,
+        Err(ReadRefusal::Memory) => return Err(OpenFault::Memory),
+        Err(ReadRefusal::Line { rule, line }) => return Err(OpenFault::Line { rule, line }),
+    };
+    match accept(alloc, spec) {
+        Ok(accepted) => Ok(accepted),
+        Err(AcceptFault::Memory) => Err(OpenFault::Memory),
+        Err(AcceptFault::Refused(spec, refusal)) => Err(OpenFault::Rule(spec, refusal)),
+    }
+}
+
+/// Plans the operations of an accepted specification, and opens a store of it.
+fn open_accepted(
+    alloc: Global,
+    accepted: Accepted,
+    options: Options,
+) -> Result<OpenStore, OpenFault>
+    requires named { IsWellNamed accepted }
+    requires options { AreInBounds options }
+    ensures store { IfOk result (IsStoreOf accepted options) }
+    ensures memory { IfErr result (λ fault. fault ≡ faults.Memory) }
+{
+    let columns = all_columns(alloc, accepted.spec())?;
+    let compiled = compile(alloc, accepted)?;
+    let Options {
+        passes,
+        limit,
+        seed,
+    } = options;
+    let (store, dealt) = Store::build(
+        alloc,
+        seed,
+        compiled,
+        passes,
+        limit,
+        Keeping::Counts,
+        Quiet,
+    )?;
+    let shared = Shared {
+        store,
+        columns,
+        limit,
+    };
+    match Arc::new(alloc, shared) {
+        Ok(shared) => Ok(OpenStore {
+            shared,
+            alloc,
+            passes: dealt,
+            count: passes,
+        }),
+        Err(_) => Err(OpenFault::Memory),
+    }
+}
+
+/// The columns of each operation's values, by its number.
+fn all_columns(alloc: Global, spec: &Spec) -> Result<Vec<Cols>, Memory>
+    requires { length spec.now.columns ≤ 32 }
+    ensures { IfOk result (λ columns. columns.items ≡ columns_of_all spec.now) }
+{
+    let mut columns = Vec::new(alloc);
+    for op in 0..spec.ops.list().len() {
+        columns.push(columns_at(alloc, spec, op)?)?;
+    }
+    Ok(columns)
+}
+
+impl OpenStore {
+    /// The specification.
+    pub fn spec(&self) -> &Spec
+        ensures value { result.now ≡ spec_of self.now.store.row }
+        ensures range { IsInRange (spec_of self.now.store.row) }
+        ensures named { IsWellNamed (spec_of self.now.store.row) }
+    {
+        self.shared.spec()
+    }
+
+    /// The number of the operation with this name; `None` exactly where no operation has it.
+    pub fn operation(&self, name: &[u8]) -> Option<u32>
+        ensures known { IfSome result (λ op. op < length (spec_of self.now.store.row).ops) }
+        ensures number { result
+            ≡ number_among (op_names (spec_of self.now.store.row).ops) name.now }
+    {
+        match number_among(self.spec().ops.list(), name) {
+            Some(number) => Some(number as u32),
+            None => None,
+        }
+    }
+
+    /// The columns of the values of an operation, in the order in which a call gives them; `None`
+    /// exactly where no operation has the number.
+    pub fn columns(&self, op: u32) -> Option<&[u8]>
+        ensures { option_copied result ≡ known_columns (spec_of self.now.store.row) op }
+    {
+        if op as usize >= self.spec().ops.list().len() {
+            return None;
+        }
+        Some(self.shared.columns(op))
+    }
+
+    /// Begins a session, on the heap, with the first pass that no session has: passes of a new
+    /// store are in the order of their numbers, from 0. `NoneLeft` exactly where there is none.
+    pub fn session(&mut self) -> Result<Box<Session, Global>, SessionFault>
+        ensures store { self.new.store ≡ self.old.store }
+        ensures session { IfOk result (λ held. HasDealt self.old self.new held.value) }
+        ensures none { result ≡ Err session_faults.NoneLeft ↔ self.old.passes ≡ [] }
+        ensures same { IfErr result (λ _. self.new ≡ self.old) }
+    {
+        if self.passes.is_empty() {
+            return Err(SessionFault::NoneLeft);
+        }
+        let pass = self.passes.remove(0);
+        match session_of(self.alloc, &self.shared, pass) {
+            Ok(session) => Ok(session),
+            Err(pass) => {
+                let Ok(()) = self.passes.insert(0, pass) else {
+                    unreachable!()
+                };
+                Err(SessionFault::Memory)
+            }
+        }
+    }
+}
+
+/// A session with the pass, which comes back where memory is wanted.
+fn session_of(
+    alloc: Global,
+    shared: &Arc<Shared, Global>,
+    pass: Pass,
+) -> Result<Box<Session, Global>, Pass>
+    requires { IsFree (arc_value shared.now) pass }
+    ensures session { IfOk result (λ held. held.value ≡ new_session (arc_value shared.now) pass) }
+    ensures back { IfErr result (λ back. back ≡ pass) }
+{
+    let Ok(shared) = Arc::try_clone(shared) else {
+        return Err(pass);
+    };
+    let session = Session {
+        shared,
+        alloc,
+        state: State::Idle(pass),
+        last: None,
+    };
+    match Box::new(alloc, session) {
+        Ok(held) => Ok(held),
+        Err(AllocFailed { value }) => Err(value.into_pass()),
+    }
+}

@@ -1,0 +1,35 @@
+//! What sessions tell each other.
+
+ghost use Rattle.std.specs.Prelude.{◌≡◌, ◌↔◌, Err, IfOk};
+ghost use Rattle.rc_embed.specs.Session.{HasLearned, IsIdle, IsUnseenBy};
+ghost use Rattle.rc_embed.specs.declared.fault.LearnFault.TheVariants as faults;
+
+use crate::fault::LearnFault;
+use crate::session::{Session, State};
+
+impl Session {
+    /// Learns that another session of the store has seen so much: later calls stand after all of
+    /// it. `Ok(length)`: this session has seen `length`, at least `seen`. Takes no memory. (PLDI
+    /// 2012, serializable transactions.)
+    ///
+    /// `Prepared` comes exactly while a call is prepared. `Unseen`: the session has looked, and
+    /// has seen a length that is below `seen`. That the length is that of the whole history, so
+    /// that what a session of the same store told is never refused, is how it is built; no clause
+    /// says so.
+    pub fn learn(&mut self, seen: u64) -> Result<u64, LearnFault>
+        ensures store { self.new.store ≡ self.old.store }
+        ensures learned { IfOk result (HasLearned self.old seen self.new) }
+        ensures prepared { result ≡ Err faults.Prepared ↔ (IsIdle self.old.state → ⊥) }
+        ensures same { result ≡ Err faults.Prepared → self.new ≡ self.old }
+        ensures unseen { result ≡ Err faults.Unseen → IsUnseenBy self.old seen self.new }
+    {
+        let State::Idle(pass) = &mut self.state else {
+            return Err(LearnFault::Prepared);
+        };
+        let length = self.shared.store.look(pass);
+        if length < seen {
+            return Err(LearnFault::Unseen);
+        }
+        Ok(length)
+    }
+}
