@@ -1,6 +1,6 @@
 #!/bin/sh
-# Builds librelc and tests it from C and from Rust, where gcc or clang, cargo and valgrind are
-# there. Its last line is 'N passed, M failed'.
+# Builds librelc, tests it from C and from Rust, and runs the examples, where gcc or clang, cargo
+# and valgrind are there. Its last line is 'N passed, M failed'.
 here=$(cd "$(dirname "$0")" && pwd)
 out=$here/out
 passed=0
@@ -26,5 +26,18 @@ fi
 if has cargo; then
     run sh -c "cd '$here/rust' && cargo test --offline --release"
 fi
+"$here/examples.sh" | tee "$out/examples.log"
+tally=$(tail -n 1 "$out/examples.log")
+case $tally in
+*" passed, "*" failed")
+    passed=$((passed + ${tally%% *}))
+    tally=${tally#*, }
+    failed=$((failed + ${tally%% *}))
+    ;;
+*)
+    failed=$((failed + 1))
+    echo "failed: examples.sh" >&2
+    ;;
+esac
 echo "$passed passed, $failed failed"
 [ "$failed" -eq 0 ]
