@@ -19,7 +19,7 @@ use std::test::Fail;
 use std::thread::{Threads, join};
 
 /// For so many turns a gate holds a call at most.
-pub(crate) const TURNS: u32 = 1_000_000;
+pub(crate) const TURNS: u32 = 5_000_000;
 
 /// The place of a call that waits, with its gate, where it is answered.
 pub(crate) fn place<R: Wait, G: Gate>(
