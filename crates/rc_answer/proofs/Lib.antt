@@ -1,4 +1,5 @@
 pub mod AnswerLemmas
+pub mod DrawingLemmas
 pub mod PlanLemmas
 pub mod WriteLemmas
 pub mod RanLemmas

@@ -1,16 +1,20 @@
 -- What may be written for an input, with which status.
-use Rattle.std.specs.Prelude.{◌≡◌, ℕ, ◌⊎◌, List, [], ◌∷◌, ◌++◌, Result, Ok, Err, decimal, codes}
+use Rattle.std.specs.Prelude.{◌≡◌, ℕ, ◌⊎◌, List, [], ◌∷◌, ◌++◌, Option, Some, None, Result, Ok, Err, decimal, codes}
 use Rattle.rc_text.specs.Lines.{printed_lines}
 use Rattle.rc_spec.specs.declared.refusal.Refusal.{Refusal}
 use Rattle.rc_spec.specs.declared.spec.Spec.{Spec}
 use Rattle.rc_spec.specs.Acceptance.{IsAccepted, IsFirstBroken}
+use Rattle.rc_spec.specs.Placement.{op_at}
 use Rattle.rc_spec.specs.RefusalText as rules
 use Rattle.rc_plan.specs.declared.statement.Statement.{Statement}
+use Rattle.rc_dot.specs.Dot.{dot_plan_text, dot_text}
+use Rattle.rc_query.specs.Planned.{IsPlanned}
 use Rattle.rc_rel.specs.declared.entry.Entry.{Entry}
 use Rattle.rc_rel.specs.History.{replay}
 use Rattle.rc_reader.specs.Grammar.{Broken, Reading, spec_reading, spec_of}
 use Rattle.rc_reader.specs.RuleText.{rule_text}
 use Rattle.rc_work.specs.declared.work.Work.{Work}
+use Rattle.rc_work.specs.LineRules.{op_number}
 use Rattle.rc_work.specs.Printed.{words_text}
 use Rattle.rc_work.specs.Ranking.{work_reading}
 use Rattle.rc_work.specs.Report.{report}
@@ -18,7 +22,7 @@ use Rattle.rc_work.specs.Runs.{Runs, HasSingleSteps}
 use Rattle.rc_work.specs.WholeText.{place_after}
 use Rattle.rc_answer.specs.Plans.{ArePlanned, plans_and_end, plans_text}
 use Rattle.rc_command.specs.declared.command.TextCommand.{TextCommand}
-use Rattle.rc_command.specs.declared.command.TextCommand.TheVariants.{Check, Plan, Run}
+use Rattle.rc_command.specs.declared.command.TextCommand.TheVariants.{Check, Plan, Run, Dot, DotPlan}
 use Rattle.rc_answer.specs.declared.status.Status.{Status}
 use Rattle.rc_answer.specs.declared.status.Status.TheVariants.{Done, Refused}
 
@@ -57,6 +61,33 @@ IsAcceptedText text status = (text ≡ accepted_text) × (status ≡ Done)
 abbrev pub IsPlansText : Spec → List ℕ → Status → Type 0
 IsPlansText spec text status = (plans : List (List Statement)) × ArePlanned spec plans × (text ≡ plans_and_end spec plans) × (status ≡ Done)
 
+-- ---- dot
+
+abbrev pub IsDotText : Spec → List ℕ → Status → Type 0
+IsDotText spec text status = (text ≡ dot_text spec) × (status ≡ Done)
+
+abbrev pub operation_text : List ℕ
+operation_text = printed_lines (codes "refused operation" ∷ [])
+
+-- the refusal of a name that no operation has
+abbrev pub IsOperationRefusal : List ℕ → Status → Type 0
+IsOperationRefusal text status = (text ≡ operation_text) × (status ≡ Refused)
+
+-- the drawing with the planned plan of the operation of this number
+abbrev pub IsDrawnPlan : Spec → ℕ → List ℕ → Status → Type 0
+IsDrawnPlan spec op text status =
+    (plan : List Statement) × IsPlanned spec (op_at spec op) plan × (text ≡ dot_plan_text spec op plan) × (status ≡ Done)
+
+abbrev pub IsDrawnWhere : Spec → Option ℕ → List ℕ → Status → Type 0
+IsDrawnWhere spec (Some op) text status = IsDrawnPlan spec op text status
+IsDrawnWhere spec None text status = IsOperationRefusal text status
+
+-- the drawing with the plan of the operation of this name, where there is one
+abbrev pub IsDotPlanText : List ℕ → Spec → List ℕ → Status → Type 0
+IsDotPlanText name spec text status = IsDrawnWhere spec (op_number spec name) text status
+
+-- ---- specifications that stand alone
+
 -- what is written of a specification that stands alone, where it is accepted, and else its refusal
 abbrev pub AnswersAlone : (Spec → List ℕ → Status → Type 0) → Result Spec Broken → List ℕ → Status → Type 0
 AnswersAlone OfAccepted (Err broken) text status = IsRefusal broken text status
@@ -88,13 +119,16 @@ AnswersRun input (Ok reading) text status = AnswersRules reading.spec (AnswersWo
 
 -- ---- all commands that read a text
 
--- What an input that is not too long may have written. `check` and `plan` read a specification alone: the refusal of its first
--- broken line rule, then of its first broken rule of acceptance, else `accepted` or the plans. `run` reads a workload behind it,
--- and refuses by its line rules last; else it writes the plans and the report of a run.
+-- What an input that is not too long may have written. `check`, `plan` and `dot` read a specification alone: the refusal of its
+-- first broken line rule, then of its first broken rule of acceptance, else `accepted`, the plans, or the drawing, with the plan
+-- of an operation where one is named, which is refused where there is none of the name. `run` reads a workload behind it, and
+-- refuses by its line rules last; else it writes the plans and the report of a run.
 abbrev pub Answers : TextCommand → List ℕ → List ℕ → Status → Type 0
 Answers Check input text status = AnswersAlone (λ spec. IsAcceptedText) (spec_of input) text status
 Answers Plan input text status = AnswersAlone IsPlansText (spec_of input) text status
 Answers Run input text status = AnswersRun input (spec_reading input) text status
+Answers Dot input text status = AnswersAlone IsDotText (spec_of input) text status
+Answers (DotPlan op) input text status = AnswersAlone (IsDotPlanText op) (spec_of input) text status
 
 -- an input that is too long
 abbrev pub IsSizeRefusal : List ℕ → Status → Type 0

@@ -1,7 +1,8 @@
 //! Answers a text as a command asks: reads it, tests its rules, plans its operations, makes its calls, and writes the
-//! plans and the report, or the refusal of the first broken rule.
+//! plans and the report, or a drawing, or the refusal of the first broken rule.
 #![tactic(auto)]
 
+mod drawing;
 mod laws;
 mod outcome;
 mod performing;

@@ -14,6 +14,7 @@ ghost use Rattle.rc_answer.specs.Writes.{Writes};
 ghost use Rattle.rc_answer.specs.Asked.{IsAskedText};
 ghost use Rattle.rc_command.specs.declared.command.TextCommand.TheVariants as commands;
 
+use crate::drawing::{write_drawing, write_drawn_plan};
 use crate::outcome::{Outcome, Ran, with_run, without_run};
 use crate::planning::{write_planned, write_plans};
 use crate::refusing::{refuse, refuse_run, refuse_run_of, refuse_spec};
@@ -28,7 +29,7 @@ use rc_reader::{read_spec, read_spec_only};
 use rc_runner::run_work;
 use rc_spec::Accepted;
 use rc_store::Gate;
-use rc_tuple::Memory;
+use rc_tuple::{Memory, SmallList};
 use rc_work::{Report, Work, read_work};
 use std::alloc::Global;
 use std::sync::Wait;
@@ -109,12 +110,19 @@ fn perform<R: Threads + Wait + Sync, K: Sink, G: Gate + Sync>(
 }
 
 /// What is to be written of a specification that stands alone, where it is accepted.
-#[derive(Clone, Copy)]
+#[derive(Drop)]
 enum Asked {
     /// The line `accepted`.
     Acceptance,
     /// The plans of its operations, and then the line `end`.
     Plans,
+    /// Its drawing.
+    Drawing,
+    /// Its drawing with the plan of the operation of this name.
+    DrawnPlan {
+        /// The bytes of the name.
+        op: SmallList<u8>,
+    },
 }
 
 /// Writes what is asked of an accepted specification.
@@ -131,6 +139,8 @@ fn write_asked<K: Sink>(
     match asked {
         Asked::Acceptance => write_accepted(sink),
         Asked::Plans => write_planned(alloc, sink, accepted),
+        Asked::Drawing => write_drawing(alloc, sink, &accepted),
+        Asked::DrawnPlan { op } => write_drawn_plan(alloc, sink, accepted, op.list()),
     }
 }
 
@@ -219,5 +229,9 @@ pub fn answer<R: Threads + Wait + Sync, K: Sink, G: Gate + Sync>(
         TextCommand::Check => without_run(answer_alone(alloc, Asked::Acceptance, text, sink)),
         TextCommand::Plan => without_run(answer_alone(alloc, Asked::Plans, text, sink)),
         TextCommand::Run => run(rt, alloc, hash_seed, text, sink, gate),
+        TextCommand::Dot => without_run(answer_alone(alloc, Asked::Drawing, text, sink)),
+        TextCommand::DotPlan { op } => {
+            without_run(answer_alone(alloc, Asked::DrawnPlan { op }, text, sink))
+        }
     }
 }

@@ -4,7 +4,7 @@ ghost use Rattle.std.specs.Prelude.{◌≡◌, ◌≤◌, IfOk, IsErrOf};
 ghost use Rattle.rc_io.specs.Counts.{Rose};
 ghost use Rattle.rc_spec.specs.Acceptance.{IsItemOf};
 ghost use Rattle.rc_place.specs.Fault.{IfHandedBack};
-ghost use Rattle.rc_answer.specs.Answers.{refusal_line, IsSizeRefusal};
+ghost use Rattle.rc_answer.specs.Answers.{refusal_line, IsOperationRefusal, IsSizeRefusal};
 ghost use Rattle.rc_answer.specs.Ran.{LeavesNone, status_in};
 ghost use Rattle.rc_answer.specs.Writes.{Writes};
 ghost use Rattle.rc_answer.specs.Refusals.{WritesRefusal, WritesRuleRefusal};
@@ -103,6 +103,17 @@ pub(crate) fn refuse_run_of<K: Sink>(
         Ok(_) => Ok(Outcome::without_run(Status::Refused)),
         Err(stop) => Err(stop),
     }
+}
+
+/// Writes the refusal of a name that no operation has. Takes no memory; `Err` where a write fails,
+/// with a first part written.
+pub(crate) fn refuse_operation<K: Sink>(sink: &mut K) -> Result<Status, Stop>
+    ensures written { Writes IsOperationRefusal (K.held sink.old) (K.held sink.new) result }
+    ensures failed { IsErrOf result Stop.Sink → Rose (K.faults sink.old) (K.faults sink.new) }
+    ensures count { K.faults sink.old ≤ K.faults sink.new }
+{
+    write_all(sink, b"refused operation\n")?;
+    Ok(Status::Refused)
 }
 
 /// Writes the refusal of a text that is too long. Takes no memory; `Err` where a write fails, with a first part written.

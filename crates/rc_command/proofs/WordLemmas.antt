@@ -111,20 +111,27 @@ differs xs ys e = go (bytes_eq xs ys) refl
         let flipped : bytes_eq ys xs ≡ true = (bytes_eq-Decides ys xs).1 (sym ((bytes_eq-Decides xs ys).0 t)) in
         cc
 
--- a name is one of the three that stand alone
+-- a name is one of the three behind which no word stands
 abbrev IsName : Text → Type 0
 IsName word = (word ≡ codes "check") ⊎ ((word ≡ codes "plan") ⊎ (word ≡ codes "run"))
 
 abbrev IsBig : Text → Type 0
 IsBig word = word ≡ codes "big"
 
--- another word is none of the four
-abbrev IsOther : Text → Type 0
-IsOther word = (bytes_eq word (codes "check") ≡ false) × (bytes_eq word (codes "plan") ≡ false) × (bytes_eq word (codes "run") ≡ false) × (bytes_eq word (codes "big") ≡ false)
+abbrev IsDot : Text → Type 0
+IsDot word = word ≡ codes "dot"
+
+-- another word is none of the five
+record IsOther (word : Text) : Type 0 where
+  pub not_check : bytes_eq word (codes "check") ≡ false
+  pub not_plan : bytes_eq word (codes "plan") ≡ false
+  pub not_run : bytes_eq word (codes "run") ≡ false
+  pub not_dot : bytes_eq word (codes "dot") ≡ false
+  pub not_big : bytes_eq word (codes "big") ≡ false
 
 no_name : (word : Text) → IsOther word → subcommand_met names idle word ≡ None
-no_name word (not_check, not_plan, not_run, not_big) =
-    rw (differs (codes "check") word not_check, differs (codes "plan") word not_plan, differs (codes "run") word not_run, differs (codes "big") word not_big) refl
+no_name word other =
+    rw (differs (codes "check") word other.not_check, differs (codes "plan") word other.not_plan, differs (codes "run") word other.not_run, differs (codes "dot") word other.not_dot, differs (codes "big") word other.not_big) refl
 
 -- clap leaves the words after a name to the name's subcommand
 rest_is_left : (name word : Text) (words : List Text) → IsName name → stop_at (name ∷ word ∷ words) ≡ Some (name, word ∷ words)
@@ -144,16 +151,21 @@ several_words program name word words known plain e =
     let below_is : entered_fault (built grammar) (stop_at (name ∷ word ∷ words)) ≡ [] = (both_empty _ _ (both_empty _ _ e).1).0 in
     rest_fails name word words known plain (rw (rest_is_left name word words known) at below_is)
 
-name_or_other : (word : Text) → IsName word ⊎ (IsBig word ⊎ IsOther word)
-name_or_other word = go (bytes_eq word (codes "check")) (bytes_eq word (codes "plan")) (bytes_eq word (codes "run")) (bytes_eq word (codes "big")) refl refl refl refl
+abbrev IsWord : Text → Type 0
+IsWord word = IsName word ⊎ (IsDot word ⊎ (IsBig word ⊎ IsOther word))
+
+name_or_other : (word : Text) → IsWord word
+name_or_other word =
+    go (bytes_eq word (codes "check")) (bytes_eq word (codes "plan")) (bytes_eq word (codes "run")) (bytes_eq word (codes "dot")) (bytes_eq word (codes "big")) refl refl refl refl refl
   where
-    go : (check plan run big : Bool) → bytes_eq word (codes "check") ≡ check → bytes_eq word (codes "plan") ≡ plan → bytes_eq word (codes "run") ≡ run → bytes_eq word (codes "big") ≡ big
-        → IsName word ⊎ (IsBig word ⊎ IsOther word)
-    go true plan run big c p r b = inl (inl ((bytes_eq-Decides word (codes "check")).0 c))
-    go false true run big c p r b = inl (inr (inl ((bytes_eq-Decides word (codes "plan")).0 p)))
-    go false false true big c p r b = inl (inr (inr ((bytes_eq-Decides word (codes "run")).0 r)))
-    go false false false true c p r b = inr (inl ((bytes_eq-Decides word (codes "big")).0 b))
-    go false false false false c p r b = inr (inr (c, p, r, b))
+    go : (check plan run dot big : Bool) → bytes_eq word (codes "check") ≡ check → bytes_eq word (codes "plan") ≡ plan → bytes_eq word (codes "run") ≡ run → bytes_eq word (codes "dot") ≡ dot
+        → bytes_eq word (codes "big") ≡ big → IsWord word
+    go true plan run dot big c p r d b = inl (inl ((bytes_eq-Decides word (codes "check")).0 c))
+    go false true run dot big c p r d b = inl (inr (inl ((bytes_eq-Decides word (codes "plan")).0 p)))
+    go false false true dot big c p r d b = inl (inr (inr ((bytes_eq-Decides word (codes "run")).0 r)))
+    go false false false true big c p r d b = inr (inl ((bytes_eq-Decides word (codes "dot")).0 d))
+    go false false false false true c p r d b = inr (inr (inl ((bytes_eq-Decides word (codes "big")).0 b)))
+    go false false false false false c p r d b = inr (inr (inr (record { not_check = c; not_plan = p; not_run = r; not_dot = d; not_big = b })))
 
 other_fails : (program word : Text) (words : List Text) → IsOther word → is_flag word ≡ false → fault_of grammar (program ∷ word ∷ words) ≡ [] → ⊥
 other_fails program word words other plain e = stray_word top names word words _ _ refl (no_name word other) plain e
@@ -253,6 +265,61 @@ two_words_are : (program seed calls : Text) → is_flag seed ≡ false → is_fl
 unfolding clap_on_literals
 two_words_are program seed calls seed_plain calls_plain = ap (λ (w : Walk). met_as (codes "big") (finished big.rules w.held)) (words_walked seed calls seed_plain calls_plain)
 
+-- ---- `dot` and its word
+
+abbrev dot : Shape
+dot = unwrap_or (find (λ s. answers_to (codes "dot") (label_of s)) (built grammar).subs) top
+
+-- what clap holds after the word behind `dot`
+abbrev op_held : Text → Held
+op_held op = record { rows = []; pending = Some (codes "OP", op ∷ []); skip = 0 }
+
+op_walked : (op : Text) → is_flag op ≡ false → walk dot.rules [] nothing_held (op ∷ []) ≡ standing (op_held op) 2
+op_walked op plain = plain_walked dot.rules nothing_held 1 op plain
+
+op_turn : (op : Text) (words : List Text) → is_flag op ≡ false → walk_fault dot [] (walk_from nothing_held) (op ∷ words) ≡ walk_fault dot [] (standing (op_held op) 2) words
+op_turn op words plain = plain_walk dot nothing_held 1 op words plain
+
+abbrev dot_end_fault : Held → Kinds
+dot_end_fault end = or_else (settle_fault dot.rules dot.args_override_self end) (or_else (defaults_fault (settled dot.rules end).rows dot.rules) (check_fault dot (finished dot.rules end) false))
+
+abbrev dot_fault : List Text → Kinds
+dot_fault words = level_fault dot [] nothing_held words false []
+
+-- clap leaves the words after `dot` to `dot`
+dot_stopped : (words : List Text) → stop_at (codes "dot" ∷ words) ≡ Some (codes "dot", words)
+unfolding clap_on_literals
+dot_stopped words = ap (λ w. w.stopped) (sym (walk_stopped [] names (walk_from nothing_held) (codes "dot") [] words))
+
+dot_fails : (program : Text) (words : List Text) → fault_of grammar (program ∷ codes "dot" ∷ words) ≡ [] → dot_fault words ≡ []
+dot_fails program words e =
+    let below_is : entered_fault (built grammar) (stop_at (codes "dot" ∷ words)) ≡ [] = (both_empty _ _ (both_empty _ _ e).1).0 in
+    rw (dot_stopped words) at below_is
+
+-- two words are too many
+second_op_fails : (op other : Text) (words : List Text) → is_flag op ≡ false → is_flag other ≡ false → dot_fault (op ∷ other ∷ words) ≡ [] → ⊥
+second_op_fails op other words op_plain other_plain e =
+    let walk_is : walk_fault dot [] (walk_from nothing_held) (op ∷ other ∷ words) ≡ [] = (both_empty _ _ e).0 in
+    let turns = op_turn op (other ∷ words) op_plain ∙ plain_walk dot (op_held op) 2 other words other_plain in
+    some_fault _ _ (sym turns ∙ walk_is)
+
+-- one is taken
+no_op_fault : (op : Text) → dot_end_fault (op_held op) ≡ []
+unfolding clap_on_literals
+no_op_fault op = refl
+
+one_op_passes : (program op : Text) → is_flag op ≡ false → fault_of grammar (program ∷ codes "dot" ∷ op ∷ []) ≡ []
+unfolding clap_on_literals
+one_op_passes program op plain =
+    let turns : walk_fault dot [] (walk_from nothing_held) (op ∷ []) ≡ [] = op_turn op [] plain in
+    let end_is = ap (λ (w : Walk). dot_end_fault w.held) (op_walked op plain) ∙ no_op_fault op in
+    let level : dot_fault (op ∷ []) ≡ [] = ap₂ or_else turns end_is in
+    ap (λ k. or_else k []) level
+
+one_op_is : (program op : Text) → is_flag op ≡ false → read (program ∷ codes "dot" ∷ op ∷ []) ≡ command_of (program ∷ codes "dot" ∷ op ∷ [])
+unfolding clap_on_literals
+one_op_is program op plain = ap (λ (w : Walk). met_as (codes "dot") (finished dot.rules w.held)) (op_walked op plain)
+
 -- what clap takes is a command, and clap names it
 pub taken_is_command : (words : List Text) → list_any is_flag (drop 1 words) ≡ false → fault_of grammar words ≡ [] → read words ≡ command_of words
 unfolding clap_on_literals
@@ -260,21 +327,26 @@ taken_is_command [] plain e = cc
 taken_is_command (program ∷ []) plain e = cc
 taken_is_command (program ∷ word ∷ []) plain e = go (name_or_other word)
   where
-    go : IsName word ⊎ (IsBig word ⊎ IsOther word) → read (program ∷ word ∷ []) ≡ command_of (program ∷ word ∷ [])
+    go : IsWord word → read (program ∷ word ∷ []) ≡ command_of (program ∷ word ∷ [])
     go (inl (inl same)) = rw same refl
     go (inl (inr (inl same))) = rw same refl
     go (inl (inr (inr same))) = rw same refl
-    go (inr (inl same)) = absurd (some_fault _ _ (rw same at e))
-    go (inr (inr other)) = absurd (other_fails program word [] other (plain_head word [] plain).0 e)
-taken_is_command (program ∷ word ∷ seed ∷ []) plain e = absurd (go (name_or_other word))
+    go (inr (inl same)) = rw same refl
+    go (inr (inr (inl same))) = absurd (some_fault _ _ (rw same at e))
+    go (inr (inr (inr other))) = absurd (other_fails program word [] other (plain_head word [] plain).0 e)
+taken_is_command (program ∷ word ∷ op ∷ []) plain e = go (name_or_other word)
   where
-    after : (is_flag word ≡ false) × (list_any is_flag (seed ∷ []) ≡ false)
-    after = plain_head word (seed ∷ []) plain
+    after : (is_flag word ≡ false) × (list_any is_flag (op ∷ []) ≡ false)
+    after = plain_head word (op ∷ []) plain
 
-    go : IsName word ⊎ (IsBig word ⊎ IsOther word) → ⊥
-    go (inl name) = several_words program word seed [] name (plain_head seed [] after.1).0 e
-    go (inr (inl same)) = one_word_fails seed (plain_head seed [] after.1).0 (big_fails program (seed ∷ []) (rw same at e))
-    go (inr (inr other)) = other_fails program word (seed ∷ []) other after.0 e
+    behind : is_flag op ≡ false
+    behind = (plain_head op [] after.1).0
+
+    go : IsWord word → read (program ∷ word ∷ op ∷ []) ≡ command_of (program ∷ word ∷ op ∷ [])
+    go (inl name) = absurd (several_words program word op [] name behind e)
+    go (inr (inl same)) = rw same (one_op_is program op behind)
+    go (inr (inr (inl same))) = absurd (one_word_fails op behind (big_fails program (op ∷ []) (rw same at e)))
+    go (inr (inr (inr other))) = absurd (other_fails program word (op ∷ []) other after.0 e)
 taken_is_command (program ∷ word ∷ seed ∷ calls ∷ []) plain e = go (name_or_other word)
   where
     after : (is_flag word ≡ false) × (list_any is_flag (seed ∷ calls ∷ []) ≡ false)
@@ -283,10 +355,14 @@ taken_is_command (program ∷ word ∷ seed ∷ calls ∷ []) plain e = go (name
     behind : (is_flag seed ≡ false) × (list_any is_flag (calls ∷ []) ≡ false)
     behind = plain_head seed (calls ∷ []) after.1
 
-    go : IsName word ⊎ (IsBig word ⊎ IsOther word) → read (program ∷ word ∷ seed ∷ calls ∷ []) ≡ command_of (program ∷ word ∷ seed ∷ calls ∷ [])
+    last : is_flag calls ≡ false
+    last = (plain_head calls [] behind.1).0
+
+    go : IsWord word → read (program ∷ word ∷ seed ∷ calls ∷ []) ≡ command_of (program ∷ word ∷ seed ∷ calls ∷ [])
     go (inl name) = absurd (several_words program word seed (calls ∷ []) name behind.0 e)
-    go (inr (inl same)) = rw same (two_words_are program seed calls behind.0 (plain_head calls [] behind.1).0)
-    go (inr (inr other)) = absurd (other_fails program word (seed ∷ calls ∷ []) other after.0 e)
+    go (inr (inl same)) = absurd (second_op_fails seed calls [] behind.0 last (dot_fails program (seed ∷ calls ∷ []) (rw same at e)))
+    go (inr (inr (inl same))) = rw same (two_words_are program seed calls behind.0 last)
+    go (inr (inr (inr other))) = absurd (other_fails program word (seed ∷ calls ∷ []) other after.0 e)
 taken_is_command (program ∷ word ∷ seed ∷ calls ∷ other ∷ words) plain e = absurd (go (name_or_other word))
   where
     after : (is_flag word ≡ false) × (list_any is_flag (seed ∷ calls ∷ other ∷ words) ≡ false)
@@ -298,10 +374,11 @@ taken_is_command (program ∷ word ∷ seed ∷ calls ∷ other ∷ words) plain
     last : (is_flag calls ≡ false) × (list_any is_flag (other ∷ words) ≡ false)
     last = plain_head calls (other ∷ words) behind.1
 
-    go : IsName word ⊎ (IsBig word ⊎ IsOther word) → ⊥
+    go : IsWord word → ⊥
     go (inl name) = several_words program word seed (calls ∷ other ∷ words) name behind.0 e
-    go (inr (inl same)) = third_word_fails seed calls other words behind.0 last.0 (plain_head other words last.1).0 (big_fails program (seed ∷ calls ∷ other ∷ words) (rw same at e))
-    go (inr (inr stray)) = other_fails program word (seed ∷ calls ∷ other ∷ words) stray after.0 e
+    go (inr (inl same)) = second_op_fails seed calls (other ∷ words) behind.0 last.0 (dot_fails program (seed ∷ calls ∷ other ∷ words) (rw same at e))
+    go (inr (inr (inl same))) = third_word_fails seed calls other words behind.0 last.0 (plain_head other words last.1).0 (big_fails program (seed ∷ calls ∷ other ∷ words) (rw same at e))
+    go (inr (inr (inr stray))) = other_fails program word (seed ∷ calls ∷ other ∷ words) stray after.0 e
 
 -- what clap refuses for another cause than memory is no command
 pub refused_is_none : (words : List Text) (kind : ErrorKind) → list_any is_flag (drop 1 words) ≡ false → IsAmong kind (fault_of grammar words) → None ≡ command_of words
@@ -310,13 +387,24 @@ refused_is_none [] kind plain h = refl
 refused_is_none (program ∷ []) kind plain h = refl
 refused_is_none (program ∷ word ∷ []) kind plain h = go (name_or_other word)
   where
-    go : IsName word ⊎ (IsBig word ⊎ IsOther word) → None ≡ command_of (program ∷ word ∷ [])
+    go : IsWord word → None ≡ command_of (program ∷ word ∷ [])
     go (inl (inl same)) = absurd (rw same at h)
     go (inl (inr (inl same))) = absurd (rw same at h)
     go (inl (inr (inr same))) = absurd (rw same at h)
-    go (inr (inl same)) = rw same refl
-    go (inr (inr (not_check, not_plan, not_run, not_big))) = rw (not_check, not_plan, not_run) refl
-refused_is_none (program ∷ word ∷ seed ∷ []) kind plain h = refl
+    go (inr (inl same)) = absurd (rw same at h)
+    go (inr (inr (inl same))) = rw same refl
+    go (inr (inr (inr other))) = rw (other.not_check, other.not_plan, other.not_run, other.not_dot) refl
+refused_is_none (program ∷ word ∷ op ∷ []) kind plain h = go (bytes_eq word (codes "dot")) refl
+  where
+    after : (is_flag word ≡ false) × (list_any is_flag (op ∷ []) ≡ false)
+    after = plain_head word (op ∷ []) plain
+
+    go : (is_dot : Bool) → bytes_eq word (codes "dot") ≡ is_dot → None ≡ command_of (program ∷ word ∷ op ∷ [])
+    go false b = rw b refl
+    go true b =
+        let same : word ≡ codes "dot" = (bytes_eq-Decides word (codes "dot")).0 b in
+        let fault = one_op_passes program op (plain_head op [] after.1).0 in
+        absurd (subst (IsAmong kind) fault (rw same at h))
 refused_is_none (program ∷ word ∷ seed ∷ calls ∷ []) kind plain h = go (bytes_eq word (codes "big")) refl
   where
     after : (is_flag word ≡ false) × (list_any is_flag (seed ∷ calls ∷ []) ≡ false)

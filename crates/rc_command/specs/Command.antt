@@ -3,16 +3,22 @@ use Rattle.std.specs.Prelude.{ℕ, ◌<◌, ◌≤◌, ◌^◌, nat_le, nat_lt, 
 use Rattle.std.specs.Str.{bytes_eq}
 use Rattle.rc_text.specs.Numbers.{u64_of}
 use Rattle.rc_text.specs.declared.numbers.NumFault.{NumFault}
+use Rattle.rc_spec.specs.Names.{is_name}
 use Rattle.rc_command.specs.declared.command.Command.{Command}
 use Rattle.rc_command.specs.declared.command.Command.TheVariants.{OfText, Big}
 use Rattle.rc_command.specs.declared.command.TextCommand.{TextCommand}
-use Rattle.rc_command.specs.declared.command.TextCommand.TheVariants.{Check, Plan, Run}
+use Rattle.rc_command.specs.declared.command.TextCommand.TheVariants.{Check, Plan, Run, Dot, DotPlan}
 
--- the command of a name that takes no further word
+-- the command of a name that stands alone
 abbrev pub command_named : List ℕ → Option TextCommand
 command_named name = if bytes_eq name (codes "check") then Some Check
     else (if bytes_eq name (codes "plan") then Some Plan
-    else (if bytes_eq name (codes "run") then Some Run else None))
+    else (if bytes_eq name (codes "run") then Some Run
+    else (if bytes_eq name (codes "dot") then Some Dot else None)))
+
+-- `dot` with a word that an operation can have as its name
+abbrev pub dot_of : List ℕ → Option Command
+dot_of op = if is_name op then Some (OfText (DotPlan op)) else None
 
 -- a seed has 31 bits, and a generated workload 1 to 20,000 calls
 abbrev pub big_within : ℕ → ℕ → Option Command
@@ -23,12 +29,12 @@ big_of (Ok seed) (Ok calls) = big_within seed calls
 big_of (Ok seed) (Err fault) = None
 big_of (Err fault) calls = None
 
--- the program's name, and then a name alone, or `big` with a seed and a number of calls
+-- the program's name, and then a name alone, `dot` with an operation's name, or `big` with a seed and a number of calls
 abbrev pub command_of : List (List ℕ) → Option Command
 command_of [] = None
 command_of (program ∷ []) = None
 command_of (program ∷ name ∷ []) = option_map OfText (command_named name)
-command_of (program ∷ name ∷ seed ∷ []) = None
+command_of (program ∷ name ∷ op ∷ []) = if bytes_eq name (codes "dot") then dot_of op else None
 command_of (program ∷ name ∷ seed ∷ calls ∷ []) = if bytes_eq name (codes "big") then big_of (u64_of seed) (u64_of calls) else None
 command_of (program ∷ name ∷ seed ∷ calls ∷ other ∷ words) = None
 

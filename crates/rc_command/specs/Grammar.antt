@@ -5,7 +5,8 @@ use Rattle.clap.specs.Words.{App, Row, Rule, Text, first_of, new_app, new_rule, 
 use Rattle.rc_text.specs.Numbers.{u64_of}
 use Rattle.rc_command.specs.declared.command.Command.{Command}
 use Rattle.rc_command.specs.declared.command.Command.TheVariants as command
-use Rattle.rc_command.specs.Command.{big_of, command_named}
+use Rattle.rc_command.specs.declared.command.TextCommand.TheVariants as text
+use Rattle.rc_command.specs.Command.{big_of, command_named, dot_of}
 
 -- the program: a subcommand must be there, and neither help nor version is asked for
 abbrev pub program : App
@@ -25,9 +26,17 @@ required_word id = record (new_rule id) { required = true }
 abbrev pub big_app : App
 big_app = with_rule (with_rule (new_app (codes "big")) (required_word (codes "SEED"))) (required_word (codes "N"))
 
+-- `dot` with a word that may be left out
+abbrev pub dot_app : App
+dot_app = with_rule (new_app (codes "dot")) (new_rule (codes "OP"))
+
+-- the program with the commands that take no further word
+abbrev pub program_alone : App
+program_alone = with_subcommand (with_subcommand (with_subcommand program (new_app (codes "check")).top) (new_app (codes "plan")).top) (new_app (codes "run")).top
+
 -- the program with its commands
 abbrev pub grammar : App
-grammar = with_subcommand (with_subcommand (with_subcommand (with_subcommand program (new_app (codes "check")).top) (new_app (codes "plan")).top) (new_app (codes "run")).top) big_app.top
+grammar = with_subcommand (with_subcommand program_alone dot_app.top) big_app.top
 
 -- the word begins with a hyphen, 45
 abbrev pub is_flag : List ℕ → Bool
@@ -40,10 +49,16 @@ big_words (Some seed) (Some calls) = big_of (u64_of seed) (u64_of calls)
 big_words (Some seed) None = None
 big_words None calls = None
 
+-- the command of the word behind `dot`, where there is one
+abbrev pub dot_words : Option Text → Option Command
+dot_words (Some op) = dot_of op
+dot_words None = Some (command.OfText text.Dot)
+
 -- the command of a subcommand's name and what clap found behind it
 abbrev pub met_as : Text → List Row → Option Command
 met_as name rows = if bytes_eq name (codes "big") then big_words (first_of (codes "SEED") rows) (first_of (codes "N") rows)
-    else option_map command.OfText (command_named name)
+    else (if bytes_eq name (codes "dot") then dot_words (first_of (codes "OP") rows)
+    else option_map command.OfText (command_named name))
 
 -- the command of the subcommand that clap met, where there is one
 abbrev pub met : Option (Text × List Row) → Option Command

@@ -1,19 +1,21 @@
 //! The command that the words of the command line give, as clap reads them.
-ghost use Rattle.std.specs.Prelude.{◌≡◌, IfOk, IfSome, codes, map, string_bytes};
+ghost use Rattle.std.specs.Prelude.{◌≡◌, IfOk, IfSome, codes, map, option_map, string_bytes};
 ghost use Rattle.std.specs.List.{list_any};
-ghost use Rattle.clap.specs.Words.{app_of, first_value, found_of, subcommand_rows_of};
+ghost use Rattle.clap.specs.Words.{app_of, first_value, found_of, rows_of, subcommand_rows_of, with_subcommand};
 ghost use Rattle.rc_text.specs.Numbers.{u64_of};
-ghost use Rattle.rc_command.specs.Command.{IsWithinLimits, big_of, command_named, command_of};
-ghost use Rattle.rc_command.specs.Grammar.{big_words, grammar, is_flag, met};
+ghost use Rattle.rc_command.specs.declared.command.Command.TheVariants.{OfText};
+ghost use Rattle.rc_command.specs.Command.{IsWithinLimits, big_of, command_named, command_of, dot_of};
+ghost use Rattle.rc_command.specs.Grammar.{big_app, big_words, dot_app, dot_words, grammar, is_flag, met, met_as};
 
+use crate::names::is_name;
 use clap::error::ErrorKind;
 use clap::{Arg, ArgMatches};
 use rc_text::read_u64;
-use rc_tuple::Memory;
+use rc_tuple::{Memory, SmallList};
 use std::alloc::{AllocError, Global};
 
 /// What a text is read for.
-#[derive(Clone, Copy, Debug, PartialEq, Eq)]
+#[derive(Debug, Drop)]
 pub enum TextCommand {
     /// Reads a specification alone, and says whether it is accepted.
     Check,
@@ -21,10 +23,17 @@ pub enum TextCommand {
     Plan,
     /// Reads a specification and a workload, makes the calls, and prints the plans, the journal and the final relation.
     Run,
+    /// Reads a specification alone, and prints its drawing.
+    Dot,
+    /// Reads a specification alone, and prints its drawing with the plan of an operation.
+    DotPlan {
+        /// The bytes of a name, which the operation has.
+        op: SmallList<u8>,
+    },
 }
 
 /// What the program is asked to do.
-#[derive(Clone, Copy, Debug, PartialEq, Eq)]
+#[derive(Debug, Drop)]
 pub enum Command {
     /// Reads a text, and answers it.
     OfText(TextCommand),
@@ -45,8 +54,9 @@ const MAX_CALLS: u64 = 20_000;
 
 /// The command of the words, of which the first is the program's name.
 ///
-/// `None` where they are no command: too few or too many words, another name, a word that begins with `-`, or one that
-/// should be a number and is none or beyond its limits. `Err` where memory is wanted and not given.
+/// `None` where they are no command: too few or too many words, another name, a word that begins with `-`, one that
+/// should be a number and is none or beyond its limits, or one that no operation can have as its name. `Err` where
+/// memory is wanted and not given.
 pub fn command_in(alloc: Global, words: &[String]) -> Result<Option<Command>, Memory>
     ensures value { IfOk result (λ c. c ≡ command_of (map string_bytes words.now)) }
     ensures limits { IfOk result (λ c. IfSome c IsWithinLimits) }
@@ -59,7 +69,7 @@ pub fn command_in(alloc: Global, words: &[String]) -> Result<Option<Command>, Me
     }
     let reader = reader(alloc)?;
     match reader.try_get_matches_from(words) {
-        Ok(matches) => Ok(command_met(&matches)),
+        Ok(matches) => command_met(alloc, &matches),
         Err(error) => match error.kind() {
             ErrorKind::OutOfMemory => Err(Memory),
             _ => Ok(None),
@@ -67,25 +77,41 @@ pub fn command_in(alloc: Global, words: &[String]) -> Result<Option<Command>, Me
     }
 }
 
-/// What clap reads: the commands as subcommands, of which one must be there, and neither help nor version. `big` takes two
-/// words.
+/// What clap reads: the commands as subcommands, of which one must be there, and neither help nor version.
 fn reader<'a>(alloc: Global) -> Result<clap::Command<'a>, AllocError>
     ensures { IfOk result (λ c. app_of c ≡ grammar) }
 {
     let check = clap::Command::new(alloc, "check");
     let plan = clap::Command::new(alloc, "plan");
     let run = clap::Command::new(alloc, "run");
-    let seed = Arg::new(alloc, "SEED").required(true);
-    let calls = Arg::new(alloc, "N").required(true);
-    let big = clap::Command::new(alloc, "big").arg(seed)?.arg(calls)?;
-    clap::Command::new(alloc, "relc")
+    let program = clap::Command::new(alloc, "relc")
         .subcommand_required(true)
         .disable_help_flag(true)
         .disable_help_subcommand(true)
         .subcommand(check)?
         .subcommand(plan)?
-        .subcommand(run)?
-        .subcommand(big)
+        .subcommand(run)?;
+    let program = add_dot(alloc, program)?;
+    add_big(alloc, program)
+}
+
+/// Adds `dot`, which takes a word that may be left out.
+fn add_dot<'a>(alloc: Global, program: clap::Command<'a>) -> Result<clap::Command<'a>, AllocError>
+    ensures { IfOk result (λ c. app_of c ≡ with_subcommand (app_of program.entry) dot_app.top) }
+{
+    let op = Arg::new(alloc, "OP");
+    let dot = clap::Command::new(alloc, "dot").arg(op)?;
+    program.subcommand(dot)
+}
+
+/// Adds `big`, which takes two words.
+fn add_big<'a>(alloc: Global, program: clap::Command<'a>) -> Result<clap::Command<'a>, AllocError>
+    ensures { IfOk result (λ c. app_of c ≡ with_subcommand (app_of program.entry) big_app.top) }
+{
+    let seed = Arg::new(alloc, "SEED").required(true);
+    let calls = Arg::new(alloc, "N").required(true);
+    let big = clap::Command::new(alloc, "big").arg(seed)?.arg(calls)?;
+    program.subcommand(big)
 }
 
 /// Whether a word begins with `-`. clap itself passes over a `--`, as in `relc run --`.
@@ -107,15 +133,49 @@ fn is_flag(word: &str) -> bool
 }
 
 /// The command of the subcommand that clap met.
-fn command_met(matches: &ArgMatches) -> Option<Command>
-    ensures value { result ≡ met (subcommand_rows_of matches.now) }
-    ensures limits { IfSome result IsWithinLimits }
+fn command_met(alloc: Global, matches: &ArgMatches) -> Result<Option<Command>, Memory>
+    ensures value { IfOk result (λ c. c ≡ met (subcommand_rows_of matches.now)) }
+    ensures limits { IfOk result (λ c. IfSome c IsWithinLimits) }
 {
-    let (name, inner) = matches.subcommand()?;
-    match name {
-        "big" => big_met(inner),
-        _ => Some(Command::OfText(command_named(name)?)),
+    match matches.subcommand() {
+        Some((name, inner)) => command_behind(alloc, name, inner),
+        None => Ok(None),
     }
+}
+
+/// The command of a subcommand's name and the words that clap found behind it.
+fn command_behind(alloc: Global, name: &str, inner: &ArgMatches) -> Result<Option<Command>, Memory>
+    ensures value { IfOk result (λ c. c ≡ met_as name.now (rows_of (found_of inner.now))) }
+    ensures limits { IfOk result (λ c. IfSome c IsWithinLimits) }
+{
+    match name {
+        "big" => Ok(big_met(inner)),
+        "dot" => dot_met(alloc, inner),
+        _ => Ok(alone_met(name)),
+    }
+}
+
+/// The command of the word that clap met behind `dot`, where it met one.
+fn dot_met(alloc: Global, matches: &ArgMatches) -> Result<Option<Command>, Memory>
+    ensures value { IfOk result (λ c. c ≡ dot_words (first_value (found_of matches.now) (codes "OP"))) }
+    ensures limits { IfOk result (λ c. IfSome c IsWithinLimits) }
+{
+    match matches.get_str("OP") {
+        Some(op) => dot_in(alloc, op),
+        None => Ok(Some(Command::OfText(TextCommand::Dot))),
+    }
+}
+
+/// The drawing of an operation's plan, where the word is a name.
+fn dot_in(alloc: Global, op: &str) -> Result<Option<Command>, Memory>
+    ensures value { IfOk result (λ c. c ≡ dot_of op.now) }
+    ensures limits { IfOk result (λ c. IfSome c IsWithinLimits) }
+{
+    if !is_name(op.as_bytes()) {
+        return Ok(None);
+    }
+    let op = SmallList::from_slice(alloc, op.as_bytes())?;
+    Ok(Some(Command::OfText(TextCommand::DotPlan { op })))
 }
 
 /// The command of the two words that clap met behind `big`.
@@ -127,7 +187,15 @@ fn big_met(matches: &ArgMatches) -> Option<Command>
     big_in(matches.get_str("SEED")?, matches.get_str("N")?)
 }
 
-/// The command of a name that takes no further word.
+/// The command of a name behind which no word stands.
+fn alone_met(name: &str) -> Option<Command>
+    ensures value { result ≡ option_map OfText (command_named name.now) }
+    ensures limits { IfSome result IsWithinLimits }
+{
+    Some(Command::OfText(command_named(name)?))
+}
+
+/// The command of a name that stands alone.
 fn command_named(name: &str) -> Option<TextCommand>
     ensures { result ≡ command_named name.now }
 {
@@ -135,6 +203,7 @@ fn command_named(name: &str) -> Option<TextCommand>
         "check" => Some(TextCommand::Check),
         "plan" => Some(TextCommand::Plan),
         "run" => Some(TextCommand::Run),
+        "dot" => Some(TextCommand::Dot),
         _ => None,
     }
 }

@@ -2,5 +2,6 @@
 #![tactic(auto)]
 
 mod command;
+mod names;
 
 pub use command::{Command, TextCommand, command_in};

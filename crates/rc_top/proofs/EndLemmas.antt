@@ -1,5 +1,5 @@
 -- The end of a command, of what was written.
-use Rattle.std.proofs.Common.{◌≡◌, ℕ, ◌+◌, ◌<◌, ◌≤◌, ◌^◌, ◌⊎◌, inl, inr, List, drop, Option, Some, Result, Ok, Err, length, ◌∙◌, refl, sym, subst, ap, arith}
+use Rattle.std.proofs.Common.{◌≡◌, ℕ, ◌+◌, ◌<◌, ◌≤◌, ◌^◌, ◌⊎◌, inl, inr, List, drop, Option, Some, None, Result, Ok, Err, length, ◌∙◌, refl, sym, subst, ap, arith}
 use Rattle.std.proofs.Math.ListN.{drop_of_length-le}
 use Rattle.std.proofs.Math.Seq.{drop-append_seam}
 use Rattle.rc_io.specs.Bytes.{Adds, AddsPrefix, Takes, IsEmpty}
@@ -9,17 +9,19 @@ use Rattle.rc_spec.specs.declared.spec.Spec.{Spec}
 use Rattle.rc_spec.specs.Acceptance.{IsAccepted}
 use Rattle.rc_spec.specs.AcceptanceLaws.{refused_not_accepted}
 use Rattle.rc_work.specs.declared.work.Work.{Work}
+use Rattle.std.specs.Prelude.{IsSome}
+use Rattle.rc_work.specs.LineRules.{op_number}
 use Rattle.rc_work.specs.Ranking.{work_reading}
-use Rattle.rc_answer.specs.Answers.{Answers, AnswersAlone, AnswersRules, AnswersRun, AnswersWork, IsAcceptedText, IsPlansText, IsSizeRefusal}
+use Rattle.rc_answer.specs.Answers.{Answers, AnswersAlone, AnswersRules, AnswersRun, AnswersWork, IsAcceptedText, IsDotPlanText, IsDotText, IsDrawnWhere, IsPlansText, IsSizeRefusal}
 use Rattle.rc_work.specs.WholeText.{place_after}
 use Rattle.rc_answer.specs.Big.{IsBigText, big_text}
 use Rattle.rc_answer.specs.Writes.{Writes}
-use Rattle.rc_top.specs.Answer.{IsAnswer, IsGoodReading, IsGoodSpec, IsGoodWork, KeepsRules}
+use Rattle.rc_top.specs.Answer.{IsAnswer, IsGoodReading, IsGoodSpec, IsGoodSpecWith, IsGoodWork, KeepsRules}
 use Rattle.rc_top.specs.Asks.{LeavesAllBut}
 use Rattle.rc_top.specs.Ends.{Ends, EndsBig, status_of}
 use Rattle.rc_command.specs.declared.command.Command.TheVariants.{OfText}
 use Rattle.rc_command.specs.declared.command.TextCommand.{TextCommand}
-use Rattle.rc_command.specs.declared.command.TextCommand.TheVariants.{Check, Plan, Run}
+use Rattle.rc_command.specs.declared.command.TextCommand.TheVariants.{Check, Plan, Run, Dot, DotPlan}
 use Rattle.rc_answer.specs.declared.status.Status.{Status}
 use Rattle.rc_answer.specs.declared.status.Status.TheVariants.{Done, Usage, Refused, SourceFailed, SinkFailed, OutOfMemory}
 use Rattle.rc_answer.specs.declared.status.Stop.{Stop}
@@ -78,10 +80,18 @@ accepted_done spec text status (printed, done) = done
 plans_done : EndsDone IsPlansText
 plans_done spec text status (plans, planned, printed, done) = done
 
-written_alone : (OfAccepted : Spec → List ℕ → Status → Type 0) (reading : Result Spec Broken) (text : List ℕ) (status : Status) → EndsDone OfAccepted
-    → AnswersAlone OfAccepted reading text status → IsWritten status
-written_alone OfAccepted (Err broken) text status done is = inr is.1
-written_alone OfAccepted (Ok spec) text status done is = written_rules spec (OfAccepted spec) text status (λ h. inl (done spec text status h)) is
+dot_done : EndsDone IsDotText
+dot_done spec text status (printed, done) = done
+
+-- a drawing with a plan, or the refusal of its operation
+drawn_written : (spec : Spec) (op : Option ℕ) (text : List ℕ) (status : Status) → IsDrawnWhere spec op text status → IsWritten status
+drawn_written spec (Some op) text status (plan, planned, printed, done) = inl done
+drawn_written spec None text status (printed, refused) = inr refused
+
+written_alone : (OfAccepted : Spec → List ℕ → Status → Type 0) (reading : Result Spec Broken) (text : List ℕ) (status : Status)
+    → ((spec : Spec) → OfAccepted spec text status → IsWritten status) → AnswersAlone OfAccepted reading text status → IsWritten status
+written_alone OfAccepted (Err broken) text status ends is = inr is.1
+written_alone OfAccepted (Ok spec) text status ends is = written_rules spec (OfAccepted spec) text status (ends spec) is
 
 written_run : (input : List ℕ) (reading : Result Reading Broken) (text : List ℕ) (status : Status) → AnswersRun input reading text status → IsWritten status
 written_run input (Err broken) text status is = inr is.1
@@ -90,9 +100,12 @@ written_run input (Ok reading) text status is =
     written_rules reading.spec (AnswersWork reading.spec work) text status (written_work reading.spec work text status) is
 
 written : (command : TextCommand) (input text : List ℕ) (status : Status) → Answers command input text status → IsWritten status
-written Check input text status is = written_alone (λ spec. IsAcceptedText) (spec_of input) text status accepted_done is
-written Plan input text status is = written_alone IsPlansText (spec_of input) text status plans_done is
+written Check input text status is = written_alone (λ spec. IsAcceptedText) (spec_of input) text status (λ spec h. inl (accepted_done spec text status h)) is
+written Plan input text status is = written_alone IsPlansText (spec_of input) text status (λ spec h. inl (plans_done spec text status h)) is
 written Run input text status is = written_run input (spec_reading input) text status is
+written Dot input text status is = written_alone IsDotText (spec_of input) text status (λ spec h. inl (dot_done spec text status h)) is
+written (DotPlan op) input text status is =
+    written_alone (IsDotPlanText op) (spec_of input) text status (λ spec h. drawn_written spec (op_number spec op) text status h) is
 
 -- told bytes that were read whole are answered
 pub read_ends : (command : TextCommand) (input bytes : List ℕ) (told left : Option (List ℕ)) (old new : Option (List ℕ)) (r : Result Status Stop)
@@ -170,6 +183,15 @@ refused_alone : (OfAccepted : Spec → List ℕ → Status → Type 0) (reading 
 refused_alone OfAccepted (Err broken) text done good is = absurd good
 refused_alone OfAccepted (Ok spec) text done good is = refused_rules spec (OfAccepted spec) text good (λ h. let e : Refused ≡ Done = done spec text Refused h in cc) is
 
+-- an operation that is there is drawn
+refused_drawn : (spec : Spec) (op : Option ℕ) (text : List ℕ) → IsSome op → IsDrawnWhere spec op text Refused → ⊥
+refused_drawn spec (Some op) text there (plan, planned, printed, done) = cc
+refused_drawn spec None text there is = cc
+
+refused_plan : (op : List ℕ) (reading : Result Spec Broken) (text : List ℕ) → IsGoodSpecWith op reading → AnswersAlone (IsDotPlanText op) reading text Refused → ⊥
+refused_plan op (Err broken) text good is = absurd good
+refused_plan op (Ok spec) text good is = refused_rules spec (IsDotPlanText op spec) text good.0 (refused_drawn spec (op_number spec op) text good.1) is
+
 refused_run : (input : List ℕ) (reading : Result Reading Broken) (text : List ℕ) → IsGoodReading input reading → AnswersRun input reading text Refused → ⊥
 refused_run input (Err broken) text good is = absurd good
 refused_run input (Ok reading) text good is =
@@ -180,6 +202,8 @@ refused_text : (command : TextCommand) (input text : List ℕ) → KeepsRules co
 refused_text Check input text good is = refused_alone (λ spec. IsAcceptedText) (spec_of input) text accepted_done good is
 refused_text Plan input text good is = refused_alone IsPlansText (spec_of input) text plans_done good is
 refused_text Run input text good is = refused_run input (spec_reading input) text good is
+refused_text Dot input text good is = refused_alone IsDotText (spec_of input) text dot_done good is
+refused_text (DotPlan op) input text good is = refused_plan op (spec_of input) text good is
 
 -- a text that keeps all rules is answered, where nothing fails
 pub answered : (command : TextCommand) (input : List ℕ) (old new : Option (List ℕ)) (status : Status) → length input ≤ 2 ^ 24 → KeepsRules command input

@@ -17,7 +17,7 @@ use Rattle.rc_answer.specs.Writes.{Writes}
 use Rattle.rc_command.specs.declared.command.Command.{Command}
 use Rattle.rc_command.specs.declared.command.Command.TheVariants.{Big, OfText}
 use Rattle.rc_command.specs.declared.command.TextCommand.{TextCommand}
-use Rattle.rc_command.specs.declared.command.TextCommand.TheVariants.{Check, Plan, Run}
+use Rattle.rc_command.specs.declared.command.TextCommand.TheVariants.{Check, Plan, Run, Dot, DotPlan}
 use Rattle.rc_top.specs.Asks.{MakesRun}
 use Rattle.rc_top.specs.Ends.{status_of}
 
@@ -67,6 +67,8 @@ left_by_words {X} {D} named command is h = subst (λ (c : Option Command). X ↔
     go Check h = (λ x. let e : Check ≡ Run = (h.0 x).0 in cc, λ e. absurd e.0)
     go Plan h = (λ x. let e : Plan ≡ Run = (h.0 x).0 in cc, λ e. absurd e.0)
     go Run h = (λ x. (tt, (h.0 x).1), λ e. h.1 (refl, e.1))
+    go Dot h = (λ x. let e : Dot ≡ Run = (h.0 x).0 in cc, λ e. absurd e.0)
+    go (DotPlan op) h = (λ x. let e : DotPlan op ≡ Run = (h.0 x).0 in cc, λ e. absurd e.0)
 
 -- and where a generated workload was run
 pub left_by_seed : {X D : Type 0} (named : Option Command) (seed calls : ℕ) → named ≡ Some (Big seed calls) → X ↔ D → X ↔ MakesRun named × D

@@ -1,19 +1,20 @@
 -- What the whole of an input may have written, with which status.
-use Rattle.std.specs.Prelude.{ℕ, ◌<◌, ◌≤◌, ◌^◌, List, [], ◌∷◌, length, Result, Ok, Err, codes}
+use Rattle.std.specs.Prelude.{ℕ, ◌<◌, ◌≤◌, ◌^◌, List, [], ◌∷◌, length, Result, Ok, Err, IsSome, codes}
 use Rattle.rc_text.specs.Lines.{printed_lines}
 use Rattle.rc_spec.specs.declared.spec.Spec.{Spec}
 use Rattle.rc_spec.specs.Acceptance.{IsAccepted}
 use Rattle.rc_reader.specs.Grammar.{Broken, Reading, spec_reading, spec_of}
 use Rattle.rc_work.specs.declared.work.Work.{Work}
+use Rattle.rc_work.specs.LineRules.{op_number}
 use Rattle.rc_work.specs.Ranking.{work_reading}
 use Rattle.rc_answer.specs.Answers.{Answers, IsSizeRefusal}
 use Rattle.rc_work.specs.WholeText.{place_after}
 use Rattle.rc_command.specs.declared.command.TextCommand.{TextCommand}
-use Rattle.rc_command.specs.declared.command.TextCommand.TheVariants.{Check, Plan, Run}
+use Rattle.rc_command.specs.declared.command.TextCommand.TheVariants.{Check, Plan, Run, Dot, DotPlan}
 use Rattle.rc_answer.specs.declared.status.Status.{Status}
 
 abbrev pub usage_text : List ℕ
-usage_text = printed_lines (codes "usage: relc check, plan, run or big SEED N" ∷ [])
+usage_text = printed_lines (codes "usage: relc check, plan, run, dot [OP] or big SEED N" ∷ [])
 
 -- a workload was read
 abbrev pub IsGoodWork : Result Work Broken → Type 0
@@ -28,11 +29,18 @@ abbrev pub IsGoodSpec : Result Spec Broken → Type 0
 IsGoodSpec (Err broken) = ⊥
 IsGoodSpec (Ok spec) = IsAccepted spec
 
+-- and one that has an operation of this name
+abbrev pub IsGoodSpecWith : List ℕ → Result Spec Broken → Type 0
+IsGoodSpecWith op (Err broken) = ⊥
+IsGoodSpecWith op (Ok spec) = IsAccepted spec × IsSome (op_number spec op)
+
 -- an input that breaks no rule of the command
 abbrev pub KeepsRules : TextCommand → List ℕ → Type 0
 KeepsRules Check input = IsGoodSpec (spec_of input)
 KeepsRules Plan input = IsGoodSpec (spec_of input)
 KeepsRules Run input = IsGoodReading input (spec_reading input)
+KeepsRules Dot input = IsGoodSpec (spec_of input)
+KeepsRules (DotPlan op) input = IsGoodSpecWith op (spec_of input)
 
 -- what any input may have written, with its status
 pub record IsAnswer (command : TextCommand) (input text : List ℕ) (status : Status) : Type 0 where

@@ -2,7 +2,7 @@
 use Rattle.std.specs.Prelude.{◌≡◌, ℕ, ◌≤◌, List, drop, Option, Some, None}
 use Rattle.rc_command.specs.declared.command.Command.{Command}
 use Rattle.rc_command.specs.declared.command.Command.TheVariants.{OfText, Big}
-use Rattle.rc_command.specs.declared.command.TextCommand.TheVariants.{Check, Plan, Run}
+use Rattle.rc_command.specs.declared.command.TextCommand.TheVariants.{Check, Plan, Run, Dot, DotPlan}
 use Rattle.rc_answer.specs.declared.status.Status.{Status}
 use Rattle.rc_answer.specs.declared.status.Status.TheVariants.{Done, Usage, Refused, SourceFailed, SinkFailed, OutOfMemory}
 
@@ -18,6 +18,8 @@ MakesRun None = ⊥
 MakesRun (Some (OfText Check)) = ⊥
 MakesRun (Some (OfText Plan)) = ⊥
 MakesRun (Some (OfText Run)) = Unit {0}
+MakesRun (Some (OfText Dot)) = ⊥
+MakesRun (Some (OfText (DotPlan op))) = ⊥
 MakesRun (Some (Big seed calls)) = Unit {0}
 
 -- the status of a text that was read to its end, or as far as texts are read

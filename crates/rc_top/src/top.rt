@@ -23,14 +23,17 @@ use std::alloc::Global;
 use std::sync::Wait;
 use std::thread::Threads;
 
-/// Does what the words ask. `words[0]` is the program's name. The commands `check`, `plan` and `run` read the source to
-/// its end, or until 2^24 + 1 bytes are taken, and never more; `big SEED N` and other words take nothing from it.
+/// Does what the words ask. `words[0]` is the program's name. The commands `check`, `plan`, `run` and `dot` read the
+/// source to its end, or until 2^24 + 1 bytes are taken, and never more; `big SEED N` and other words take nothing from
+/// it.
 ///
 /// Over the bytes that the source tells to be left at entry, `check` writes `accepted` where the specification keeps
-/// all rules, `plan` the planned plan of each of its operations and then `end`, and `run` the same plans and then the
-/// report of a journal that is a run of the workload and of the rows of its replay. Where a rule is broken, each writes
-/// the refusal of the first, and of more than 2^24 bytes `refused size`. `big` writes the summary of the workload that
-/// the seed generates, which is that of one thread that makes the calls in order. Other words write the usage line.
+/// all rules, `plan` the planned plan of each of its operations and then `end`, `dot` its drawing, `dot OP` the drawing
+/// with the planned plan of the operation of this name, and `run` the same plans as `plan` and then the report of a
+/// journal that is a run of the workload and of the rows of its replay. Where a rule is broken, each writes the refusal
+/// of the first, where no operation has the name `refused operation`, and of more than 2^24 bytes `refused size`. `big`
+/// writes the summary of the workload that the seed generates, which is that of one thread that makes the calls in
+/// order. Other words write the usage line.
 ///
 /// The status is `Done` or `Refused` with the whole text, `Usage` with the usage line, `SourceFailed` with nothing
 /// written, `SinkFailed` with a prefix of such a text, and `OutOfMemory` with nothing or a prefix.
@@ -123,7 +126,10 @@ fn usage<K: Sink>(sink: &mut K) -> Status
     ensures failed { result ≡ Status.SinkFailed → Rose (K.faults sink.old) (K.faults sink.new) }
     ensures count { K.faults sink.old ≤ K.faults sink.new }
 {
-    match write_all(sink, b"usage: relc check, plan, run or big SEED N\n") {
+    match write_all(
+        sink,
+        b"usage: relc check, plan, run, dot [OP] or big SEED N\n",
+    ) {
         Ok(()) => Status::Usage,
         Err(WriteFault::Sink) => Status::SinkFailed,
     }

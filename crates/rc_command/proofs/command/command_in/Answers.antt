@@ -1,5 +1,6 @@
 use Rattle.std.proofs.Common.{◌≡◌, ◌∙◌, false, sym, ap, map, string_bytes, [], drop, ⊎_elim}
 use Rattle.std.proofs.lemmas.List.{drop-map, take_rest}
+use Rattle.std.proofs.lemmas.Result.{IfOk-weaker}
 use Rattle.std.specs.List.{list_any}
 use Rattle.clap.specs.Words.{app_of, is_simple, fault_of, is_simple_and_free, kind_of}
 use Rattle.rc_command.specs.Grammar.{grammar, is_flag}
@@ -14,7 +15,7 @@ returns-in-Ok c =
     let none : fault_of (app_of c.in_ok-reader.reader) words ≡ [] = c.in-Ok.ensures.kinds (ap is_simple_and_free same) in
     let rows = (c.in-Ok.ensures.matches (ap is_simple same)).1 in
     record {
-      value = c.command_met.ensures.value ∙ taken_by _ words _ same plain none rows;
+      value = IfOk-weaker c.command_met.result _ _ (λ r h. h ∙ taken_by _ words _ same plain none rows) c.command_met.ensures.value;
       limits = c.command_met.ensures.limits;
     }
 

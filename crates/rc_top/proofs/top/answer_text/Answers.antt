@@ -94,11 +94,11 @@ returns-in-Err-Source-clause-taken g c = λ input told.
 pub returns-in-Err-Source-clause-left : goal.returns-in-Err-Source-clause-left
 returns-in-Err-Source-clause-left g c = λ input told read. absurd (subst (λ (o : Outcome). HasRead o.status) c.without_run-in-Err-Source.ensures read)
 
-pub returns-in-Err-Memory-clause-taken : goal.returns-in-Err-Memory-clause-taken
-returns-in-Err-Memory-clause-taken g c = λ input told.
+pub returns-clause-taken : goal.returns-clause-taken
+returns-clause-taken g c = λ input told.
     let (bytes, count, taken) = c.in-Err-Memory.ensures.taken in
     let few : length bytes ≤ 2 ^ 24 = subst (λ (fault : ReadFault). IsCountTaken fault (2 ^ 24) (length bytes)) c.in-Err-Memory.field-0-is count in
     leaves input bytes (g.S.Source.left c.args.source.now) (g.S.Source.left c.read_all.new.source) told taken (2 ^ 24 + 1) (omega (arith, few))
 
-pub returns-in-Err-Memory-clause-left : goal.returns-in-Err-Memory-clause-left
-returns-in-Err-Memory-clause-left g c = λ input told read. absurd (subst (λ (o : Outcome). HasRead o.status) c.without_run-in-Err-Memory.ensures read)
+pub returns-clause-left : goal.returns-clause-left
+returns-clause-left g c = λ input told read. absurd (subst (λ (o : Outcome). HasRead o.status) c.without_run-in-Err-Memory.ensures read)

@@ -1,0 +1,43 @@
+-- Drawings that were written.
+use Rattle.std.proofs.Common.{◌≡◌, ℕ, List, Option, Result, ◌∙◌, sym, ap, subst}
+use Rattle.std.specs.Result.{IsErr}
+use Rattle.rc_io.specs.Bytes.{Adds, AddsPrefix}
+use Rattle.rc_spec.specs.declared.items.Op.{Op}
+use Rattle.rc_spec.specs.declared.spec.Spec.{Spec}
+use Rattle.rc_spec.specs.Names.{op_names}
+use Rattle.rc_plan.specs.declared.statement.Statement.{Statement}
+use Rattle.rc_dot.specs.Dot.{dot_plan_text}
+use Rattle.rc_reader.specs.Names.{number_among}
+use Rattle.rc_work.specs.LineRules.{op_number}
+use Rattle.rc_answer.specs.Answers.{IsDotPlanText, IsDrawnWhere}
+use Rattle.rc_answer.specs.Writes.{Writes, WritesWhole}
+use Rattle.rc_answer.specs.declared.status.Status.{Status}
+use Rattle.rc_answer.specs.declared.status.Status.TheVariants.{Done}
+use Rattle.rc_answer.specs.declared.status.Stop.{Stop}
+use Rattle.rc_answer.proofs.PlanLemmas.{part_writes}
+
+-- a writer that stopped within a printed text left a part of it
+pub text_begun : (A : List ℕ → Status → Type 0) (text bytes : List ℕ) (old new : Option (List ℕ)) (r : Result Status Stop) → IsErr r → A text Done → bytes ≡ text
+    → AddsPrefix old bytes new → Writes A old new r
+text_begun A text bytes old new r stopped is same part = part_writes A old new r stopped (text, Done, is, subst (λ (t : List ℕ). AddsPrefix old t new) same part)
+
+-- and one that went on to its end all of it
+pub text_written : (A : List ℕ → Status → Type 0) (text bytes : List ℕ) (old new : Option (List ℕ)) → A text Done → bytes ≡ text → Adds old bytes new → WritesWhole A old new Done
+text_written A text bytes old new is same all = (text, is, subst (λ (t : List ℕ). Adds old t new) same all)
+
+-- what is printed of a compiled specification is the drawing of the accepted one
+pub drawing_printed : (accepted given : Spec) (op : ℕ) (plan here : List Statement) (text bytes : List ℕ) → given ≡ accepted → here ≡ plan → text ≡ dot_plan_text given op here → bytes ≡ text
+    → bytes ≡ dot_plan_text accepted op plan
+drawing_printed accepted given op plan here text bytes same is printed all =
+    all ∙ printed ∙ ap (λ (s : Spec). dot_plan_text s op here) same ∙ ap (dot_plan_text accepted op) is
+
+-- where an operation stands among those of a specification
+pub operation_found : (accepted here : Spec) (ops : List Op) (name : List ℕ) (found op : Option ℕ) → here ≡ accepted → ops ≡ here.ops → found ≡ number_among (op_names ops) name → found ≡ op
+    → op_number accepted name ≡ op
+operation_found accepted here ops name found op same all is by =
+    ap (λ (items : List Op). number_among (op_names items) name) (sym (all ∙ ap (λ (s : Spec). s.ops) same)) ∙ sym is ∙ by
+
+-- what is written of it is what is written of its name
+pub drawn_by_name : (spec : Spec) (name : List ℕ) (op : Option ℕ) (old new : Option (List ℕ)) (r : Result Status Stop) → op_number spec name ≡ op → Writes (IsDrawnWhere spec op) old new r
+    → Writes (IsDotPlanText name spec) old new r
+drawn_by_name spec name op old new r found writes = subst (λ (o : Option ℕ). Writes (IsDrawnWhere spec o) old new r) (sym found) writes

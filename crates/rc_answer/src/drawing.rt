@@ -1,0 +1,69 @@
+//! Writes drawings of a specification.
+
+ghost use Rattle.std.specs.Prelude.{◌≡◌, ◌≤◌, ◌<◌, length, IsErrOf};
+ghost use Rattle.rc_io.specs.Counts.{Rose};
+ghost use Rattle.rc_answer.specs.Answers.{IsDotPlanText, IsDotText, IsDrawnPlan};
+ghost use Rattle.rc_answer.specs.Writes.{Writes};
+
+use crate::refusing::refuse_operation;
+use crate::status::{Status, Stop};
+use crate::writing::write_text;
+use rc_dot::{print_dot, print_dot_plan};
+use rc_io::Sink;
+use rc_mutate::compile;
+use rc_reader::number_among;
+use rc_spec::Accepted;
+use std::alloc::Global;
+
+/// Writes the drawing of an accepted specification.
+pub(crate) fn write_drawing<K: Sink>(
+    alloc: Global,
+    sink: &mut K,
+    accepted: &Accepted,
+) -> Result<Status, Stop>
+    ensures written { Writes (IsDotText accepted.now) (K.held sink.old) (K.held sink.new) result }
+    ensures failed { IsErrOf result Stop.Sink → Rose (K.faults sink.old) (K.faults sink.new) }
+    ensures count { K.faults sink.old ≤ K.faults sink.new }
+{
+    let text = print_dot(alloc, accepted)?;
+    write_text(sink, &text)?;
+    Ok(Status::Done)
+}
+
+/// Writes the drawing of an accepted specification with the plan of the operation of this name, or
+/// the refusal of a name that no operation has.
+pub(crate) fn write_drawn_plan<K: Sink>(
+    alloc: Global,
+    sink: &mut K,
+    accepted: Accepted,
+    name: &[u8],
+) -> Result<Status, Stop>
+    ensures written { Writes (IsDotPlanText name.now accepted) (K.held sink.old) (K.held sink.new)
+        result }
+    ensures failed { IsErrOf result Stop.Sink → Rose (K.faults sink.old) (K.faults sink.new) }
+    ensures count { K.faults sink.old ≤ K.faults sink.new }
+{
+    match number_among(accepted.spec().ops.list(), name) {
+        Some(op) => write_plan_of(alloc, sink, accepted, op as u8),
+        None => refuse_operation(sink),
+    }
+}
+
+/// Plans the operations of an accepted specification, and writes its drawing with the plan of one
+/// of them.
+fn write_plan_of<K: Sink>(
+    alloc: Global,
+    sink: &mut K,
+    accepted: Accepted,
+    op: u8,
+) -> Result<Status, Stop>
+    requires { op < length accepted.ops }
+    ensures written { Writes (IsDrawnPlan accepted op) (K.held sink.old) (K.held sink.new) result }
+    ensures failed { IsErrOf result Stop.Sink → Rose (K.faults sink.old) (K.faults sink.new) }
+    ensures count { K.faults sink.old ≤ K.faults sink.new }
+{
+    let compiled = compile(alloc, accepted)?;
+    let text = print_dot_plan(alloc, compiled.accepted(), op, compiled.plan(op))?;
+    write_text(sink, &text)?;
+    Ok(Status::Done)
+}

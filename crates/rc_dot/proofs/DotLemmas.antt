@@ -1,0 +1,104 @@
+-- Texts with one part more.
+use Rattle.std.proofs.Common.{◌≡◌, ℕ, zero, suc, ◌+◌, ◌<◌, ◌≤◌, Bool, true, false, cond, List, [], ◌∷◌, ◌++◌, Some, None, filter, get_or, length, map, take, refl, sym, ap, ◌∙◌, arith}
+use Rattle.std.specs.List.{slice_get, flat_map, range_with_len}
+use Rattle.std.proofs.lemmas.List.{take_more, append_assoc, append-nil}
+use Rattle.std.proofs.lemmas.Grind.{flat_map-append}
+use Rattle.std.proofs.lemmas.Option.{get_or_from_slice_get, slice_get_within}
+use Rattle.rc_tuple.specs.ColSetLaws.{range_with_len_more}
+use Rattle.std.proofs.lemmas.List.Elements.{filter-append}
+use Rattle.std.proofs.lemmas.List.{map-append}
+use Rattle.rc_spec.specs.declared.spec.Spec.{Spec}
+use Rattle.rc_spec.specs.RefusalText.{no_column}
+use Rattle.rc_plan.specs.declared.statement.Statement.{Statement}
+use Rattle.rc_plan.specs.declared.statement.Statement.TheVariants.{Commit}
+use Rattle.rc_plan.specs.PlanText.{column_text}
+use Rattle.rc_dot.specs.Dot.{columns_text, reads}
+
+-- the text of one item more
+pub flat_more : {A : Type 0} (f : A → List ℕ) (xs : List A) (i : ℕ) (x : A) → slice_get xs i ≡ Some x → flat_map f (take i xs) ++ f x ≡ flat_map f (take (i + 1) xs)
+flat_more f xs i x e =
+    sym (
+    ap (flat_map f) (take_more xs i x (slice_get_within xs i x e) ∙ ap (λ y. take i xs ++ y ∷ []) (get_or_from_slice_get xs i x x e))
+    ∙ flat_map-append f (take i xs) (x ∷ []) ∙ ap (λ l. flat_map f (take i xs) ++ l) (append-nil (f x))
+    )
+
+pub text_more : {A : Type 0} (f : A → List ℕ) (text : List ℕ) (xs : List A) (i : ℕ) (x : A) → slice_get xs i ≡ Some x
+    → (text ++ flat_map f (take i xs)) ++ f x ≡ text ++ flat_map f (take (i + 1) xs)
+text_more f text xs i x e = append_assoc text (flat_map f (take i xs)) (f x) ∙ ap (λ l. text ++ l) (flat_more f xs i x e)
+
+-- the text of one number more
+pub range_more : (f : ℕ → List ℕ) (text : List ℕ) (a n k : ℕ) → a + n ≡ k
+    → (text ++ flat_map f (range_with_len a n)) ++ f k ≡ text ++ flat_map f (range_with_len a (n + 1))
+range_more f text a n k e = append_assoc text (flat_map f (range_with_len a n)) (f k) ∙ ap (λ l. text ++ l) (sym more)
+  where
+    more : flat_map f (range_with_len a (n + 1)) ≡ flat_map f (range_with_len a n) ++ f k
+    more =
+        ap (flat_map f) (range_with_len_more a n ∙ ap (λ j. range_with_len a n ++ j ∷ []) e)
+        ∙ flat_map-append f (range_with_len a n) (k ∷ []) ∙ ap (λ l. flat_map f (range_with_len a n) ++ l) (append-nil (f k))
+
+-- the name of one column more, which isn't the first
+pub columns_more : (spec : Spec) (text cols : List ℕ) (i c : ℕ) → 1 ≤ i → slice_get cols i ≡ Some c
+    → (text ++ columns_text spec (take i cols)) ++ column_text spec c ≡ text ++ columns_text spec (take (i + 1) cols)
+columns_more spec text cols i c some e = append_assoc text (columns_text spec (take i cols)) (column_text spec c) ∙ ap (λ l. text ++ l) (more cols i some e)
+  where
+    more : (cols : List ℕ) (i : ℕ) → 1 ≤ i → slice_get cols i ≡ Some c
+        → columns_text spec (take i cols) ++ column_text spec c ≡ columns_text spec (take (i + 1) cols)
+    more [] i some e = cc
+    more (d ∷ cols) zero some e = absurd (omega arith)
+    more (d ∷ cols) (suc i) some e =
+        let there : slice_get cols i ≡ Some c = e in
+        let last : suc (i + 1) ≡ suc i + 1 = omega arith in
+        append_assoc (get_or spec.columns d no_column).name (flat_map (column_text spec) (take i cols)) (column_text spec c) ∙ ap (λ l. (get_or spec.columns d no_column).name ++ l) (flat_more (column_text spec) cols i c there)
+        ∙ ap (λ n. columns_text spec (take n (d ∷ cols))) last
+
+-- the first column's name
+pub first_column : (spec : Spec) (cols : List ℕ) (c : ℕ) → slice_get cols 0 ≡ Some c → columns_text spec (take 1 cols) ≡ (get_or spec.columns c no_column).name
+first_column spec [] c e = cc
+first_column spec (d ∷ cols) c e = let same : d ≡ c = cc in append-nil (get_or spec.columns d no_column).name ∙ ap (λ k. (get_or spec.columns k no_column).name) same
+
+pub no_columns : (spec : Spec) (text cols : List ℕ) → slice_get cols 0 ≡ None → text ≡ text ++ columns_text spec cols
+no_columns spec text [] e = sym (append-nil text)
+no_columns spec text (d ∷ cols) e = cc
+
+-- a word, and then what stands behind it
+pub behind : (text word rest one all : List ℕ) → one ≡ text ++ word → all ≡ one ++ rest → all ≡ text ++ (word ++ rest)
+behind text word rest one all first more = more ∙ ap (λ l. l ++ rest) first ∙ append_assoc text word rest
+
+-- the number of a statement, by its place
+abbrev next : ℕ → ℕ
+next place = place + 1
+
+-- whether the statement at a place reads an edge
+abbrev reads_at : List Statement → ℕ → ℕ → Bool
+reads_at plan e place = reads e (get_or plan place Commit)
+
+-- the numbers of the statements before a place that read an edge
+abbrev numbers_before : List Statement → ℕ → ℕ → List ℕ
+numbers_before plan e place = map next (filter (reads_at plan e) (range_with_len 0 place))
+
+numbers_more : (plan : List Statement) (e place : ℕ) (x : Statement) → get_or plan place Commit ≡ x
+    → numbers_before plan e (place + 1) ≡ numbers_before plan e place ++ cond (reads e x) ((place + 1) ∷ []) []
+numbers_more plan e place x there =
+    ap (λ l. map next (filter (reads_at plan e) l)) (range_with_len_more 0 place ∙ ap (λ k. range_with_len 0 place ++ k ∷ []) last)
+    ∙ ap (map next) (filter-append (reads_at plan e) (range_with_len 0 place) (place ∷ []))
+    ∙ map-append next (filter (reads_at plan e) (range_with_len 0 place)) (filter (reads_at plan e) (place ∷ []))
+    ∙ ap (λ l. numbers_before plan e place ++ l) (ap (λ b. map next (cond b (place ∷ []) [])) (ap (reads e) there) ∙ one (reads e x))
+  where
+    last : 0 + place ≡ place
+    last = omega arith
+
+    one : (b : Bool) → map next (cond b (place ∷ []) []) ≡ cond b ((place + 1) ∷ []) []
+    one true = refl
+    one false = refl
+
+-- with a statement that reads the edge there is its number more
+pub numbers_with : (plan : List Statement) (e place : ℕ) (x : Statement) (old new : List ℕ) → get_or plan place Commit ≡ x → reads e x ≡ true → old ≡ numbers_before plan e place
+    → new ≡ old ++ (place + 1) ∷ [] → new ≡ numbers_before plan e (place + 1)
+numbers_with plan e place x old new there is before pushed =
+    pushed ∙ ap (λ l. l ++ (place + 1) ∷ []) before ∙ sym (numbers_more plan e place x there ∙ ap (λ b. numbers_before plan e place ++ cond b ((place + 1) ∷ []) []) is)
+
+-- and with another none
+pub numbers_without : (plan : List Statement) (e place : ℕ) (x : Statement) (old : List ℕ) → get_or plan place Commit ≡ x → reads e x ≡ false → old ≡ numbers_before plan e place
+    → old ≡ numbers_before plan e (place + 1)
+numbers_without plan e place x old there is before =
+    before ∙ sym (numbers_more plan e place x there ∙ ap (λ b. numbers_before plan e place ++ cond b ((place + 1) ∷ []) []) is ∙ append-nil (numbers_before plan e place))

@@ -1,0 +1,29 @@
+use Rattle.std.proofs.Common.{◌≡◌, ◌∙◌, ◌++◌, ap, codes}
+use Rattle.std.proofs.lemmas.Result.{on_ok_weaker}
+use Rattle.rc_spec.specs.declared.items.Class.{Class}
+use Rattle.rc_spec.specs.Placement.{class_at}
+use Rattle.rc_dot.specs.Dot.{colour_of}
+use Rattle.rc_dot.proofs.DotLemmas.{behind}
+use Rattle.rc_dot.proofs.tables.push_class.Goals as goal
+
+pub returns : goal.returns
+returns c =
+    let text = c.args.text.now.items in
+    let start = codes "    <tr><td bgcolor=\"" in
+    let colour = colour_of c.args.class in
+    let font = codes "\"><font color=\"white\">" in
+    let name = (class_at c.args.spec.now c.args.class).name in
+    let end = codes "</font></td><td>(" in
+    let one = c.push_word.new.text.items in
+    let two = c.push_word-2.new.text.items in
+    let three = c.push_word-3.new.text.items in
+    let four = c.push_word-4.new.text.items in
+    let all = c.push_word-5.new.text.items in
+    let second : two ≡ one ++ colour = c.in_ok-push_word-2.ensures ∙ ap (λ l. one ++ l) c.colour_of.ensures in
+    let fourth : four ≡ three ++ name = c.in_ok-push_word-4.ensures ∙ ap (λ l. three ++ l) (c.name.ensures ∙ ap (λ (k : Class). k.name) c.class.ensures.value) in
+    on_ok_weaker c.push_word-5.result
+    (λ (fifth : all ≡ four ++ end).
+    behind text (start ++ colour ++ font ++ name) end four all
+    (behind text (start ++ colour ++ font) name three four
+    (behind text (start ++ colour) font two three (behind text start colour one two c.in_ok-push_word.ensures second) c.in_ok-push_word-3.ensures) fourth) fifth)
+    c.push_word-5.ensures

@@ -1,0 +1,35 @@
+//! The statements of a plan that read an edge.
+
+ghost use Rattle.std.specs.Prelude.{◌≡◌, IfOk};
+ghost use Rattle.rc_dot.specs.Dot.{reads, read_numbers};
+
+use rc_plan::Statement;
+use rc_tuple::Memory;
+use std::alloc::Global;
+
+/// Whether a statement reads an edge.
+fn reads(edge: u8, statement: &Statement) -> bool
+    ensures { result ≡ reads edge statement.now }
+{
+    match *statement {
+        Statement::Read { edge: read, .. } => read == edge,
+        _ => false,
+    }
+}
+
+/// The numbers, from 1, of the statements that read an edge.
+pub(crate) fn read_numbers(
+    alloc: Global,
+    plan: &[Statement],
+    edge: u8,
+) -> Result<Vec<usize>, Memory>
+    ensures { IfOk result (λ numbers. numbers.items ≡ read_numbers plan.now edge) }
+{
+    let mut numbers = Vec::new(alloc);
+    for (place, statement) in plan.iter().enumerate() {
+        if reads(edge, statement) {
+            numbers.push(place + 1)?;
+        }
+    }
+    Ok(numbers)
+}
