@@ -400,20 +400,12 @@ hash_of_next cols t n =
     go true = refl
     go false = refl
 
--- so do the values and the pairs of a tuple
+-- so do the values of a tuple
 pub values_next : (cols values : List ℕ) (n : ℕ) → map (register values) (columns_below cols (n + 1)) ≡ map (register values) (columns_below cols n) ++ cond (has cols n) (register values n ∷ []) []
 values_next cols values n =
     ap (map (register values)) (columns_below_more cols n) ∙ map-append (register values) (columns_below cols n) (cond (has cols n) (n ∷ []) []) ∙ go (has cols n)
   where
     go : (b : Bool) → map (register values) (columns_below cols n) ++ map (register values) (cond b (n ∷ []) []) ≡ map (register values) (columns_below cols n) ++ cond b (register values n ∷ []) []
-    go true = refl
-    go false = refl
-
-pub pairs_next : (cols values : List ℕ) (n : ℕ) → tuple_in (columns_below cols (n + 1)) values ≡ tuple_in (columns_below cols n) values ++ cond (has cols n) ((n, register values n) ∷ []) []
-pairs_next cols values n =
-    ap (λ cs. tuple_in cs values) (columns_below_more cols n) ∙ map-append (λ c. (c, register values c)) (columns_below cols n) (cond (has cols n) (n ∷ []) []) ∙ go (has cols n)
-  where
-    go : (b : Bool) → tuple_in (columns_below cols n) values ++ tuple_in (cond b (n ∷ []) []) values ≡ tuple_in (columns_below cols n) values ++ cond b ((n, register values n) ∷ []) []
     go true = refl
     go false = refl
 

@@ -1,14 +1,13 @@
 //! One binding.
 
-ghost use Rattle.std.specs.Prelude.{◌≡◌, ℕ, ◌<◌, ◌≤◌, ◌++◌, length, map, IsTrue, OnOk, IfOk};
+ghost use Rattle.std.specs.Prelude.{◌≡◌, ◌<◌, ◌≤◌, ◌++◌, length, map, OnOk, IfOk};
 ghost use Rattle.std.specs.List.{zip};
-ghost use Rattle.std.specs.declared.cmp.Ordering.TheVariants.{Less};
 ghost use Rattle.rc_tuple.specs.ColSet.{IsColSet};
-ghost use Rattle.rc_tuple.specs.Tuple.{IsTuple, agree_on, agrees, cols_of, get, pick, project, tuple_cmp, value};
+ghost use Rattle.rc_tuple.specs.Tuple.{IsTuple, agree_on, cols_of, get, pick, project, tuple_cmp, value};
 ghost use Rattle.rc_spec.specs.InRange.{AreBelow, IsSetBelow};
 ghost use Rattle.rc_spec.specs.Plain.{row_cmp};
 ghost use Rattle.rc_spec.specs.Stripes.{hash_of, stripe_of};
-ghost use Rattle.rc_bindings.specs.Registers.{fits, fits_all, register, tuple_in, values_of};
+ghost use Rattle.rc_bindings.specs.Registers.{fits_all, register, tuple_in, values_of};
 
 use rc_spec::{Class, mix};
 use rc_tuple::{ColSet, Cols, Memory, Tuple, Vals};
@@ -87,13 +86,6 @@ impl<'a> Binding<'a> {
         hash
     }
 
-    /// Whether both have the same value at each column that both have.
-    pub fn agrees(&self, row: &Tuple) -> bool
-        ensures { result ≡ agrees self.now.tuple row.now }
-    {
-        fits_all(self.cols, self.registers, row.pairs())
-    }
-
     /// Whether both have the same projection on the columns.
     pub fn agrees_on(&self, cols: ColSet, other: &Tuple) -> bool
         requires columns { IsSetBelow self.now.width cols }
@@ -108,15 +100,15 @@ impl<'a> Binding<'a> {
         true
     }
 
-    /// The values at the columns, in the order of the list, and 0 at a column that the tuple hasn't.
-    pub fn pick(&self, alloc: Global, outs: &Cols) -> Result<Vals, Memory>
-        ensures { IfOk result (λ values. values ≡ pick outs.now self.now.tuple) }
+    /// Adds the values at the columns, in the order of the list, and 0 at a column that the tuple hasn't. Where memory is
+    /// wanted some of them may have been added.
+    pub fn push_picked(&self, outs: &Cols, values: &mut Vec<u64>) -> Result<(), Memory>
+        ensures { OnOk result (values.new.items ≡ values.old.items ++ pick outs.now self.now.tuple) }
     {
-        let mut values = Vals::new(alloc);
         for col in outs.list() {
             values.push(self.value(*col))?;
         }
-        Ok(values)
+        Ok(())
     }
 
     /// Compares the values at the columns, in the order of the list.
@@ -138,13 +130,6 @@ impl<'a> Binding<'a> {
         ensures { result ≡ tuple_cmp self.now.tuple other.now.tuple }
     {
         compare(self.cols, self.registers, other.registers)
-    }
-
-    /// Adds the tuple's pairs at the columns at the end of a list.
-    pub fn push_projection(&self, cols: ColSet, pairs: &mut Vec<(u8, u64)>) -> Result<(), Memory>
-        ensures { OnOk result (pairs.new.items ≡ pairs.old.items ++ project cols self.now.tuple) }
-    {
-        push_pairs(self.cols.inter(cols), self.registers, pairs)
     }
 
     /// Adds the tuple's values at the columns, in column order, at the end of a list.
@@ -182,13 +167,9 @@ fn values_at(alloc: Global, cols: ColSet, registers: &[u64]) -> Result<Vals, Mem
     requires few { length registers.now ≤ 32 }
     ensures { IfOk result (λ values. values ≡ map (register registers.now) cols) }
 {
-    let mut values = Vals::new(alloc);
-    for col in 0..registers.len() as u8 {
-        if cols.has(col) {
-            values.push(registers[col as usize])?;
-        }
-    }
-    Ok(values)
+    let mut values = Vec::with_capacity(alloc, cols.len() as usize)?;
+    push_registers(cols, registers, &mut values)?;
+    Ok(Vals::from_vec(values))
 }
 
 /// How the registers compare at the first of the columns at which they differ.
@@ -208,41 +189,6 @@ fn compare(cols: ColSet, registers: &[u64], others: &[u64]) -> Ordering
         }
     }
     Ordering::Equal
-}
-
-/// Adds the columns with the values in their registers at the end of a list.
-fn push_pairs(cols: ColSet, registers: &[u64], pairs: &mut Vec<(u8, u64)>) -> Result<(), Memory>
-    requires below { IsSetBelow (length registers.now) cols }
-    requires few { length registers.now ≤ 32 }
-    ensures { OnOk result (pairs.new.items ≡ pairs.old.items ++ tuple_in cols registers.now) }
-{
-    for col in 0..registers.len() as u8 {
-        if cols.has(col) {
-            pairs.push((col, registers[col as usize]))?;
-        }
-    }
-    Ok(())
-}
-
-/// Whether the registers have no other value at the pair's column, where it counts.
-fn fits(cols: ColSet, registers: &[u64], pair: &(u8, u64)) -> bool
-    requires { IsSetBelow (length registers.now) cols }
-    ensures { result ≡ fits cols registers.now pair.now }
-{
-    !cols.has(pair.0) || registers[pair.0 as usize] == pair.1
-}
-
-/// Whether the registers have no other value at the columns of the pairs, where they count.
-fn fits_all(cols: ColSet, registers: &[u64], pairs: &[(u8, u64)]) -> bool
-    requires { IsSetBelow (length registers.now) cols }
-    ensures { result ≡ fits_all cols registers.now pairs.now }
-{
-    for pair in pairs {
-        if !fits(cols, registers, pair) {
-            return false;
-        }
-    }
-    true
 }
 
 /// Whether the registers have no other values at those of the columns that are held. The values are the columns', in their

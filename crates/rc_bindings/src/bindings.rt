@@ -49,6 +49,18 @@ impl Bindings {
         }
     }
 
+    /// Forgets the bindings and their columns, and takes this width. The memory stays.
+    pub fn reset(&mut self, width: usize)
+        requires some { 0 < width }
+        requires few { width ≤ 32 }
+        ensures { self.new ≡ no_binding [] width }
+    {
+        self.cols = ColSet::empty();
+        self.width = width;
+        self.count = 0;
+        self.registers.clear();
+    }
+
     /// The columns of the bindings.
     pub fn cols(&self) -> ColSet
         ensures columns { result ≡ self.now.columns }
@@ -146,8 +158,8 @@ impl Bindings {
     }
 
     /// Adds the merges of a binding with those of some rows that agree with it, in their order. The rows are given one behind
-    /// the other, each by its values at the columns of its key and then at extra ones, of which there is one at least. Where memory is
-    /// wanted the merges with the first rows are added.
+    /// the other, each by its values at the columns of its key (`keys` of them) and then at extra ones (`extras`), one value at
+    /// least of both together. Of a list that isn't a whole number of rows nothing is said, nor of the tuples where memory is wanted.
     pub fn push_rows(
         &mut self,
         binding: &Binding,

@@ -7,9 +7,9 @@ ghost use Rattle.rc_command.specs.declared.command.Command.TheVariants.{OfText};
 ghost use Rattle.rc_command.specs.Command.{IsWithinLimits, big_of, command_named, command_of, dot_of};
 ghost use Rattle.rc_command.specs.Grammar.{big_app, big_words, dot_app, dot_words, grammar, is_flag, met, met_as};
 
-use crate::names::is_name;
 use clap::error::ErrorKind;
 use clap::{Arg, ArgMatches};
+use rc_spec::is_name;
 use rc_text::read_u64;
 use rc_tuple::{Memory, SmallList};
 use std::alloc::{AllocError, Global};

@@ -2,6 +2,5 @@
 #![tactic(auto)]
 
 mod command;
-mod names;
 
 pub use command::{Command, TextCommand, command_in};

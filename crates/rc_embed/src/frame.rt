@@ -88,7 +88,7 @@ fn number_of(reply: &Reply) -> u64
     ensures { result ≡ number_in reply.now }
 {
     match reply {
-        Reply::Rows(rows) => rows.list().len() as u64,
+        Reply::Rows(rows) => rows.len() as u64,
         Reply::Many(number) => *number,
         Reply::Conflict(number) => *number as u64,
         Reply::Removed(_) => 1,

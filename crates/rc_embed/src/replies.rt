@@ -16,7 +16,7 @@ impl Session {
         ensures { result ≡ length (rows_told (reply_of self.now)) }
     {
         match self.reply() {
-            Some(Reply::Rows(rows)) => rows.list().len(),
+            Some(Reply::Rows(rows)) => rows.len(),
             Some(Reply::Removed(_)) => 1,
             _ => 0,
         }
@@ -30,7 +30,7 @@ impl Session {
         ensures { IsCopiedIf (slice_get (rows_told (reply_of self.now)) at) out.old out.new result }
     {
         match self.reply() {
-            Some(Reply::Rows(rows)) => copy_over(rows.list().get(at)?.list(), out),
+            Some(Reply::Rows(rows)) => copy_over(rows.get(at)?, out),
             Some(Reply::Removed(tuple)) if at == 0 => copy_tuple(tuple, out),
             _ => None,
         }

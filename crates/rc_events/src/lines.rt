@@ -52,7 +52,7 @@ fn tuple(alloc: Global, text: &str) -> Result<Tuple, Stop> {
 fn rows(alloc: Global, text: &str) -> Result<RowList, Stop> {
     let mut found = RowList::new(alloc);
     for row in text.split(" / ") {
-        found.push(Vals::from_vec(numbers(alloc, row)?))?;
+        found.push(&numbers(alloc, row)?)?;
     }
     Ok(found)
 }

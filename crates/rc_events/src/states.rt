@@ -70,8 +70,8 @@ fn push_rows(line: &mut StateLine, rows: &[CountedRow]) -> Result<(), Memory> {
 /// Appends the rows of a query.
 fn push_row_list(line: &mut StateLine, rows: &RowList) -> Result<(), Memory> {
     push_bytes(line, b"rows")?;
-    for row in rows.list() {
-        push_values(line, row.list())?;
+    for at in 0..rows.len() {
+        push_values(line, rows.row(at))?;
     }
     Ok(())
 }

@@ -16,7 +16,7 @@ use crate::stopping::StopAt;
 use crate::stops::run_up_to;
 use rc_fragment::Holder;
 use rc_instance::Instance;
-use rc_machine::{Stop as RunStop, run_plan};
+use rc_machine::{Stop as RunStop, Workspace, run_plan};
 use rc_maps::Seed;
 use rc_mutate::compile;
 use rc_plan::Compiled;
@@ -93,7 +93,8 @@ impl Sides {
         requires relation { IsOfRelation compiled.now.spec self.old.instance self.old.relation }
         ensures { OnOk result (HoldsRelation compiled.now.spec (holding self.new.instance) self.new.relation) }
     {
-        match run_plan(alloc, compiled, call, &mut self.instance) {
+        let mut space = Workspace::new(alloc);
+        match run_plan(compiled, call, &mut space, &mut self.instance) {
             Ok(reply) => {
                 let plain = self.relation.run(compiled.accepted().spec(), call)?;
                 Ok(Replies {

@@ -10,7 +10,7 @@ use crate::calls::Sides;
 use crate::stop::Stop;
 use crate::stopping::{Asked, StopAt, StopHolder, Stopped};
 use rc_instance::Instance;
-use rc_machine::{Stop as RunStop, run_plan};
+use rc_machine::{Stop as RunStop, Workspace, run_plan};
 use rc_plan::Compiled;
 use rc_spec::Call;
 use rc_text::{push_bytes, push_u64};
@@ -67,7 +67,8 @@ fn run_over(
     ensures same_reference { holder.new.instance.ghost_name ≡ holder.old.instance.ghost_name }
     ensures keeps { KeepsRelations compiled.now.spec holder.old.instance.now holder.new.instance.now }
 {
-    match run_plan(alloc, compiled, call, holder) {
+    let mut space = Workspace::new(alloc);
+    match run_plan(compiled, call, &mut space, holder) {
         Ok(_) => Ok(false),
         Err(RunStop::Held(_)) => Ok(true),
         Err(RunStop::Memory) if holder.asked.is_at(holder.at) => Ok(true),

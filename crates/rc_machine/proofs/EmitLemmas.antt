@@ -1,6 +1,6 @@
 -- What a query answers from rows that rise.
-use Rattle.std.specs.Prelude.{◌≡◌, ℕ, ◌<◌, ◌≤◌, nat_le, Bool, true, false, List, cond, length}
-use Rattle.std.proofs.Common.{arith, ap, leb, refl, sym, ◌∙◌}
+use Rattle.std.specs.Prelude.{◌≡◌, ℕ, ◌<◌, ◌≤◌, Bool, true, false, List, cond, length}
+use Rattle.std.proofs.Common.{arith, ap, leb, refl}
 use Rattle.std.proofs.lemmas.Bool.{le-leb, leb-true}
 use Rattle.rc_spec.specs.declared.call.Reply.TheVariants.{Rows, Many}
 use Rattle.rc_spec.specs.Plain.{at_most_256}

@@ -23,6 +23,8 @@ use Rattle.rc_spec.specs.Fragments.{EdgeRow, edge_row_cmp, tuples_of_edge}
 use Rattle.rc_spec.specs.FragmentsLaws.{edge_row_order, in_tuples_of_edge, tuples_of_edge_in}
 use Rattle.rc_spec.specs.HeathLaws.{IsJoined, in_join, join_in, rising_join}
 use Rattle.rc_spec.specs.Placement.{class_at, class_of}
+use Rattle.rc_spec.specs.Stripes.{band_start}
+use Rattle.rc_spec.specs.declared.items.Class.{Class}
 use Rattle.rc_spec.specs.PlacementLaws.{class_of_known}
 use Rattle.rc_spec.specs.Stripes.{physical_stripe}
 use Rattle.rc_bindings.specs.Bindings.{BindingList, OneBinding, with_tuples}
@@ -276,6 +278,12 @@ merges_join bs e held merges f =
 pub in_range_from : (k n c : ℕ) → k ≤ c → c < k + n → In c (range_with_len k n)
 in_range_from k zero c a b = absurd (omega arith)
 in_range_from k (suc n) c a b = elim (cases_eq c k) [ inl e ↦ inl e | inr f ↦ inr (in_range_from (k + 1) n c (omega (arith, f)) (omega arith)) ]
+
+-- a stripe that a class's first and a place within it give is one of the class
+pub in_band_from : (spec : Spec) (number : ℕ) (class : Class) (start place : ℕ) → class ≡ class_at spec number → start ≡ band_start spec number → place < class.stripes → In (start + place) (band spec number)
+in_band_from spec number class start place is first l =
+    let k : place < (class_at spec number).stripes = subst (λ (z : Class). place < z.stripes) is l in
+    in_range_from (band_start spec number) (class_at spec number).stripes (start + place) (omega (arith, first)) (omega (arith, first, k))
 
 -- a list stays one for the merges, whatever it has
 pub same_takes : (spec : Spec) (e : ℕ) (b : OneBinding) (found : BindingList) (ts : List Pairs) → TakesMerges spec e b found → TakesMerges spec e b (with_tuples found ts)

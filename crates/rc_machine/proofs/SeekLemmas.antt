@@ -1,8 +1,8 @@
 -- Rows by their values, as containers answer them, are rows that bindings take.
-use Rattle.std.specs.Prelude.{◌≡◌, ◌⊎◌, ℕ, ◌+◌, ◌<◌, ◌≤◌, ◌++◌, List, [], length, map}
+use Rattle.std.specs.Prelude.{◌≡◌, ◌⊎◌, ℕ, ◌<◌, List, [], length}
 use Rattle.std.specs.List.{zip}
 use Rattle.std.specs.Ordering.{nat_cmp}
-use Rattle.std.proofs.Common.{inl, inr, refl, sym, ap, subst, ◌∙◌, arith}
+use Rattle.std.proofs.Common.{inl, inr, refl, sym, ap, subst, ◌∙◌}
 use Rattle.std.proofs.lemmas.Bool.{cases_Bool, false≢true}
 use Rattle.rc_tuple.specs.RisingSet.{In, IsRising}
 use Rattle.rc_tuple.specs.RisingSetLaws.{has_in, in_append, in_has, map_in, append_in_left, append_in_right}
@@ -12,16 +12,15 @@ use Rattle.rc_tuple.specs.Tuple.{IsTuple, Pairs, cols_of, project}
 use Rattle.rc_tuple.specs.TupleLaws.{in_project, project_in}
 use Rattle.rc_spec.specs.declared.spec.Spec.{Spec}
 use Rattle.rc_spec.specs.Acceptance.{IsSealed}
-use Rattle.rc_spec.specs.Decomposition.{bound, edge_at}
+use Rattle.rc_spec.specs.Decomposition.{edge_at}
 use Rattle.rc_spec.specs.DecompositionLaws.{edge_at_in}
 use Rattle.rc_bindings.specs.Bindings.{BindingList, IsGivenBy, IsRowWith, OneBinding, TakesRows, given}
 use Rattle.rc_fragment.specs.Fragment.{shape_of}
 use Rattle.rc_fragment.specs.FragmentLaws.{parted_edge}
 use Rattle.rc_fragment.specs.RowValues.{IsParted, extra_columns, values_at}
-use Rattle.rc_fragment.specs.RowValuesLaws.{extra_set, extra_within, length_values, zip_from_values, zip_values}
+use Rattle.rc_fragment.specs.RowValuesLaws.{extra_set, extra_within, length_values, zip_values}
 use Rattle.rc_fragment.specs.declared.shape.EdgeShape.{EdgeShape}
 use Rattle.rc_plan.specs.declared.statement.ReadMode.{ReadMode}
-use Rattle.rc_plan.specs.declared.statement.ReadMode.TheVariants.{Lookup}
 use Rattle.rc_machine.specs.Read.{IsReader, TakesMerges}
 
 -- tuples with the same values at columns that both have agree there

@@ -1,10 +1,10 @@
 -- On which stripe a tuple falls, and which columns a tuple has.
-use Rattle.std.specs.Prelude.{◌≡◌, ℕ, ◌<◌, ◌≤◌, List, length, slice_get}
+use Rattle.std.specs.Prelude.{◌≡◌, ℕ, ◌<◌, List, length}
 use Rattle.std.specs.Ordering.{nat_cmp}
 use Rattle.std.proofs.Common.{arith, inl, inr, subst, sym}
-use Rattle.rc_tuple.specs.RisingSet.{In, IsRising, gather}
+use Rattle.rc_tuple.specs.RisingSet.{In, IsRising}
 use Rattle.rc_tuple.specs.RisingSetLaws.{in_gather, nat_order, slice_get_in}
-use Rattle.rc_tuple.specs.ColSet.{IsColSet, Within, union}
+use Rattle.rc_tuple.specs.ColSet.{Within, union}
 use Rattle.rc_tuple.specs.ColSetLaws.{in_range_bounds, in_union, rising_range}
 use Rattle.rc_tuple.specs.Tuple.{Pairs, cols_of}
 use Rattle.rc_tuple.specs.TupleLaws.{fewer_cols, in_project, one_pair}

@@ -1,5 +1,5 @@
 -- What a run of a plan works with.
-use Rattle.std.specs.Prelude.{◌≡◌, ℕ, None, Option, Some, length}
+use Rattle.std.specs.Prelude.{◌≡◌, None, Option, Some, length}
 use Rattle.rc_spec.specs.declared.call.Reply.{Reply}
 use Rattle.rc_spec.specs.declared.spec.Spec.{Spec}
 use Rattle.rc_bindings.specs.Bindings.{BindingList, with_tuples}

@@ -15,7 +15,7 @@ ghost use Rattle.rc_machine.specs.Apply.{IsSameButLent, all_changed};
 ghost use Rattle.rc_machine.specs.Machine.{AreAsTaken};
 ghost use Rattle.rc_machine.specs.Workspace.{AreWide};
 
-use crate::places::{make_room, row_places};
+use crate::places::{RowPlace, make_room, place_rows};
 use crate::workspace::Workspace;
 use rc_bindings::{Binding, Bindings};
 use rc_fragment::Holder;
@@ -74,10 +74,10 @@ fn change_rows<H: Holder>(
         OpKind::Insert => {
             space.found.begin(args.cols());
             space.found.push_projection(args)?;
-            add_rows(holder, spec, args, &space.found.get(0))?;
+            add_rows(holder, spec, args, &space.found.get(0), &mut space.places)?;
             Ok(Reply::Inserted)
         }
-        OpKind::Remove => remove_least(alloc, holder, spec, &space.bindings),
+        OpKind::Remove => { remove_least(alloc, holder, spec, &space.bindings, &mut space.places) }
     }
 }
 
@@ -87,6 +87,7 @@ fn remove_least<H: Holder>(
     holder: &mut H,
     spec: &Spec,
     bindings: &Bindings,
+    places: &mut Vec<RowPlace>,
 ) -> Result<Reply, Memory>
     requires sealed { IsSealed spec.now }
     requires table { (H.seen holder.old).table ≡ edge_table spec.now }
@@ -102,7 +103,7 @@ fn remove_least<H: Holder>(
     }
     let least = bindings.get(0);
     let removed = least.tuple(alloc)?;
-    sub_rows(holder, spec, &removed, &least)?;
+    sub_rows(holder, spec, &removed, &least, places)?;
     Ok(Reply::Removed(removed))
 }
 
@@ -113,6 +114,7 @@ pub(crate) fn add_rows<H: Holder>(
     spec: &Spec,
     tuple: &Tuple,
     binding: &Binding,
+    places: &mut Vec<RowPlace>,
 ) -> Result<(), Memory>
     requires sealed { IsSealed spec.now }
     requires same { binding.now.tuple ≡ tuple.now }
@@ -124,9 +126,9 @@ pub(crate) fn add_rows<H: Holder>(
     ensures lent { IsSameButLent (H.seen holder.old) (H.seen holder.new) }
     ensures sound { (spec : Spec) → H.is_sound holder.old spec → H.is_sound holder.new spec }
 {
-    let places = row_places(spec, tuple, binding)?;
-    make_room(holder, &places)?;
-    for place in &places {
+    place_rows(spec, tuple, binding, places)?;
+    make_room(holder, places)?;
+    for place in places.iter() {
         holder.add_row(place.stripe, place.edge, &place.row)?;
     }
     Ok(())
@@ -138,6 +140,7 @@ pub(crate) fn sub_rows<H: Holder>(
     spec: &Spec,
     tuple: &Tuple,
     binding: &Binding,
+    places: &mut Vec<RowPlace>,
 ) -> Result<(), Memory>
     requires sealed { IsSealed spec.now }
     requires same { binding.now.tuple ≡ tuple.now }
@@ -149,9 +152,9 @@ pub(crate) fn sub_rows<H: Holder>(
     ensures lent { IsSameButLent (H.seen holder.old) (H.seen holder.new) }
     ensures sound { (spec : Spec) → H.is_sound holder.old spec → H.is_sound holder.new spec }
 {
-    let places = row_places(spec, tuple, binding)?;
-    make_room(holder, &places)?;
-    for place in &places {
+    place_rows(spec, tuple, binding, places)?;
+    make_room(holder, places)?;
+    for place in places.iter() {
         holder.sub_row(place.stripe, place.edge, &place.row);
     }
     Ok(())

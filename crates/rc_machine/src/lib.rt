@@ -3,6 +3,7 @@
 
 mod apply;
 mod check;
+mod edge_read;
 mod emit;
 mod lock;
 mod machine;
@@ -15,3 +16,4 @@ mod workspace;
 
 pub use machine::run_plan;
 pub use stop::Stop;
+pub use workspace::Workspace;

@@ -14,7 +14,6 @@ use crate::workspace::Workspace;
 use rc_fragment::Holder;
 use rc_plan::Compiled;
 use rc_spec::{Call, Reply};
-use std::alloc::Global;
 
 /// Runs the statements of the call's plan that come before its Commit over a sound holder that holds nothing: it takes
 /// the stripes that the Locks name, reads and changes their rows, and answers. (PLDI 2012, query plans with two-phase
@@ -27,11 +26,11 @@ use std::alloc::Global;
 /// take's. What the holder offers stays.
 ///
 /// Costs, for each Read and binding, a look-up or the rows of one source, on one stripe where the binding chooses it and
-/// else on each of the class; and for an Apply one change in each edge.
+/// else on each of the class; and for an Apply one change in each edge. What the workspace has is of no matter.
 pub fn run_plan<H: Holder>(
-    alloc: Global,
     compiled: &Compiled,
     call: &Call,
+    space: &mut Workspace,
     holder: &mut H,
 ) -> Result<Reply, Stop>
     requires fits { Fits compiled.now.spec call.now }
@@ -47,11 +46,12 @@ pub fn run_plan<H: Holder>(
 {
     let spec = compiled.accepted().spec();
     let plan = compiled.plan(call.op).list();
-    let mut space = Workspace::new(alloc, spec.columns.list().len());
+    let alloc = space.alloc();
+    space.clear_for(spec.columns.list().len());
     space.bindings.begin(call.args.cols());
     space.bindings.push_projection(&call.args)?;
     for at in 0..plan.len() {
-        if let Some(reply) = step(alloc, holder, spec, call, plan, at, &mut space)? {
+        if let Some(reply) = step(alloc, holder, spec, call, plan, at, space)? {
             return Ok(reply);
         }
     }

@@ -1,12 +1,10 @@
 //! The rows of a tuple in all edges, each with the stripe on which it falls, and room for a change of each.
 
-ghost use Rattle.std.specs.Prelude.{◌≡◌, ◌==◌, ◌<◌, ◌≤◌, ◌^◌, length, map, count_by, IfOk, OnOk};
+ghost use Rattle.std.specs.Prelude.{◌≡◌, ◌==◌, ◌<◌, ◌≤◌, ◌^◌, length, map, count_by, OnOk};
 ghost use Rattle.rc_tuple.specs.RisingSet.{In};
 ghost use Rattle.rc_tuple.specs.Tuple.{cols_of};
 ghost use Rattle.rc_spec.specs.Acceptance.{IsSealed};
 ghost use Rattle.rc_spec.specs.Calls.{all_columns};
-ghost use Rattle.rc_spec.specs.CountedRows.{row_in};
-ghost use Rattle.rc_spec.specs.Decomposition.{bound, edge_at};
 ghost use Rattle.rc_spec.specs.Fragments.{edge_numbers};
 ghost use Rattle.rc_spec.specs.declared.spec.Spec.{Spec};
 ghost use Rattle.rc_fragment.specs.Holder.{IsHeldExclusive, held_of};
@@ -18,34 +16,71 @@ use rc_bindings::Binding;
 use rc_fragment::Holder;
 use rc_spec::Spec;
 use rc_tuple::{Memory, Tuple};
+use std::alloc::Global;
 
 /// A row of an edge, and the stripe on which it falls.
-#[derive(Drop)]
+#[derive(Debug, Drop)]
 pub(crate) struct RowPlace {
     pub(crate) edge: u8,
     pub(crate) stripe: u32,
     pub(crate) row: Tuple,
 }
 
-/// The tuple's row of each edge, with the stripe on which it falls, which is that of the tuple.
-pub(crate) fn row_places(
+/// Makes the places those of the tuple's row in each edge, with the stripe on which it falls, which is that of the tuple.
+/// Memory is taken only where the places had room for fewer edges or columns.
+pub(crate) fn place_rows(
     spec: &Spec,
     tuple: &Tuple,
     binding: &Binding,
-) -> Result<Vec<RowPlace>, Memory>
+    places: &mut Vec<RowPlace>,
+) -> Result<(), Memory>
     requires sealed { IsSealed spec.now }
     requires same { binding.now.tuple ≡ tuple.now }
     requires wide { binding.now.width ≡ length spec.now.columns }
     requires whole { cols_of tuple.now ≡ all_columns spec.now }
-    ensures { IfOk result (λ places. places.items ≡ map (place_in spec.now tuple.now) (edge_numbers spec.now)) }
+    ensures { OnOk result (places.new.items ≡ map (place_in spec.now tuple.now) (edge_numbers spec.now)) }
 {
-    let mut places = Vec::new(tuple.alloc());
-    for edge in 0..spec.edges.list().len() as u8 {
-        let row = row_in(spec, tuple, edge)?;
-        let stripe = stripe_of(spec, spec.class_of(edge), binding);
-        places.push(RowPlace { edge, stripe, row })?;
+    let edges = spec.edges.list().len();
+    resize(places, edges, tuple.alloc())?;
+    for edge in 0..edges as u8 {
+        place_row(spec, tuple, binding, edge, &mut places[edge as usize])?;
     }
-    Ok(places)
+    Ok(())
+}
+
+/// Makes the list as long as this, whatever its places are.
+fn resize(places: &mut Vec<RowPlace>, count: usize, alloc: Global) -> Result<(), Memory>
+    ensures { OnOk result (length places.new.items ≡ count) }
+{
+    places.truncate(count);
+    for _ in places.len()..count {
+        places.push(RowPlace {
+            edge: 0,
+            stripe: 0,
+            row: Tuple::empty(alloc),
+        })?;
+    }
+    Ok(())
+}
+
+/// Makes the place that of the tuple's row in the edge.
+fn place_row(
+    spec: &Spec,
+    tuple: &Tuple,
+    binding: &Binding,
+    edge: u8,
+    place: &mut RowPlace,
+) -> Result<(), Memory>
+    requires sealed { IsSealed spec.now }
+    requires known { edge < length spec.now.edges }
+    requires same { binding.now.tuple ≡ tuple.now }
+    requires wide { binding.now.width ≡ length spec.now.columns }
+    requires whole { cols_of tuple.now ≡ all_columns spec.now }
+    ensures { OnOk result (place.new ≡ place_in spec.now tuple.now edge) }
+{
+    place.edge = edge;
+    place.stripe = stripe_of(spec, spec.class_of(edge), binding);
+    tuple.project_into(spec.bound(spec.edge(edge).to), &mut place.row)
 }
 
 /// Makes room on each row's stripe for a change of each of the rows that fall on it. No row changes.
@@ -69,15 +104,4 @@ fn count_on(places: &[RowPlace], stripe: u32) -> u16
     ensures { result ≡ count_on stripe places.now }
 {
     places.iter().filter(|place| place.stripe == stripe).count() as u16
-}
-
-/// The tuple's row of an edge.
-fn row_in(spec: &Spec, tuple: &Tuple, edge: u8) -> Result<Tuple, Memory>
-    requires sealed { IsSealed spec.now }
-    requires known { edge < length spec.now.edges }
-    requires whole { cols_of tuple.now ≡ all_columns spec.now }
-    ensures value { IfOk result (λ row. row ≡ row_in spec.now tuple.now edge) }
-    ensures columns { IfOk result (λ row. cols_of row ≡ bound spec.now (edge_at spec.now edge).to) }
-{
-    tuple.project(spec.bound(spec.edge(edge).to))
 }

@@ -13,16 +13,17 @@ ghost use Rattle.rc_fragment.specs.Fragment.{edge_table};
 ghost use Rattle.rc_fragment.specs.Holder.{held_of};
 ghost use Rattle.rc_plan.specs.StripeLocks.{band};
 ghost use Rattle.rc_plan.specs.declared.statement.ReadMode.TheVariants as read_mode;
+ghost use Rattle.rc_machine.specs.EdgeRead.{IsReadOver};
 ghost use Rattle.rc_machine.specs.Machine.{rows_now, stripes_held};
 ghost use Rattle.rc_machine.specs.Read.{AreGood, AreReaders, HasMerged, HasMergedAll, HasMergedOn, IsCovered, IsReader, TakesMerges};
 ghost use Rattle.rc_machine.specs.Workspace.{AreWide, HasMoreTuples};
 
-use crate::stripe::stripe_of;
+use crate::edge_read::EdgeRead;
 use crate::workspace::{Finder, Workspace};
 use rc_bindings::{Binding, Bindings};
 use rc_fragment::{Fragment, Holder};
 use rc_plan::ReadMode;
-use rc_spec::{Spec, band_start};
+use rc_spec::Spec;
 use rc_tuple::{ColSet, Memory};
 use std::alloc::Global;
 use std::mem;
@@ -47,18 +48,11 @@ pub(crate) fn read<H: Holder>(
     ensures joined { OnOk result (space.new.bindings.tuples ≡ join space.old.bindings.tuples (tuples_of_edge edge (rows_now (held_of (H.seen holder.now))))) }
     ensures wide { OnOk result (AreWide spec.now space.new) }
 {
+    let read = EdgeRead::of(spec, edge, mode);
     space.found.begin(space.bindings.cols().union(spec.bound(spec.edge(edge).to)));
     for at in 0..space.bindings.len() {
         let binding = space.bindings.get(at);
-        push_joined(
-            &mut space.found,
-            &mut space.finder,
-            holder,
-            spec,
-            edge,
-            mode,
-            &binding,
-        )?;
+        push_joined(&mut space.found, &mut space.finder, holder, &read, &binding)?;
     }
     space.found.sort(alloc)?;
     mem::swap(&mut space.bindings, &mut space.found);
@@ -70,66 +64,46 @@ fn push_joined<H: Holder>(
     found: &mut Bindings,
     finder: &mut Finder,
     holder: &H,
-    spec: &Spec,
-    edge: u8,
-    mode: ReadMode,
+    read: &EdgeRead,
     binding: &Binding,
 ) -> Result<(), Memory>
-    requires sealed { IsSealed spec.now }
-    requires known { edge < length spec.now.edges }
-    requires table { (H.seen holder.now).table ≡ edge_table spec.now }
-    requires good { AreGood spec.now (held_of (H.seen holder.now)) }
-    requires takes { TakesMerges spec.now edge binding.now found.old }
-    requires wide { binding.now.width ≡ length spec.now.columns }
-    requires reader { IsReader spec.now edge mode binding.now.tuple }
-    requires covered { IsCovered spec.now (class_of spec.now edge) (stripes_held (held_of (H.seen holder.now))) binding.now.tuple }
-    ensures merged { OnOk result (HasMergedAll binding.now.tuple edge (held_of (H.seen holder.now)) found.old.tuples found.new.tuples) }
+    requires read { IsReadOver (H.seen holder.now).table read.now }
+    requires good { AreGood read.now.spec.now (held_of (H.seen holder.now)) }
+    requires takes { TakesMerges read.now.spec.now read.now.edge binding.now found.old }
+    requires wide { binding.now.width ≡ length read.now.spec.now.columns }
+    requires reader { IsReader read.now.spec.now read.now.edge read.now.mode binding.now.tuple }
+    requires covered { IsCovered read.now.spec.now (class_of read.now.spec.now read.now.edge) (stripes_held (held_of (H.seen holder.now))) binding.now.tuple }
+    ensures merged { OnOk result (HasMergedAll binding.now.tuple read.now.edge (held_of (H.seen holder.now)) found.old.tuples found.new.tuples) }
     ensures same { OnOk result (HasMoreTuples found.old found.new) }
 {
-    let class = spec.class_of(edge);
-    if spec.class(class).cols.within(binding.cols()) {
-        let stripe = stripe_of(spec, class, binding);
-        return push_found(found, finder, holder, stripe, spec, edge, mode, binding);
+    if read.class.cols.within(binding.cols()) {
+        let stripe = read.stripe_of(binding);
+        return push_found(found, finder, holder, stripe, read, binding);
     }
-    push_from_band(found, finder, holder, spec, class, edge, mode, binding)
+    push_from_band(found, finder, holder, read, binding)
 }
 
-/// Appends the merges with the rows on all stripes of a class.
+/// Appends the merges with the rows on all stripes of the edge's class.
 fn push_from_band<H: Holder>(
     found: &mut Bindings,
     finder: &mut Finder,
     holder: &H,
-    spec: &Spec,
-    class: u8,
-    edge: u8,
-    mode: ReadMode,
+    read: &EdgeRead,
     binding: &Binding,
 ) -> Result<(), Memory>
-    requires sealed { IsSealed spec.now }
-    requires known { edge < length spec.now.edges }
-    requires table { (H.seen holder.now).table ≡ edge_table spec.now }
-    requires good { AreGood spec.now (held_of (H.seen holder.now)) }
-    requires takes { TakesMerges spec.now edge binding.now found.old }
-    requires class { class < length spec.now.classes }
+    requires read { IsReadOver (H.seen holder.now).table read.now }
+    requires good { AreGood read.now.spec.now (held_of (H.seen holder.now)) }
+    requires takes { TakesMerges read.now.spec.now read.now.edge binding.now found.old }
     requires own { cols_of binding.now.tuple ≡ binding.now.columns }
     requires tuple { IsTuple binding.now.tuple }
-    requires reader { IsReader spec.now edge mode binding.now.tuple }
-    requires held { (stripe : ℕ) → In stripe (band spec.now class) → In stripe (stripes_held (held_of (H.seen holder.now))) }
-    ensures merged { OnOk result (HasMergedOn binding.now.tuple edge (held_of (H.seen holder.now)) (band spec.now class) found.old.tuples found.new.tuples) }
+    requires reader { IsReader read.now.spec.now read.now.edge read.now.mode binding.now.tuple }
+    requires held { (stripe : ℕ) → In stripe (band read.now.spec.now (class_of read.now.spec.now read.now.edge)) → In stripe (stripes_held (held_of (H.seen holder.now))) }
+    ensures merged { OnOk result (HasMergedOn binding.now.tuple read.now.edge (held_of (H.seen holder.now)) (band read.now.spec.now (class_of read.now.spec.now read.now.edge)) found.old.tuples found.new.tuples) }
     ensures same { OnOk result (HasMoreTuples found.old found.new) }
 {
-    let start = band_start(spec, class);
-    for place in 0..spec.class(class).stripes {
-        push_found(
-            found,
-            finder,
-            holder,
-            start + place,
-            spec,
-            edge,
-            mode,
-            binding,
-        )?;
+    let start = read.start;
+    for place in 0..read.class.stripes {
+        push_found(found, finder, holder, start + place, read, binding)?;
     }
     Ok(())
 }
@@ -140,31 +114,27 @@ fn push_found<H: Holder>(
     finder: &mut Finder,
     holder: &H,
     stripe: u32,
-    spec: &Spec,
-    edge: u8,
-    mode: ReadMode,
+    read: &EdgeRead,
     binding: &Binding,
 ) -> Result<(), Memory>
-    requires sealed { IsSealed spec.now }
-    requires known { edge < length spec.now.edges }
-    requires table { (H.seen holder.now).table ≡ edge_table spec.now }
-    requires good { AreGood spec.now (held_of (H.seen holder.now)) }
-    requires takes { TakesMerges spec.now edge binding.now found.old }
+    requires read { IsReadOver (H.seen holder.now).table read.now }
+    requires good { AreGood read.now.spec.now (held_of (H.seen holder.now)) }
+    requires takes { TakesMerges read.now.spec.now read.now.edge binding.now found.old }
     requires held { In stripe (stripes_held (held_of (H.seen holder.now))) }
     requires own { cols_of binding.now.tuple ≡ binding.now.columns }
     requires tuple { IsTuple binding.now.tuple }
-    requires reader { IsReader spec.now edge mode binding.now.tuple }
-    ensures merged { OnOk result (HasMergedOn binding.now.tuple edge (held_of (H.seen holder.now)) (stripe ∷ []) found.old.tuples found.new.tuples) }
+    requires reader { IsReader read.now.spec.now read.now.edge read.now.mode binding.now.tuple }
+    ensures merged { OnOk result (HasMergedOn binding.now.tuple read.now.edge (held_of (H.seen holder.now)) (stripe ∷ []) found.old.tuples found.new.tuples) }
     ensures same { OnOk result (HasMoreTuples found.old found.new) }
 {
     let fragment = holder.fragment(stripe);
-    match mode {
-        ReadMode::Lookup => push_looked_up(found, finder, fragment, spec, edge, binding),
+    match read.mode {
+        ReadMode::Lookup => push_looked_up(found, finder, fragment, read, binding),
         // Without a key a source has one row, which a scan's list may not tell.
-        ReadMode::Scan if spec.edge(edge).key.is_empty() => {
-            push_looked_up(found, finder, fragment, spec, edge, binding)
+        ReadMode::Scan if read.key.is_empty() => {
+            push_looked_up(found, finder, fragment, read, binding)
         }
-        ReadMode::Scan => push_scanned(found, finder, fragment, spec, edge, binding),
+        ReadMode::Scan => push_scanned(found, finder, fragment, read, binding),
     }
 }
 
@@ -173,32 +143,24 @@ fn push_looked_up(
     found: &mut Bindings,
     finder: &mut Finder,
     fragment: &Fragment,
-    spec: &Spec,
-    edge: u8,
+    read: &EdgeRead,
     binding: &Binding,
 ) -> Result<(), Memory>
-    requires sealed { IsSealed spec.now }
-    requires known { edge < length spec.now.edges }
-    requires table { fragment.now.table ≡ edge_table spec.now }
-    requires columns { (w : EdgeRow) → In w fragment.now.now → cols_of w.1 ≡ bound spec.now (edge_at spec.now w.0).to }
-    requires takes { TakesMerges spec.now edge binding.now found.old }
+    requires read { IsReadOver fragment.now.table read.now }
+    requires columns { (w : EdgeRow) → In w fragment.now.now → cols_of w.1 ≡ bound read.now.spec.now (edge_at read.now.spec.now w.0).to }
+    requires takes { TakesMerges read.now.spec.now read.now.edge binding.now found.old }
     requires own { cols_of binding.now.tuple ≡ binding.now.columns }
     requires tuple { IsTuple binding.now.tuple }
-    requires reader { IsReader spec.now edge read_mode.Lookup binding.now.tuple }
-    ensures merged { OnOk result (HasMerged binding.now.tuple edge fragment.now.now found.old.tuples found.new.tuples) }
+    requires reader { IsReader read.now.spec.now read.now.edge read_mode.Lookup binding.now.tuple }
+    ensures merged { OnOk result (HasMerged binding.now.tuple read.now.edge fragment.now.now found.old.tuples found.new.tuples) }
     ensures same { OnOk result (HasMoreTuples found.old found.new) }
 {
-    let read = spec.edge(edge);
-    let source = spec.bound(read.from);
     finder.source.clear();
-    binding.push_values(source, &mut finder.source)?;
+    binding.push_values(read.source, &mut finder.source)?;
     finder.key.clear();
     binding.push_values(read.key, &mut finder.key)?;
-    match fragment.lookup(edge, &finder.source, &finder.key) {
-        Some(values) => {
-            let extra = spec.bound(read.to).minus(source.union(read.key));
-            found.push_row(binding, ColSet::empty(), &[], extra, values)
-        }
+    match fragment.lookup(read.edge, &finder.source, &finder.key) {
+        Some(values) => found.push_row(binding, ColSet::empty(), &[], read.extra, values),
         None => Ok(()),
     }
 }
@@ -208,31 +170,29 @@ fn push_scanned(
     found: &mut Bindings,
     finder: &mut Finder,
     fragment: &Fragment,
-    spec: &Spec,
-    edge: u8,
+    read: &EdgeRead,
     binding: &Binding,
 ) -> Result<(), Memory>
-    requires sealed { IsSealed spec.now }
-    requires known { edge < length spec.now.edges }
-    requires table { fragment.now.table ≡ edge_table spec.now }
-    requires columns { (w : EdgeRow) → In w fragment.now.now → cols_of w.1 ≡ bound spec.now (edge_at spec.now w.0).to }
-    requires takes { TakesMerges spec.now edge binding.now found.old }
+    requires read { IsReadOver fragment.now.table read.now }
+    requires columns { (w : EdgeRow) → In w fragment.now.now → cols_of w.1 ≡ bound read.now.spec.now (edge_at read.now.spec.now w.0).to }
+    requires takes { TakesMerges read.now.spec.now read.now.edge binding.now found.old }
     requires own { cols_of binding.now.tuple ≡ binding.now.columns }
     requires tuple { IsTuple binding.now.tuple }
-    requires reader { IsReader spec.now edge read_mode.Scan binding.now.tuple }
-    requires keyed { (edge_at spec.now edge).key ≡ [] → ⊥ }
-    ensures merged { OnOk result (HasMerged binding.now.tuple edge fragment.now.now found.old.tuples found.new.tuples) }
+    requires reader { IsReader read.now.spec.now read.now.edge read_mode.Scan binding.now.tuple }
+    requires keyed { read.now.key ≡ [] → ⊥ }
+    ensures merged { OnOk result (HasMerged binding.now.tuple read.now.edge fragment.now.now found.old.tuples found.new.tuples) }
     ensures same { OnOk result (HasMoreTuples found.old found.new) }
 {
-    let read = spec.edge(edge);
-    let source = spec.bound(read.from);
     finder.source.clear();
-    binding.push_values(source, &mut finder.source)?;
+    binding.push_values(read.source, &mut finder.source)?;
     finder.rows.clear();
-    fragment.scan(edge, &finder.source, &mut finder.rows)?;
-    let key = read.key;
-    let extra = spec.bound(read.to).minus(source.union(key));
-    let keys = key.len() as usize;
-    let extras = extra.len() as usize;
-    found.push_rows(binding, key, keys, extra, extras, &finder.rows)
+    fragment.scan(read.edge, &finder.source, &mut finder.rows)?;
+    found.push_rows(
+        binding,
+        read.key,
+        read.keys,
+        read.extra,
+        read.extras,
+        &finder.rows,
+    )
 }

@@ -1,19 +1,22 @@
 //! What a run of a plan works with.
 
-ghost use Rattle.std.specs.Prelude.{◌≡◌, ◌<◌, ◌≤◌, [], length};
+ghost use Rattle.std.specs.Prelude.{◌≡◌, ◌<◌, ◌≤◌, []};
 ghost use Rattle.rc_bindings.specs.Bindings.{no_binding};
 
+use crate::places::RowPlace;
 use rc_bindings::Bindings;
 use std::alloc::Global;
 
-/// The bindings of a run, and space that its statements use one after another: for the bindings that a Read finds, for
-/// the values by which it looks up, and for the stripes that a Lock takes.
+/// What runs of plans work with, one run after another: the bindings, and space that statements use, for the bindings
+/// that a Read finds, for the values by which it looks up, for the stripes that a Lock takes, and for the rows that an
+/// Apply changes. What a run leaves in it the next one forgets; its memory the next one uses again.
 #[derive(Debug, Drop)]
-pub(crate) struct Workspace {
+pub struct Workspace {
     pub(crate) bindings: Bindings,
     pub(crate) found: Bindings,
     pub(crate) finder: Finder,
     pub(crate) stripes: Vec<u32>,
+    pub(crate) places: Vec<RowPlace>,
 }
 
 /// The values by which rows are looked up, and those of rows that a scan finds.
@@ -25,22 +28,34 @@ pub(crate) struct Finder {
 }
 
 impl Workspace {
-    /// With no binding, for so many columns. Takes no memory.
-    pub(crate) fn new(alloc: Global, width: usize) -> Workspace
-        requires some { 0 < width }
-        requires few { width ≤ 32 }
-        ensures bindings { result.bindings ≡ no_binding [] width }
-        ensures found { result.found ≡ no_binding [] width }
-    {
+    /// For plans of any specification: of one column, until a run takes its specification's. Takes no memory.
+    pub fn new(alloc: Global) -> Workspace {
         Workspace {
-            bindings: Bindings::new(alloc, width),
-            found: Bindings::new(alloc, width),
+            bindings: Bindings::new(alloc, 1),
+            found: Bindings::new(alloc, 1),
             finder: Finder {
                 source: Vec::new(alloc),
                 key: Vec::new(alloc),
                 rows: Vec::new(alloc),
             },
             stripes: Vec::new(alloc),
+            places: Vec::new(alloc),
         }
+    }
+
+    /// Where its memory is taken.
+    pub(crate) fn alloc(&self) -> Global {
+        *self.stripes.allocator()
+    }
+
+    /// Forgets the bindings, and takes so many columns.
+    pub(crate) fn clear_for(&mut self, width: usize)
+        requires some { 0 < width }
+        requires few { width ≤ 32 }
+        ensures bindings { self.new.bindings ≡ no_binding [] width }
+        ensures found { self.new.found ≡ no_binding [] width }
+    {
+        self.bindings.reset(width);
+        self.found.reset(width);
     }
 }

@@ -125,9 +125,9 @@ impl<V> OrderedTable<V> {
         ensures entries { IfOk result (λ all. fin.from_entries (map pair_of all.items) ≡ entries_of self.now) }
         ensures widths { IfOk result (λ all. All (λ k. HasWidth (has_one_column self.now) k.key.now) all.items) }
     {
-        let mut all = Vec::new(alloc);
         match self {
             OrderedTable::One(map) => {
+                let mut all = Vec::with_capacity(alloc, map.len())?;
                 for (key, value) in map {
                     let key = slice::from_ref(key);
                     all.push(Keyed { key, value })?;
@@ -135,6 +135,7 @@ impl<V> OrderedTable<V> {
                 Ok(all)
             }
             OrderedTable::Many(map, _) => {
+                let mut all = Vec::with_capacity(alloc, map.len())?;
                 for (key, value) in map {
                     let key = key.as_slice();
                     all.push(Keyed { key, value })?;

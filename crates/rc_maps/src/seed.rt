@@ -1,6 +1,7 @@
 //! How hash tables hash.
 
 ghost use Rattle.std.specs.Prelude.{◌≡◌};
+ghost use Rattle.rc_maps.specs.Seed.{seed_of};
 
 use std::fmt::{self, Debug, Formatter};
 use std::hash::{BuildHasher, FoldHasher, Hasher};
@@ -8,18 +9,22 @@ use std::io;
 use std::random::RandomSource;
 
 /// The secret of a hash table: two numbers that enter each hash, one before the key and one behind
-/// it, so that who chooses keys without knowing it can't tell which collide. The hash is std's fast
-/// one and no cryptographic one; whether keys collide changes how long a call takes, and no answer.
+/// it, so that no list of colliding keys can be written down beforehand. The hash is std's fast one
+/// and no cryptographic one; whether keys collide changes how long a call takes, and no answer.
 #[derive(Clone, Copy, Drop)]
 pub struct Seed {
-    first: u64,
+    state: FoldHasher,
     last: u64,
 }
 
 impl Seed {
     /// The seed of these numbers. They are to be drawn at random, and told to nobody.
-    pub fn new(first: u64, last: u64) -> Seed {
-        Seed { first, last }
+    pub fn new(first: u64, last: u64) -> Seed
+        ensures { result ≡ seed_of first last }
+    {
+        let mut state = FoldHasher::default();
+        state.write_u64(first);
+        Seed { state, last }
     }
 
     /// One seed, the same everywhere, so that anyone can tell which keys collide: where the keys are
@@ -33,10 +38,10 @@ impl Seed {
         let mut bytes = [0; 16];
         rt.fill_bytes(&mut bytes)?;
         let numbers = u128::from_le_bytes(bytes);
-        Ok(Seed {
-            first: (numbers & 0xFFFF_FFFF_FFFF_FFFF) as u64,
-            last: (numbers >> 64) as u64,
-        })
+        Ok(Seed::new(
+            (numbers & 0xFFFF_FFFF_FFFF_FFFF) as u64,
+            (numbers >> 64) as u64,
+        ))
     }
 }
 
@@ -55,10 +60,8 @@ impl BuildHasher for Seed {
     ghost build_hasher = { seeded };
 
     fn build_hasher(&self) -> SeededHasher {
-        let mut state = FoldHasher::default();
-        state.write_u64(self.first);
         SeededHasher {
-            state,
+            state: self.state,
             last: self.last,
         }
     }

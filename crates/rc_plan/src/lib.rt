@@ -15,6 +15,6 @@ pub use laws::{
     compiled_plans_serve, compiled_plans_serve_in_turn, named_stripes_are_locked,
     plan_checks_are_rules,
 };
-pub use printing::print_plan;
+pub use printing::{print_plan, push_column, push_statement};
 pub use refusal::{PlanRefusal, PlanRule};
 pub use statement::{Plan, ReadMode, Statement, Which};

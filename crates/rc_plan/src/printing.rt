@@ -39,8 +39,9 @@ fn push_lines(text: &mut Vec<u8>, spec: &Spec, plan: &[Statement]) -> Result<(),
     Ok(())
 }
 
-/// Appends the text of a statement.
-fn push_statement(text: &mut Vec<u8>, spec: &Spec, statement: &Statement) -> Result<(), Memory>
+/// Appends the text of a statement, whose classes, edges and columns the specification has. Where memory is wanted a part
+/// of it may have been added.
+pub fn push_statement(text: &mut Vec<u8>, spec: &Spec, statement: &Statement) -> Result<(), Memory>
     requires { IsKnown spec.now statement.now }
     ensures { OnOk result (text.new.items ≡ text.old.items ++ statement_text spec.now statement.now) }
 {
@@ -96,8 +97,8 @@ fn push_probe(text: &mut Vec<u8>, spec: &Spec, cols: ColSet) -> Result<(), Memor
     Ok(())
 }
 
-/// Appends a space and the name of a column.
-fn push_column(text: &mut Vec<u8>, spec: &Spec, col: u8) -> Result<(), Memory>
+/// Appends a space and the name of a column. Where memory is wanted the space may have been added.
+pub fn push_column(text: &mut Vec<u8>, spec: &Spec, col: u8) -> Result<(), Memory>
     requires { col < length spec.now.columns }
     ensures { OnOk result (text.new.items ≡ text.old.items ++ column_text spec.now col) }
 {

@@ -14,7 +14,8 @@ use Rattle.rc_row.specs.declared.pass.Pass.TheInside.{Inside}
 use Rattle.rc_row.specs.HeldRows.{HeldRows}
 use Rattle.rc_row.specs.Law.{standing_of}
 use Rattle.rc_row.specs.PassInside.{IsWholePass, hands, pass_seen}
-use Rattle.rc_row.specs.Passes.{PassSeen, core_of, holds_taken}
+use Rattle.rc_row.specs.Passes.{OfHeld, PassSeen, core_of, holds_taken}
+use Rattle.rc_fragment.specs.FragmentRows.{FragmentRows}
 use Rattle.rc_row.proofs.AgreeLemmas.{agrees_same, few_held, high_at}
 
 module _ (a : Inside) (whole : IsWholePass a) (seen : PassSeen) (is : pass_seen a ≡ seen) where
@@ -26,6 +27,9 @@ module _ (a : Inside) (whole : IsWholePass a) (seen : PassSeen) (is : pass_seen 
 
   pub written_there : (p : ℕ) → In p (writes_of (core_of seen)) → In p (stripes_in (holds_taken a.held.items))
   written_there p m = held_there p (writes_held (core_of seen) p m)
+
+  pub fact_there : (p : ℕ) (fact : FragmentRows → Type 0) → OfHeld seen.held p fact → OfHeld a.held.items p fact
+  fact_there p fact h = subst (λ (s : PassSeen). OfHeld s.held p fact) (sym is) h
 
   pub shared_there : (p : ℕ) → In p (shares_of (core_of seen)) → In p (stripes_in (holds_taken a.held.items))
   shared_there p m = held_there p (shares_held (core_of seen) p m)

@@ -15,6 +15,7 @@ use crate::waiting::Waiting;
 use atomic_table::{Refused, Seat, Table};
 use rc_fragment::{Fragment, Keep};
 use rc_journal::Part;
+use rc_machine::Workspace;
 use rc_maps::Seed;
 use rc_plan::Compiled;
 use rc_spec::{Accepted, stripe_total};
@@ -81,6 +82,7 @@ impl Row {
             made: 0,
             held,
             entries,
+            space: Workspace::new(self.alloc),
             alloc: self.alloc,
             seat: dealt,
         }

@@ -119,6 +119,7 @@ fn unpack(pass: Pass) -> (EndedPass, Seat<Option<Keep>, View>)
         made,
         held,
         entries,
+        space: _,
         alloc: _,
         seat,
     } = pass;

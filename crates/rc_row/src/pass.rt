@@ -9,10 +9,12 @@ use crate::law::View;
 use atomic_table::Seat;
 use rc_fragment::Keep;
 use rc_journal::Part;
+use rc_machine::Workspace;
 use rc_rel::Placed;
 use rc_tuple::Memory;
 use std::alloc::Global;
 use std::marker::Model;
+use std::mem;
 
 /// What a thread locks, commits and unlocks with (PLDI 2012, a transaction's thread). One thread has it at a time.
 ///
@@ -26,6 +28,7 @@ pub struct Pass {
     pub(crate) made: u64,
     pub(crate) held: Vec<HeldFragment>,
     pub(crate) entries: Option<Part>,
+    pub(crate) space: Workspace,
     pub(crate) alloc: Global,
     pub(crate) seat: Seat<Option<Keep>, View>,
 }
@@ -43,6 +46,21 @@ impl Model for Pass {
 }
 
 impl Pass {
+    /// Hands out the space with which the pass runs plans, whose memory the next run uses again; `put_space` gives it back.
+    /// Takes no memory.
+    pub fn take_space(&mut self) -> Workspace
+        ensures { self.new ≡ self.old }
+    {
+        mem::replace(&mut self.space, Workspace::new(self.alloc))
+    }
+
+    /// Takes back the space that `take_space` handed out.
+    pub fn put_space(&mut self, space: Workspace)
+        ensures { self.new ≡ self.old }
+    {
+        self.space = space;
+    }
+
     /// Its number in the row, from 0.
     pub fn number(&self) -> u32
         ensures { result ≡ (core_of self.now).number }

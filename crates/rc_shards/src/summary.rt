@@ -61,7 +61,7 @@ impl Summary {
         match &step.reply {
             Reply::Rows(rows) => {
                 self.queries += 1;
-                self.rows += rows.list().len() as u64;
+                self.rows += rows.len() as u64;
             }
             Reply::Many(_) => {
                 self.queries += 1;

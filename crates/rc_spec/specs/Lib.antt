@@ -25,6 +25,8 @@ pub mod PlacementLaws
 pub mod Plain
 pub mod PlainLaws
 pub mod RefusalText
+pub mod RowLists
+pub mod RowListsLaws
 pub mod Rows
 pub mod RowsLaws
 pub mod Spec

@@ -2,7 +2,8 @@
 
 ghost use Rattle.std.specs.Prelude.{◌≡◌, ◌↔◌, IfOk, IsTrue};
 
-use rc_tuple::{Memory, SmallList, Tuple, Vals};
+use crate::RowList;
+use rc_tuple::{Memory, Tuple};
 
 /// A call of an operation, by its number, with its arguments. A call that fits a specification gives
 /// an insert a value for every column, and a query or a remove one for every pattern column.
@@ -24,35 +25,6 @@ impl Call {
             args: self.args.copy()?,
         })
     }
-}
-
-/// Rows of values, each in the order of a query's outputs.
-pub type RowList = SmallList<Vals>;
-
-/// Another list of the same rows.
-pub fn copy_rows(rows: &RowList) -> Result<RowList, Memory>
-    ensures { IfOk result (λ copy. copy ≡ rows.now) }
-{
-    let mut copy = RowList::new(rows.alloc());
-    for row in rows.list() {
-        copy.push(row.copy()?)?;
-    }
-    Ok(copy)
-}
-
-/// Whether the rows are the same, in the same order.
-fn are_same_rows(rows: &[Vals], others: &[Vals]) -> bool
-    ensures { IsTrue result ↔ (rows.now ≡ others.now) }
-{
-    if rows.len() != others.len() {
-        return false;
-    }
-    for place in 0..rows.len() {
-        if rows[place].list() != others[place].list() {
-            return false;
-        }
-    }
-    true
 }
 
 /// What a call answers.
@@ -80,7 +52,7 @@ impl Reply {
         ensures { IfOk result (λ reply. reply ≡ self.now) }
     {
         match self {
-            Reply::Rows(rows) => Ok(Reply::Rows(copy_rows(rows)?)),
+            Reply::Rows(rows) => Ok(Reply::Rows(rows.copy()?)),
             Reply::Many(count) => Ok(Reply::Many(*count)),
             Reply::Inserted => Ok(Reply::Inserted),
             Reply::Present => Ok(Reply::Present),
@@ -95,7 +67,7 @@ impl Reply {
         ensures { IsTrue result ↔ (self.now ≡ other.now) }
     {
         match (self, other) {
-            (Reply::Rows(rows), Reply::Rows(others)) => are_same_rows(rows.list(), others.list()),
+            (Reply::Rows(rows), Reply::Rows(others)) => rows.equals(others),
             (Reply::Many(count), Reply::Many(other)) => count == other,
             (Reply::Inserted, Reply::Inserted) => true,
             (Reply::Present, Reply::Present) => true,

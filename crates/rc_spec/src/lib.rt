@@ -10,13 +10,15 @@ mod laws;
 mod limits;
 mod lock;
 mod named;
+mod names;
 mod query_rows;
 mod refusal;
+mod row_list;
 mod spec;
 mod stripes;
 
 pub use accepted::{Accepted, NodeOrder};
-pub use call::{Call, Reply, RowList, copy_rows};
+pub use call::{Call, Reply};
 pub use counted_rows::{CountedRow, count_at, lowered, raised};
 pub use fitting::fits;
 pub use items::{Class, ColKind, Column, Edge, EdgeKind, Name, Node, Op, OpKind, Place};
@@ -28,7 +30,9 @@ pub use laws::{
 pub use limits::{MAX_CLASSES, MAX_DEPS, MAX_EDGES, MAX_NODES, MAX_ROWS, MAX_STRIPES};
 pub use lock::{Found, Mode};
 pub use named::Named;
+pub use names::is_name;
 pub use query_rows::QueryRows;
 pub use refusal::{Item, Refusal, Rule, print_refusal};
+pub use row_list::RowList;
 pub use spec::{Classes, Columns, Deps, Edges, Nodes, Ops, Places, Spec};
 pub use stripes::{band_start, mix, physical_stripe, stripe_of, stripe_total};

@@ -7,7 +7,7 @@ ghost use Rattle.rc_spec.specs.Plain.{at_most_256, row_cmp};
 ghost use Rattle.rc_spec.specs.Rows.{rows_in};
 
 use crate::{MAX_ROWS, Reply, RowList};
-use rc_tuple::{Cols, Memory, Tuple, Vals};
+use rc_tuple::{Cols, Memory, Tuple};
 use std::alloc::Global;
 use std::collections::BTreeSet;
 use std::marker::Model;
@@ -65,7 +65,7 @@ fn row_list(alloc: Global, rows: BTreeSet<Vec<u64>>) -> Result<RowList, Memory>
 {
     let mut list = RowList::new(alloc);
     for row in rows {
-        list.push(Vals::from_vec(row))?;
+        list.push(&row)?;
     }
     Ok(list)
 }

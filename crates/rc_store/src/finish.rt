@@ -56,11 +56,11 @@ fn entry_of(alloc: Global, pass: &Pass, call: &Call, reply: Reply) -> Result<Ent
 pub(crate) fn entry_of_step(alloc: Global, pass: &Pass, step: Step) -> Result<Entry, Memory>
     ensures { IfOk result (λ entry. entry ≡ next_entry (core_of pass.now) step.call step.reply) }
 {
-    let mut steps = Steps::new(alloc);
+    let mut steps = Vec::with_capacity(alloc, 1)?;
     steps.push(step)?;
     Ok(Entry {
         pass: pass.number(),
         nth: pass.made(),
-        steps,
+        steps: Steps::from_vec(steps),
     })
 }

@@ -7,18 +7,16 @@ ghost use Rattle.rc_store.specs.Runs.{HasRunPlan};
 
 use crate::lender::{Lender, Lends, Refused};
 use crate::taking::Takes;
-use rc_machine::{Stop, run_plan};
+use rc_machine::{Stop, Workspace, run_plan};
 use rc_plan::Compiled;
 use rc_row::{Pass, Row};
 use rc_spec::{Call, Reply};
-use std::alloc::Global;
 use std::marker::{Brand, PhantomData};
 
 /// Runs the call's plan up to its commit, for a pass that holds nothing. Where it answers, the pass holds exactly what
 /// the plan names, changed as the plan changes it. After a stop it may hold some stripes, with changes; a stripe is
 /// refused only where nothing waits.
 pub(crate) fn run_call<T: Takes>(
-    alloc: Global,
     row: &Row,
     compiled: &Compiled,
     call: &Call,
@@ -32,15 +30,18 @@ pub(crate) fn run_call<T: Takes>(
     ensures { HasRunPlan T.waits row.now call.now pass.old pass.new result }
 {
     let mut refused = None;
-    run_lent::<Brand, T>(alloc, row, compiled, call, pass, taking, &mut refused)
+    let mut space = pass.take_space();
+    let answer = run_lent::<Brand, T>(row, compiled, call, &mut space, pass, taking, &mut refused);
+    pass.put_space(space);
+    answer
 }
 
 /// Does so over what it lends to a holder.
 fn run_lent<L: Lends, T: Takes>(
-    alloc: Global,
     row: &Row,
     compiled: &Compiled,
     call: &Call,
+    space: &mut Workspace,
     pass: &mut Pass,
     taking: &T,
     refused: &mut Option<Refused>,
@@ -60,7 +61,7 @@ fn run_lent<L: Lends, T: Takes>(
         refused,
         lends: PhantomData,
     };
-    let answer = run_holder(alloc, compiled, call, &mut lender);
+    let answer = run_holder(compiled, call, space, &mut lender);
     let Lender {
         row: _,
         pass: _,
@@ -73,9 +74,9 @@ fn run_lent<L: Lends, T: Takes>(
 
 /// Does so over the holder that was lent them.
 fn run_holder<L: Lends, T: Takes>(
-    alloc: Global,
     compiled: &Compiled,
     call: &Call,
+    space: &mut Workspace,
     lender: &mut Lender<'_, L, T>,
 ) -> Result<Reply, Stop>
     requires lent { L.lent ≡ Some (record { row = lender.old.row.now; begun = lender.old.pass.now }) }
@@ -88,5 +89,5 @@ fn run_holder<L: Lends, T: Takes>(
 {
     lender.pass.held_agrees();
     let _ = compiled.accepted();
-    run_plan(alloc, compiled, call, lender)
+    run_plan(compiled, call, space, lender)
 }

@@ -37,7 +37,7 @@ impl<W: Wakes> Store<W> {
     {
         pass.held_agrees();
         pass.reserve()?;
-        let answer = run_call(self.alloc, &self.row, &self.compiled, call, pass, taking);
+        let answer = run_call(&self.row, &self.compiled, call, pass, taking);
         match answer {
             Ok(reply) => Ok(reply),
             Err(stop) => {

@@ -204,11 +204,24 @@ fn contend<R: Threads + Wait + Sync>(rt: &R, alloc: Global, times: u32) -> Resul
     }
 }
 
+/// The two passes of a row that was just built.
+fn two_of(_row: &Row, mut passes: Vec<Pass>) -> (Pass, Pass)
+    requires passes { (passes.items ≡ new_passes _row.now) × (_row.now.key.passes ≡ 2) }
+    requires some { 0 < stripes_of _row.now }
+    ensures free { IsFreePass _row.now result.0 × IsFreePass _row.now result.1 }
+    ensures numbers { ((core_of result.0).number ≡ 0) × ((core_of result.1).number ≡ 1) }
+{
+    let one = passes.remove(0);
+    let two = passes.remove(0);
+    passes.destroy_empty();
+    (one, two)
+}
+
 /// The two passes, in room for them, once they have done so.
 fn contended<R: Threads + Wait + Sync>(
     rt: &R,
     row: &Row,
-    mut passes: Vec<Pass>,
+    passes: Vec<Pass>,
     mut room: Vec<Pass>,
     times: u32,
 ) -> Vec<Pass>
@@ -217,9 +230,7 @@ fn contended<R: Threads + Wait + Sync>(
     requires some { 0 < stripes_of row.now }
     ensures { AreIdlePasses row.now result.items }
 {
-    let one = passes.remove(0);
-    let two = passes.remove(0);
-    passes.destroy_empty();
+    let (one, two) = two_of(row, passes);
     let (one, two) = join(
         rt,
         move || writes(rt, row, one, times),

@@ -111,7 +111,7 @@ fn answered(receipt: &Receipt, pass: &Pass) -> Outcome {
         Some(Reply::Rows(rows)) => Outcome::Rows {
             place,
             nth,
-            count: rows.list().len(),
+            count: rows.len(),
         },
         _ => Outcome::Other,
     }

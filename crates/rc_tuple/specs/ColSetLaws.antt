@@ -4,7 +4,7 @@ use Rattle.std.specs.List.{slice_get, filter, range_with_len}
 use Rattle.std.specs.declared.cmp.Ordering.TheVariants.{Less}
 use Rattle.std.specs.Ordering.{nat_cmp}
 use Rattle.std.specs.Int.{bit_at, bit_not, w32}
-use Rattle.std.specs.Prelude.{bit_and, bit_or}
+use Rattle.std.specs.Prelude.{bit_and, bit_or, count_ones, ◌==◌}
 use Rattle.std.proofs.lemmas.Nat.Bits.{bit_at_or, bit_at_and, bit_at_not, bit_at-lt, bit_at_set_same, bit_at_set_other, shr_and_one, same_from_bits_below, bit_at-zero}
 use Rattle.std.proofs.lemmas.Map.Views.{any-filter_same}
 use Rattle.std.proofs.lemmas.Bool.{eqb-true, lt-ltb, le-ltb, ltb-true, or_cases, or_left, or_right, cond-true, eqb-false, eq-eqb, ne_eqb, cases_eq, cases_Bool, false≢true}
@@ -13,8 +13,9 @@ use Rattle.std.proofs.lemmas.Nat.{mod-pow-add, and_le_l}
 use Rattle.std.proofs.lemmas.List.{map-id, length-append}
 use Rattle.std.proofs.lemmas.List.Elements.{filter-append}
 use Rattle.std.proofs.lemmas.List.FromFn.{filter_of_map_range_with_len_more}
-use Rattle.std.proofs.lemmas.Option.{slice_get_past}
+use Rattle.std.proofs.lemmas.Option.{slice_get_past, slice_get_within}
 use Rattle.std.proofs.Math.Nat.{div-div-eq-div-mul, pow-suc, mod-one, mod-eq_of_lt, div-one}
+use lib.Count.{ones_step, ones-le}
 use Rattle.rc_tuple.specs.RisingSet.{In, IsRising, put, gather}
 use Rattle.rc_tuple.specs.RisingSetLaws.{same_rising, same_gather, gather_more, gather-rising, nat_order, in_put, put_new, put_old, rising_put, rising_gather, in_gather, gather_in, in_filter, filter_in, rising_filter, in_append, append_in_left, append_in_right, in_has, has_in, same_bool, list_all_in, in_list_all}
 use Rattle.rc_tuple.specs.ColSet.{has, IsColSet, Within, is_within, with_column, union, inter, minus, has_bit, columns_of, mask_of, rank}
@@ -411,6 +412,29 @@ columns_that_it_has xs set =
     (λ c m. in_has xs c (in_filter (has xs) c (range_with_len 0 32) m).1)
     (λ c m. filter_in (has xs) c (range_with_len 0 32) (in_has (range_with_len 0 32) c (has-range 0 32 c ∙ below_all c ∙ lt-ltb c 32 (set.below c m))) (has_in xs c m))
 
+-- ---- how many columns a mask has
+
+length_first : (b x : ℕ) (xs : List ℕ) → b < 2 → length (cond (b == 1) (x ∷ xs) xs) ≡ b + length xs
+length_first zero x xs h = omega arith
+length_first (suc zero) x xs h = omega arith
+length_first (suc (suc b)) x xs h = absurd (omega arith)
+
+-- the bits of a number from the s-th on are counted one after another
+ones_from : (m k s : ℕ) → m / 2 ^ s < 2 ^ k → count_ones (m / 2 ^ s) ≡ length (filter (has_bit m) (range_with_len s k))
+ones_from m zero s h = omega (arith, ones-le 0 (m / 2 ^ s) (omega arith))
+ones_from m (suc k) s h =
+    let half : m / 2 ^ s / 2 ≡ m / 2 ^ (s + 1) = div-div-eq-div-mul m (2 ^ s) 2 ∙ ap (λ n. m / n) (sym (pow-suc 2 s) ∙ ap (λ n. 2 ^ n) (omega arith)) in
+    let rest : count_ones (m / 2 ^ (s + 1)) ≡ length (filter (has_bit m) (range_with_len (s + 1) k)) =
+    ones_from m k (s + 1) (omega (arith, half, pow-suc 2 k)) in
+    ones_step (m / 2 ^ s) ∙ ap (λ n. bit_at m s + n) (ap count_ones half ∙ rest) ∙ sym (length_first (bit_at m s) s (filter (has_bit m) (range_with_len (s + 1) k)) (omega arith))
+
+pub count_ones-columns_of : (m : ℕ) → m < 2 ^ 32 → count_ones m ≡ length (columns_of m)
+unfolding columns_of
+count_ones-columns_of m h = ap count_ones (sym (div-one m)) ∙ ones_from m 32 0 (omega (arith, div-one m))
+
+pub length-from_mask : (m : ℕ) (xs : List ℕ) → columns_of m ≡ xs → m < 2 ^ 32 → count_ones m ≡ length xs
+length-from_mask m xs e h = count_ones-columns_of m h ∙ ap length e
+
 -- the number of columns is the rank of the end
 pub rank_all : (xs : List ℕ) → IsColSet xs → rank xs 32 ≡ length xs
 rank_all xs set = ap length (columns_that_it_has xs set)
@@ -482,6 +506,10 @@ slice_get_at (y ∷ xs) x ys = slice_get_at xs x ys
 pub slice_get-rank : (xs : List ℕ) (c : ℕ) → IsColSet xs → has xs c ≡ true → slice_get xs (rank xs c) ≡ Some c
 slice_get-rank xs c set h =
     ap (λ l. slice_get l (rank xs c)) (split_at xs c set (set.below c (in_has xs c h)) h) ∙ slice_get_at (filter (has xs) (range_with_len 0 c)) c _
+
+-- and so its rank is below the number of columns
+pub rank_within : (xs : List ℕ) (c : ℕ) → IsColSet xs → has xs c ≡ true → rank xs c < length xs
+rank_within xs c set h = slice_get_within xs (rank xs c) c (slice_get-rank xs c set h)
 
 pub slice_get-at_rank : (xs : List ℕ) (c i : ℕ) → IsColSet xs → has xs c ≡ true → rank xs c ≡ i → Some c ≡ slice_get xs i
 slice_get-at_rank xs c i set h e = sym (ap (slice_get xs) (sym e) ∙ slice_get-rank xs c set h)

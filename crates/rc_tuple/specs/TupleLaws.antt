@@ -1,16 +1,18 @@
 -- Laws of tuples: projection, agreement, merging and matching by their pairs.
-use Rattle.std.specs.Prelude.{◌≡◌, ℕ, ◌<◌, ◌^◌, Bool, true, false, List, [], ◌∷◌, ◌++◌, ◌⊎◌, ◌||◌, ◌&&◌, ◌==◌, filter, cond, not, length}
+use Rattle.std.specs.Prelude.{◌≡◌, ℕ, ◌<◌, ◌≤◌, ◌^◌, Bool, true, false, List, [], ◌∷◌, ◌++◌, ◌⊎◌, ◌||◌, ◌&&◌, ◌==◌, filter, cond, not, length}
 use Rattle.std.specs.List.{list_all, zip}
 use Rattle.std.specs.declared.cmp.Ordering.{Ordering}
 use Rattle.std.specs.declared.cmp.Ordering.TheVariants.{Less, Equal, Greater}
 use Rattle.std.specs.Ordering.{ordering_then, nat_cmp, is_eq}
 use Rattle.std.proofs.Common.{◌+◌, inl, inr, refl, sym, ap, subst, ◌∙◌, arith, take, drop, get_or}
-use Rattle.std.proofs.lemmas.List.{take_more, map-append, append_assoc, append-nil, length-take}
+use Rattle.std.proofs.lemmas.List.{take_more, take_all, map-append, append_assoc, append-nil, length-take, length-map}
+use Rattle.std.proofs.lemmas.Option.{get_or_from_slice_get}
+use Rattle.rc_tuple.specs.ColSetLaws.{rank_all, rank_more, rank_within, slice_get-rank}
 use Rattle.std.specs.Cmp.{tied_itself}
 use Rattle.std.proofs.lemmas.Bool.{false≢true, eqb-true, eq-eqb, or_cases, and_parts, and_from, or_left, or_right, cases_Bool}
 use Rattle.std.proofs.lemmas.Cmp.{nat_cmp_total, then_total, on_total, lists_total}
 use Rattle.rc_tuple.specs.RisingSet.{In, IsRising, AreDistinct, put, gather}
-use Rattle.rc_tuple.specs.ColSet.{has, Within, IsColSet}
+use Rattle.rc_tuple.specs.ColSet.{has, rank, Within, IsColSet}
 use Rattle.rc_tuple.specs.Tuple.{Pairs, IsTuple, cols_of, project, agrees, pair_cmp, tuple_cmp, tuple_eq, agree_on, matches, has_pair, same_at, merge, tuple_of}
 use Rattle.rc_tuple.specs.RisingSetLaws.{IsOrder, is_eq_equal, rising_gather, in_gather, gather_in, gather-rising, gather_more, same_rising, not_below_itself, in_filter, filter_in, filter-filter, rising_filter, in_map, map_in, in_append, append_in_left, append_in_right, nat_order, in_has, has_in, same_bool, list_all_in, in_list_all}
 
@@ -357,6 +359,31 @@ zip_next cols vals i c e h f =
     ap (λ l. zip l (take (i + 1) vals)) (take_more cols i 0 h) ∙ ap (zip (take i cols ++ get_or cols i 0 ∷ [])) (take_more vals i 0 k)
     ∙ zip_more (take i cols) (take i vals) (get_or cols i 0) (get_or vals i 0) same
     ∙ ap (λ x. zip (take i cols) (take i vals) ++ (x, get_or vals i 0) ∷ []) (sym f)
+
+-- the pairs of the columns below one, each with the value at its rank
+abbrev pub zip_below : List ℕ → List ℕ → ℕ → Pairs
+zip_below cols vals c = zip (take (rank cols c) cols) (take (rank cols c) vals)
+
+pub length-zip_below : (cols vals : List ℕ) (c : ℕ) → length vals ≡ length cols → rank cols c ≤ length cols → length (zip_below cols vals c) ≡ rank cols c
+length-zip_below cols vals c e le =
+    let same : length (take (rank cols c) vals) ≡ length (take (rank cols c) cols) = omega (arith, length-take (rank cols c) cols, length-take (rank cols c) vals) in
+    sym (length-map (zip_below cols vals c) (λ p. p.0)) ∙ ap length (cols_of-zip (take (rank cols c) cols) (take (rank cols c) vals) same) ∙ omega (arith, length-take (rank cols c) cols)
+
+pub zip_below_with : (cols vals : List ℕ) (c : ℕ) → IsColSet cols → length vals ≡ length cols → has cols c ≡ true
+    → zip_below cols vals c ++ (c, get_or vals (rank cols c) 0) ∷ [] ≡ zip_below cols vals (c + 1)
+zip_below_with cols vals c set e h =
+    let there : c ≡ get_or cols (rank cols c) 0 = sym (get_or_from_slice_get cols (rank cols c) c 0 (slice_get-rank cols c set h)) in
+    sym (zip_next cols vals (rank cols c) c e (rank_within cols c set h) there) ∙ ap (λ n. zip (take n cols) (take n vals)) (sym (rank_more cols c ∙ ap (λ b. rank cols c + cond b 1 0) h))
+
+pub zip_below_without : (cols vals : List ℕ) (c : ℕ) → has cols c ≡ false → zip_below cols vals c ≡ zip_below cols vals (c + 1)
+zip_below_without cols vals c h =
+    let same : rank cols (c + 1) ≡ rank cols c = rank_more cols c ∙ ap (λ b. rank cols c + cond b 1 0) h ∙ omega arith in
+    ap (λ n. zip (take n cols) (take n vals)) (sym same)
+
+pub zip_below_all : (cols vals : List ℕ) → IsColSet cols → length vals ≡ length cols → zip_below cols vals 32 ≡ zip cols vals
+zip_below_all cols vals set e =
+    let all : rank cols 32 ≡ length cols = rank_all cols set in
+    ap (λ l. zip l (take (rank cols 32) vals)) (take_all (rank cols 32) cols (omega arith)) ∙ ap (zip cols) (take_all (rank cols 32) vals (omega arith))
 
 -- the columns of a tuple of columns and values
 pub cols_of-tuple_of : (cols vals : List ℕ) → AreDistinct cols → length vals ≡ length cols → cols_of (tuple_of cols vals) ≡ gather nat_cmp cols

@@ -143,7 +143,7 @@ impl ColSet {
         ensures bound { result ≤ 32 }
         ensures set { IsColSet self }
     {
-        self.rank(MAX_COLS)
+        self.mask.count_ones()
     }
 
     /// Whether the set has no column.

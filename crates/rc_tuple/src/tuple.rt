@@ -1,10 +1,10 @@
-ghost use Rattle.std.specs.Prelude.{◌≡◌, ℕ, ◌<◌, ◌||◌, ◌==◌, ◌++◌, not, length, IfOk, OnOk, OnErr};
+ghost use Rattle.std.specs.Prelude.{◌≡◌, ℕ, ◌<◌, ◌||◌, ◌==◌, ◌++◌, [], not, length, IfOk, OnOk, OnErr};
 ghost use Rattle.std.specs.Ordering.{nat_cmp};
 ghost use Rattle.std.specs.List.{list_all, zip};
 ghost use Rattle.rc_tuple.specs.RisingSet.{In, IsRising, AreDistinct, IsPlace, put, gather};
 ghost use Rattle.rc_tuple.specs.Tuple.{IsTuple, cols_of, get, project, pick, agrees, pair_cmp, tuple_cmp, agree_on, matches, merged, tuple_of, has_pair, same_at};
 
-use crate::{ColSet, Cols, Memory, Vals};
+use crate::{ColSet, Cols, MAX_COLS, Memory, Vals};
 use std::alloc::Global;
 use std::cmp::Ordering;
 use std::marker::Model;
@@ -33,6 +33,15 @@ impl Tuple {
         ensures { IfOk result (λ t. t ≡ zip cols vals) }
     {
         zipped(vals.alloc(), cols, vals.list())
+    }
+
+    /// The tuple without columns, which takes no memory.
+    pub fn empty(alloc: Global) -> Tuple
+        ensures { result ≡ [] }
+    {
+        Tuple {
+            pairs: Vec::new(alloc),
+        }
     }
 
     /// The tuple that gives each of the columns, in any order, the value beside it.
@@ -88,6 +97,22 @@ impl Tuple {
             }
         }
         Ok(Tuple { pairs })
+    }
+
+    /// Makes the other tuple the one over those of this one's columns that the set has. Memory is taken only where the
+    /// other had room for fewer pairs than this one has; where it is wanted, the other has no pair.
+    pub fn project_into(&self, cols: ColSet, out: &mut Tuple) -> Result<(), Memory>
+        ensures ok { OnOk result (out.new ≡ project cols self.now) }
+        ensures err { OnErr result (out.new ≡ []) }
+    {
+        out.pairs.clear();
+        out.pairs.reserve(self.pairs.len())?;
+        for pair in &self.pairs {
+            if cols.has(pair.0) {
+                out.pairs.push_reserved(*pair);
+            }
+        }
+        Ok(())
     }
 
     /// The values at the columns, in the order of the list, and 0 at a column that the tuple has not.
@@ -157,11 +182,11 @@ fn zipped(alloc: Global, cols: ColSet, vals: &[u64]) -> Result<Tuple, Memory>
     requires { length vals.now ≡ length cols }
     ensures { IfOk result (λ t. t ≡ zip cols vals.now) }
 {
-    let mut pairs = Vec::new(alloc);
-    let count = cols.len();
-    for place in 0..count {
-        let col = cols.nth(place).unwrap();
-        pairs.push((col, vals[place as usize]))?;
+    let mut pairs = Vec::with_capacity(alloc, cols.len() as usize)?;
+    for col in 0..MAX_COLS {
+        if cols.has(col) {
+            pairs.push((col, vals[pairs.len()]))?;
+        }
     }
     Ok(Tuple { pairs })
 }

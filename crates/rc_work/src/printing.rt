@@ -133,8 +133,8 @@ fn push_spaced_rows(
 ) -> Result<(), Memory>
     ensures { OnOk result (out.new.items ≡ out.old.items ++ spaced (map (λ row. row_text spec.now ranks.now (zip outs.now row)) rows.now)) }
 {
-    for row in rows.list() {
-        let pairs = beside(row.alloc(), outs, row.list())?;
+    for at in 0..rows.len() {
+        let pairs = beside(*out.allocator(), outs, rows.row(at))?;
         out.push(b' ')?;
         push_row(out, spec, ranks, &pairs)?;
     }
@@ -153,7 +153,7 @@ fn push_spaced_reply(
 {
     match reply {
         Reply::Rows(rows) => {
-            push_spaced_u64(out, rows.list().len() as u64)?;
+            push_spaced_u64(out, rows.len() as u64)?;
             push_spaced(out, b"rows")?;
             push_spaced_rows(out, spec, ranks, outs, rows)
         }

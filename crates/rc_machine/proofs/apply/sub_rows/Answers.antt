@@ -10,10 +10,10 @@ use Rattle.rc_machine.proofs.apply.sub_rows.Goals as goal
 
 -- the places are those of the tuple's rows
 lent_places : (g : Over) (c : After-deref g) → c.deref.result.now ≡ map (place_in c.args.spec.now c.args.tuple.now) (edge_numbers c.args.spec.now)
-lent_places g c = c.deref.ensures.value ∙ c.in_ok-places.ensures
+lent_places g c = c.deref.ensures.value ∙ c.in_ok-place_rows.ensures
 
 places : (g : Over) (c : After-deref-place-items g) → c.deref-place-items.result.now ≡ map (place_in c.args.spec.now c.args.tuple.now) (edge_numbers c.args.spec.now)
-places g c = c.deref-place-items.ensures.value ∙ c.in_ok-places.ensures
+places g c = c.deref-place-items.ensures.value ∙ c.in_ok-place_rows.ensures
 
 pub make_room-requires-clause-few : goal.make_room-requires-clause-few
 make_room-requires-clause-few g c = few_places c.args.spec.now c.requires.sealed c.args.tuple.now c.deref.result.now (lent_places g c)

@@ -28,11 +28,11 @@ plan_is : (g : Over) (c : After-list-plan g) → c.list-plan.result.now ≡ plan
 plan_is g c = c.list-plan.ensures ∙ c.plan.ensures.value
 
 -- the specification has a column, and few
-pub new-space-requires-clause-some : goal.new-space-requires-clause-some
-new-space-requires-clause-some g c = subst (λ l. 0 < length l) (sym c.list.ensures) (subst IsSealed (sym c.spec-spec.ensures.value) c.spec-spec.ensures.sealed).populated.column
+pub clear_for-requires-clause-some : goal.clear_for-requires-clause-some
+clear_for-requires-clause-some g c = subst (λ l. 0 < length l) (sym c.list.ensures) (subst IsSealed (sym c.spec-spec.ensures.value) c.spec-spec.ensures.sealed).populated.column
 
-pub new-space-requires-clause-few : goal.new-space-requires-clause-few
-new-space-requires-clause-few g c = subst (λ l. length l ≤ 32) (sym c.list.ensures) (subst IsSealed (sym c.spec-spec.ensures.value) c.spec-spec.ensures.sealed).in_range.columns
+pub clear_for-requires-clause-few : goal.clear_for-requires-clause-few
+clear_for-requires-clause-few g c = subst (λ l. length l ≤ 32) (sym c.list.ensures) (subst IsSealed (sym c.spec-spec.ensures.value) c.spec-spec.ensures.sealed).in_range.columns
 
 pub begin-requires : goal.begin-requires
 begin-requires g c n m =
@@ -40,7 +40,7 @@ begin-requires g c n m =
     let spec : Spec = c.spec-spec.result.now in
     let sealed : IsSealed spec = subst IsSealed (sym c.spec-spec.ensures.value) c.spec-spec.ensures.sealed in
     let fits : Fits spec c.args.call.now = subst (λ z. Fits z c.args.call.now) (sym (spec_is g at)) c.requires.fits in
-    subst (λ w. n < w) (sym (ap (λ (z : BindingList). z.width) c.new-space.ensures.bindings ∙ ap length c.list.ensures)) (args_below spec sealed c.args.call.now fits n (subst (In n) c.cols.ensures.cols m))
+    subst (λ w. n < w) (sym (ap (λ (z : BindingList). z.width) c.clear_for.ensures.bindings ∙ ap length c.list.ensures)) (args_below spec sealed c.args.call.now fits n (subst (In n) c.cols.ensures.cols m))
 
 pub push_projection-requires : goal.push_projection-requires
 push_projection-requires g c n m = subst (In n) c.cols.ensures.cols (subst (λ (z : BindingList). In n z.columns) c.begin.ensures m)
@@ -61,8 +61,8 @@ loop-at-init g c =
     ap (λ (z : BindingList). z.tuples) c.in_ok-push_projection.ensures.ok ∙ ap (λ t. c.begin.new.self.tuples ++ t ∷ []) whole ∙ ap (λ (z : BindingList). z.tuples ++ c.args.call.now.args ∷ []) c.begin.ensures in
     record {
       wide = record {
-        bindings = ap (λ (z : BindingList). z.width) c.in_ok-push_projection.ensures.ok ∙ ap (λ (z : BindingList). z.width) c.begin.ensures ∙ ap (λ (z : BindingList). z.width) c.new-space.ensures.bindings ∙ ap length c.list.ensures;
-        found = ap (λ (z : BindingList). z.width) c.new-space.ensures.found ∙ ap length c.list.ensures;
+        bindings = ap (λ (z : BindingList). z.width) c.in_ok-push_projection.ensures.ok ∙ ap (λ (z : BindingList). z.width) c.begin.ensures ∙ ap (λ (z : BindingList). z.width) c.clear_for.ensures.bindings ∙ ap length c.list.ensures;
+        found = ap (λ (z : BindingList). z.width) c.clear_for.ensures.found ∙ ap length c.list.ensures;
       };
       run = subst (λ (z : List Pairs). IsAt spec plan c.args.call.now plan z (held_of (g.H.Holder.seen c.args.holder.now))) (sym args)
           (subst (λ (z : List HeldStripe). IsAt spec plan c.args.call.now plan (c.args.call.now.args ∷ []) z) (sym c.requires.free) start);

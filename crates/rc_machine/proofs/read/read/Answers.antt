@@ -1,14 +1,18 @@
-use Rattle.std.proofs.Common.{◌≡◌, ◌<◌, ◌≤◌, [], arith, ap, get_or, length, refl, subst, sym, take, ◌∙◌}
+use Rattle.std.proofs.Common.{◌≡◌, ◌<◌, [], arith, ap, get_or, length, refl, subst, sym, ◌∙◌}
 use Rattle.std.proofs.lemmas.List.{take_all}
 use Rattle.rc_tuple.specs.ColSet.{union}
 use Rattle.rc_tuple.specs.RisingSet.{In, gather}
 use Rattle.rc_tuple.specs.RisingSetLaws.{get_or_in}
-use Rattle.rc_tuple.specs.Tuple.{Pairs, tuple_cmp}
+use Rattle.rc_tuple.specs.Tuple.{tuple_cmp}
 use Rattle.rc_spec.specs.declared.items.Edge.{Edge}
 use Rattle.rc_spec.specs.Decomposition.{bound, edge_at}
 use Rattle.rc_bindings.specs.Bindings.{BindingList, with_tuples}
 use Rattle.rc_fragment.specs.Holder.{held_of}
-use Rattle.rc_machine.specs.Read.{AreMerges}
+use Rattle.rc_spec.specs.Placement.{class_of}
+use Rattle.rc_spec.specs.declared.spec.Spec.{Spec}
+use Rattle.rc_plan.specs.declared.statement.ReadMode.{ReadMode}
+use Rattle.rc_machine.specs.Machine.{stripes_held}
+use Rattle.rc_machine.specs.Read.{AreMerges, HasMergedAll, IsCovered, IsReader, TakesMerges}
 use Rattle.rc_machine.proofs.ReadLemmas.{merges_join, merges_more, merges_none, same_default, to_known}
 use Rattle.rc_machine.proofs.StripeLemmas.{joined_below}
 use Rattle.rc_machine.proofs.read.read.Given.{Over}
@@ -50,25 +54,42 @@ below g c = let l = c.loop-at-test.true in let n = c.len-at-end.ensures in omega
 there : (g : Over) (c : After-get-binding g) → In c.get-binding.result.tuple c.args.space.now.bindings.tuples
 there g c = subst (λ t. In t c.args.space.now.bindings.tuples) (sym (is g c)) (get_or_in c.args.space.now.bindings.tuples c.loop-at.at [] (below g c))
 
+-- what is said of the edge is said of its Read
 pub push_joined-requires-clause-reader : goal.push_joined-requires-clause-reader
-push_joined-requires-clause-reader g c = c.requires.readers.readers c.get-binding.result.tuple (there g (goal.at.push_joined-requires-clause-reader g c).After-get-binding)
+push_joined-requires-clause-reader g c =
+    let b = c.get-binding.result.tuple in
+    let read = c.of-read.ensures in
+    subst (λ (s : Spec). IsReader s c.of-read.result.edge c.of-read.result.mode b) (sym read.spec)
+    (subst (λ e. IsReader c.args.spec.now e c.of-read.result.mode b) (sym read.edge)
+    (subst (λ (m : ReadMode). IsReader c.args.spec.now c.args.edge m b) (sym read.mode)
+    (c.requires.readers.readers b (there g (goal.at.push_joined-requires-clause-reader g c).After-get-binding))))
 
 pub push_joined-requires-clause-covered : goal.push_joined-requires-clause-covered
-push_joined-requires-clause-covered g c = c.requires.readers.covered c.get-binding.result.tuple (there g (goal.at.push_joined-requires-clause-covered g c).After-get-binding)
+push_joined-requires-clause-covered g c =
+    let b = c.get-binding.result.tuple in
+    let stripes = stripes_held (held_of (g.H.Holder.seen c.args.holder.now)) in
+    let read = c.of-read.ensures in
+    subst (λ (s : Spec). IsCovered s (class_of s c.of-read.result.edge) stripes b) (sym read.spec)
+    (subst (λ e. IsCovered c.args.spec.now (class_of c.args.spec.now e) stripes b) (sym read.edge)
+    (c.requires.readers.covered b (there g (goal.at.push_joined-requires-clause-covered g c).After-get-binding)))
 
 pub push_joined-requires-clause-wide : goal.push_joined-requires-clause-wide
-push_joined-requires-clause-wide g c = c.get-binding.ensures.width ∙ ap (λ (z : BindingList). z.width) c.loop-at.invariant.bindings ∙ c.requires.wide.bindings
+push_joined-requires-clause-wide g c =
+    c.get-binding.ensures.width ∙ ap (λ (z : BindingList). z.width) c.loop-at.invariant.bindings ∙ c.requires.wide.bindings
+    ∙ ap (λ (s : Spec). length s.columns) (sym c.of-read.ensures.spec)
 
 pub push_joined-requires-clause-takes : goal.push_joined-requires-clause-takes
 push_joined-requires-clause-takes g c =
     let at = goal.at.push_joined-requires-clause-takes g c in
     let start : c.loop-at.space.found ≡ with_tuples c.begin.new.self c.loop-at.space.found.tuples = c.loop-at.invariant.same in
-    record {
+    let read = c.of-read.ensures in
+    subst (λ (s : Spec). TakesMerges s c.of-read.result.edge c.get-binding.result c.loop-at.space.found) (sym read.spec)
+    (subst (λ e. TakesMerges c.args.spec.now e c.get-binding.result c.loop-at.space.found) (sym read.edge) record {
       width = c.get-binding.ensures.width ∙ ap (λ (z : BindingList). z.width) c.loop-at.invariant.bindings ∙ c.requires.wide.bindings
           ∙ sym (ap (λ (z : BindingList). z.width) start ∙ ap (λ (z : BindingList). z.width) c.begin.ensures ∙ c.requires.wide.found);
       columns = ap (λ (z : BindingList). z.columns) start ∙ ap (λ (z : BindingList). z.columns) c.begin.ensures ∙ columns g at.After-union
           ∙ ap (λ xs. union xs (bound c.args.spec.now (edge_at c.args.spec.now c.args.edge).to)) (sym (c.get-binding.ensures.columns ∙ ap (λ (z : BindingList). z.columns) c.loop-at.invariant.bindings));
-    }
+    })
 
 pub loop-at-preserved : goal.loop-at-preserved
 loop-at-preserved g c =
@@ -77,7 +98,8 @@ loop-at-preserved g c =
     let b = c.get-binding.result.tuple in
     record {
       merged = merges_more bs c.loop-at.at b c.args.edge (held_of (g.H.Holder.seen c.args.holder.now)) c.loop-at.space.found.tuples c.push_joined.new.found.tuples (below g at)
-          (is g at ∙ same_default bs c.loop-at.at [] b (below g at)) c.loop-at.invariant.merged c.in_ok-push_joined.ensures.merged;
+          (is g at ∙ same_default bs c.loop-at.at [] b (below g at)) c.loop-at.invariant.merged
+          (subst (λ e. HasMergedAll b e (held_of (g.H.Holder.seen c.args.holder.now)) c.loop-at.space.found.tuples c.push_joined.new.found.tuples) c.of-read.ensures.edge c.in_ok-push_joined.ensures.merged);
       bindings = c.loop-at.invariant.bindings;
       same = c.in_ok-push_joined.ensures.same ∙ ap (λ z. with_tuples z c.push_joined.new.found.tuples) c.loop-at.invariant.same;
     }

@@ -1,20 +1,13 @@
-use Rattle.std.proofs.Common.{◌≡◌, ◌<◌, ◌+◌, ◌∷◌, ◌++◌, [], List, None, Some, Err, cond, drop, get_or, length, take, subst, sym, ap, ◌∙◌, inl, refl}
-use Rattle.std.specs.Ordering.{nat_cmp}
+use Rattle.std.proofs.Common.{◌≡◌, ◌<◌, ◌+◌, ◌∷◌, ◌++◌, [], Err, drop, get_or, length, subst, sym, ap, ◌∙◌, inl, refl}
 use Rattle.std.proofs.lemmas.Option.{slice_get_within}
-use Rattle.rc_tuple.specs.RisingSet.{In, gather}
-use Rattle.rc_tuple.specs.Tuple.{Pairs, project}
+use Rattle.rc_tuple.specs.RisingSet.{In}
+use Rattle.rc_tuple.specs.Tuple.{project}
 use Rattle.rc_bindings.specs.Bindings.{BindingList}
-use Rattle.rc_spec.specs.Contents.{join}
-use Rattle.rc_spec.specs.Fragments.{tuples_of_edge}
-use Rattle.rc_spec.specs.declared.call.Reply.TheVariants.{Conflict, Present}
 use Rattle.rc_spec.specs.declared.items.Op.{Op}
 use Rattle.rc_fragment.specs.Holder.{AreOfOneRelation, held_of}
 use Rattle.rc_plan.specs.declared.statement.Statement.{Statement}
-use Rattle.rc_plan.specs.Evaluation.{answer, some_differs, some_left, stripes_locked}
-use Rattle.rc_machine.specs.Applied.{CanApply, HasApplied}
-use Rattle.rc_machine.specs.Locks.{HasLocked, HasRefusedOne}
-use Rattle.rc_machine.specs.Machine.{AreAsTaken, rows_now}
-use Rattle.rc_machine.specs.Read.{AreReaders}
+use Rattle.rc_machine.specs.Applied.{HasApplied}
+use Rattle.rc_machine.specs.Machine.{AreAsTaken}
 use Rattle.rc_machine.specs.Run.{IsAt}
 use Rattle.rc_machine.proofs.CheckStepLemmas.{probe_step, probe_within}
 use Rattle.rc_machine.proofs.StripeLemmas.{all_below}

@@ -1,25 +1,56 @@
-use Rattle.std.proofs.Common.{◌≡◌, ◌<◌, ◌^◌, ◌++◌, [], ◌∷◌, length, take, get_or, sym, ◌∙◌, ap, subst, arith}
+use Rattle.std.proofs.Common.{◌≡◌, true, ◌<◌, ◌^◌, ◌∙◌, ◌∷◌, ◌++◌, [], ap, sym, subst, length, get_or, arith}
 use Rattle.std.specs.List.{zip}
-use Rattle.std.proofs.lemmas.List.{take_all}
-use Rattle.std.proofs.lemmas.Option.{get_or_from_slice_get}
+use Rattle.rc_tuple.specs.ColSet.{has, rank}
+use Rattle.rc_tuple.specs.ColSetLaws.{rank_within}
 use Rattle.rc_tuple.specs.RisingSetLaws.{in_from_places}
 use Rattle.rc_tuple.specs.Tuple.{IsTuple}
-use Rattle.rc_tuple.specs.TupleLaws.{IsTuple-zip, zip_next}
+use Rattle.rc_tuple.specs.TupleLaws.{IsTuple-zip, zip_below, length-zip_below, zip_below_all, zip_below_with, zip_below_without}
 use Rattle.rc_tuple.proofs.tuple.zipped.Goals as goal
+use Rattle.rc_tuple.proofs.tuple.zipped.Goals.{then-has+in_ok-push, else-has}
 
-pub loop-place-preserved : goal.loop-place-preserved
-loop-place-preserved c =
-    c.in_ok-push.ensures.items ∙ ap (λ l. l ++ (c.unwrap-col.result, get_or c.args.vals.now c.loop-place.place 0) ∷ []) c.loop-place.invariant
-    ∙ sym (zip_next c.args.cols c.args.vals.now c.loop-place.place c.unwrap-col.result c.requires (omega arith)
-    (sym (get_or_from_slice_get c.args.cols c.loop-place.place c.unwrap-col.result 0 (sym c.nth.ensures.value ∙ c.unwrap-col.ensures))))
+pub bounds-vals-len : goal.bounds-vals-len
+bounds-vals-len c =
+    let same : length c.args.vals.now ≡ length c.args.cols = c.requires in
+    let below : rank c.args.cols c.loop-col.col < length c.args.cols = rank_within c.args.cols c.loop-col.col c.has.ensures.set (sym c.has.ensures.found ∙ c.if-has.true) in
+    let pairs : length c.loop-col.pairs.items ≡ rank c.args.cols c.loop-col.col =
+    ap length c.loop-col.invariant ∙ length-zip_below c.args.cols c.args.vals.now c.loop-col.col same (omega arith) in
+    omega (arith, c.len-then-has.ensures, pairs)
+
+pub offset_bounds-vals-len : goal.offset_bounds-vals-len
+offset_bounds-vals-len c =
+    let same : length c.args.vals.now ≡ length c.args.cols = c.requires in
+    let below : rank c.args.cols c.loop-col.col < length c.args.cols = rank_within c.args.cols c.loop-col.col c.has.ensures.set (sym c.has.ensures.found ∙ c.if-has.true) in
+    let pairs : length c.loop-col.pairs.items ≡ rank c.args.cols c.loop-col.col =
+    ap length c.loop-col.invariant ∙ length-zip_below c.args.cols c.args.vals.now c.loop-col.col same (omega arith) in
+    omega (arith, c.len-then-has.ensures, pairs, c.len.ensures.value, c.len.ensures.bound)
+
+pub loop-col-preserved : goal.loop-col-preserved
+loop-col-preserved c =
+    elim c.if-has.branch [
+      | then-has+in_ok-push w ↦
+          let has : has c.args.cols c.loop-col.col ≡ true = sym c.has.ensures.found ∙ w.if-has.true in
+          let same : length c.args.vals.now ≡ length c.args.cols = c.requires in
+          let below : rank c.args.cols c.loop-col.col < length c.args.cols = rank_within c.args.cols c.loop-col.col c.has.ensures.set has in
+          let place : w.len-then-has.result ≡ rank c.args.cols c.loop-col.col =
+          omega (arith, w.len-then-has.ensures, ap length c.loop-col.invariant ∙ length-zip_below c.args.cols c.args.vals.now c.loop-col.col same (omega arith)) in
+          ap (λ v. v.items) w.pairs-is ∙ w.in_ok-push.ensures.items
+          ∙ (λ i. c.loop-col.invariant i ++ (c.loop-col.col, get_or c.args.vals.now (place i) 0) ∷ [])
+          ∙ zip_below_with c.args.cols c.args.vals.now c.loop-col.col c.has.ensures.set same has
+      | else-has w ↦
+          ap (λ v. v.items) w.pairs-is ∙ c.loop-col.invariant ∙ zip_below_without c.args.cols c.args.vals.now c.loop-col.col (sym c.has.ensures.found ∙ w.if-has.false)
+    ]
+
+pub returns : goal.returns
+returns c =
+    let end : c.loop-col.col ≡ 32 = omega arith in
+    c.loop-col.invariant ∙ ap (zip_below c.args.cols c.args.vals.now) end ∙ zip_below_all c.args.cols c.args.vals.now c.len.ensures.set c.requires
 
 pub invariant_of-result : goal.invariant_of-result
 invariant_of-result c =
     let same : length c.args.vals.now ≡ length c.args.cols = c.requires in
-    let whole : c.loop-place.pairs.items ≡ zip c.args.cols c.args.vals.now =
-    c.loop-place.invariant
-    ∙ ap (λ l. zip l (take c.loop-place.place c.args.vals.now)) (take_all c.loop-place.place c.args.cols (omega arith))
-    ∙ ap (zip c.args.cols) (take_all c.loop-place.place c.args.vals.now (omega arith)) in
+    let end : c.loop-col.col ≡ 32 = omega arith in
+    let whole : c.loop-col.pairs.items ≡ zip c.args.cols c.args.vals.now =
+    c.loop-col.invariant ∙ ap (zip_below c.args.cols c.args.vals.now) end ∙ zip_below_all c.args.cols c.args.vals.now c.len.ensures.set same in
     subst IsTuple (sym whole)
-    (IsTuple-zip c.args.cols c.args.vals.now same c.len-count.ensures.set
+    (IsTuple-zip c.args.cols c.args.vals.now same c.len.ensures.set
     (in_from_places (λ v. v < 2 ^ 64) 0 c.args.vals.now (λ i h. let f = c.type_inv.vals i in omega arith)))

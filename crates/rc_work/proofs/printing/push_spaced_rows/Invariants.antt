@@ -3,5 +3,5 @@ use Rattle.std.specs.List.{zip}
 use Rattle.rc_work.specs.Printed.{spaced, row_text}
 use Rattle.rc_work.proofs.printing.push_spaced_rows.Given as goal
 
-abbrev pub invariant-loop-row : goal.invariant-loop-row
-invariant-loop-row l = l.out.items ≡ l.fn.out.items ++ spaced (map (λ row. row_text l.spec l.ranks (zip l.outs row)) (take l.row-index l.rows))
+abbrev pub invariant-loop-at : goal.invariant-loop-at
+invariant-loop-at l = l.out.items ≡ l.fn.out.items ++ spaced (map (λ row. row_text l.spec l.ranks (zip l.outs row)) (take l.at l.rows))

@@ -10,8 +10,8 @@ use Rattle.rc_layers.specs.Relation.{HoldsRelation}
 use Rattle.rc_layers.proofs.RelationLemmas.{holds_after_call, known_held}
 use Rattle.rc_layers.proofs.calls.Sides.make_call.Goals as goal
 
-pub returns-in_ok-plain-in-Ok : goal.returns-in_ok-plain-in-Ok
-returns-in_ok-plain-in-Ok c =
+pub returns-in-Ok : goal.returns-in-Ok
+returns-in-Ok c =
     let spec : Spec = c.args.compiled.now.spec in
     let call : Call = c.args.call.now in
     let old : List Stripe = c.args.self.now.instance in

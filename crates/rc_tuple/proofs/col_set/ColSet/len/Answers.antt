@@ -1,6 +1,8 @@
-use Rattle.std.proofs.Common.{◌∙◌}
-use Rattle.rc_tuple.specs.ColSetLaws.{rank_all}
+use Rattle.rc_tuple.specs.ColSetLaws.{length-from_mask, IsColSet-from_mask}
 use Rattle.rc_tuple.proofs.col_set.ColSet.len.Goals as goal
 
 pub returns-clause-value : goal.returns-clause-value
-returns-clause-value c = c.rank.ensures.value ∙ rank_all c.args.self c.rank.ensures.set
+returns-clause-value c = length-from_mask c.self.inside.mask c.args.self c.self.view_is c.self.invariant
+
+pub returns-clause-set : goal.returns-clause-set
+returns-clause-set c = IsColSet-from_mask c.self.inside.mask c.args.self c.self.view_is

@@ -1,6 +1,0 @@
-use Rattle.std.proofs.Common.{◌≡◌, map}
-use Rattle.rc_bindings.specs.Registers.{columns_below, register}
-use Rattle.rc_bindings.proofs.binding.values_at.Given as goal
-
-abbrev pub invariant-loop-col : goal.invariant-loop-col
-invariant-loop-col l = l.values ≡ map (register l.registers) (columns_below l.cols l.col)

@@ -1,0 +1,11 @@
+use Rattle.std.proofs.Common.{ap, length, arith}
+use Rattle.rc_spec.specs.RowListsLaws.{length-rows_from}
+use Rattle.rc_spec.proofs.row_list.RowList.len.Goals as goal
+
+pub returns : goal.returns
+returns c =
+    let len = c.len.ensures in
+    let items = c.self.inside.ends.ok.0 in
+    let rows = length-rows_from 0 c.self.inside.ends.items c.self.inside.values.items in
+    let seen = ap length c.self.view_is in
+    omega (arith, len, items, rows, seen)
