@@ -6,7 +6,7 @@ use Rattle.rc_spec.specs.declared.items.Op.{Op}
 use Rattle.rc_spec.specs.declared.spec.Spec.{Spec}
 use Rattle.rc_spec.specs.Names.{op_names}
 use Rattle.rc_plan.specs.declared.statement.Statement.{Statement}
-use Rattle.rc_dot.specs.Dot.{dot_plan_text}
+use Rattle.rc_dot.specs.Dot.{plan_drawing_text}
 use Rattle.rc_reader.specs.Names.{number_among}
 use Rattle.rc_work.specs.LineRules.{op_number}
 use Rattle.rc_answer.specs.Answers.{IsDotPlanText, IsDrawnWhere}
@@ -26,10 +26,10 @@ pub text_written : (A : List ℕ → Status → Type 0) (text bytes : List ℕ) 
 text_written A text bytes old new is same all = (text, is, subst (λ (t : List ℕ). Adds old t new) same all)
 
 -- what is printed of a compiled specification is the drawing of the accepted one
-pub drawing_printed : (accepted given : Spec) (op : ℕ) (plan here : List Statement) (text bytes : List ℕ) → given ≡ accepted → here ≡ plan → text ≡ dot_plan_text given op here → bytes ≡ text
-    → bytes ≡ dot_plan_text accepted op plan
+pub drawing_printed : (accepted given : Spec) (op : ℕ) (plan here : List Statement) (text bytes : List ℕ) → given ≡ accepted → here ≡ plan → text ≡ plan_drawing_text given op here → bytes ≡ text
+    → bytes ≡ plan_drawing_text accepted op plan
 drawing_printed accepted given op plan here text bytes same is printed all =
-    all ∙ printed ∙ ap (λ (s : Spec). dot_plan_text s op here) same ∙ ap (dot_plan_text accepted op) is
+    all ∙ printed ∙ ap (λ (s : Spec). plan_drawing_text s op here) same ∙ ap (plan_drawing_text accepted op) is
 
 -- where an operation stands among those of a specification
 pub operation_found : (accepted here : Spec) (ops : List Op) (name : List ℕ) (found op : Option ℕ) → here ≡ accepted → ops ≡ here.ops → found ≡ number_among (op_names ops) name → found ≡ op

@@ -7,7 +7,7 @@ use Rattle.rc_spec.specs.Acceptance.{IsAccepted, IsFirstBroken}
 use Rattle.rc_spec.specs.Placement.{op_at}
 use Rattle.rc_spec.specs.RefusalText as rules
 use Rattle.rc_plan.specs.declared.statement.Statement.{Statement}
-use Rattle.rc_dot.specs.Dot.{dot_plan_text, dot_text}
+use Rattle.rc_dot.specs.Dot.{drawing_text, plan_drawing_text}
 use Rattle.rc_query.specs.Planned.{IsPlanned}
 use Rattle.rc_rel.specs.declared.entry.Entry.{Entry}
 use Rattle.rc_rel.specs.History.{replay}
@@ -64,7 +64,7 @@ IsPlansText spec text status = (plans : List (List Statement)) × ArePlanned spe
 -- ---- dot
 
 abbrev pub IsDotText : Spec → List ℕ → Status → Type 0
-IsDotText spec text status = (text ≡ dot_text spec) × (status ≡ Done)
+IsDotText spec text status = (text ≡ drawing_text spec) × (status ≡ Done)
 
 abbrev pub operation_text : List ℕ
 operation_text = printed_lines (codes "refused operation" ∷ [])
@@ -76,8 +76,9 @@ IsOperationRefusal text status = (text ≡ operation_text) × (status ≡ Refuse
 -- the drawing with the planned plan of the operation of this number
 abbrev pub IsDrawnPlan : Spec → ℕ → List ℕ → Status → Type 0
 IsDrawnPlan spec op text status =
-    (plan : List Statement) × IsPlanned spec (op_at spec op) plan × (text ≡ dot_plan_text spec op plan) × (status ≡ Done)
+    (plan : List Statement) × IsPlanned spec (op_at spec op) plan × (text ≡ plan_drawing_text spec op plan) × (status ≡ Done)
 
+-- that drawing, or the refusal where no operation has the name
 abbrev pub IsDrawnWhere : Spec → Option ℕ → List ℕ → Status → Type 0
 IsDrawnWhere spec (Some op) text status = IsDrawnPlan spec op text status
 IsDrawnWhere spec None text status = IsOperationRefusal text status
@@ -120,9 +121,9 @@ AnswersRun input (Ok reading) text status = AnswersRules reading.spec (AnswersWo
 -- ---- all commands that read a text
 
 -- What an input that is not too long may have written. `check`, `plan` and `dot` read a specification alone: the refusal of its
--- first broken line rule, then of its first broken rule of acceptance, else `accepted`, the plans, or the drawing, with the plan
--- of an operation where one is named, which is refused where there is none of the name. `run` reads a workload behind it, and
--- refuses by its line rules last; else it writes the plans and the report of a run.
+-- first broken line rule, then of its first broken rule of acceptance, else `accepted`, the plans, or the drawing. Where an
+-- operation is named, the drawing has its plan; where none has the name, the name is refused. `run` reads a workload behind it,
+-- and refuses by its line rules last; else it writes the plans and the report of a run.
 abbrev pub Answers : TextCommand → List ℕ → List ℕ → Status → Type 0
 Answers Check input text status = AnswersAlone (λ spec. IsAcceptedText) (spec_of input) text status
 Answers Plan input text status = AnswersAlone IsPlansText (spec_of input) text status

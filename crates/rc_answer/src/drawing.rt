@@ -8,7 +8,7 @@ ghost use Rattle.rc_answer.specs.Writes.{Writes};
 use crate::refusing::refuse_operation;
 use crate::status::{Status, Stop};
 use crate::writing::write_text;
-use rc_dot::{print_dot, print_dot_plan};
+use rc_dot::{print_drawing, print_plan_drawing};
 use rc_io::Sink;
 use rc_mutate::compile;
 use rc_reader::number_among;
@@ -25,7 +25,7 @@ pub(crate) fn write_drawing<K: Sink>(
     ensures failed { IsErrOf result Stop.Sink → Rose (K.faults sink.old) (K.faults sink.new) }
     ensures count { K.faults sink.old ≤ K.faults sink.new }
 {
-    let text = print_dot(alloc, accepted)?;
+    let text = print_drawing(alloc, accepted)?;
     write_text(sink, &text)?;
     Ok(Status::Done)
 }
@@ -63,7 +63,7 @@ fn write_plan_of<K: Sink>(
     ensures count { K.faults sink.old ≤ K.faults sink.new }
 {
     let compiled = compile(alloc, accepted)?;
-    let text = print_dot_plan(alloc, compiled.accepted(), op, compiled.plan(op))?;
+    let text = print_plan_drawing(alloc, compiled.accepted(), op, compiled.plan(op))?;
     write_text(sink, &text)?;
     Ok(Status::Done)
 }

@@ -105,8 +105,8 @@ pub(crate) fn refuse_run_of<K: Sink>(
     }
 }
 
-/// Writes the refusal of a name that no operation has. Takes no memory; `Err` where a write fails,
-/// with a first part written.
+/// Writes the refusal of a name that no operation has. `Err` where a write fails, with a first part
+/// written.
 pub(crate) fn refuse_operation<K: Sink>(sink: &mut K) -> Result<Status, Stop>
     ensures written { Writes IsOperationRefusal (K.held sink.old) (K.held sink.new) result }
     ensures failed { IsErrOf result Stop.Sink → Rose (K.faults sink.old) (K.faults sink.new) }
@@ -116,7 +116,7 @@ pub(crate) fn refuse_operation<K: Sink>(sink: &mut K) -> Result<Status, Stop>
     Ok(Status::Refused)
 }
 
-/// Writes the refusal of a text that is too long. Takes no memory; `Err` where a write fails, with a first part written.
+/// Writes the refusal of a text that is too long; `Err` where a write fails, with a first part written.
 pub fn refuse_size<K: Sink>(sink: &mut K) -> Result<Status, Stop>
     ensures written { Writes IsSizeRefusal (K.held sink.old) (K.held sink.new) result }
     ensures failed { IsErrOf result Stop.Sink → Rose (K.faults sink.old) (K.faults sink.new) }

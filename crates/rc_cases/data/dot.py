@@ -98,8 +98,9 @@ HEAD = """# Drawings. dot.py, beside this file, writes it: a second writing of w
 # Don't change the cases here.
 #
 # There are the three examples, alone and with the plan of each operation; a specification whose
-# nodes have the words of Graphviz's language as their names; containers of all kinds; and a
-# specification that is as large as can be, whose sixteen classes have each colour twice. A text
+# nodes have the words of Graphviz's language as their names; containers of all kinds; a
+# specification that is as large as can be, whose sixteen classes have each colour twice; one with
+# comments and empty lines, of which a drawing has nothing; and one without operations. A text
 # that is refused is refused as by `relc plan`, before its operations are looked at."""
 
 # The names of nodes are words of Graphviz's language.
@@ -124,6 +125,16 @@ def dot_case(name, text, op=None):
     spec = model.read_spec(text.split("\n"))
     words = "dot" if op is None else "dot " + op
     return model.write_case(words, name, text.split("\n"), [], dot_lines(spec, op))
+
+
+def commented_case(name, text, op=None):
+    """The same drawing, of a text with a comment or an empty line behind each line."""
+    spec = model.read_spec(text.split("\n"))
+    lines = []
+    for number, line in enumerate(text.split("\n")):
+        lines += [line, '  # "a" -> <b>' if number % 2 else ""]
+    words = "dot" if op is None else "dot " + op
+    return model.write_case(words, name, ["# It is drawn.", ""] + lines, [], dot_lines(spec, op))
 
 
 def refused_case(name, words, text, refusal):
@@ -155,6 +166,13 @@ def dot_cases():
             lines += dot_case("%s is drawn with the plan of %s" % (name, op), text, op)
     graph, cut = model.GRAPH, "\n".join(model.GRAPH.split("\n")[:-1])
     count = len(cut.split("\n"))
+    lines += commented_case("a text with comments and empty lines is drawn", graph)
+    name = "a text with comments and empty lines is drawn with the plan of succ"
+    lines += commented_case(name, graph, "succ")
+    bare = "\n".join(line for line in graph.split("\n") if not line.startswith("op "))
+    lines += dot_case("a specification without operations is drawn", bare)
+    name = "a specification without operations has none of a name"
+    lines += refused_case(name, "dot succ", bare, "refused operation")
     loose = graph.replace("place e3 k2\n", "")
     for name, op in [
         ("an operation that isn't there is refused", "next"),
@@ -169,10 +187,21 @@ def dot_cases():
         lines += refused_case(behind + " refuses a text that is cut", words, cut, line)
         line = "refused P1 edge e3"
         lines += refused_case(behind + " refuses an edge on no class", words, loose, line)
+        # `end` stands in line count + 1, and what stands behind it in the next.
+        line = "refused S8 line %d" % (count + 2)
+        name = behind + " refuses a workload behind the specification"
+        lines += refused_case(name, words, graph + "\nwork 1", line)
     whole = dot_lines(model.read_spec(graph.split("\n")))
     for number, name in [(3, "the third"), (len(whole), "the last")]:
         name += " write of a drawing fails"
         lines += failed_case(name, "dot", graph, number, whole[: number - 1])
+    planned = dot_lines(model.read_spec(graph.split("\n")), "succ")
+    begun = next(n for n, text in enumerate(planned, 1) if text.endswith("plan succ<br/>"))
+    for number, name in [
+        (begun, "the write of a plan's name in a drawing fails"),
+        (len(planned), "the last write of a drawing with a plan fails"),
+    ]:
+        lines += failed_case(name, "dot succ", graph, number, planned[: number - 1])
     lines += failed_case("the write of a refused operation fails", "dot next", graph, 1, [])
     return "\n".join(lines) + "\n"
 

@@ -9,12 +9,11 @@ use Rattle.rc_command.specs.declared.command.Command.TheVariants.{OfText, Big}
 use Rattle.rc_command.specs.declared.command.TextCommand.{TextCommand}
 use Rattle.rc_command.specs.declared.command.TextCommand.TheVariants.{Check, Plan, Run, Dot, DotPlan}
 
--- the command of a name that stands alone
+-- the command of a name behind which no word may stand
 abbrev pub command_named : List ℕ → Option TextCommand
 command_named name = if bytes_eq name (codes "check") then Some Check
     else (if bytes_eq name (codes "plan") then Some Plan
-    else (if bytes_eq name (codes "run") then Some Run
-    else (if bytes_eq name (codes "dot") then Some Dot else None)))
+    else (if bytes_eq name (codes "run") then Some Run else None))
 
 -- `dot` with a word that an operation can have as its name
 abbrev pub dot_of : List ℕ → Option Command
@@ -29,11 +28,11 @@ big_of (Ok seed) (Ok calls) = big_within seed calls
 big_of (Ok seed) (Err fault) = None
 big_of (Err fault) calls = None
 
--- the program's name, and then a name alone, `dot` with an operation's name, or `big` with a seed and a number of calls
+-- the program's name, and then a name alone, `dot` with a name that an operation can have, or `big` with a seed and a number of calls
 abbrev pub command_of : List (List ℕ) → Option Command
 command_of [] = None
 command_of (program ∷ []) = None
-command_of (program ∷ name ∷ []) = option_map OfText (command_named name)
+command_of (program ∷ name ∷ []) = if bytes_eq name (codes "dot") then Some (OfText Dot) else option_map OfText (command_named name)
 command_of (program ∷ name ∷ op ∷ []) = if bytes_eq name (codes "dot") then dot_of op else None
 command_of (program ∷ name ∷ seed ∷ calls ∷ []) = if bytes_eq name (codes "big") then big_of (u64_of seed) (u64_of calls) else None
 command_of (program ∷ name ∷ seed ∷ calls ∷ other ∷ words) = None

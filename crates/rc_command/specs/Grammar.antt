@@ -5,7 +5,7 @@ use Rattle.clap.specs.Words.{App, Row, Rule, Text, first_of, new_app, new_rule, 
 use Rattle.rc_text.specs.Numbers.{u64_of}
 use Rattle.rc_command.specs.declared.command.Command.{Command}
 use Rattle.rc_command.specs.declared.command.Command.TheVariants as command
-use Rattle.rc_command.specs.declared.command.TextCommand.TheVariants as text
+use Rattle.rc_command.specs.declared.command.TextCommand.TheVariants as of_text
 use Rattle.rc_command.specs.Command.{big_of, command_named, dot_of}
 
 -- the program: a subcommand must be there, and neither help nor version is asked for
@@ -52,7 +52,7 @@ big_words None calls = None
 -- the command of the word behind `dot`, where there is one
 abbrev pub dot_words : Option Text → Option Command
 dot_words (Some op) = dot_of op
-dot_words None = Some (command.OfText text.Dot)
+dot_words None = Some (command.OfText of_text.Dot)
 
 -- the command of a subcommand's name and what clap found behind it
 abbrev pub met_as : Text → List Row → Option Command

@@ -27,7 +27,7 @@ pub enum TextCommand {
     Dot,
     /// Reads a specification alone, and prints its drawing with the plan of an operation.
     DotPlan {
-        /// The bytes of a name, which the operation has.
+        /// The bytes of a word that is a name. Whether an operation has it the text tells.
         op: SmallList<u8>,
     },
 }
@@ -166,7 +166,7 @@ fn dot_met(alloc: Global, matches: &ArgMatches) -> Result<Option<Command>, Memor
     }
 }
 
-/// The drawing of an operation's plan, where the word is a name.
+/// The command of `dot` with a word, where an operation can have the word as its name.
 fn dot_in(alloc: Global, op: &str) -> Result<Option<Command>, Memory>
     ensures value { IfOk result (λ c. c ≡ dot_of op.now) }
     ensures limits { IfOk result (λ c. IfSome c IsWithinLimits) }
@@ -187,7 +187,7 @@ fn big_met(matches: &ArgMatches) -> Option<Command>
     big_in(matches.get_str("SEED")?, matches.get_str("N")?)
 }
 
-/// The command of a name behind which no word stands.
+/// The command of the name of a subcommand that takes no word.
 fn alone_met(name: &str) -> Option<Command>
     ensures value { result ≡ option_map OfText (command_named name.now) }
     ensures limits { IfSome result IsWithinLimits }
@@ -195,7 +195,7 @@ fn alone_met(name: &str) -> Option<Command>
     Some(Command::OfText(command_named(name)?))
 }
 
-/// The command of a name that stands alone.
+/// What a text is read for where a name stands behind which no word may stand.
 fn command_named(name: &str) -> Option<TextCommand>
     ensures { result ≡ command_named name.now }
 {
@@ -203,7 +203,6 @@ fn command_named(name: &str) -> Option<TextCommand>
         "check" => Some(TextCommand::Check),
         "plan" => Some(TextCommand::Plan),
         "run" => Some(TextCommand::Run),
-        "dot" => Some(TextCommand::Dot),
         _ => None,
     }
 }

@@ -1,6 +1,6 @@
--- The drawing of a specification, and of the plan of one of its operations: a digraph in the language of Graphviz. (PLDI 2011,
+-- The drawing of a specification, and of the plan of one of its operations: meant as a digraph in the language of Graphviz. (PLDI 2011,
 -- decompositions as graphs; PLDI 2012, lock placement.)
-use Rattle.std.specs.Prelude.{ℕ, ◌+◌, ◌-◌, ◌%◌, ◌==◌, Bool, true, false, List, [], ◌∷◌, ◌++◌, codes, filter, get_or, length, map, if◌then◌else◌}
+use Rattle.std.specs.Prelude.{ℕ, ◌+◌, ◌-◌, ◌%◌, ◌==◌, Bool, false, List, [], ◌∷◌, ◌++◌, codes, filter, get_or, length, map}
 use Rattle.std.specs.List.{flat_map, range_with_len}
 use Rattle.std.specs.Fmt.{decimal}
 use Rattle.rc_spec.specs.declared.items.EdgeKind.{EdgeKind}
@@ -8,48 +8,50 @@ use Rattle.rc_spec.specs.declared.items.EdgeKind.TheVariants as kinds
 use Rattle.rc_spec.specs.declared.items.Node.{Node}
 use Rattle.rc_spec.specs.declared.spec.Spec.{Spec}
 use Rattle.rc_spec.specs.Decomposition.{edge_at, node_at}
-use Rattle.rc_spec.specs.Placement.{class_at, class_of}
+use Rattle.rc_spec.specs.Placement.{class_at, class_of, op_at}
 use Rattle.rc_spec.specs.RefusalText.{no_column}
 use Rattle.rc_spec.specs.Stripes.{band_start}
 use Rattle.rc_plan.specs.declared.statement.Statement.{Statement}
 use Rattle.rc_plan.specs.declared.statement.Statement.TheVariants.{Lock, Probe, Read, CheckAbsent, CheckDep, Apply, Emit, Commit, Release}
-use Rattle.rc_plan.specs.PlanText.{column_text, plan_text}
+use Rattle.rc_plan.specs.PlanText.{column_text, statement_text}
 
 -- ---- words
 
--- the colours of lock classes, by their numbers; the ninth class has the first colour again
+-- the colours of lock classes, by their numbers; behind the last the first comes again
 abbrev pub colours : List (List ℕ)
 colours =
     codes "#1b6ca8" ∷ codes "#b5442f" ∷ codes "#3c7d3c" ∷ codes "#7a4a9e" ∷ codes "#a0720b" ∷ codes "#0b7a75" ∷ codes "#a03668"
     ∷ codes "#555555" ∷ []
 
 unfoldable pub colour_of : ℕ → List ℕ
-colour_of class = get_or colours (class % 8) []
+colour_of class = get_or colours (class % length colours) []
 
 -- the names of columns, parted by a space
 abbrev pub columns_text : Spec → List ℕ → List ℕ
 columns_text spec [] = []
 columns_text spec (c ∷ cols) = (get_or spec.columns c no_column).name ++ flat_map (column_text spec) cols
 
-abbrev pub kind_text : EdgeKind → List ℕ
-kind_text kinds.Hash = codes " hash ("
-kind_text kinds.Ordered = codes " ordered ("
-kind_text kinds.List = codes " list ("
-kind_text kinds.Singleton = codes " singleton ("
+-- the container of an edge in its label
+abbrev pub container_text : EdgeKind → List ℕ
+container_text kinds.Hash = codes " hash ("
+container_text kinds.Ordered = codes " ordered ("
+container_text kinds.List = codes " list ("
+container_text kinds.Singleton = codes " singleton ("
 
--- how the line of an edge is drawn
-abbrev pub line_text : EdgeKind → List ℕ
-line_text kinds.Hash = codes "solid"
-line_text kinds.Ordered = codes "dashed"
-line_text kinds.List = codes "bold"
-line_text kinds.Singleton = codes "dotted"
+-- how the arrow of an edge is drawn
+abbrev pub stroke_text : EdgeKind → List ℕ
+stroke_text kinds.Hash = codes "solid"
+stroke_text kinds.Ordered = codes "dashed"
+stroke_text kinds.List = codes "bold"
+stroke_text kinds.Singleton = codes "dotted"
 
--- and how thick, where it is read: a bold line is thicker than others
-abbrev pub thick_text : EdgeKind → List ℕ
-thick_text kinds.Hash = codes ", penwidth=3"
-thick_text kinds.Ordered = codes ", penwidth=3"
-thick_text kinds.List = codes ", penwidth=5"
-thick_text kinds.Singleton = codes ", penwidth=3"
+-- and how thick, where some statement reads the edge: a bold arrow is thicker than others
+abbrev pub width_text : EdgeKind → List ℕ → List ℕ
+width_text kind [] = []
+width_text kinds.Hash (n ∷ numbers) = codes ", penwidth=3"
+width_text kinds.Ordered (n ∷ numbers) = codes ", penwidth=3"
+width_text kinds.List (n ∷ numbers) = codes ", penwidth=5"
+width_text kinds.Singleton (n ∷ numbers) = codes ", penwidth=3"
 
 -- ---- the statements that read an edge
 
@@ -76,10 +78,6 @@ abbrev pub reads_text : List ℕ → List ℕ
 reads_text [] = []
 reads_text (n ∷ numbers) = codes " read at" ++ flat_map number_text (n ∷ numbers) ++ codes "\\l"
 
-abbrev pub pen_text : EdgeKind → List ℕ → List ℕ
-pen_text kind [] = []
-pen_text kind (n ∷ numbers) = thick_text kind
-
 -- ---- nodes and edges
 
 -- a box with the node's name and its columns
@@ -95,13 +93,13 @@ ends_text spec e =
 -- the edge's name, its container with the key, its lock class, and the statements that read it
 abbrev pub label_text : Spec → ℕ → List ℕ → List ℕ
 label_text spec e numbers =
-    (edge_at spec e).name ++ kind_text (edge_at spec e).kind ++ columns_text spec (edge_at spec e).key ++ codes ")\\l lock "
+    (edge_at spec e).name ++ container_text (edge_at spec e).kind ++ columns_text spec (edge_at spec e).key ++ codes ")\\l lock "
     ++ (class_at spec (class_of spec e)).name ++ codes "\\l" ++ reads_text numbers
 
--- the line by the container, and thick where it is read; the colour by the lock class
+-- the arrow by the container, and thick where it is read; the colour by the lock class
 abbrev pub style_text : Spec → ℕ → List ℕ → List ℕ
 style_text spec e numbers =
-    codes "\", style=" ++ line_text (edge_at spec e).kind ++ pen_text (edge_at spec e).kind numbers
+    codes "\", style=" ++ stroke_text (edge_at spec e).kind ++ width_text (edge_at spec e).kind numbers
     ++ codes ", color=\"" ++ colour_of (class_of spec e) ++ codes "\", fontcolor=\"" ++ colour_of (class_of spec e) ++ codes "\"];\n"
 
 abbrev pub drawn_edge : Spec → ℕ → List ℕ → List ℕ
@@ -142,13 +140,13 @@ abbrev pub stripes_cells : ℕ → ℕ → List ℕ
 stripes_cells start stripes =
     codes ")</td><td>" ++ decimal stripes ++ codes "</td><td>" ++ decimal start ++ codes ".." ++ decimal (start + stripes - 1) ++ codes "</td></tr>\n"
 
--- a row with the class's name, its columns, its stripes and its band
-abbrev pub class_row : Spec → ℕ → List ℕ
-class_row spec c =
+-- a line with the class's name, its columns, its stripes and its band
+abbrev pub class_line : Spec → ℕ → List ℕ
+class_line spec c =
     class_cell spec c ++ columns_text spec (class_at spec c).cols ++ stripes_cells (band_start spec c) (class_at spec c).stripes
 
 abbrev pub classes_table : Spec → List ℕ
-classes_table spec = classes_head ++ flat_map (class_row spec) (range_with_len 0 (length spec.classes)) ++ table_end
+classes_table spec = classes_head ++ flat_map (class_line spec) (range_with_len 0 (length spec.classes)) ++ table_end
 
 -- ---- the table of a plan
 
@@ -164,18 +162,25 @@ plan_middle = codes "</td><td align=\"left\" balign=\"left\">"
 unfoldable pub plan_end : List ℕ
 plan_end = codes "</td></tr>\n    </table>>];\n"
 
+-- a line within a cell
+abbrev pub table_line : List ℕ → List ℕ
+table_line text = text ++ codes "<br/>\n"
+
 -- the number of a statement in a line of its own
 abbrev pub number_line : ℕ → List ℕ
-number_line n = decimal n ++ codes "<br/>\n"
+number_line n = table_line (decimal n)
 
--- 10 is the line feed, before which the table's line ends
-abbrev pub broken_byte : ℕ → List ℕ
-broken_byte b = if b == 10 then codes "<br/>\n" else (b ∷ [])
+abbrev pub statement_table_line : Spec → Statement → List ℕ
+statement_table_line spec x = table_line (statement_text spec x)
+
+-- `plan` and the operation's name, and then a line for each statement
+abbrev pub plan_lines : Spec → ℕ → List Statement → List ℕ
+plan_lines spec op plan = table_line (codes "plan " ++ (op_at spec op).name) ++ flat_map (statement_table_line spec) plan
 
 -- the statements of the plan, numbered from 1 beside it
 abbrev pub plan_table : Spec → ℕ → List Statement → List ℕ
 plan_table spec op plan =
-    plan_head ++ flat_map number_line (range_with_len 1 (length plan)) ++ plan_middle ++ flat_map broken_byte (plan_text spec op plan) ++ plan_end
+    plan_head ++ flat_map number_line (range_with_len 1 (length plan)) ++ plan_middle ++ plan_lines spec op plan ++ plan_end
 
 -- ---- drawings
 
@@ -184,9 +189,9 @@ abbrev pub graph_end : List ℕ
 graph_end = codes "}\n"
 
 -- the nodes, the edges and the lock classes of a specification
-abbrev pub dot_text : Spec → List ℕ
-dot_text spec = graph_text spec [] ++ classes_table spec ++ graph_end
+abbrev pub drawing_text : Spec → List ℕ
+drawing_text spec = graph_text spec [] ++ classes_table spec ++ graph_end
 
 -- the same with the plan of an operation, and with what it reads
-abbrev pub dot_plan_text : Spec → ℕ → List Statement → List ℕ
-dot_plan_text spec op plan = graph_text spec plan ++ classes_table spec ++ plan_table spec op plan ++ graph_end
+abbrev pub plan_drawing_text : Spec → ℕ → List Statement → List ℕ
+plan_drawing_text spec op plan = graph_text spec plan ++ classes_table spec ++ plan_table spec op plan ++ graph_end

@@ -4,12 +4,13 @@ ghost use Rattle.std.specs.Prelude.{◌≡◌, ◌<◌, ◌++◌, [], ◌∷◌,
 ghost use Rattle.std.specs.List.{flat_map, range_with_len};
 ghost use Rattle.rc_spec.specs.InRange.{IsInRange, IsSetBelow};
 ghost use Rattle.rc_spec.specs.Placement.{class_of};
-ghost use Rattle.rc_dot.specs.Dot.{drawn_edge, edge_line, ends_text, graph_text, head_text, kind_text, label_text, line_text, node_line, number_text, pen_text, reads_text, style_text};
+ghost use Rattle.rc_dot.specs.Dot.{container_text, drawn_edge, edge_line, ends_text, graph_text, head_text, label_text, node_line, number_text, reads_text, stroke_text, style_text, width_text};
 
 use crate::reading::read_numbers;
-use crate::words::{colour_of, push_columns, push_number, push_word};
+use crate::words::{colour_of, push_columns};
 use rc_plan::Statement;
 use rc_spec::{Accepted, EdgeKind, Named, Node, Spec};
+use rc_text::{push_bytes, push_u64};
 use rc_tuple::Memory;
 
 /// Appends the beginning of a drawing, the nodes, and the edges with what a plan reads of them.
@@ -21,7 +22,7 @@ pub(crate) fn push_graph(
     ensures { OnOk result (text.new.items ≡ text.old.items ++ graph_text accepted.now plan.now) }
 {
     let spec = accepted.spec();
-    push_word(text, head())?;
+    push_bytes(text, head())?;
     push_nodes(text, spec)?;
     push_edges(text, accepted, plan)
 }
@@ -53,13 +54,13 @@ fn push_node(text: &mut Vec<u8>, spec: &Spec, node: &Node) -> Result<(), Memory>
     requires { IsSetBelow (length spec.now.columns) node.now.cols }
     ensures { OnOk result (text.new.items ≡ text.old.items ++ node_line spec.now node.now) }
 {
-    push_word(text, b"  \"")?;
-    push_word(text, node.name())?;
-    push_word(text, b"\" [label=\"")?;
-    push_word(text, node.name())?;
-    push_word(text, b"\\n{")?;
+    push_bytes(text, b"  \"")?;
+    push_bytes(text, node.name())?;
+    push_bytes(text, b"\" [label=\"")?;
+    push_bytes(text, node.name())?;
+    push_bytes(text, b"\\n{")?;
     push_columns(text, spec, node.cols)?;
-    push_word(text, b"}\"];\n")
+    push_bytes(text, b"}\"];\n")
 }
 
 /// Appends a line for each edge.
@@ -98,11 +99,11 @@ fn push_ends(text: &mut Vec<u8>, spec: &Spec, edge: u8) -> Result<(), Memory>
     ensures { OnOk result (text.new.items ≡ text.old.items ++ ends_text spec.now edge) }
 {
     let drawn = spec.edge(edge);
-    push_word(text, b"  \"")?;
-    push_word(text, spec.nodes.list()[drawn.from as usize].name())?;
-    push_word(text, b"\" -> \"")?;
-    push_word(text, spec.nodes.list()[drawn.to as usize].name())?;
-    push_word(text, b"\" [label=\" ")
+    push_bytes(text, b"  \"")?;
+    push_bytes(text, spec.nodes.list()[drawn.from as usize].name())?;
+    push_bytes(text, b"\" -> \"")?;
+    push_bytes(text, spec.nodes.list()[drawn.to as usize].name())?;
+    push_bytes(text, b"\" [label=\" ")
 }
 
 /// Appends the edge's label.
@@ -118,18 +119,18 @@ fn push_label(
 {
     let spec = accepted.spec();
     let drawn = spec.edge(edge);
-    push_word(text, drawn.name())?;
-    push_word(text, kind_text(drawn.kind))?;
+    push_bytes(text, drawn.name())?;
+    push_bytes(text, container_text(drawn.kind))?;
     push_columns(text, spec, drawn.key)?;
-    push_word(text, b")\\l lock ")?;
-    push_word(text, spec.class(accepted.class_of(edge)).name())?;
-    push_word(text, b"\\l")?;
+    push_bytes(text, b")\\l lock ")?;
+    push_bytes(text, spec.class(accepted.class_of(edge)).name())?;
+    push_bytes(text, b"\\l")?;
     push_reads(text, numbers)
 }
 
-/// The kind of an edge's container in its label.
-fn kind_text(kind: EdgeKind) -> &'static [u8]
-    ensures { result.now ≡ kind_text kind }
+/// The container of an edge in its label.
+fn container_text(kind: EdgeKind) -> &'static [u8]
+    ensures { result.now ≡ container_text kind }
 {
     match kind {
         EdgeKind::Hash => b" hash (",
@@ -146,9 +147,9 @@ fn push_reads(text: &mut Vec<u8>, numbers: &[usize]) -> Result<(), Memory>
     if numbers.is_empty() {
         return Ok(());
     }
-    push_word(text, b" read at")?;
+    push_bytes(text, b" read at")?;
     push_numbers(text, numbers)?;
-    push_word(text, b"\\l")
+    push_bytes(text, b"\\l")
 }
 
 /// Appends numbers, each behind a space.
@@ -156,8 +157,8 @@ fn push_numbers(text: &mut Vec<u8>, numbers: &[usize]) -> Result<(), Memory>
     ensures { OnOk result (text.new.items ≡ text.old.items ++ flat_map number_text numbers.now) }
 {
     for number in numbers {
-        push_word(text, b" ")?;
-        push_number(text, *number)?;
+        push_bytes(text, b" ")?;
+        push_u64(text, *number as u64)?;
     }
     Ok(())
 }
@@ -175,19 +176,19 @@ fn push_style(
 {
     let kind = accepted.spec().edge(edge).kind;
     let colour = colour_of(accepted.class_of(edge));
-    push_word(text, b"\", style=")?;
-    push_word(text, line_text(kind))?;
-    push_word(text, pen_text(kind, numbers))?;
-    push_word(text, b", color=\"")?;
-    push_word(text, colour)?;
-    push_word(text, b"\", fontcolor=\"")?;
-    push_word(text, colour)?;
-    push_word(text, b"\"];\n")
+    push_bytes(text, b"\", style=")?;
+    push_bytes(text, stroke_text(kind))?;
+    push_bytes(text, width_text(kind, numbers))?;
+    push_bytes(text, b", color=\"")?;
+    push_bytes(text, colour)?;
+    push_bytes(text, b"\", fontcolor=\"")?;
+    push_bytes(text, colour)?;
+    push_bytes(text, b"\"];\n")
 }
 
-/// How the line of an edge is drawn.
-fn line_text(kind: EdgeKind) -> &'static [u8]
-    ensures { result.now ≡ line_text kind }
+/// How the arrow of an edge is drawn.
+fn stroke_text(kind: EdgeKind) -> &'static [u8]
+    ensures { result.now ≡ stroke_text kind }
 {
     match kind {
         EdgeKind::Hash => b"solid",
@@ -197,9 +198,9 @@ fn line_text(kind: EdgeKind) -> &'static [u8]
     }
 }
 
-/// How thick the line is, where some statement reads the edge.
-fn pen_text(kind: EdgeKind, numbers: &[usize]) -> &'static [u8]
-    ensures { result.now ≡ pen_text kind numbers.now }
+/// How thick the arrow is, where some statement reads the edge.
+fn width_text(kind: EdgeKind, numbers: &[usize]) -> &'static [u8]
+    ensures { result.now ≡ width_text kind numbers.now }
 {
     if numbers.is_empty() {
         return b"";

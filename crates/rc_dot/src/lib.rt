@@ -1,4 +1,4 @@
-//! Drawings of specifications and of plans, as texts in the language of Graphviz.
+//! Drawings of specifications and of plans, as texts that are meant for Graphviz.
 #![tactic(auto)]
 
 mod drawing;
@@ -7,4 +7,4 @@ mod reading;
 mod tables;
 mod words;
 
-pub use drawing::{print_dot, print_dot_plan};
+pub use drawing::{print_drawing, print_plan_drawing};

@@ -2,19 +2,22 @@
 
 ghost use Rattle.std.specs.Prelude.{◌≡◌, ◌<◌, ◌≤◌, ◌+◌, ◌^◌, ◌++◌, length, OnOk};
 ghost use Rattle.std.specs.List.{flat_map, range_with_len};
-ghost use Rattle.rc_dot.specs.Dot.{broken_byte, class_cell, class_row, classes_head, classes_table, number_line, plan_end, plan_head, plan_middle, stripes_cells, table_end};
+ghost use Rattle.rc_plan.specs.PlanRules.{AreKnown};
+ghost use Rattle.rc_dot.specs.Dot.{class_cell, class_line, classes_head, classes_table, number_line, plan_end, plan_head, plan_lines, plan_middle, plan_table, statement_table_line, stripes_cells, table_end};
 
-use crate::words::{colour_of, push_columns, push_number, push_word};
+use crate::words::{colour_of, push_columns};
+use rc_plan::{Statement, push_statement};
 use rc_spec::{Accepted, Named, Spec, band_start};
+use rc_text::{push_bytes, push_u64};
 use rc_tuple::Memory;
 
 /// Appends the table of the lock classes.
 pub(crate) fn push_classes(text: &mut Vec<u8>, accepted: &Accepted) -> Result<(), Memory>
     ensures { OnOk result (text.new.items ≡ text.old.items ++ classes_table accepted.now) }
 {
-    push_word(text, classes_head())?;
-    push_rows(text, accepted)?;
-    push_word(text, table_end())
+    push_bytes(text, classes_head())?;
+    push_class_lines(text, accepted)?;
+    push_bytes(text, table_end())
 }
 
 /// The head of the table of the lock classes.
@@ -36,21 +39,21 @@ fn table_end() -> &'static [u8]
     b"    </table>>];\n"
 }
 
-/// Appends a row for each class.
-fn push_rows(text: &mut Vec<u8>, accepted: &Accepted) -> Result<(), Memory>
+/// Appends a line for each class.
+fn push_class_lines(text: &mut Vec<u8>, accepted: &Accepted) -> Result<(), Memory>
     ensures { OnOk result (text.new.items ≡ text.old.items
-        ++ flat_map (class_row accepted.now) (range_with_len 0 (length accepted.now.classes))) }
+        ++ flat_map (class_line accepted.now) (range_with_len 0 (length accepted.now.classes))) }
 {
     for class in 0..accepted.spec().classes.list().len() as u8 {
-        push_row(text, accepted, class)?;
+        push_class_line(text, accepted, class)?;
     }
     Ok(())
 }
 
-/// Appends the row of a class.
-fn push_row(text: &mut Vec<u8>, accepted: &Accepted, class: u8) -> Result<(), Memory>
+/// Appends the line of a class.
+fn push_class_line(text: &mut Vec<u8>, accepted: &Accepted, class: u8) -> Result<(), Memory>
     requires { class < length accepted.now.classes }
-    ensures { OnOk result (text.new.items ≡ text.old.items ++ class_row accepted.now class) }
+    ensures { OnOk result (text.new.items ≡ text.old.items ++ class_line accepted.now class) }
 {
     let spec = accepted.spec();
     push_class(text, spec, class)?;
@@ -58,16 +61,16 @@ fn push_row(text: &mut Vec<u8>, accepted: &Accepted, class: u8) -> Result<(), Me
     push_stripes(text, band_start(spec, class), spec.class(class).stripes)
 }
 
-/// Appends the name of a class in its colour.
+/// Appends the name of a class on its colour.
 fn push_class(text: &mut Vec<u8>, spec: &Spec, class: u8) -> Result<(), Memory>
     requires { class < length spec.now.classes }
     ensures { OnOk result (text.new.items ≡ text.old.items ++ class_cell spec.now class) }
 {
-    push_word(text, b"    <tr><td bgcolor=\"")?;
-    push_word(text, colour_of(class))?;
-    push_word(text, b"\"><font color=\"white\">")?;
-    push_word(text, spec.class(class).name())?;
-    push_word(text, b"</font></td><td>(")
+    push_bytes(text, b"    <tr><td bgcolor=\"")?;
+    push_bytes(text, colour_of(class))?;
+    push_bytes(text, b"\"><font color=\"white\">")?;
+    push_bytes(text, spec.class(class).name())?;
+    push_bytes(text, b"</font></td><td>(")
 }
 
 /// Appends how many stripes there are, and the first and the last of the band.
@@ -76,27 +79,31 @@ fn push_stripes(text: &mut Vec<u8>, start: u32, stripes: u32) -> Result<(), Memo
     requires few { start + stripes ≤ 256 }
     ensures { OnOk result (text.new.items ≡ text.old.items ++ stripes_cells start stripes) }
 {
-    push_word(text, b")</td><td>")?;
-    push_number(text, stripes as usize)?;
-    push_word(text, b"</td><td>")?;
-    push_number(text, start as usize)?;
-    push_word(text, b"..")?;
-    push_number(text, (start + stripes - 1) as usize)?;
-    push_word(text, b"</td></tr>\n")
+    push_bytes(text, b")</td><td>")?;
+    push_u64(text, stripes as u64)?;
+    push_bytes(text, b"</td><td>")?;
+    push_u64(text, start as u64)?;
+    push_bytes(text, b"..")?;
+    push_u64(text, (start + stripes - 1) as u64)?;
+    push_bytes(text, b"</td></tr>\n")
 }
 
-/// Appends the table of a plan with so many statements, of its text.
-pub(crate) fn push_plan(text: &mut Vec<u8>, count: usize, printed: &[u8]) -> Result<(), Memory>
-    requires { count < 2 ^ 63 }
-    ensures { OnOk result (text.new.items ≡ text.old.items ++ (plan_head
-        ++ flat_map number_line (range_with_len 1 count) ++ plan_middle
-        ++ flat_map broken_byte printed.now ++ plan_end)) }
+/// Appends the table of an operation's plan.
+pub(crate) fn push_plan(
+    text: &mut Vec<u8>,
+    spec: &Spec,
+    op: u8,
+    plan: &[Statement],
+) -> Result<(), Memory>
+    requires op { op < length spec.now.ops }
+    requires known { AreKnown spec.now plan.now }
+    ensures { OnOk result (text.new.items ≡ text.old.items ++ plan_table spec.now op plan.now) }
 {
-    push_word(text, plan_head())?;
-    push_number_lines(text, count)?;
-    push_word(text, plan_middle())?;
-    push_broken(text, printed)?;
-    push_word(text, plan_end())
+    push_bytes(text, plan_head())?;
+    push_number_lines(text, plan.len())?;
+    push_bytes(text, plan_middle())?;
+    push_plan_lines(text, spec, op, plan)?;
+    push_bytes(text, plan_end())
 }
 
 #[tactic(auto, unfolding(crate::specs::Dot::plan_head))]
@@ -130,29 +137,38 @@ fn push_number_lines(text: &mut Vec<u8>, count: usize) -> Result<(), Memory>
         ++ flat_map number_line (range_with_len 1 count)) }
 {
     for place in 0..count {
-        push_number(text, place + 1)?;
-        push_word(text, b"<br/>\n")?;
+        push_u64(text, (place + 1) as u64)?;
+        push_bytes(text, b"<br/>\n")?;
     }
     Ok(())
 }
 
-/// Appends a text in whose table each line ends before its line feed.
-fn push_broken(text: &mut Vec<u8>, printed: &[u8]) -> Result<(), Memory>
-    ensures { OnOk result (text.new.items ≡ text.old.items ++ flat_map broken_byte printed.now) }
+/// Appends a line with the operation's name, and then one for each statement.
+fn push_plan_lines(
+    text: &mut Vec<u8>,
+    spec: &Spec,
+    op: u8,
+    plan: &[Statement],
+) -> Result<(), Memory>
+    requires op { op < length spec.now.ops }
+    requires known { AreKnown spec.now plan.now }
+    ensures { OnOk result (text.new.items ≡ text.old.items ++ plan_lines spec.now op plan.now) }
 {
-    for byte in printed {
-        push_byte(text, *byte)?;
-    }
-    Ok(())
+    push_bytes(text, b"plan ")?;
+    push_bytes(text, spec.op(op).name())?;
+    push_bytes(text, b"<br/>\n")?;
+    push_statements(text, spec, plan)
 }
 
-/// Appends a byte; before a line feed the table's line ends.
-fn push_byte(text: &mut Vec<u8>, byte: u8) -> Result<(), Memory>
-    ensures { OnOk result (text.new.items ≡ text.old.items ++ broken_byte byte) }
+/// Appends a line for each statement.
+fn push_statements(text: &mut Vec<u8>, spec: &Spec, plan: &[Statement]) -> Result<(), Memory>
+    requires { AreKnown spec.now plan.now }
+    ensures { OnOk result (text.new.items ≡ text.old.items
+        ++ flat_map (statement_table_line spec.now) plan.now) }
 {
-    if byte == b'\n' {
-        return push_word(text, b"<br/>\n");
+    for statement in plan {
+        push_statement(text, spec, statement)?;
+        push_bytes(text, b"<br/>\n")?;
     }
-    text.push(byte)?;
     Ok(())
 }

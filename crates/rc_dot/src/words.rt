@@ -1,29 +1,14 @@
 //! Words of a drawing.
 
-ghost use Rattle.std.specs.Prelude.{◌≡◌, ◌<◌, ◌++◌, length, decimal, OnOk};
+ghost use Rattle.std.specs.Prelude.{◌≡◌, ◌++◌, length, OnOk};
 ghost use Rattle.rc_tuple.specs.RisingSet.{In};
 ghost use Rattle.rc_spec.specs.InRange.{IsSetBelow};
-ghost use Rattle.rc_plan.specs.PlanText.{column_text};
 ghost use Rattle.rc_dot.specs.Dot.{colour_of, columns_text};
 
+use rc_plan::push_column;
 use rc_spec::{Named, Spec};
+use rc_text::push_bytes;
 use rc_tuple::{ColSet, Memory};
-
-/// Appends bytes.
-pub(crate) fn push_word(text: &mut Vec<u8>, word: &[u8]) -> Result<(), Memory>
-    ensures { OnOk result (text.new.items ≡ text.old.items ++ word.now) }
-{
-    text.extend_from_slice(word)?;
-    Ok(())
-}
-
-/// Appends a number's digits.
-pub(crate) fn push_number(text: &mut Vec<u8>, number: usize) -> Result<(), Memory>
-    ensures { OnOk result (text.new.items ≡ text.old.items ++ decimal number) }
-{
-    let digits = format!(in *text.allocator(); "{}", number)?;
-    push_word(text, digits.as_bytes())
-}
 
 /// Appends the names of columns in column order, parted by a space.
 pub(crate) fn push_columns(text: &mut Vec<u8>, spec: &Spec, cols: ColSet) -> Result<(), Memory>
@@ -33,20 +18,11 @@ pub(crate) fn push_columns(text: &mut Vec<u8>, spec: &Spec, cols: ColSet) -> Res
     let Some(first) = cols.nth(0) else {
         return Ok(());
     };
-    push_word(text, spec.columns.list()[first as usize].name())?;
+    push_bytes(text, spec.columns.list()[first as usize].name())?;
     for place in 1..cols.len() {
         push_column(text, spec, cols.nth(place).unwrap())?;
     }
     Ok(())
-}
-
-/// Appends a space and the name of a column.
-fn push_column(text: &mut Vec<u8>, spec: &Spec, col: u8) -> Result<(), Memory>
-    requires { col < length spec.now.columns }
-    ensures { OnOk result (text.new.items ≡ text.old.items ++ column_text spec.now col) }
-{
-    text.push(b' ')?;
-    push_word(text, spec.columns.list()[col as usize].name())
 }
 
 /// The colour of a lock class.

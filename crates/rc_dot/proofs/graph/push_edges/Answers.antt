@@ -1,4 +1,4 @@
-use Rattle.std.proofs.Common.{◌≡◌, ◌∙◌, ◌++◌, ap, arith}
+use Rattle.std.proofs.Common.{◌∙◌, ◌++◌, ap, arith}
 use Rattle.rc_dot.specs.Dot.{drawn_edge, edge_line}
 use Rattle.rc_dot.proofs.DotLemmas.{range_more}
 use Rattle.rc_dot.proofs.graph.push_edges.Goals as goal

@@ -21,7 +21,7 @@ loop-place-init c =
     let below : first < length c.args.spec.now.columns = c.requires.below first (slice_get_in c.args.cols 0 first there) in
     let found : get_or c.args.spec.now.columns first no_column ≡ c.index-list-first.result =
     at_found c.list.result.now c.args.spec.now.columns first no_column c.index-list-first.result c.list.ensures below c.index-list-first.is in
-    c.in_ok-push_word.ensures
+    c.in_ok-push_bytes.ensures.ok
     ∙ ap (λ l. c.args.text.now.items ++ l) (c.name.ensures ∙ ap (λ (k : Column). k.name) (sym found) ∙ sym (first_column c.args.spec.now c.args.cols first there))
 
 pub unwrap-requires : goal.unwrap-requires

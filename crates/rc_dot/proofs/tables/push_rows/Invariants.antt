@@ -1,7 +1,0 @@
-use Rattle.std.proofs.Common.{◌≡◌, ◌++◌}
-use Rattle.std.specs.List.{flat_map, range_with_len}
-use Rattle.rc_dot.specs.Dot.{class_row}
-use Rattle.rc_dot.proofs.tables.push_rows.Given as goal
-
-abbrev pub invariant-loop-class : goal.invariant-loop-class
-invariant-loop-class l = l.text.items ≡ l.fn.text.items ++ flat_map (class_row l.accepted) (range_with_len 0 l.class)
