@@ -1,5 +1,6 @@
 mod SourcesLemmas
 mod ListingLemmas
+mod BesideLemmas
 mod ChangeLemmas
 mod NoteLemmas
 mod PlaceLemmas

@@ -17,7 +17,7 @@ use Rattle.rc_fragment.specs.declared.shape.EdgeShape.{EdgeShape}
 
 -- ---- a tuple has at most 32 pairs
 
-less_lt : (a b : ℕ) → nat_cmp a b ≡ Less → a < b
+pub less_lt : (a b : ℕ) → nat_cmp a b ≡ Less → a < b
 less_lt a b h = grind (arith, nat_tests, h)
 
 -- a rising list of numbers from a on, all below n, has at most n - a of them

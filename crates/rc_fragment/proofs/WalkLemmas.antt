@@ -1,20 +1,18 @@
 -- The rows of an edge, as a walk over its containers gathers them.
-use Rattle.std.specs.Prelude.{◌≡◌, ℕ, ◌+◌, ◌<◌, ◌≤◌, ◌++◌, zero, suc, true, cond, Option, None, Some, List, [], ◌∷◌, map, length}
-use Rattle.std.specs.List.{flat_map, zip}
-use Rattle.std.specs.Ordering.{nat_cmp}
+use Rattle.std.specs.Prelude.{◌≡◌, ℕ, ◌+◌, ◌<◌, ◌≤◌, ◌++◌, zero, suc, Option, None, Some, List, [], ◌∷◌, map, length}
+use Rattle.std.specs.List.{flat_map}
 use Rattle.std.specs.FinMap as fin
 use Rattle.std.specs.FinMap.{find, get-from_entries}
-use Rattle.std.proofs.Common.{refl, sym, ap, subst, ◌∙◌, inl, inr, arith, take, drop, get_or}
+use Rattle.std.proofs.Common.{refl, sym, ap, subst, ◌∙◌, arith, take, drop, get_or}
 use Rattle.std.specs.Map.{keys_of}
 use Rattle.std.proofs.lemmas.List.{append_assoc, drop_more, length-append}
 use Rattle.std.proofs.lemmas.Map.Keys.{IsDistinct-tail}
 use Rattle.std.proofs.Math.Seq.{drop-append_seam, take-append_seam}
-use Rattle.rc_tuple.specs.RisingSet.{In, IsRising}
+use Rattle.rc_tuple.specs.RisingSet.{In}
 use Rattle.rc_tuple.specs.RisingSetLaws.{get_or_in, in_flat_map, flat_map_in, in_map, map_in}
-use Rattle.rc_tuple.specs.Tuple.{Pairs, agrees, cols_of, merge, merged, project}
-use Rattle.rc_tuple.specs.TupleLaws.{Agree, agrees_to, in_merge, in_project, one_pair}
+use Rattle.rc_tuple.specs.Tuple.{Pairs}
 use Rattle.rc_edges.specs.Values.{Values, values_cmp, values_eq}
-use Rattle.rc_edges.specs.EdgeMap.{Counted, HasWidth, Rows, listed}
+use Rattle.rc_edges.specs.EdgeMap.{Counted, HasWidth, Rows}
 use Rattle.rc_edges.specs.ValuesLaws.{values_order}
 use Rattle.rc_maps.specs.HashTable.{entries_of, has_one_column}
 use Rattle.rc_maps.specs.Keyed.{AreApart, by_one, pair_of}
@@ -23,9 +21,9 @@ use Rattle.rc_maps.specs.declared.hash_table.HashTable.{HashTable}
 use Rattle.rc_maps.specs.declared.hash_table.HashTable.TheVariants.{One, Many}
 use Rattle.rc_fragment.specs.Container.{now_in}
 use Rattle.rc_fragment.specs.Listing.{rows_with, IsFiled}
-use Rattle.rc_fragment.specs.RowValues.{HasValues, IsParted, extra_columns, row_from, values_at}
-use Rattle.rc_fragment.specs.RowValuesLaws.{extra_set, extra_within, length_values, zip_from_values}
-use Rattle.rc_fragment.specs.Sources.{Sources, found_at, found_in, sources_of, IsStoredRow}
+use Rattle.rc_fragment.specs.RowValues.{HasValues, IsParted, extra_columns, row_from}
+use Rattle.rc_fragment.specs.RowValuesLaws.{extra_set, extra_within, length_values}
+use Rattle.rc_fragment.specs.Sources.{Sources, found_in, sources_of, IsStoredRow}
 use Rattle.rc_fragment.specs.declared.container.Container.{Container}
 use Rattle.rc_fragment.specs.declared.edge_rows.EdgeRows.{EdgeRows}
 use Rattle.rc_fragment.specs.declared.shape.EdgeShape.{EdgeShape}
@@ -95,34 +93,6 @@ module _ (shape : EdgeShape) (parted : IsParted shape) (row : Pairs) (source key
     keys = ap length (sym v.key_is) ∙ length_values shape.target shape.key row parted.target.rising parted.key.rising parted.key_within v.columns;
     extras = ap length (sym v.extra_is) ∙ length_values shape.target (extra_columns shape) row parted.target.rising (extra_set shape parted).rising (extra_within shape parted) v.columns;
   }
-
-  rising_row : IsRising nat_cmp (cols_of row)
-  rising_row = subst (IsRising nat_cmp) (sym v.columns) parted.target.rising
-
-  -- the pairs of one tuple agree
-  agree_within : (t u : Pairs) → ((p : ℕ × ℕ) → In p t → In p row) → ((p : ℕ × ℕ) → In p u → In p row) → agrees t u ≡ true
-  agree_within t u f g = agrees_to t u (λ p q h k e. one_pair row rising_row p q (f p h) (g q k) e)
-
-  in_source : (p : ℕ × ℕ) → In p (zip shape.source source) → In p row
-  in_source p h = (in_project shape.source p row (subst (In p) (sym (zip_from_values shape.target shape.source source row parted.target.rising parted.source.rising parted.source_within v.columns v.source_is)) h)).0
-
-  in_key : (p : ℕ × ℕ) → In p (zip shape.key key) → In p row
-  in_key p h = (in_project shape.key p row (subst (In p) (sym (zip_from_values shape.target shape.key key row parted.target.rising parted.key.rising parted.key_within v.columns v.key_is)) h)).0
-
-  in_extra : (p : ℕ × ℕ) → In p (zip (extra_columns shape) extra) → In p row
-  in_extra p h =
-      (in_project (extra_columns shape) p row
-      (subst (In p) (sym (zip_from_values shape.target (extra_columns shape) extra row parted.target.rising (extra_set shape parted).rising (extra_within shape parted) v.columns v.extra_is)) h)).0
-
-  pub agree_first : agrees (zip shape.source source) (zip shape.key key) ≡ true
-  agree_first = agree_within (zip shape.source source) (zip shape.key key) in_source in_key
-
-  pub agree_second : agrees (merge (zip shape.source source) (zip shape.key key)) (zip (extra_columns shape) extra) ≡ true
-  agree_second = agree_within (merge (zip shape.source source) (zip shape.key key)) (zip (extra_columns shape) extra)
-      (λ p h. elim (in_merge (zip shape.source source) (zip shape.key key) p h) [ inl a ↦ in_source p a | inr b ↦ in_key p b ]) in_extra
-
-pub merged_of : (t u : Pairs) → agrees t u ≡ true → merged t u ≡ Some (merge t u)
-merged_of t u e = ap (λ b. cond b (Some (merge t u)) None) e
 
 -- ---- rows cut from a flat list
 

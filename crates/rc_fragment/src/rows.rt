@@ -1,7 +1,11 @@
 //! Rows made of the values that are kept of them.
 
-ghost use Rattle.std.specs.Prelude.{◌≡◌, ◌++◌, Some, IfOk, OnOk};
+ghost use Rattle.std.specs.Prelude.{◌≡◌, ◌++◌, Some, IfOk, OnOk, length};
 ghost use Rattle.std.specs.FinMap as fin;
+ghost use Rattle.std.specs.List.{zip};
+ghost use Rattle.rc_tuple.specs.ColSet.{IsColSet};
+ghost use Rattle.rc_tuple.specs.RisingSet.{In};
+ghost use Rattle.rc_tuple.specs.Tuple.{value};
 ghost use Rattle.rc_edges.specs.Values.{Values};
 ghost use Rattle.rc_edges.specs.EdgeMap.{Counted};
 ghost use Rattle.rc_fragment.specs.Container.{now_in};
@@ -10,7 +14,7 @@ ghost use Rattle.rc_fragment.specs.RowValues.{HasValues, IsParted, row_from};
 
 use crate::EdgeShape;
 use crate::container::Container;
-use rc_tuple::{Memory, Tuple, Tuples, Vals};
+use rc_tuple::{ColSet, MAX_COLS, Memory, Tuple, Tuples, Vals};
 use std::alloc::Global;
 
 /// Adds the rows of a source's container at the end of the list, rising by their keys. The scratch
@@ -40,7 +44,7 @@ pub fn push_rows(
     Ok(())
 }
 
-/// The row with these values.
+/// The row with these values. Takes a block for them, and the row's.
 pub fn row_of(
     alloc: Global,
     shape: &EdgeShape,
@@ -52,9 +56,37 @@ pub fn row_of(
     requires values { HasValues shape.now (row_from shape.now source.now key.now extra.now) source.now key.now extra.now }
     ensures { IfOk result (λ row. row ≡ row_from shape.now source.now key.now extra.now) }
 {
-    let source = Tuple::new(shape.source, Vals::from_slice(alloc, source)?)?;
-    let key = Tuple::new(shape.key, Vals::from_slice(alloc, key)?)?;
-    let extra = Tuple::new(shape.extra(), Vals::from_slice(alloc, extra)?)?;
-    let found = source.merge(&key)?.unwrap();
-    Ok(found.merge(&extra)?.unwrap())
+    let mut vals = Vec::with_capacity(alloc, shape.target.len() as usize)?;
+    for col in 0..MAX_COLS {
+        if shape.target.has(col) {
+            vals.push(value_of(shape, source, key, extra, col))?;
+        }
+    }
+    Tuple::new(shape.target, Vals::from_vec(vals))
+}
+
+/// The row's value at a column of its edge's target.
+fn value_of(shape: &EdgeShape, source: &[u64], key: &[u64], extra: &[u64], col: u8) -> u64
+    requires parted { IsParted shape.now }
+    requires values { HasValues shape.now (row_from shape.now source.now key.now extra.now) source.now key.now extra.now }
+    requires there { In col shape.now.target }
+    ensures { result ≡ value (row_from shape.now source.now key.now extra.now) col }
+{
+    if shape.source.has(col) {
+        return value_beside(shape.source, source, col);
+    }
+    if shape.key.has(col) {
+        return value_beside(shape.key, key, col);
+    }
+    value_beside(shape.extra(), extra, col)
+}
+
+/// The value beside the column.
+fn value_beside(cols: ColSet, values: &[u64], col: u8) -> u64
+    requires set { IsColSet cols }
+    requires there { In col cols }
+    requires fits { length values.now ≡ length cols }
+    ensures { result ≡ value (zip cols values.now) col }
+{
+    values[cols.rank(col) as usize]
 }

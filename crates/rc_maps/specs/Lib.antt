@@ -4,6 +4,7 @@ pub mod HashTable
 pub mod Keyed
 pub mod OrderedLaws
 pub mod OrderedTable
+pub mod PushLaws
 pub mod Seed
 pub mod TableEdge
 pub mod TableLaws

@@ -1,16 +1,16 @@
 //! What the tables under an edge's containers have in common.
 
-ghost use Rattle.std.specs.Prelude.{◌≡◌, ◌↔◌, Bool, IsTrue, map, OnOk, OnErr, IfOk, option_copied};
+ghost use Rattle.std.specs.Prelude.{◌≡◌, ◌↔◌, ◌++◌, Bool, IsTrue, map, OnOk, OnErr, IfOk, option_copied};
 ghost use Rattle.std.specs.Borrow.{sem};
 ghost use Rattle.std.specs.List.{All};
 ghost use Rattle.std.specs.Option.{option_copied_mut};
 ghost use Rattle.std.specs.FinMap as fin;
 ghost use Rattle.std.specs.FinMap.{FinMap};
 ghost use Rattle.rc_edges.specs.Values.{Values, values_cmp};
-ghost use Rattle.rc_edges.specs.EdgeMap.{HasWidth};
+ghost use Rattle.rc_edges.specs.EdgeMap.{HasWidth, listed};
 ghost use Rattle.rc_edges.specs.Entry.{rows_in};
 ghost use Rattle.rc_edges.specs.declared.entry.Entry as entry;
-ghost use Rattle.rc_maps.specs.Keyed.{AreApart, IsKeyed, pair_of};
+ghost use Rattle.rc_maps.specs.Keyed.{AreApart, pair_of};
 ghost use Rattle.rc_maps.specs.TableEdge.{lends_entry};
 
 use crate::Keyed;
@@ -57,10 +57,11 @@ pub trait EntryTable: Sized {
         ensures entries { IfOk result (λ all. fin.from_entries (map pair_of all.items) ≡ entries self.now) }
         ensures widths { IfOk result (λ all. All (λ k. HasWidth (one_column self.now) k.key.now) all.items) };
 
-    /// Each entry with its key, rising by the keys.
-    fn rising(&self, alloc: Global) -> Result<Vec<Keyed<'_, Entry>>, Memory>
-        ensures rising { IfOk result (λ all. IsKeyed (map pair_of all.items)) }
-        ensures entries { IfOk result (λ all. fin.from_entries (map pair_of all.items) ≡ entries self.now) };
+    /// Adds for each row now its key and then its extra values at the end of the list, rising by the
+    /// keys. Where memory is wanted the list stays as it was.
+    fn push_rising(&self, alloc: Global, out: &mut Vec<u64>) -> Result<(), Memory>
+        ensures ok { OnOk result (out.new.items ≡ out.old.items ++ listed (rows_in (entries self.now)).now) }
+        ensures err { OnErr result (out.new.items ≡ out.old.items) };
 
     /// How many entries have a row now.
     fn count(&self) -> u64

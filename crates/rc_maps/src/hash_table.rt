@@ -9,7 +9,7 @@ ghost use Rattle.rc_edges.specs.EdgeMap.{HasWidth};
 ghost use Rattle.rc_maps.specs.HashTable.{entries_of, has_one_column, lends_value};
 ghost use Rattle.rc_maps.specs.Keyed.{AreApart, pair_of};
 
-use crate::keyed::{has_row, only};
+use crate::keyed::{add_rows, has_row, only};
 use crate::{EntryTable, Keyed, Seed};
 use rc_edges::Entry;
 use rc_tuple::Memory;
@@ -175,10 +175,10 @@ impl EntryTable for HashTable<Entry> {
         self.keyed(alloc)
     }
 
-    fn rising(&self, alloc: Global) -> Result<Vec<Keyed<'_, Entry>>, Memory> {
+    fn push_rising(&self, alloc: Global, out: &mut Vec<u64>) -> Result<(), Memory> {
         let mut all = self.keyed(alloc)?;
         all.sort_unstable_by(|keyed, other| keyed.key.cmp(&other.key));
-        Ok(all)
+        add_rows(&all, out)
     }
 
     fn count(&self) -> u64 {

@@ -1,15 +1,16 @@
 //! An ordered table whose keys are lists of values.
 
-ghost use Rattle.std.specs.Prelude.{◌≡◌, ◌↔◌, IsTrue, map, IfOk, OnOk, OnErr, option_copied};
+ghost use Rattle.std.specs.Prelude.{◌≡◌, ◌↔◌, ◌++◌, IsTrue, map, length, take, IfOk, OnOk, OnErr, option_copied};
 ghost use Rattle.std.specs.List.{All};
 ghost use Rattle.std.specs.Borrow.{sem};
 ghost use Rattle.std.specs.Option.{option_copied_mut};
 ghost use Rattle.std.specs.FinMap as fin;
-ghost use Rattle.rc_edges.specs.EdgeMap.{HasWidth};
+ghost use Rattle.rc_edges.specs.EdgeMap.{HasWidth, listed};
+ghost use Rattle.rc_edges.specs.Entry.{rows_in};
 ghost use Rattle.rc_maps.specs.OrderedTable.{entries_of, has_one_column, lends_value};
 ghost use Rattle.rc_maps.specs.Keyed.{IsKeyed, pair_of};
 
-use crate::keyed::{has_row, only};
+use crate::keyed::{has_row, only, push_row};
 use crate::{EntryTable, Keyed};
 use rc_edges::Entry;
 use rc_tuple::Memory;
@@ -146,6 +147,32 @@ impl<V> OrderedTable<V> {
     }
 }
 
+impl OrderedTable<Entry> {
+    /// Adds each row's key and extra values at the end, rising by the keys; where memory is wanted
+    /// some may have been added. Takes no memory but the list's.
+    fn push_rows(&self, out: &mut Vec<u64>) -> Result<(), Memory>
+        ensures ok { OnOk result (out.new.items ≡ out.old.items ++ listed (rows_in (entries_of self.now)).now) }
+        ensures err { OnErr result (take (length out.old.items) out.new.items ≡ out.old.items) }
+    {
+        match self {
+            OrderedTable::One(map) => {
+                out.reserve(map.len())?;
+                for (key, entry) in map {
+                    push_row(slice::from_ref(key), entry, out)?;
+                }
+            }
+            OrderedTable::Many(map, _) => {
+                // A key has two values at least, but for the only one of an edge with none.
+                out.reserve(map.len().saturating_mul(2))?;
+                for (key, entry) in map {
+                    push_row(key.as_slice(), entry, out)?;
+                }
+            }
+        }
+        Ok(())
+    }
+}
+
 impl EntryTable for OrderedTable<Entry> {
     ghost entries = { entries_of };
 
@@ -175,8 +202,15 @@ impl EntryTable for OrderedTable<Entry> {
         self.keyed(alloc)
     }
 
-    fn rising(&self, alloc: Global) -> Result<Vec<Keyed<'_, Entry>>, Memory> {
-        self.keyed(alloc)
+    fn push_rising(&self, _alloc: Global, out: &mut Vec<u64>) -> Result<(), Memory> {
+        let len = out.len();
+        match self.push_rows(out) {
+            Ok(()) => Ok(()),
+            Err(memory) => {
+                out.truncate(len);
+                Err(memory)
+            }
+        }
     }
 
     fn count(&self) -> u64 {

@@ -4,7 +4,6 @@ ghost use Rattle.std.specs.Prelude.{◌≡◌, IfOk};
 ghost use Rattle.rc_edges.specs.EdgeMap.{HasWidth};
 ghost use Rattle.rc_maps.specs.TableEdge.{none_of};
 
-use crate::keyed::add_rows;
 use crate::{EntryTable, HashTable, OrderedTable, Seed};
 use rc_edges::{EdgeMap, Entry};
 use rc_tuple::Memory;
@@ -26,7 +25,8 @@ pub struct TableEdge<T: EntryTable> {
 pub type HashEdge = TableEdge<HashTable<Entry>>;
 
 /// A container over a search tree, in the order of keys. It suits an edge with many keys at a row of
-/// its source whose rows are often listed. `copy` costs O(n log n) for n entries.
+/// its source whose rows are often listed: `scan` walks the tree, and takes no memory but the list's.
+/// `copy` costs O(n log n) for n entries.
 pub type OrderedEdge = TableEdge<OrderedTable<Entry>>;
 
 impl<T: EntryTable> Model for TableEdge<T> {
@@ -133,8 +133,7 @@ impl<T: EntryTable + Drop> EdgeMap for TableEdge<T> {
     }
 
     fn scan(&self, out: &mut Vec<u64>) -> Result<(), Memory> {
-        let rows = self.table.rising(self.alloc)?;
-        add_rows(&rows, out)
+        self.table.push_rising(self.alloc, out)
     }
 
     fn len(&self) -> u64 {

@@ -1,58 +1,45 @@
-use Rattle.std.proofs.Common.{◌≡◌, Some, refl, sym, ap, subst, ◌∙◌}
-use Rattle.std.specs.Prelude.{IsSome, length}
+use Rattle.std.proofs.Common.{◌≡◌, ◌∷◌, [], ◌++◌, ℕ, true, sym, ap, subst, ◌∙◌, arith}
 use Rattle.std.specs.List.{zip}
-use Rattle.rc_edges.specs.Values.{Values}
-use Rattle.rc_tuple.specs.Tuple.{Pairs, merge, merged}
-use Rattle.rc_fragment.specs.RowValues.{extra_columns, row_from}
+use Rattle.std.specs.Prelude.{IfOk}
+use Rattle.rc_tuple.specs.ColSet.{has}
+use Rattle.rc_tuple.specs.RisingSetLaws.{in_has}
+use Rattle.rc_tuple.specs.Tuple.{Pairs}
+use Rattle.rc_fragment.specs.RowValues.{row_from}
 use Rattle.rc_fragment.specs.declared.shape.EdgeShape.{EdgeShape}
-use Rattle.rc_fragment.proofs.WalkLemmas.{AreWide, agree_first, agree_second, merged_of, wide}
+use Rattle.rc_fragment.proofs.BesideLemmas.{below_all, below_with, below_without, length_all, values_below}
 use Rattle.rc_fragment.proofs.rows.row_of.Goals as goal
+use Rattle.rc_fragment.proofs.rows.row_of.Goals.{then-has+in_ok-push, else-has}
+
+pub value_of-requires-clause-there : goal.value_of-requires-clause-there
+value_of-requires-clause-there c = in_has c.args.shape.now.target c.loop-col.col (sym c.has.ensures.found ∙ c.if-has.true)
+
+pub loop-col-preserved : goal.loop-col-preserved
+loop-col-preserved c =
+    let shape : EdgeShape = c.args.shape.now in
+    let row : Pairs = (row_from c.args.shape.now c.args.source.now c.args.key.now c.args.extra.now) in
+    let col : ℕ = c.loop-col.col in
+    elim c.if-has.branch [
+      | then-has+in_ok-push w ↦
+          let there : has shape.target col ≡ true = sym c.has.ensures.found ∙ w.if-has.true in
+          ap (λ v. v.items) w.vals-is ∙ w.in_ok-push.ensures.items
+          ∙ (λ i. c.loop-col.invariant i ++ w.value_of.ensures i ∷ [])
+          ∙ below_with shape.target row c.requires.parted.target c.requires.values.columns col there (in_has shape.target col there)
+      | else-has w ↦
+          ap (λ v. v.items) w.vals-is ∙ c.loop-col.invariant ∙ below_without shape.target row c.requires.parted.target c.requires.values.columns col (sym c.has.ensures.found ∙ w.if-has.false)
+    ]
 
 pub new-requires : goal.new-requires
 new-requires c =
     let shape : EdgeShape = c.args.shape.now in
-    let w : AreWide shape c.args.source.now c.args.key.now c.args.extra.now =
-    wide shape c.requires.parted (row_from shape c.args.source.now c.args.key.now c.args.extra.now) c.args.source.now c.args.key.now c.args.extra.now c.requires.values in
-    ap length c.in_ok-from_slice.ensures ∙ w.sources
+    let row : Pairs = (row_from c.args.shape.now c.args.source.now c.args.key.now c.args.extra.now) in
+    let end : c.loop-col.col ≡ 32 = omega arith in
+    length_all shape.target row c.requires.parted.target c.requires.values.columns c.from_vec.result (c.from_vec.ensures ∙ c.loop-col.invariant ∙ ap (values_below shape.target row) end)
 
-pub new-requires-2 : goal.new-requires-2
-new-requires-2 c =
+pub returns : goal.returns
+returns c =
     let shape : EdgeShape = c.args.shape.now in
-    let w : AreWide shape c.args.source.now c.args.key.now c.args.extra.now =
-    wide shape c.requires.parted (row_from shape c.args.source.now c.args.key.now c.args.extra.now) c.args.source.now c.args.key.now c.args.extra.now c.requires.values in
-    ap length c.in_ok-from_slice-2.ensures ∙ w.keys
-
-pub new-requires-3 : goal.new-requires-3
-new-requires-3 c =
-    let shape : EdgeShape = c.args.shape.now in
-    let w : AreWide shape c.args.source.now c.args.key.now c.args.extra.now =
-    wide shape c.requires.parted (row_from shape c.args.source.now c.args.key.now c.args.extra.now) c.args.source.now c.args.key.now c.args.extra.now c.requires.values in
-    ap length c.in_ok-from_slice-3.ensures ∙ w.extras ∙ ap length (sym c.extra.ensures.columns)
-
-pub unwrap-found-requires : goal.unwrap-found-requires
-unwrap-found-requires c =
-    let shape : EdgeShape = c.args.shape.now in
-    let t : Pairs = zip shape.source c.args.source.now in
-    let u : Pairs = zip shape.key c.args.key.now in
-    let s : c.in_ok-source.source ≡ t = c.in_ok-source.ensures ∙ ap (zip shape.source) c.in_ok-from_slice.ensures in
-    let k : c.in_ok-key.key ≡ u = c.in_ok-key.ensures ∙ ap (zip shape.key) c.in_ok-from_slice-2.ensures in
-    let m : c.in_ok-merge.field-0 ≡ Some (merge t u) = c.in_ok-merge.ensures ∙ (λ i. merged (s i) (k i))
-    ∙ merged_of t u (agree_first shape c.requires.parted (row_from shape c.args.source.now c.args.key.now c.args.extra.now) c.args.source.now c.args.key.now c.args.extra.now c.requires.values) in
-    subst IsSome (sym m) refl
-
-pub unwrap-requires : goal.unwrap-requires
-unwrap-requires c =
-    let shape : EdgeShape = c.args.shape.now in
-    let t : Pairs = zip shape.source c.args.source.now in
-    let u : Pairs = zip shape.key c.args.key.now in
-    let v : Pairs = zip (extra_columns shape) c.args.extra.now in
-    let s : c.in_ok-source.source ≡ t = c.in_ok-source.ensures ∙ ap (zip shape.source) c.in_ok-from_slice.ensures in
-    let k : c.in_ok-key.key ≡ u = c.in_ok-key.ensures ∙ ap (zip shape.key) c.in_ok-from_slice-2.ensures in
-    let x : c.in_ok-extra.extra ≡ v = c.in_ok-extra.ensures ∙ (λ i. zip (c.extra.ensures.columns i) (c.in_ok-from_slice-3.ensures i)) in
-    let m : c.in_ok-merge.field-0 ≡ Some (merge t u) = c.in_ok-merge.ensures ∙ (λ i. merged (s i) (k i))
-    ∙ merged_of t u (agree_first shape c.requires.parted (row_from shape c.args.source.now c.args.key.now c.args.extra.now) c.args.source.now c.args.key.now c.args.extra.now c.requires.values) in
-    let q : Some c.unwrap-found.result ≡ Some (merge t u) = sym c.unwrap-found.ensures ∙ m in
-    let f : c.unwrap-found.result ≡ merge t u = cc in
-    let n : c.in_ok-merge-2.field-0 ≡ Some (merge (merge t u) v) = c.in_ok-merge-2.ensures ∙ (λ i. merged (f i) (x i))
-    ∙ merged_of (merge t u) v (agree_second shape c.requires.parted (row_from shape c.args.source.now c.args.key.now c.args.extra.now) c.args.source.now c.args.key.now c.args.extra.now c.requires.values) in
-    subst IsSome (sym n) refl
+    let row : Pairs = (row_from c.args.shape.now c.args.source.now c.args.key.now c.args.extra.now) in
+    let end : c.loop-col.col ≡ 32 = omega arith in
+    let e : zip shape.target c.from_vec.result ≡ row =
+    below_all shape.target row c.requires.parted.target c.requires.values.columns c.from_vec.result (c.from_vec.ensures ∙ c.loop-col.invariant ∙ ap (values_below shape.target row) end) in
+    subst (λ z. IfOk c.new.result (λ t. t ≡ z)) e c.new.ensures
