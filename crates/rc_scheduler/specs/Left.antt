@@ -1,0 +1,50 @@
+-- That a process which was spawned, and not taken, is left.
+use Rattle.std.specs.Prelude.{◌≡◌, ℕ, ◌<◌, true, List, [], ◌∷◌, Some}
+use Rattle.std.specs.List.{slice_get}
+use Rattle.rc_tuple.specs.RisingSet.{In}
+use Rattle.rc_tuple.specs.Tuple.{Pairs}
+use Rattle.rc_spec.specs.declared.call.Call.{Call}
+use Rattle.rc_spec.specs.declared.call.Reply.TheVariants.{Inserted, Removed}
+use Rattle.rc_rel.specs.declared.entry.Entry.{Entry}
+use Rattle.rc_rel.specs.declared.entry.Placed.{Placed}
+use Rattle.rc_rel.specs.declared.entry.Step.{Step}
+use Rattle.rc_row.specs.Passes.{PassSeen, core_of}
+use Rattle.rc_store.specs.Store.{StoreSeen}
+use Rattle.rc_embed.specs.declared.session.Position.{Position}
+use Rattle.rc_embed.specs.declared.session.State.TheVariants.{Idle}
+use Rattle.rc_embed.specs.Session.{HasCalled, SessionSeen, call_in}
+use Rattle.rc_scheduler.specs.declared.processes.Process.{Process}
+use Rattle.rc_scheduler.specs.Processes.{HasSpawned, IsLeft, process_values}
+
+-- the entry is of one call, an insert that added its tuple
+abbrev pub IsInsertOf : Call → Entry → Type 0
+IsInsertOf call e = e.steps ≡ record { call = call; reply = Inserted } ∷ []
+
+-- no step of the entry takes the tuple out
+abbrev pub KeepsTuple : Pairs → Entry → Type 0
+KeepsTuple t e = (s : Step) → In s e.steps → s.reply ≡ Removed t → ⊥
+
+-- a call that spawned a process stands, at its place, among the entries of its session's pass
+abbrev pub SpawnsStand : Type 0
+SpawnsStand = (old new : SessionSeen) (op : ℕ) (process : Process)
+    (h : HasSpawned old op process true new)
+    → (pass : PassSeen) × (e : Entry) × (new.state ≡ Idle pass)
+    × In (record { place = h.at.place; entry = e }) (core_of pass).own
+    × IsInsertOf (call_in old op (process_values process)) e
+
+-- what stands among the entries of a session's pass stays there through a call
+abbrev pub CallsKeepEntries : Type 0
+CallsKeepEntries = (old new : SessionSeen) (op : ℕ) (values : List ℕ) (at : Position)
+    (h : HasCalled old op values new at)
+    → (w : Placed) → In w (core_of h.before).own → In w (core_of h.after).own
+
+-- a tuple that an entry of a pass inserted, and that no later entry of the history took out, is
+-- left
+abbrev pub SpawnedAreLeft : Type 0
+SpawnedAreLeft = (store : StoreSeen) (passes : List PassSeen) (left : List Pairs)
+    (h : IsLeft store passes left)
+    → (k : ℕ) (pass : PassSeen) → slice_get passes k ≡ Some pass
+    → (w : Placed) (call : Call) → In w (core_of pass).own → IsInsertOf call w.entry
+    → ((j : ℕ) (e : Entry) → w.place < j → slice_get h.is.history j ≡ Some e
+    → KeepsTuple call.args e)
+    → In call.args left

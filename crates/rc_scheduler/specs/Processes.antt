@@ -1,0 +1,48 @@
+-- Processes, and what calls make of them.
+use Rattle.std.specs.Prelude.{◌≡◌, ◌↔◌, ℕ, Bool, true, false, List, [], ◌∷◌, Some, codes}
+use Rattle.rc_tuple.specs.Tuple.{Pairs}
+use Rattle.rc_spec.specs.declared.call.Reply.TheVariants.{Inserted, Removed}
+use Rattle.rc_spec.specs.declared.spec.Spec.{Spec}
+use Rattle.rc_spec.specs.Names.{op_names}
+use Rattle.rc_reader.specs.Names.{number_among}
+use Rattle.rc_rel.specs.History.{replay}
+use Rattle.rc_row.specs.Passes.{PassSeen, spec_of}
+use Rattle.rc_store.specs.Closed.{ClosedSeen, HasClosed}
+use Rattle.rc_store.specs.Store.{StoreSeen}
+use Rattle.rc_embed.specs.declared.session.Position.{Position}
+use Rattle.rc_embed.specs.Session.{HasCalled, SessionSeen}
+use Rattle.rc_scheduler.specs.declared.processes.Process.{Process}
+use Rattle.rc_scheduler.specs.declared.work.Operations.{Operations}
+
+-- its values, in the order of the columns
+abbrev pub process_values : Process → List ℕ
+process_values process = process.ns ∷ process.pid ∷ process.state ∷ process.cpu ∷ []
+
+-- The session has made the call of the operation with the process's values, and it is new exactly
+-- where that is what was answered.
+pub record HasSpawned (old : SessionSeen) (op : ℕ) (process : Process) (is_new : Bool)
+    (new : SessionSeen) : Type 0 where
+  pub at : Position
+  pub called : HasCalled old op (process_values process) new at
+  pub told : is_new ≡ true ↔ new.last ≡ Some Inserted
+
+-- The session has made the call of the operation with the name, and the process was there exactly
+-- where a tuple was taken out.
+pub record HasTaken (old : SessionSeen) (op : ℕ) (name : List ℕ) (is_there : Bool)
+    (new : SessionSeen) : Type 0 where
+  pub at : Position
+  pub called : HasCalled old op name new at
+  pub told : is_there ≡ true ↔ (t : Pairs) × (new.last ≡ Some (Removed t))
+
+-- the operations of these names have these numbers
+pub record HasNumbers (spec : Spec) (operations : Operations) : Type 0 where
+  pub spawn : Some operations.spawn ≡ number_among (op_names spec.ops) (codes "spawn")
+  pub take : Some operations.take ≡ number_among (op_names spec.ops) (codes "take")
+  pub queue : Some operations.queue ≡ number_among (op_names spec.ops) (codes "queue")
+
+-- These are the processes that a closed store leaves: they are the relation after its history, in
+-- which the entries of each pass are its own.
+pub record IsLeft (store : StoreSeen) (passes : List PassSeen) (left : List Pairs) : Type 0 where
+  pub closed : ClosedSeen
+  pub is : HasClosed store passes closed
+  pub rows : left ≡ replay (spec_of store.row) is.history
