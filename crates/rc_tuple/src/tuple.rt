@@ -86,17 +86,14 @@ impl Tuple {
         get_pair(&self.pairs, col)
     }
 
-    /// The tuple over those of its columns that the set has.
+    /// The tuple over those of its columns that the set has. Costs one block, with room for as many pairs as this
+    /// tuple has.
     pub fn project(&self, cols: ColSet) -> Result<Tuple, Memory>
         ensures { IfOk result (λ t. t ≡ project cols self.now) }
     {
-        let mut pairs = Vec::new(self.alloc());
-        for pair in &self.pairs {
-            if cols.has(pair.0) {
-                pairs.push(*pair)?;
-            }
-        }
-        Ok(Tuple { pairs })
+        let mut out = Tuple::empty(self.alloc());
+        self.project_into(cols, &mut out)?;
+        Ok(out)
     }
 
     /// Makes the other tuple the one over those of this one's columns that the set has. Memory is taken only where the
