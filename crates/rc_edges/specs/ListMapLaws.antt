@@ -391,16 +391,11 @@ rows_next items n i l e =
     ap rows_of (take_more items n i l) ∙ rows_of-append (take n items) (slice_index_or items n i ∷ [])
     ∙ ap (λ (z : Values × Entry). rows_of (take n items) ++ rows_of (z ∷ [])) (sym e)
 
--- rows pushed so far, with one more
-pub rows_pushed : (before all : Values) (items : Items) (n : ℕ) (i : Values × Entry) (extra : Values) → all ≡ before ++ rows_of (take n items) → n < length items → i ≡ slice_index_or items n i
-    → Some extra ≡ extra_of (now_of i.1) → ((all ++ i.0) ++ extra) ≡ before ++ rows_of (take (n + 1) items)
-rows_pushed before all items n i extra is l e h =
-    append_assoc all i.0 extra ∙ ap (λ z. z ++ (i.0 ++ extra)) is ∙ append_assoc before (rows_of (take n items)) (i.0 ++ extra)
-    ∙ ap (λ z. before ++ z) (ap (λ z. rows_of (take n items) ++ z) (sym (one_row i extra h)) ∙ sym (rows_next items n i l e))
-
-pub rows_same : (items : Items) (n : ℕ) (i : Values × Entry) → n < length items → i ≡ slice_index_or items n i → None ≡ extra_of (now_of i.1)
-    → rows_of (take (n + 1) items) ≡ rows_of (take n items)
-rows_same items n i l e h = rows_next items n i l e ∙ ap (λ z. rows_of (take n items) ++ z) (no_row i h) ∙ append-nil (rows_of (take n items))
+-- rows pushed so far, with one item more
+pub rows_pushed : (before all new : Values) (items : Items) (n : ℕ) (i : Values × Entry) → all ≡ before ++ rows_of (take n items) → new ≡ all ++ rows_of (i ∷ []) → n < length items → i ≡ slice_index_or items n i
+    → new ≡ before ++ rows_of (take (n + 1) items)
+rows_pushed before all new items n i is next l e =
+    next ∙ ap (λ z. z ++ rows_of (i ∷ [])) is ∙ append_assoc before (rows_of (take n items)) (rows_of (i ∷ [])) ∙ ap (λ z. before ++ z) (sym (rows_next items n i l e))
 
 -- rows counted so far, with one item more
 pub count_next : (items : Items) (n : ℕ) (i : Values × Entry) (o : Option Values) → n < length items → i ≡ slice_index_or items n i → o ≡ extra_of (now_of i.1)

@@ -1,8 +1,10 @@
 //! What a container keeps at a key.
 
-ghost use Rattle.std.specs.Prelude.{◌≡◌, ◌+◌, ◌<◌, ◌^◌, OnOk, OnErr, IfOk, Some, None, option_copied};
+ghost use Rattle.std.specs.Prelude.{◌≡◌, ◌+◌, ◌<◌, ◌≤◌, ◌^◌, ◌++◌, ◌∷◌, [], length, OnOk, OnErr, IfOk, Some, None, option_copied};
+ghost use Rattle.std.specs.Vec.{vec_len, vec_capacity};
 ghost use Rattle.rc_edges.specs.EdgeMap.{HasExtra, count_of, extra_of, lowered};
 ghost use Rattle.rc_edges.specs.Entry.{now_of, taken_of, is_gone};
+ghost use Rattle.rc_edges.specs.ListMap.{rows_of};
 
 use rc_tuple::{Memory, Vals};
 use std::alloc::Global;
@@ -95,6 +97,21 @@ impl Entry {
         }
     }
 
+    /// Adds the key and then the row's extra values at the end of the list, if there is a row now.
+    /// Room is made once for both, so that where memory is wanted the list stays as it was.
+    pub fn push_row(&self, key: &[u64], out: &mut Vec<u64>) -> Result<(), Memory>
+        ensures ok { OnOk result (out.new.items ≡ out.old.items ++ rows_of ((key.now, self.now) ∷ [])) }
+        ensures err { OnErr result (out.new.items ≡ out.old.items) }
+    {
+        let Some(extra) = self.extra() else {
+            return Ok(());
+        };
+        out.reserve(key.len() + extra.len())?;
+        push_values(key, out);
+        push_values(extra, out);
+        Ok(())
+    }
+
     /// Whether there is no row, neither now nor as taken.
     pub fn is_gone(&self) -> bool
         ensures { result ≡ is_gone self.now }
@@ -124,5 +141,18 @@ fn copy_of(values: &Option<Vals>) -> Result<Option<Vals>, Memory>
     match values {
         Some(values) => Ok(Some(values.copy()?)),
         None => Ok(None),
+    }
+}
+
+/// Adds the values at the end of the list, where there is room for them. They are one or none in
+/// most calls, for which a loop costs less than a copy of a block.
+fn push_values(values: &[u64], out: &mut Vec<u64>)
+    requires { vec_len out.old + length values.now ≤ vec_capacity out.old }
+    ensures items { out.new.items ≡ out.old.items ++ values.now }
+    ensures len { vec_len out.new ≡ vec_len out.old + length values.now }
+    ensures capacity { vec_capacity out.new ≡ vec_capacity out.old }
+{
+    for value in values {
+        out.push_reserved(*value);
     }
 }

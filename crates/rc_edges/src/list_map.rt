@@ -198,11 +198,7 @@ pub(crate) fn push_rows(items: &[(Key, Entry)], out: &mut Vec<u64>) -> Result<()
     ensures err { OnErr result (take (length out.old.items) out.new.items ≡ out.old.items) }
 {
     for item in items {
-        let Some(extra) = item.1.extra() else {
-            continue;
-        };
-        out.extend_from_slice(item.0.values())?;
-        out.extend_from_slice(extra)?;
+        item.1.push_row(item.0.values(), out)?;
     }
     Ok(())
 }

@@ -1,8 +1,7 @@
 //! The container of a singleton.
 
-ghost use Rattle.std.specs.Prelude.{◌≡◌, ◌++◌, ◌∷◌, [], false, OnOk, OnErr};
+ghost use Rattle.std.specs.Prelude.{◌≡◌, false};
 ghost use Rattle.rc_edges.specs.EdgeMap.{HasNoOther, nothing};
-ghost use Rattle.rc_edges.specs.ListMap.{rows_of};
 ghost use Rattle.rc_edges.specs.OneMap.{IsHeld, kept_at};
 
 use crate::{EdgeMap, Entry, Key, ListMap};
@@ -157,7 +156,7 @@ impl EdgeMap for OneMap {
                 let Some((key, entry)) = one else {
                     return Ok(());
                 };
-                push_row(key, entry, out)
+                entry.push_row(key.values(), out)
             }
         }
     }
@@ -222,22 +221,4 @@ fn tidy(place: &mut Place)
             }
         }
     }
-}
-
-/// Adds the row's key and extra values at the end of the list, if the entry has a row now. Where
-/// memory is wanted the list stays as it was.
-fn push_row(key: &Key, entry: &Entry, out: &mut Vec<u64>) -> Result<(), Memory>
-    ensures ok { OnOk result (out.new.items ≡ out.old.items ++ rows_of ((key.now, entry.now) ∷ [])) }
-    ensures err { OnErr result (out.new.items ≡ out.old.items) }
-{
-    let Some(extra) = entry.extra() else {
-        return Ok(());
-    };
-    let len = out.len();
-    out.extend_from_slice(key.values())?;
-    if out.extend_from_slice(extra).is_err() {
-        out.truncate(len);
-        return Err(Memory);
-    }
-    Ok(())
 }

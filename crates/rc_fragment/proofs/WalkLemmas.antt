@@ -150,4 +150,4 @@ width_there (One table) s x h =
     let m : In (s, x) (by_one table.entries) = find_in s (by_one table.entries) x (sym (get-from_entries values_order.total (by_one table.entries) s) ∙ h) in
     let e = in_map (λ (e : ℕ × _). (e.0 ∷ [], e.1)) (s, x) table.entries m in
     ap (λ (z : Values × _). length z.0) e.2
-width_there (Many table alloc) s x h = tt
+width_there (Many pairs others alloc) s x h = tt

@@ -1,11 +1,11 @@
 -- What a hash table keeps.
-use Rattle.std.specs.Prelude.{◌≡◌, Bool, true, false, Option}
+use Rattle.std.specs.Prelude.{◌≡◌, Bool, true, false, Option, ◌++◌}
 use Rattle.std.specs.Borrow.{LendsSo, MutBor, Fml, RattleType}
 use Rattle.std.specs.Option.{OnSome}
 use Rattle.std.specs.FinMap as fin
 use Rattle.std.specs.FinMap.{FinMap}
 use Rattle.rc_edges.specs.Values.{Values, values_cmp}
-use Rattle.rc_maps.specs.Keyed.{by_one, by_many}
+use Rattle.rc_maps.specs.Keyed.{by_many, by_one, by_pair}
 use Rattle.rc_maps.specs.declared.hash_table.HashTable.{HashTable}
 use Rattle.rc_maps.specs.declared.hash_table.HashTable.TheVariants.{One, Many}
 use Rattle.rc_maps.specs.contracts.hash_table.HashTable.{the_row}
@@ -13,12 +13,12 @@ use Rattle.rc_maps.specs.contracts.hash_table.HashTable.{the_row}
 -- the values by their keys
 abbrev pub entries_of : {X : Type 0} → HashTable X → FinMap values_cmp X
 entries_of (One table) = fin.from_entries (by_one table.entries)
-entries_of (Many table alloc) = fin.from_entries (by_many table.entries)
+entries_of (Many pairs others alloc) = fin.from_entries (by_pair pairs.map.entries ++ by_many others.map.entries)
 
 -- whether only keys of one column are taken
 abbrev pub has_one_column : {X : Type 0} → HashTable X → Bool
 has_one_column (One table) = true
-has_one_column (Many table alloc) = false
+has_one_column (Many pairs others alloc) = false
 
 -- the table has this value at the key, and else what the old one has
 pub record IsSet {X : Type 0} (old new : HashTable X) (key : Values) (x : X) : Type 0 where

@@ -1,11 +1,17 @@
 pub mod EntryLaws
 pub mod HashLaws
 pub mod HashTable
+pub mod KeyLengths
 pub mod Keyed
 pub mod OrderedLaws
 pub mod OrderedTable
+pub mod OtherKeys
+pub mod PairKeys
 pub mod PushLaws
+pub mod Raised
+pub mod RaisedLaws
 pub mod Seed
+pub mod SplitLaws
 pub mod TableEdge
 pub mod TableLaws
 pub mod WalkLaws

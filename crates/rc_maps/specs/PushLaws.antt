@@ -3,7 +3,7 @@ use Rattle.std.specs.Prelude.{◌≡◌, ℕ, ◌+◌, ◌<◌, ◌≤◌, Resul
 use Rattle.std.specs.List.{flat_map}
 use Rattle.std.specs.FinMap as fin
 use Rattle.std.proofs.Common.{sym, ap, ◌∙◌, arith}
-use Rattle.std.proofs.lemmas.List.{append_assoc, append-nil, length-append, take-append-le, take-take, take_all, take_more, map-append}
+use Rattle.std.proofs.lemmas.List.{append_assoc, append-nil, take-append-le, take_all, take_more, map-append}
 use Rattle.std.proofs.lemmas.List.Concat.{flat_map-append}
 use Rattle.std.proofs.lemmas.List.Elements.{filter_map-append}
 use Rattle.std.specs.Option.{option_map}
@@ -24,13 +24,11 @@ rows-append items more =
     ap (flat_map line) (filter_map-append (λ (e : Values × Entry). option_map (λ (y : Counted). (e.0, y)) (now_of e.1)) items more)
     ∙ flat_map-append line (parts now_of items) (parts now_of more)
 
--- what stands behind a list stands behind its beginning
-pub kept_before : (old more now new : Values) → now ≡ old ++ more → take (length now) new ≡ now → take (length old) new ≡ old
+-- a list that stays, and was another with more behind it, begins with that other
+pub kept_before : (old more now new : Values) → now ≡ old ++ more → new ≡ now → take (length old) new ≡ old
 kept_before old more now new is kept =
-    let n : length now ≡ length old + length more = ap length is ∙ length-append old more in
-    let m : length old ≤ length now = omega (arith, n) in
     let l : length old ≤ length old = omega arith in
-    sym (take-take (length old) (length now) new m) ∙ ap (take (length old)) (kept ∙ is) ∙ take-append-le (length old) old more l ∙ take_all (length old) old l
+    ap (take (length old)) (kept ∙ is) ∙ take-append-le (length old) old more l ∙ take_all (length old) old l
 
 -- ---- a walk by places
 
@@ -56,7 +54,7 @@ IsPushed-next all left e old now new h next = record {
   added = next ∙ ap (λ z. z ++ rows_of (e ∷ [])) h.added ∙ append_assoc old (rows_of h.walked) (rows_of (e ∷ [])) ∙ ap (λ z. old ++ z) (sym (rows-append h.walked (e ∷ [])));
 }
 
-pub IsPushed-kept : (all left : Items) (old now new : Values) → IsPushed all left old now → take (length now) new ≡ now → take (length old) new ≡ old
+pub IsPushed-kept : (all left : Items) (old now new : Values) → IsPushed all left old now → new ≡ now → take (length old) new ≡ old
 IsPushed-kept all left old now new h kept = kept_before old (rows_of h.walked) now new h.added kept
 
 pub IsPushed-all : (all : Items) (old now : Values) → IsPushed all [] old now → IsKeyed all → now ≡ old ++ listed (rows_in (fin.from_entries all)).now

@@ -1,16 +1,17 @@
 //! What the tables under an edge's containers have in common.
 
-ghost use Rattle.std.specs.Prelude.{◌≡◌, ◌↔◌, ◌++◌, Bool, IsTrue, map, OnOk, OnErr, IfOk, option_copied};
+ghost use Rattle.std.specs.Prelude.{◌≡◌, ◌↔◌, ◌++◌, ◌<◌, ◌^◌, Bool, IsTrue, map, OnOk, OnErr, IfOk, option_copied};
 ghost use Rattle.std.specs.Borrow.{sem};
 ghost use Rattle.std.specs.List.{All};
 ghost use Rattle.std.specs.Option.{option_copied_mut};
 ghost use Rattle.std.specs.FinMap as fin;
 ghost use Rattle.std.specs.FinMap.{FinMap};
 ghost use Rattle.rc_edges.specs.Values.{Values, values_cmp};
-ghost use Rattle.rc_edges.specs.EdgeMap.{HasWidth, listed};
+ghost use Rattle.rc_edges.specs.EdgeMap.{HasExtra, HasWidth, count_of, listed};
 ghost use Rattle.rc_edges.specs.Entry.{rows_in};
 ghost use Rattle.rc_edges.specs.declared.entry.Entry as entry;
 ghost use Rattle.rc_maps.specs.Keyed.{AreApart, pair_of};
+ghost use Rattle.rc_maps.specs.Raised.{IsRaised, row_at};
 ghost use Rattle.rc_maps.specs.TableEdge.{lends_entry};
 
 use crate::Keyed;
@@ -39,6 +40,16 @@ pub trait EntryTable: Sized {
         ensures* writes_back { sem 𝓛 (lends_entry Self.row entries one_column self.entry key.now result) }
         ensures value { option_copied_mut result ≡ fin.get (entries self.old) key.now };
 
+    /// Raises the count of the entry's row at the key by 1, or puts a new entry with the row's count 1
+    /// there. Where memory is wanted nothing changes.
+    fn raise(&mut self, alloc: Global, key: &[u64], extra: &[u64]) -> Result<(), Memory>
+        requires width { HasWidth (one_column self.old) key.now }
+        requires room { count_of (row_at (entries self.old) key.now) < 2 ^ 63 }
+        requires same { HasExtra (row_at (entries self.old) key.now) extra.now }
+        ensures ok { OnOk result (IsRaised (entries self.old) (entries self.new) key.now extra.now) }
+        ensures err { OnErr result (entries self.new ≡ entries self.old) }
+        ensures width { one_column self.new ≡ one_column self.old };
+
     /// Puts the entry at the key. Where memory is wanted nothing changes.
     fn put(&mut self, key: &[u64], entry: Entry) -> Result<(), Memory>
         requires { HasWidth (one_column self.old) key.now }
@@ -58,7 +69,8 @@ pub trait EntryTable: Sized {
         ensures widths { IfOk result (λ all. All (λ k. HasWidth (one_column self.now) k.key.now) all.items) };
 
     /// Adds for each row now its key and then its extra values at the end of the list, rising by the
-    /// keys. Where memory is wanted the list stays as it was.
+    /// keys. Where memory is wanted the list stays as it was. The allocator is for the list that a
+    /// hash table sorts; a table in the order of its keys takes nothing from it.
     fn push_rising(&self, alloc: Global, out: &mut Vec<u64>) -> Result<(), Memory>
         ensures ok { OnOk result (out.new.items ≡ out.old.items ++ listed (rows_in (entries self.now)).now) }
         ensures err { OnErr result (out.new.items ≡ out.old.items) };

@@ -1,32 +1,40 @@
 //! A hash table whose keys are lists of values.
 
-ghost use Rattle.std.specs.Prelude.{◌≡◌, ◌↔◌, IsTrue, map, IfOk, OnOk, OnErr, option_copied};
+ghost use Rattle.std.specs.Prelude.{◌≡◌, ◌<◌, ◌^◌, [], ◌∷◌, ◌↔◌, IsTrue, map, IfOk, OnOk, OnErr, option_copied};
 ghost use Rattle.std.specs.List.{All};
 ghost use Rattle.std.specs.Borrow.{sem};
 ghost use Rattle.std.specs.Option.{option_copied_mut};
 ghost use Rattle.std.specs.FinMap as fin;
-ghost use Rattle.rc_edges.specs.EdgeMap.{HasWidth};
+ghost use Rattle.rc_edges.specs.EdgeMap.{HasExtra, HasWidth, count_of};
 ghost use Rattle.rc_maps.specs.HashTable.{entries_of, has_one_column, lends_value};
 ghost use Rattle.rc_maps.specs.Keyed.{AreApart, pair_of};
+ghost use Rattle.rc_maps.specs.Raised.{IsRaised, entries_one, row_at};
 
 use crate::keyed::{add_rows, has_row, only};
+use crate::other_keys::OtherKeys;
+use crate::pair_keys::{PairKeys, both};
 use crate::{EntryTable, Keyed, Seed};
 use rc_edges::Entry;
 use rc_tuple::Memory;
 use std::alloc::Global;
-use std::collections::HashMap;
+use std::collections::{HashMap, hash_map};
 use std::slice;
 
 /// A hash table from lists of values to values of one type.
 ///
-/// Keys of one column are plain numbers, and take no memory of their own. A look-up hashes the key
-/// once, and takes no memory.
+/// Keys of one column are plain numbers, and those of two are pairs: neither takes memory of its
+/// own. A key of any other length is in a block of its own. A look-up hashes the key once, and takes
+/// no memory.
 #[derive(Drop, Debug)]
 pub enum HashTable<V> {
     /// Keys of one column.
     One(HashMap<u64, V, Seed>),
-    /// Keys of any columns, each in a block of its own.
-    Many(HashMap<Vec<u64>, V, Seed>, Global),
+    /// Keys of any columns: those of two, and all others.
+    Many {
+        pairs: PairKeys<V>,
+        others: OtherKeys<V>,
+        alloc: Global,
+    },
 }
 
 impl<V> HashTable<V> {
@@ -38,7 +46,11 @@ impl<V> HashTable<V> {
         if one_column {
             HashTable::One(HashMap::with_hasher(alloc, seed))
         } else {
-            HashTable::Many(HashMap::with_hasher(alloc, seed), alloc)
+            HashTable::Many {
+                pairs: PairKeys::new(alloc, seed),
+                others: OtherKeys::new(alloc, seed),
+                alloc,
+            }
         }
     }
 
@@ -51,7 +63,10 @@ impl<V> HashTable<V> {
                 Some(value) => map.get(value),
                 None => None,
             },
-            HashTable::Many(map, _) => map.get(key),
+            HashTable::Many { pairs, others, .. } => match both(key) {
+                Some(pair) => pairs.map.get(pair),
+                None => others.map.get(key),
+            },
         }
     }
 
@@ -60,12 +75,19 @@ impl<V> HashTable<V> {
         ensures* writes_back { sem 𝓛 (lends_value V.row self.entry key.now result) }
         ensures value { option_copied_mut result ≡ fin.get (entries_of self.old) key.now }
     {
-        match self {
-            HashTable::One(map) => match only(key) {
-                Some(value) => map.get_mut(value),
-                None => None,
+        // The length comes first, so that each arm lends from one map alone.
+        match both(key) {
+            Some(pair) => match self {
+                HashTable::One(_) => None,
+                HashTable::Many { pairs, .. } => pairs.get_mut(pair),
             },
-            HashTable::Many(map, _) => map.get_mut(key),
+            None => match self {
+                HashTable::One(map) => match only(key) {
+                    Some(value) => map.get_mut(value),
+                    None => None,
+                },
+                HashTable::Many { others, .. } => others.get_mut(key),
+            },
         }
     }
 
@@ -86,10 +108,17 @@ impl<V> HashTable<V> {
                 };
                 map.insert(*only, value)?;
             }
-            HashTable::Many(map, alloc) => {
-                let key = Vec::from_slice(*alloc, key)?;
-                map.insert(key, value)?;
-            }
+            HashTable::Many {
+                pairs,
+                others,
+                alloc,
+            } => match both(key) {
+                Some(pair) => pairs.insert(pair, value)?,
+                None => {
+                    let key = Vec::from_slice(*alloc, key)?;
+                    others.insert(key, value)?;
+                }
+            },
         }
         Ok(())
     }
@@ -105,7 +134,10 @@ impl<V> HashTable<V> {
                 Some(value) => map.remove(value),
                 None => None,
             },
-            HashTable::Many(map, _) => map.remove(key),
+            HashTable::Many { pairs, others, .. } => match both(key) {
+                Some(pair) => pairs.remove(pair),
+                None => others.remove(key),
+            },
         }
     }
 
@@ -115,7 +147,7 @@ impl<V> HashTable<V> {
     {
         match self {
             HashTable::One(map) => map.is_empty(),
-            HashTable::Many(map, _) => map.is_empty(),
+            HashTable::Many { pairs, others, .. } => pairs.map.is_empty() && others.map.is_empty(),
         }
     }
 
@@ -134,9 +166,15 @@ impl<V> HashTable<V> {
                 }
                 Ok(all)
             }
-            HashTable::Many(map, _) => {
-                let mut all = Vec::with_capacity(alloc, map.len())?;
-                for (key, value) in map {
+            HashTable::Many { pairs, others, .. } => {
+                let (pairs, others) = (&pairs.map, &others.map);
+                let mut all = Vec::with_capacity(alloc, pairs.len())?;
+                for (pair, value) in pairs {
+                    let key = pair.as_slice();
+                    all.push(Keyed { key, value })?;
+                }
+                all.reserve(others.len())?;
+                for (key, value) in others {
                     let key = key.as_slice();
                     all.push(Keyed { key, value })?;
                 }
@@ -163,6 +201,18 @@ impl EntryTable for HashTable<Entry> {
         self.get_mut(key)
     }
 
+    fn raise(&mut self, alloc: Global, key: &[u64], extra: &[u64]) -> Result<(), Memory> {
+        match self {
+            HashTable::One(map) => {
+                let Some(only) = only(key) else {
+                    unreachable!();
+                };
+                raise_one(map, alloc, *only, extra)
+            }
+            HashTable::Many { .. } => raise_any(self, alloc, key, extra),
+        }
+    }
+
     fn put(&mut self, key: &[u64], entry: Entry) -> Result<(), Memory> {
         self.insert(key, entry)
     }
@@ -184,7 +234,11 @@ impl EntryTable for HashTable<Entry> {
     fn count(&self) -> u64 {
         match self {
             HashTable::One(map) => map.values().filter(|entry| has_row(entry)).count() as u64,
-            HashTable::Many(map, _) => map.values().filter(|entry| has_row(entry)).count() as u64,
+            HashTable::Many { pairs, others, .. } => {
+                let in_pairs = pairs.map.values().filter(|entry| has_row(entry)).count();
+                let in_others = others.map.values().filter(|entry| has_row(entry)).count();
+                in_pairs as u64 + in_others as u64
+            }
         }
     }
 
@@ -195,7 +249,51 @@ impl EntryTable for HashTable<Entry> {
     fn another(&self, alloc: Global) -> Self {
         match self {
             HashTable::One(map) => HashTable::new(alloc, *map.hasher(), true),
-            HashTable::Many(map, _) => HashTable::new(alloc, *map.hasher(), false),
+            HashTable::Many { pairs, .. } => HashTable::new(alloc, *pairs.map.hasher(), false),
         }
     }
+}
+
+/// Raises the entry at the key, or puts a new one there, in one search.
+fn raise_one(
+    map: &mut HashMap<u64, Entry, Seed>,
+    alloc: Global,
+    key: u64,
+    extra: &[u64],
+) -> Result<(), Memory>
+    requires room { count_of (row_at (entries_one map.old.entries) (key ∷ [])) < 2 ^ 63 }
+    requires same { HasExtra (row_at (entries_one map.old.entries) (key ∷ [])) extra.now }
+    ensures ok { OnOk result (IsRaised (entries_one map.old.entries) (entries_one map.new.entries) (key ∷ []) extra.now) }
+    ensures err { OnErr result (entries_one map.new.entries ≡ entries_one map.old.entries) }
+{
+    match map.entry(key)? {
+        hash_map::Entry::Occupied(found) => found.into_mut().raise(extra),
+        hash_map::Entry::Vacant(place) => {
+            let entry = Entry::new(alloc, extra)?;
+            place.insert(entry);
+            Ok(())
+        }
+    }
+}
+
+/// Raises the entry at the key, or puts a new one there. A key that is not there is searched for
+/// twice, since one that is there is not to cost a block.
+fn raise_any(
+    table: &mut HashTable<Entry>,
+    alloc: Global,
+    key: &[u64],
+    extra: &[u64],
+) -> Result<(), Memory>
+    requires width { HasWidth (has_one_column table.old) key.now }
+    requires room { count_of (row_at (entries_of table.old) key.now) < 2 ^ 63 }
+    requires same { HasExtra (row_at (entries_of table.old) key.now) extra.now }
+    ensures ok { OnOk result (IsRaised (entries_of table.old) (entries_of table.new) key.now extra.now) }
+    ensures err { OnErr result (entries_of table.new ≡ entries_of table.old) }
+    ensures width { has_one_column table.new ≡ has_one_column table.old }
+{
+    if let Some(entry) = table.get_mut(key) {
+        return entry.raise(extra);
+    }
+    let entry = Entry::new(alloc, extra)?;
+    table.insert(key, entry)
 }

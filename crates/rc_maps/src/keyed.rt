@@ -1,7 +1,6 @@
 //! Values with their keys, as a walk over a table gathers them.
 
 ghost use Rattle.std.specs.Prelude.{◌≡◌, [], ◌∷◌, ◌++◌, length, take, IfSome, IfNone, OnOk, OnErr};
-ghost use Rattle.rc_edges.specs.ListMap.{rows_of as rows_in_order};
 ghost use Rattle.rc_maps.specs.Keyed.{has_row, rows_of};
 
 use rc_edges::Entry;
@@ -42,23 +41,11 @@ fn push_rows(all: &[Keyed<'_, Entry>], out: &mut Vec<u64>) -> Result<(), Memory>
     ensures ok { OnOk result (out.new.items ≡ out.old.items ++ rows_of all.now) }
     ensures err { OnErr result (take (length out.old.items) out.new.items ≡ out.old.items) }
 {
-    // A key has a value at least, but for the only one of an edge with none.
+    // An entry with a row adds its key, which has a value at least, but for the only one of an edge
+    // with none. One without a row adds nothing: for it the room is more than is needed.
     out.reserve(all.len())?;
     for keyed in all {
-        push_row(keyed.key, keyed.value, out)?;
-    }
-    Ok(())
-}
-
-/// Adds the key and the extra values at the end, if the entry has a row now; where memory is wanted
-/// some may have been added.
-pub(crate) fn push_row(key: &[u64], entry: &Entry, out: &mut Vec<u64>) -> Result<(), Memory>
-    ensures ok { OnOk result (out.new.items ≡ out.old.items ++ rows_in_order ((key.now, entry.now) ∷ [])) }
-    ensures err { OnErr result (take (length out.old.items) out.new.items ≡ out.old.items) }
-{
-    if let Some(extra) = entry.extra() {
-        out.extend_from_slice(key)?;
-        out.extend_from_slice(extra)?;
+        keyed.value.push_row(keyed.key, out)?;
     }
     Ok(())
 }

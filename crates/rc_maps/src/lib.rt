@@ -5,6 +5,8 @@ mod entry_table;
 mod hash_table;
 mod keyed;
 mod ordered_table;
+mod other_keys;
+mod pair_keys;
 mod seed;
 mod table_edge;
 

@@ -1,21 +1,22 @@
 //! An ordered table whose keys are lists of values.
 
-ghost use Rattle.std.specs.Prelude.{◌≡◌, ◌↔◌, ◌++◌, IsTrue, map, length, take, IfOk, OnOk, OnErr, option_copied};
+ghost use Rattle.std.specs.Prelude.{◌≡◌, ◌<◌, ◌^◌, [], ◌∷◌, ◌↔◌, ◌++◌, IsTrue, map, length, take, IfOk, OnOk, OnErr, option_copied};
 ghost use Rattle.std.specs.List.{All};
 ghost use Rattle.std.specs.Borrow.{sem};
 ghost use Rattle.std.specs.Option.{option_copied_mut};
 ghost use Rattle.std.specs.FinMap as fin;
-ghost use Rattle.rc_edges.specs.EdgeMap.{HasWidth, listed};
+ghost use Rattle.rc_edges.specs.EdgeMap.{HasExtra, HasWidth, count_of, listed};
 ghost use Rattle.rc_edges.specs.Entry.{rows_in};
 ghost use Rattle.rc_maps.specs.OrderedTable.{entries_of, has_one_column, lends_value};
 ghost use Rattle.rc_maps.specs.Keyed.{IsKeyed, pair_of};
+ghost use Rattle.rc_maps.specs.Raised.{IsRaised, entries_many, entries_one, row_at};
 
-use crate::keyed::{has_row, only, push_row};
+use crate::keyed::{has_row, only};
 use crate::{EntryTable, Keyed};
 use rc_edges::Entry;
 use rc_tuple::Memory;
 use std::alloc::Global;
-use std::collections::BTreeMap;
+use std::collections::{BTreeMap, btree_map};
 use std::slice;
 
 /// An ordered table from lists of values to values of one type.
@@ -156,16 +157,19 @@ impl OrderedTable<Entry> {
     {
         match self {
             OrderedTable::One(map) => {
+                // An entry with a row adds a value at least; one without adds nothing, and has room
+                // made for it all the same.
                 out.reserve(map.len())?;
                 for (key, entry) in map {
-                    push_row(slice::from_ref(key), entry, out)?;
+                    entry.push_row(slice::from_ref(key), out)?;
                 }
             }
             OrderedTable::Many(map, _) => {
-                // A key has two values at least, but for the only one of an edge with none.
+                // An entry with a row adds its key, which has two values at least, but for the only
+                // one of an edge with none. One without a row adds nothing, as above.
                 out.reserve(map.len().saturating_mul(2))?;
                 for (key, entry) in map {
-                    push_row(key.as_slice(), entry, out)?;
+                    entry.push_row(key.as_slice(), out)?;
                 }
             }
         }
@@ -188,6 +192,18 @@ impl EntryTable for OrderedTable<Entry> {
 
     fn entry_mut(&mut self, key: &[u64]) -> Option<&mut Entry> {
         self.get_mut(key)
+    }
+
+    fn raise(&mut self, alloc: Global, key: &[u64], extra: &[u64]) -> Result<(), Memory> {
+        match self {
+            OrderedTable::One(map) => {
+                let Some(only) = only(key) else {
+                    unreachable!();
+                };
+                raise_one(map, alloc, *only, extra)
+            }
+            OrderedTable::Many(map, _) => raise_many(map, alloc, key, extra),
+        }
     }
 
     fn put(&mut self, key: &[u64], entry: Entry) -> Result<(), Memory> {
@@ -230,4 +246,48 @@ impl EntryTable for OrderedTable<Entry> {
     fn another(&self, alloc: Global) -> Self {
         OrderedTable::new(alloc, matches!(self, OrderedTable::One(_)))
     }
+}
+
+/// Raises the entry at the key, or puts a new one there, in one search.
+fn raise_one(
+    map: &mut BTreeMap<u64, Entry>,
+    alloc: Global,
+    key: u64,
+    extra: &[u64],
+) -> Result<(), Memory>
+    requires room { count_of (row_at (entries_one map.old.entries) (key ∷ [])) < 2 ^ 63 }
+    requires same { HasExtra (row_at (entries_one map.old.entries) (key ∷ [])) extra.now }
+    ensures ok { OnOk result (IsRaised (entries_one map.old.entries) (entries_one map.new.entries) (key ∷ []) extra.now) }
+    ensures err { OnErr result (entries_one map.new.entries ≡ entries_one map.old.entries) }
+{
+    match map.entry(key)? {
+        btree_map::Entry::Occupied(found) => found.into_mut().raise(extra),
+        btree_map::Entry::Vacant(place) => {
+            let entry = Entry::new(alloc, extra)?;
+            place.insert(entry);
+            Ok(())
+        }
+    }
+}
+
+/// Raises the entry at the key, or puts a new one there. A key that is not there is searched for
+/// twice, since one that is there is not to cost a block.
+fn raise_many(
+    map: &mut BTreeMap<Vec<u64>, Entry>,
+    alloc: Global,
+    key: &[u64],
+    extra: &[u64],
+) -> Result<(), Memory>
+    requires room { count_of (row_at (entries_many map.old.entries) key.now) < 2 ^ 63 }
+    requires same { HasExtra (row_at (entries_many map.old.entries) key.now) extra.now }
+    ensures ok { OnOk result (IsRaised (entries_many map.old.entries) (entries_many map.new.entries) key.now extra.now) }
+    ensures err { OnErr result (entries_many map.new.entries ≡ entries_many map.old.entries) }
+{
+    if let Some(entry) = map.get_mut(key) {
+        return entry.raise(extra);
+    }
+    let entry = Entry::new(alloc, extra)?;
+    let key = Vec::from_slice(alloc, key)?;
+    map.insert(key, entry)?;
+    Ok(())
 }

@@ -13,7 +13,8 @@ use std::marker::Model;
 /// Entries in a table by their keys.
 ///
 /// `get` looks up once; `add`, `sub`, `revert` and `settle` do once, and a second time where an
-/// entry comes or goes. `scan`, `len` and `copy` walk all entries.
+/// entry comes or goes, but that `add` never does where only keys of one column are taken. `scan`,
+/// `len` and `copy` walk all entries.
 #[derive(Drop, Debug)]
 pub struct TableEdge<T: EntryTable> {
     table: T,
@@ -86,13 +87,7 @@ impl<T: EntryTable + Drop> EdgeMap for TableEdge<T> {
     ghost may_take = { λ map key. HasWidth map.one_column key };
 
     fn add(&mut self, key: &[u64], extra: &[u64]) -> Result<(), Memory> {
-        if let Some(entry) = self.table.entry_mut(key) {
-            entry.raise(extra)?;
-            return Ok(());
-        }
-        let entry = Entry::new(self.alloc, extra)?;
-        self.table.put(key, entry)?;
-        Ok(())
+        self.table.raise(self.alloc, key, extra)
     }
 
     fn sub(&mut self, key: &[u64]) {

@@ -1,43 +1,76 @@
-use Rattle.std.proofs.Common.{Some, refl, sym, ap, ◌∙◌}
+use Rattle.std.proofs.Common.{◌≡◌, Some, length, refl, sym, ap, ◌∙◌, arith}
+use Rattle.std.specs.FinMap as fin
+use Rattle.rc_maps.specs.EntryLaws.{on_some_too}
+use Rattle.rc_maps.specs.HashTable.{entries_of}
 use Rattle.rc_maps.specs.TableLaws.{no_one, on_found}
-use Rattle.rc_maps.specs.HashLaws.{changed_many, changed_one, found_many, found_one}
+use Rattle.rc_maps.specs.HashLaws.{changed_one, found_one}
+use Rattle.rc_maps.specs.OtherKeys.{same_others}
+use Rattle.rc_maps.specs.PairKeys.{same_pairs}
+use Rattle.rc_maps.specs.SplitLaws.{others-changed, others-found, pairs-changed, pairs-found}
 use Rattle.rc_maps.specs.declared.hash_table.HashTable.TheVariants as table
 use Rattle.rc_maps.proofs.hash_table.HashTable.get_mut.Goals as goal
 
-pub returns-in-Some : goal.returns-in-Some
-returns-in-Some g c =
-    let key = c.args.key.now in
-    let n = c.in-Some.value.now in
-    let es = c.in-One.map.entries in
-    let value = rw c.in-One.map-is at c.get_mut.ensures.value in
-    rw c.in-One.is (
-      (
-        refl,
-        (λ w. on_found (λ x. x.now) c.get_mut.result _ value (λ there.
-            let u = (rw c.in-One.map-is at (c.get_mut.follows.holds w).3) there in
-            record { entries = changed_one key n (Some w) es (c.get_mut.follows.lender w).entries c.in-Some.ensures.one u.3 u.1; width = refl })),
-        ap table.One (c.get_mut.follows.holds-at-none ∙ c.in-One.map-is),
-      ),
-      record { writes_back = tt; value = sym (found_one key n _ es c.in-Some.ensures.one value) },
-    )
-
-pub returns-in-None : goal.returns-in-None
-returns-in-None g c =
-    rw c.in-One.is
-    ((refl, (λ w. tt), refl), record { writes_back = tt; value = sym (no_one c.args.key.now c.in-One.map.entries c.in-None.ensures.other) })
+pub returns-in-One : goal.returns-in-One
+returns-in-One g c =
+    let other : length c.args.key.now ≡ 1 → ⊥ = λ h. absurd (let two : length c.args.key.now ≡ 2 = c.in-Some.ensures.two in omega (arith, h, two)) in
+    ((refl, (λ w. tt), refl), record { writes_back = tt; value = sym (no_one c.args.key.now c.in-One.field-0.entries other) ∙ ap (λ z. fin.get (entries_of z) c.args.key.now) (sym c.in-One.is) })
 
 pub returns-in-Many : goal.returns-in-Many
 returns-in-Many g c =
     let key = c.args.key.now in
-    let es = c.in-Many.map.entries in
-    let value = rw c.in-Many.map-is at c.get_mut-in-Many.ensures.value in
-    rw c.in-Many.is (
+    let t = c.in-Many in
+    let es = t.pairs.map.entries in
+    let fs = t.others.map.entries in
+    let k = c.in-Some.pair.now in
+    let value = rw t.pairs-is at c.get_mut.ensures.value in
+    rw t.is (
       (
         refl,
-        (λ w. on_found (λ x. x.now) c.get_mut-in-Many.result _ value (λ there.
-            let u = (rw c.in-Many.map-is at (c.get_mut-in-Many.follows.holds w).3) there in
-            record { entries = changed_many key (Some w) es (c.get_mut-in-Many.follows.lender w).entries u.3 u.1; width = refl })),
-        ap (λ z. table.Many z c.in-Many.field-1) (c.get_mut-in-Many.follows.holds-at-none ∙ c.in-Many.map-is),
+        (λ w. on_some_too c.get_mut.result
+            (λ e. record { entries = pairs-changed key k es fs c.in-Some.ensures.same c.in-Some.ensures.two t.others.no_pair (c.get_mut.follows.lender w).map.entries (Some w) e; width = refl })
+            (rw t.pairs-is at c.get_mut.follows.holds w)),
+        ap (λ z. table.Many z t.others t.alloc) (same_pairs _ t.pairs (rw t.pairs-is at c.get_mut.follows.holds-at-none)),
       ),
-      record { writes_back = tt; value = sym (found_many key _ es value) },
+      record { writes_back = tt; value = pairs-found key k es fs c.in-Some.ensures.same c.in-Some.ensures.two t.others.no_pair _ value },
+    )
+
+pub returns-in-Some-only : goal.returns-in-Some-only
+returns-in-Some-only g c =
+    let key = c.args.key.now in
+    let n = c.in-Some-only.value.now in
+    let es = c.in-One-self.map.entries in
+    let one = c.in-Some-only.ensures.one in
+    let value = rw c.in-One-self.map-is at c.get_mut-in-Some-only.ensures.value in
+    rw c.in-One-self.is (
+      (
+        refl,
+        (λ w. on_found (λ x. x.now) c.get_mut-in-Some-only.result _ value (λ there.
+            let u = (rw c.in-One-self.map-is at (c.get_mut-in-Some-only.follows.holds w).3) there in
+            record { entries = changed_one key n (Some w) es (c.get_mut-in-Some-only.follows.lender w).entries one u.3 u.1; width = refl })),
+        ap table.One (c.get_mut-in-Some-only.follows.holds-at-none ∙ c.in-One-self.map-is),
+      ),
+      record { writes_back = tt; value = sym (found_one key n _ es one value) },
+    )
+
+pub returns-in-None-only : goal.returns-in-None-only
+returns-in-None-only g c =
+    rw c.in-One-self.is
+    ((refl, (λ w. tt), refl), record { writes_back = tt; value = sym (no_one c.args.key.now c.in-One-self.map.entries c.in-None-only.ensures.other) })
+
+pub returns-in-Many-self : goal.returns-in-Many-self
+returns-in-Many-self g c =
+    let key = c.args.key.now in
+    let t = c.in-Many-self in
+    let es = t.pairs.map.entries in
+    let fs = t.others.map.entries in
+    let value = rw t.others-is at c.get_mut-in-Many-self.ensures.value in
+    rw t.is (
+      (
+        refl,
+        (λ w. on_some_too c.get_mut-in-Many-self.result
+            (λ e. record { entries = others-changed key es fs c.in-None.ensures.other t.pairs.all_pairs (c.get_mut-in-Many-self.follows.lender w).map.entries (Some w) e; width = refl })
+            (rw t.others-is at c.get_mut-in-Many-self.follows.holds w)),
+        ap (λ z. table.Many t.pairs z t.alloc) (same_others _ t.others (rw t.others-is at c.get_mut-in-Many-self.follows.holds-at-none)),
+      ),
+      record { writes_back = tt; value = others-found key es fs c.in-None.ensures.other t.pairs.all_pairs _ value },
     )

@@ -3,8 +3,9 @@ use Rattle.std.specs.FinMap as fin
 use Rattle.rc_edges.specs.EdgeMap.{written}
 use Rattle.rc_edges.specs.RowsLaws.{written_again}
 use Rattle.rc_maps.specs.HashTable.{entries_of}
+use Rattle.rc_maps.specs.SplitLaws.{others-changed, others-found, pairs-changed, pairs-found}
 use Rattle.rc_maps.specs.TableLaws.{no_one, one, whole}
-use Rattle.rc_maps.specs.HashLaws.{changed_many, changed_one, found_many, found_one}
+use Rattle.rc_maps.specs.HashLaws.{changed_one, found_one}
 use Rattle.rc_maps.proofs.hash_table.HashTable.remove.Goals as goal
 
 pub returns-in-Some-clause-value : goal.returns-in-Some-clause-value
@@ -25,12 +26,34 @@ returns-in-None-clause-entries g c =
     sym (written_again (whole one c.in-One.map.entries) c.args.key.now None (no_one c.args.key.now c.in-One.map.entries c.in-None.ensures.other))
     ∙ ap (λ z. written (entries_of z) c.args.key.now None) (sym c.in-One.is)
 
-pub returns-in-Many-clause-value : goal.returns-in-Many-clause-value
-returns-in-Many-clause-value g c =
-    sym (found_many c.args.key.now _ c.in-Many.map.entries c.remove-in-Many.ensures.value) ∙ ap (λ z. fin.get (entries_of z) c.args.key.now) (sym c.in-Many.is)
+pub returns-in-Some-both-clause-value : goal.returns-in-Some-both-clause-value
+returns-in-Some-both-clause-value g c =
+    let key = c.args.key.now in
+    let es = c.in-Many.pairs.map.entries in
+    let fs = c.in-Many.others.map.entries in
+    let pair = c.in-Some-both in
+    pairs-found key pair.pair.now es fs pair.ensures.same pair.ensures.two c.in-Many.others.no_pair _ c.remove-in-Some-both.ensures.value ∙ ap (λ z. fin.get (entries_of z) key) (sym c.in-Many.is)
 
-pub returns-in-Many-clause-entries : goal.returns-in-Many-clause-entries
-returns-in-Many-clause-entries g c =
-    let u = c.remove-in-Many.ensures.updates in
-    changed_many c.args.key.now None c.in-Many.map.entries c.remove-in-Many.new.self.entries u.3 u.1
-    ∙ ap (λ z. written (entries_of z) c.args.key.now None) (sym c.in-Many.is)
+pub returns-in-Some-both-clause-entries : goal.returns-in-Some-both-clause-entries
+returns-in-Some-both-clause-entries g c =
+    let key = c.args.key.now in
+    let es = c.in-Many.pairs.map.entries in
+    let fs = c.in-Many.others.map.entries in
+    let pair = c.in-Some-both in
+    pairs-changed key pair.pair.now es fs pair.ensures.same pair.ensures.two c.in-Many.others.no_pair c.remove-in-Some-both.new.self.map.entries None c.remove-in-Some-both.ensures.entries
+    ∙ ap (λ z. written (entries_of z) key None) (sym c.in-Many.is)
+
+pub returns-in-None-both-clause-value : goal.returns-in-None-both-clause-value
+returns-in-None-both-clause-value g c =
+    let key = c.args.key.now in
+    let es = c.in-Many.pairs.map.entries in
+    let fs = c.in-Many.others.map.entries in
+    others-found key es fs c.in-None-both.ensures.other c.in-Many.pairs.all_pairs _ c.remove-in-None-both.ensures.value ∙ ap (λ z. fin.get (entries_of z) key) (sym c.in-Many.is)
+
+pub returns-in-None-both-clause-entries : goal.returns-in-None-both-clause-entries
+returns-in-None-both-clause-entries g c =
+    let key = c.args.key.now in
+    let es = c.in-Many.pairs.map.entries in
+    let fs = c.in-Many.others.map.entries in
+    others-changed key es fs c.in-None-both.ensures.other c.in-Many.pairs.all_pairs c.remove-in-None-both.new.self.map.entries None c.remove-in-None-both.ensures.entries
+    ∙ ap (λ z. written (entries_of z) key None) (sym c.in-Many.is)

@@ -1,13 +1,15 @@
-use Rattle.std.proofs.Common.{◌≡◌, rules, sym, ap, ◌∙◌}
+use Rattle.std.proofs.Common.{◌≡◌, ◌+◌, ◌++◌, cond, rules, sym, ap, ◌∙◌}
 use Rattle.std.specs.FinMap as fin
 use Rattle.std.specs.List.{count_by}
 use Rattle.std.specs.Map.{values_of}
+use Rattle.std.proofs.lemmas.List.Sums.{sum_by-append}
 use Rattle.rc_edges.specs.Entry.{rows_in}
-use Rattle.rc_maps.specs.Keyed.{by_many, by_one, has_row}
+use Rattle.rc_maps.specs.Keyed.{by_many, by_one, by_pair, has_row}
 use Rattle.rc_maps.specs.HashTable.{entries_of}
-use Rattle.rc_maps.specs.TableLaws.{many, one, values-by_values}
+use Rattle.rc_maps.specs.TableLaws.{one, values-by_values}
 use Rattle.rc_maps.specs.WalkLaws.{len-walk}
-use Rattle.rc_maps.specs.HashLaws.{apart_many, apart_one}
+use Rattle.rc_maps.specs.HashLaws.{apart_one}
+use Rattle.rc_maps.specs.SplitLaws.{apart_both, values-both}
 use Rattle.rc_maps.proofs.hash_table.HashTableEntryEntryTable.count.Goals as goal
 
 pub returns-in-One : goal.returns-in-One
@@ -19,7 +21,10 @@ returns-in-One c =
 
 pub returns-in-Many : goal.returns-in-Many
 returns-in-Many c =
-    let es = c.in-Many.map.entries in
-    let e : c.count-in-Many.result ≡ count_by has_row (values_of es) = search rules in
-    e ∙ ap (count_by has_row) (sym (values-by_values many es)) ∙ sym (len-walk (by_many es) (apart_many es c.values-in-Many.ensures.unique))
-    ∙ ap (λ z. fin.len (rows_in (entries_of z)).now) (sym c.in-Many.is)
+    let es = c.in-Many.pairs.map.entries in
+    let fs = c.in-Many.others.map.entries in
+    let e : c.count-in_pairs.result ≡ count_by has_row (values_of es) = search rules in
+    let f : c.count-in_others.result ≡ count_by has_row (values_of fs) = search rules in
+    let apart = apart_both es fs c.values-in-Many.ensures.unique c.values-in-Many-2.ensures.unique c.in-Many.pairs.all_pairs c.in-Many.others.no_pair in
+    (λ i. e i + f i) ∙ sym (sum_by-append (λ v. cond (has_row v) 1 0) (values_of es) (values_of fs)) ∙ ap (count_by has_row) (sym (values-both es fs))
+    ∙ sym (len-walk (by_pair es ++ by_many fs) apart) ∙ ap (λ z. fin.len (rows_in (entries_of z)).now) (sym c.in-Many.is)

@@ -1,0 +1,26 @@
+-- What a hash map from keys of any number of columns but two keeps.
+use Rattle.std.specs.Prelude.{◌≡◌, IsTrue, Option}
+use mathlib.Core.Bool.{Bool-set}
+use mathlib.Core.HLevel.{is_prop→PathP}
+use Rattle.std.specs.Map.{keys_of}
+use Rattle.std.specs.Borrow.{LendsSo, MutBor, Fml, RattleType}
+use Rattle.std.specs.Option.{OnSome}
+use Rattle.std.specs.FinMap as fin
+use Rattle.std.specs.FinMap.{FinMap}
+use Rattle.rc_edges.specs.Values.{Values, values_cmp}
+use Rattle.rc_maps.specs.KeyLengths.{no_pair}
+use Rattle.rc_maps.specs.Keyed.{by_many}
+use Rattle.rc_maps.specs.declared.other_keys.OtherKeys.{OtherKeys}
+use Rattle.rc_maps.specs.contracts.other_keys.OtherKeys.{the_row}
+
+-- the values by their keys
+abbrev pub others_of : {X : Type 0} → OtherKeys X → FinMap values_cmp X
+others_of others = fin.from_entries (by_many others.map.entries)
+
+-- the value at the key ends as the last one written through r, and at `None` the map stays
+abbrev pub lends_other : (X : RattleType) → MutBor (OtherKeys X.Denot) → Values → Option (MutBor X.Denot) → Fml
+lends_other X others key r = LendsSo (the_row X) X others r (λ new x. OnSome r (others_of new ≡ fin.insert (others_of others.now) key x)) (λ new. new.map ≡ others.now.map)
+
+-- the map is all that there is
+pub same_others : {X : Type 0} (x y : OtherKeys X) → x.map ≡ y.map → x ≡ y
+same_others x y e i = record { map = e i; no_pair = is_prop→PathP (λ j. IsTrue (no_pair (keys_of (e j).entries))) (λ j. Bool-set _ _) x.no_pair y.no_pair i }
