@@ -120,10 +120,6 @@ module _ (cols : List ℕ) (w n : ℕ) (old row new : List ℕ) (bindings : AreB
   tuples_in-push =
       ap (tuples_in cols w (n + 1)) is ∙ ap (λ k. tuples_in cols w k (old ++ row)) (sym more) ∙ tuples-push cols w n old row width bindings.rows
 
-pub drop_old : (old row : List ℕ) (start : ℕ) → start ≡ length old → drop start (old ++ row) ≡ row
-drop_old old row start e =
-    ap (λ k. drop k (old ++ row)) e ∙ drop-append-le (length old) old row (omega arith) ∙ ap (λ l. l ++ row) (drop_of_length-le old (omega arith))
-
 -- what is written behind others
 pub written_behind : (ps : Pairs) (old row : List ℕ) (start : ℕ) → start ≡ length old → take start (old ++ row) ++ all_written ps (drop start (old ++ row)) ≡ old ++ all_written ps row
 written_behind ps old row start e =

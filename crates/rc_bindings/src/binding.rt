@@ -58,7 +58,12 @@ impl<'a> Binding<'a> {
     pub fn value(&self, col: u8) -> u64
         ensures { result ≡ value self.now.tuple col }
     {
-        self.get(col).unwrap_or(0)
+        // Not by way of `get`, since this is asked once a row and column: no option is made to be taken apart.
+        if self.cols.has(col) {
+            self.registers[col as usize]
+        } else {
+            0
+        }
     }
 
     /// The stripe of the class on which the tuple falls, from 0, where the class has a stripe. A column that the tuple
@@ -153,9 +158,11 @@ fn push_registers(cols: ColSet, registers: &[u64], values: &mut Vec<u64>) -> Res
     requires few { length registers.now ≤ 32 }
     ensures { OnOk result (values.new.items ≡ values.old.items ++ map (register registers.now) cols) }
 {
+    // Room for all at once, so that no value has to ask for its own.
+    values.reserve(cols.len() as usize)?;
     for col in 0..registers.len() as u8 {
         if cols.has(col) {
-            values.push(registers[col as usize])?;
+            values.push_reserved(registers[col as usize]);
         }
     }
     Ok(())
@@ -173,7 +180,7 @@ fn values_at(alloc: Global, cols: ColSet, registers: &[u64]) -> Result<Vals, Mem
 }
 
 /// How the registers compare at the first of the columns at which they differ.
-fn compare(cols: ColSet, registers: &[u64], others: &[u64]) -> Ordering
+pub(crate) fn compare(cols: ColSet, registers: &[u64], others: &[u64]) -> Ordering
     requires below { IsSetBelow (length registers.now) cols }
     requires too { IsSetBelow (length others.now) cols }
     requires few { length registers.now ≤ 32 }

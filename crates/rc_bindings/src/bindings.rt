@@ -1,7 +1,8 @@
 //! A list of bindings.
 
 ghost use Rattle.std.specs.Prelude.{◌≡◌, ℕ, List, ◌+◌, ◌<◌, ◌≤◌, ◌-◌, ◌*◌, ◌^◌, ◌==◌, ◌++◌, [], ◌∷◌, length, get_or, take, drop, IsTrue, OnOk, OnErr, IfOk, ◌↔◌};
-ghost use Rattle.std.specs.List.{flat_map, zip};
+ghost use Rattle.std.specs.List.{flat_map};
+ghost use Rattle.std.specs.Vec.{vec_capacity, vec_len};
 ghost use Rattle.rc_tuple.specs.ColSet.{Within};
 ghost use Rattle.rc_tuple.specs.RisingSet.{In, IsRising, gather};
 ghost use Rattle.rc_tuple.specs.Tuple.{Pairs, cols_of, merges_of, project, tuple_cmp};
@@ -10,7 +11,7 @@ ghost use Rattle.rc_bindings.specs.Bindings.{HasMore, IsGivenBy, IsRowWith, Take
 ghost use Rattle.rc_bindings.specs.Registers.{all_written};
 
 use crate::Binding;
-use crate::binding::fits_values;
+use crate::binding::{compare, fits_values};
 use rc_tuple::{ColSet, Memory, Tuple, distinct};
 use std::alloc::Global;
 use std::marker::Model;
@@ -149,10 +150,15 @@ impl Bindings {
         if !fits_values(binding.cols, binding.registers, extra, extra_values) {
             return Ok(());
         }
-        let start = self.registers.len();
-        self.registers.extend_from_slice(binding.registers)?;
-        write_values(&mut self.registers, start, width, key, key_values);
-        write_values(&mut self.registers, start, width, extra, extra_values);
+        self.registers.reserve(width)?;
+        push_merged(
+            &mut self.registers,
+            binding.registers,
+            key,
+            key_values,
+            extra,
+            extra_values,
+        );
         self.count += 1;
         Ok(())
     }
@@ -179,6 +185,9 @@ impl Bindings {
             → self.new ≡ with_tuples self.old (self.old.tuples ++ merges_of binding.now.tuple rows)) }
         ensures same { self.new ≡ with_tuples self.old self.new.tuples }
     {
+        // Room for all at once, so that no row of these has to grow the list.
+        let rows = values.len() / (keys + extras);
+        self.registers.reserve(rows.saturating_mul(self.width))?;
         let mut start = 0;
         while start + keys + extras <= values.len() {
             let middle = start + keys;
@@ -216,8 +225,14 @@ impl Bindings {
     fn rises(&self) -> bool
         ensures { IsTrue result ↔ IsRising tuple_cmp self.now.tuples }
     {
+        // The rows lie side by side, so neighbours are compared where they lie.
         for at in 1..self.count {
-            if !self.get(at - 1).cmp(&self.get(at)).is_lt() {
+            let middle = at * self.width;
+            let start = middle - self.width;
+            let end = middle + self.width;
+            let earlier = part(&self.registers, start, middle);
+            let later = part(&self.registers, middle, end);
+            if !compare(self.cols, earlier, later).is_lt() {
                 return false;
             }
         }
@@ -228,7 +243,7 @@ impl Bindings {
     pub fn tuples(&self, alloc: Global) -> Result<Vec<Tuple>, Memory>
         ensures { IfOk result (λ tuples. tuples.items ≡ self.now.tuples) }
     {
-        let mut tuples = Vec::new(alloc);
+        let mut tuples = Vec::with_capacity(alloc, self.count)?;
         for at in 0..self.count {
             tuples.push(self.get(at).tuple(alloc)?)?;
         }
@@ -272,23 +287,37 @@ fn write(registers: &mut [u64], start: usize, cols: ColSet, pairs: &[(u8, u64)])
     }
 }
 
-/// Writes the values of the columns, in their order, each in its column's register of the row that starts there.
-fn write_values(registers: &mut [u64], start: usize, width: usize, cols: ColSet, values: &[u64])
-    requires width { length (drop start registers.old) ≡ width }
-    requires columns { AreBelow width cols }
-    requires narrow { width ≤ 32 }
-    requires few { length registers.old * 8 < 2 ^ 63 }
-    requires count { length values.now ≡ length cols }
-    ensures { registers.new ≡ take start registers.old ++ all_written (zip cols values.now) (drop start registers.old) }
+/// Adds the registers of a row, for which there is room: at the columns of the key and at the extra ones the values that are
+/// given, in column order, and elsewhere the held registers.
+fn push_merged(
+    registers: &mut Vec<u64>,
+    held: &[u64],
+    key: ColSet,
+    key_values: &[u64],
+    extra: ColSet,
+    extra_values: &[u64],
+)
+    requires room { vec_len registers.old + length held.now ≤ vec_capacity registers.old }
+    requires narrow { length held.now ≤ 32 }
+    requires key_below { AreBelow (length held.now) key }
+    requires extra_below { AreBelow (length held.now) extra }
+    requires keys { length key_values.now ≡ length key }
+    requires extras { length extra_values.now ≡ length extra }
+    requires apart { (c : ℕ) → In c key → In c extra → ⊥ }
+    ensures { registers.new.items ≡ registers.old.items ++ all_written (given key key_values.now extra extra_values.now) held.now }
 {
-    // A call of a set tells the check what holds of every set.
-    let _ = cols.within(cols);
-    let mut place = 0;
-    for col in 0..width as u8 {
-        if cols.has(col) {
-            let index = start + col as usize;
-            registers[index] = values[place];
-            place += 1;
+    // One walk: to copy the held registers and then write over them would take three.
+    let mut keys = 0;
+    let mut extras = 0;
+    for col in 0..held.len() as u8 {
+        if key.has(col) {
+            registers.push_reserved(key_values[keys]);
+            keys += 1;
+        } else if extra.has(col) {
+            registers.push_reserved(extra_values[extras]);
+            extras += 1;
+        } else {
+            registers.push_reserved(held[col as usize]);
         }
     }
 }

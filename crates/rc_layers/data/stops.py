@@ -6,7 +6,7 @@ Nothing is taken from what the program prints. As docs/RULES.md says, a plan loc
 the stripes on which its bindings fall. An insert binds all columns from the start. A query or a remove binds what the patterns
 of the tuples that it has read so far give: below, each class that an operation locks stands with the columns that are read
 before. A class is locked for each tuple with the call's values in them; where none was to be read, for the call itself. What is
-added or taken out makes room once for each edge, before any row changes.
+added or taken out makes room before any row changes: edge by edge, but once for edges that follow each other on one stripe.
 
 A row of an edge is a tuple's part over the edge's target, counted once for each tuple that has it. Its stripe is, with h = 7,
 for each column of the edge's class h = 31 h + value, then h modulo the stripes of the class, behind those of the classes before.
@@ -97,6 +97,12 @@ class Striped:
             taken += sorted({self.stripe(locked, b) for b in bindings})
         return taken
 
+    def owns(self, before):
+        """How often room is made for the tuple that came or went since."""
+        changed = [t for t in before + self.model.tuples if t not in before or t not in self.model.tuples]
+        stripes = [self.stripe(name, t) for t in changed for _, name, _ in EDGES[self.subject]]
+        return sum(at == 0 or stripe != stripes[at - 1] for at, stripe in enumerate(stripes))
+
     def rows(self):
         """A line for each row, by edges, by stripes and by values."""
         lines = []
@@ -110,9 +116,9 @@ class Striped:
 
     def told(self, name, values):
         """What is told of a call, which is made."""
-        takes = self.takes(name, values)
+        takes, before = self.takes(name, values), list(self.model.tuples)
         reply = self.model.answer(name, values)
-        owns = len(EDGES[self.subject]) if reply.split()[0] in ["inserted", "removed"] else 0
+        owns = self.owns(before)
         lines = [f"take {n + 1} held same rows" for n in range(len(takes))]
         lines.append(f"take {len(takes) + 1} none same rows")
         lines += [f"own {n + 1} memory same rows" for n in range(owns)]

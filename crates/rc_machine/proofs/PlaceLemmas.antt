@@ -1,5 +1,5 @@
 -- Rows with the stripes on which they fall, and room for a change of each.
-use Rattle.std.specs.Prelude.{◌≡◌, ℕ, zero, suc, pred, max, ◌+◌, ◌<◌, ◌≤◌, ◌==◌, ◌⊎◌, Bool, true, false, List, [], ◌∷◌, cond, drop, get_or, length, take}
+use Rattle.std.specs.Prelude.{◌≡◌, ℕ, zero, suc, pred, max, ◌+◌, ◌<◌, ◌≤◌, ◌==◌, ◌⊎◌, Bool, true, false, List, [], ◌∷◌, Option, IfSome, cond, drop, get_or, length, take}
 use Rattle.std.proofs.Common.{inl, inr, refl, sym, ap, subst, ◌∙◌, arith}
 use Rattle.std.proofs.lemmas.Bool.{eq-eqb, eqb-true, false≢true}
 use Rattle.std.proofs.lemmas.List.{drop_more}
@@ -10,7 +10,7 @@ use Rattle.rc_spec.specs.Fragments.{EdgeRow}
 use Rattle.rc_fragment.specs.Holder.{HasRoom, Holding, LentStripe, with_change, with_change_at, with_room, with_room_at}
 use Rattle.rc_machine.specs.Apply.{HasRoomFor, count_on}
 use Rattle.rc_machine.specs.declared.places.RowPlace.{RowPlace}
-use Rattle.rc_machine.proofs.ReadLemmas.{in_next}
+use Rattle.rc_machine.proofs.ReadLemmas.{in_next, next_in}
 
 -- one row more
 count_first : (stripe : ℕ) (p : RowPlace) (places : List RowPlace) → count_on stripe (p ∷ places) ≡ cond (p.stripe == stripe) 1 0 + count_on stripe places
@@ -40,6 +40,24 @@ room_more n places p old new l is f e k m q i at =
         omega (arith, s)
     go o m false g (inl i) at = f o m q i at
     go o m false g (inr i) at = absurd (false≢true (sym g ∙ eq-eqb o.held.stripe p.stripe (sym at ∙ ap (λ (z : RowPlace). z.stripe) i)))
+
+-- the stripe is that of one of the first places
+abbrev pub IsAmongFirst : ℕ → List RowPlace → ℕ → Type 0
+IsAmongFirst n places stripe = (p : RowPlace) × In p (take n places) × (p.stripe ≡ stripe)
+
+abbrev pub IsLastOf : ℕ → List RowPlace → Option ℕ → Type 0
+IsLastOf n places last = IfSome last (IsAmongFirst n places)
+
+pub among_first : (n : ℕ) (places : List RowPlace) (p : RowPlace) → n < length places → p ≡ get_or places n p → IsAmongFirst (n + 1) places p.stripe
+among_first n places p l is = (p, next_in places n p p l is (inr refl), refl)
+
+-- one more place on a stripe that has room
+pub room_same : (n : ℕ) (places : List RowPlace) (p : RowPlace) (s : Holding) → n < length places → p ≡ get_or places n p → HaveRoomFirst n places s
+    → IsAmongFirst n places p.stripe → HaveRoomFirst (n + 1) places s
+room_same n places p s l is f first k m q i at = elim (in_next places n p q l is i) [
+  | inl h ↦ f k m q h at
+  | inr e ↦ f k m first.0 first.1 (first.2 ∙ sym (ap (λ (z : RowPlace). z.stripe) e) ∙ at)
+]
 
 -- a stripe on which no row falls needs no room
 pub some_or_none : (stripe : ℕ) (places : List RowPlace) → ((p : RowPlace) × In p places × (p.stripe ≡ stripe)) ⊎ (count_on stripe places ≡ 0)

@@ -227,7 +227,7 @@ in_next xs i x y l e m = elim (in_append y (take i xs) (get_or xs i x ∷ []) (s
   | inr (inr z) ↦ absurd z
 ]
 
-next_in : {A : Type 0} (xs : List A) (i : ℕ) (x y : A) → i < length xs → x ≡ get_or xs i x → In y (take i xs) ⊎ (y ≡ x) → In y (take (i + 1) xs)
+pub next_in : {A : Type 0} (xs : List A) (i : ℕ) (x y : A) → i < length xs → x ≡ get_or xs i x → In y (take i xs) ⊎ (y ≡ x) → In y (take (i + 1) xs)
 next_in xs i x y l e m = subst (In y) (sym (ap (λ k. take k xs) (add-one i) ∙ take-suc xs i x l)) (elim m [
   | inl h ↦ append_in_left y (take i xs) (get_or xs i x ∷ []) h
   | inr h ↦ append_in_right y (take i xs) (get_or xs i x ∷ []) (inl (h ∙ e))

@@ -127,6 +127,9 @@ fn take_all<H: Holder>(holder: &mut H, stripes: &[u32], mode: Mode) -> Result<()
 fn sort(numbers: &mut Vec<u32>)
     ensures { numbers.new.items ≡ gather nat_cmp numbers.old.items }
 {
-    numbers.sort_unstable();
-    numbers.dedup();
+    // Mostly one binding names one stripe.
+    if numbers.len() > 1 {
+        numbers.sort_unstable();
+        numbers.dedup();
+    }
 }

@@ -1,14 +1,16 @@
 //! The rows of a tuple in all edges, each with the stripe on which it falls, and room for a change of each.
 
-ghost use Rattle.std.specs.Prelude.{◌≡◌, ◌==◌, ◌<◌, ◌≤◌, ◌^◌, length, map, count_by, OnOk};
+ghost use Rattle.std.specs.Prelude.{◌≡◌, ◌==◌, ◌<◌, ◌≤◌, ◌^◌, length, map, count_by, IfSome, OnOk};
 ghost use Rattle.rc_tuple.specs.RisingSet.{In};
 ghost use Rattle.rc_tuple.specs.Tuple.{cols_of};
 ghost use Rattle.rc_spec.specs.Acceptance.{IsSealed};
 ghost use Rattle.rc_spec.specs.Calls.{all_columns};
 ghost use Rattle.rc_spec.specs.Fragments.{edge_numbers};
+ghost use Rattle.rc_spec.specs.Placement.{class_of};
+ghost use Rattle.rc_spec.specs.Stripes.{physical_stripe};
 ghost use Rattle.rc_spec.specs.declared.spec.Spec.{Spec};
 ghost use Rattle.rc_fragment.specs.Holder.{IsHeldExclusive, held_of};
-ghost use Rattle.rc_machine.specs.Apply.{HasRoomFor, IsSameButLent, count_on, place_in};
+ghost use Rattle.rc_machine.specs.Apply.{HasRoomFor, IsSameButLent, IsStripeOf, count_on, place_in};
 ghost use Rattle.rc_machine.specs.declared.places.RowPlace.{RowPlace};
 
 use crate::stripe::stripe_of;
@@ -26,7 +28,15 @@ pub(crate) struct RowPlace {
     pub(crate) row: Tuple,
 }
 
+/// A class, and the number, among all stripes, of its stripe on which a binding falls.
+#[derive(Clone, Copy, Debug)]
+pub(crate) struct ClassStripe {
+    pub(crate) class: u8,
+    pub(crate) stripe: u32,
+}
+
 /// Makes the places those of the tuple's row in each edge, with the stripe on which it falls, which is that of the tuple.
+/// The binding is the tuple in registers. Edges that follow each other are mostly of one class, whose stripe is found once.
 /// Memory is taken only where the places had room for fewer edges or columns.
 pub(crate) fn place_rows(
     spec: &Spec,
@@ -42,13 +52,31 @@ pub(crate) fn place_rows(
 {
     let edges = spec.edges.list().len();
     resize(places, edges, tuple.alloc())?;
+    let mut last = None;
     for edge in 0..edges as u8 {
-        place_row(spec, tuple, binding, edge, &mut places[edge as usize])?;
+        let class = spec.class_of(edge);
+        let stripe = stripe_after(spec, class, binding, last);
+        last = Some(ClassStripe { class, stripe });
+        place_row(spec, tuple, edge, stripe, &mut places[edge as usize])?;
     }
     Ok(())
 }
 
-/// Makes the list as long as this, whatever its places are.
+/// The number, among all stripes, of the class's stripe on which the binding falls, where the last one was found before.
+fn stripe_after(spec: &Spec, class: u8, binding: &Binding, last: Option<ClassStripe>) -> u32
+    requires sealed { IsSealed spec.now }
+    requires known { class < length spec.now.classes }
+    requires wide { binding.now.width ≡ length spec.now.columns }
+    requires last { IfSome last (IsStripeOf spec.now binding.now.tuple) }
+    ensures { result ≡ physical_stripe spec.now class binding.now.tuple }
+{
+    match last {
+        Some(last) if last.class == class => last.stripe,
+        _ => stripe_of(spec, class, binding),
+    }
+}
+
+/// Makes the list as long as this; new places have no row.
 fn resize(places: &mut Vec<RowPlace>, count: usize, alloc: Global) -> Result<(), Memory>
     ensures { OnOk result (length places.new.items ≡ count) }
 {
@@ -63,27 +91,27 @@ fn resize(places: &mut Vec<RowPlace>, count: usize, alloc: Global) -> Result<(),
     Ok(())
 }
 
-/// Makes the place that of the tuple's row in the edge.
+/// Makes the place that of the tuple's row in the edge, on the stripe on which the tuple falls.
 fn place_row(
     spec: &Spec,
     tuple: &Tuple,
-    binding: &Binding,
     edge: u8,
+    stripe: u32,
     place: &mut RowPlace,
 ) -> Result<(), Memory>
     requires sealed { IsSealed spec.now }
     requires known { edge < length spec.now.edges }
-    requires same { binding.now.tuple ≡ tuple.now }
-    requires wide { binding.now.width ≡ length spec.now.columns }
+    requires falls { stripe ≡ physical_stripe spec.now (class_of spec.now edge) tuple.now }
     requires whole { cols_of tuple.now ≡ all_columns spec.now }
     ensures { OnOk result (place.new ≡ place_in spec.now tuple.now edge) }
 {
     place.edge = edge;
-    place.stripe = stripe_of(spec, spec.class_of(edge), binding);
+    place.stripe = stripe;
     tuple.project_into(spec.bound(spec.edge(edge).to), &mut place.row)
 }
 
-/// Makes room on each row's stripe for a change of each of the rows that fall on it. No row changes.
+/// Makes room on each row's stripe for a change of each of the rows that fall on it. No row changes. Rows that follow each
+/// other mostly fall on one stripe, for which room is made once.
 pub(crate) fn make_room<H: Holder>(holder: &mut H, places: &[RowPlace]) -> Result<(), Memory>
     requires few { length places.now < 2 ^ 16 }
     requires exclusive { (p : RowPlace) → In p places.now → IsHeldExclusive (held_of (H.seen holder.old)) p.stripe }
@@ -92,8 +120,13 @@ pub(crate) fn make_room<H: Holder>(holder: &mut H, places: &[RowPlace]) -> Resul
     ensures lent { IsSameButLent (H.seen holder.old) (H.seen holder.new) }
     ensures sound { (spec : Spec) → H.is_sound holder.old spec → H.is_sound holder.new spec }
 {
+    let mut last = None;
     for place in places {
+        if last == Some(place.stripe) {
+            continue;
+        }
         holder.own(place.stripe, count_on(places, place.stripe))?;
+        last = Some(place.stripe);
     }
     Ok(())
 }

@@ -1,18 +1,16 @@
-use Rattle.std.proofs.Common.{◌≡◌, ◌+◌, ◌*◌, ◌-◌, ◌<◌, ◌≤◌, ◌++◌, ◌∷◌, ◌&&◌, [], List, ℕ, Bool, true, false, inl, inr, drop, length, refl, take, subst, sym, ap, ◌∙◌, arith}
+use Rattle.std.proofs.Common.{◌≡◌, ◌<◌, ◌++◌, ◌∷◌, ◌&&◌, [], List, ℕ, Bool, true, false, inl, inr, length, refl, subst, sym, ap, ◌∙◌, arith}
 use Rattle.std.proofs.lemmas.Bool.{and_from}
-use Rattle.std.proofs.lemmas.List.{append-nil, length-append, length-drop, with_items_is}
+use Rattle.std.proofs.lemmas.List.{append-nil}
 use Rattle.std.specs.List.{zip}
-use Rattle.std.specs.Vec.{with_items}
-use Rattle.std.specs.Ordering.{nat_cmp}
-use Rattle.rc_tuple.specs.RisingSet.{In, IsRising}
+use Rattle.rc_tuple.specs.RisingSet.{In}
 use Rattle.rc_tuple.specs.RisingSetLaws.{in_append, map_in}
 use Rattle.rc_tuple.specs.Tuple.{Pairs, cols_of, merges_of}
-use Rattle.rc_bindings.specs.Bindings.{AreBindings, BindingList, IsRowWith, OneBinding, given, seen_list, seen_one, tuples_in, with_tuples}
-use Rattle.rc_bindings.specs.BindingsLaws.{AreBindings-push, cols_of-given, count_within, drop_old, given_one, no_merge, one_merge, tuples_in-push, written_behind}
+use Rattle.rc_bindings.specs.Bindings.{BindingList, IsRowWith, OneBinding, given, seen_list, with_tuples}
+use Rattle.rc_bindings.specs.BindingsLaws.{AreBindings-push, cols_of-given, count_within, given_one, no_merge, one_merge, tuples_in-push}
 use Rattle.rc_bindings.specs.Registers.{all_written, fits_all, tuple_in}
-use Rattle.rc_bindings.specs.RegistersLaws.{all_written-append, fits_all-append, length-all_written}
+use Rattle.rc_bindings.specs.RegistersLaws.{fits_all-append, length-all_written}
 use Rattle.rc_bindings.proofs.bindings.Bindings.push_row.Goals as goal
-use Rattle.rc_bindings.proofs.bindings.Bindings.push_row.Goals.{After-binding, After-fits_values, After-fits_values-2, After-deref_mut, After-write_values, After-write_values-2}
+use Rattle.rc_bindings.proofs.bindings.Bindings.push_row.Goals.{After-binding, After-push_merged}
 
 -- the binding is as wide as the list
 wide : (c : After-binding) → length c.binding.inside.registers.now ≡ c.self.inside.width
@@ -66,62 +64,22 @@ returns-then-not-fits_values-2-clause-ok c row is =
 
 -- ---- where they fit
 
-both : (c : After-deref_mut) → c.deref_mut.result.now ≡ c.self.inside.registers.items ++ c.binding.inside.registers.now
-both c = c.deref_mut.ensures.value ∙ c.in_ok-extend_from_slice.ensures.items
+pub push_merged-requires-clause-key_below : goal.push_merged-requires-clause-key_below
+push_merged-requires-clause-key_below c n m = let at = (goal.at.push_merged-requires-clause-key_below c).After-binding in subst (λ w. n < w) (sym (wide at)) (key_below at n m)
 
-start : (c : After-deref_mut) → c.len-start.result ≡ length c.self.inside.registers.items
-start c = c.len-start.ensures ∙ c.self.inside.registers.ok.0
+pub push_merged-requires-clause-extra_below : goal.push_merged-requires-clause-extra_below
+push_merged-requires-clause-extra_below c n m = let at = (goal.at.push_merged-requires-clause-extra_below c).After-binding in subst (λ w. n < w) (sym (wide at)) (extra_below at n m)
 
-pub write_values-requires-clause-width : goal.write_values-requires-clause-width
-write_values-requires-clause-width c =
-    let at = goal.at.write_values-requires-clause-width c in
-    ap (λ l. length (drop c.len-start.result l)) (both at.After-deref_mut) ∙ ap length (drop_old c.self.inside.registers.items c.binding.inside.registers.now c.len-start.result (start at.After-deref_mut)) ∙ wide at.After-binding
-
-pub write_values-requires-clause-columns : goal.write_values-requires-clause-columns
-write_values-requires-clause-columns c = key_below (goal.at.write_values-requires-clause-columns c).After-binding
-
-pub write_values-requires-2-clause-columns : goal.write_values-requires-2-clause-columns
-write_values-requires-2-clause-columns c = extra_below (goal.at.write_values-requires-2-clause-columns c).After-binding
-
--- the key's values are written
-first : (c : After-write_values) → c.write_values.new.registers ≡ c.self.inside.registers.items ++ all_written (zip c.args.key c.args.key_values.now) c.binding.inside.registers.now
-first c =
-    let old = c.self.inside.registers.items in
-    let more = c.binding.inside.registers.now in
-    let key = zip c.args.key c.args.key_values.now in
-    let at : c.deref_mut.result.now ≡ old ++ more = c.deref_mut.ensures.value ∙ c.in_ok-extend_from_slice.ensures.items in
-    let from : c.len-start.result ≡ length old = c.len-start.ensures ∙ c.self.inside.registers.ok.0 in
-    c.write_values.ensures ∙ ap (λ l. take c.len-start.result l ++ all_written key (drop c.len-start.result l)) at ∙ written_behind key old more c.len-start.result from
-
--- the vector has them
-kept : (c : After-write_values) → take c.extend_from_slice.new.self.len (c.write_values.new.registers ++ drop (length c.write_values.new.registers) c.extend_from_slice.new.self.items)
-    ≡ c.self.inside.registers.items ++ all_written (zip c.args.key c.args.key_values.now) c.binding.inside.registers.now
-kept c = with_items_is c.extend_from_slice.new.self c.write_values.new.registers (c.write_values.auto.registers ∙ c.deref_mut.ensures.len) ∙ first c
-
-pub write_values-requires-2-clause-width : goal.write_values-requires-2-clause-width
-write_values-requires-2-clause-width c =
-    let at = goal.at.write_values-requires-2-clause-width c in
-    let key = zip c.args.key c.args.key_values.now in
-    ap (λ l. length (drop c.len-start.result l)) (c.deref_mut-2.ensures.value ∙ kept at.After-write_values)
-    ∙ ap length (drop_old c.self.inside.registers.items (all_written key c.binding.inside.registers.now) c.len-start.result (start at.After-deref_mut))
-    ∙ length-all_written key c.binding.inside.registers.now ∙ wide at.After-binding
-
--- the row that is written
-abbrev row_of : After-write_values-2 → List ℕ
+-- the row that is added
+abbrev row_of : After-push_merged → List ℕ
 row_of c = all_written (given c.args.key c.args.key_values.now c.args.extra c.args.extra_values.now) c.binding.inside.registers.now
 
--- both are written behind what was there
-second : (c : After-write_values-2)
-    → take c.extend_from_slice.new.self.len (c.write_values.new.registers ++ drop (length c.write_values.new.registers) c.extend_from_slice.new.self.items) ≡ c.self.inside.registers.items ++ all_written (zip c.args.key c.args.key_values.now) c.binding.inside.registers.now
-    → c.write_values-2.new.registers ≡ c.self.inside.registers.items ++ row_of c
-second c before =
-    let old = c.self.inside.registers.items in
-    let more = c.binding.inside.registers.now in
-    let key = zip c.args.key c.args.key_values.now in
-    let extra = zip c.args.extra c.args.extra_values.now in
-    let from : c.len-start.result ≡ length old = c.len-start.ensures ∙ c.self.inside.registers.ok.0 in
-    c.write_values-2.ensures ∙ ap (λ l. take c.len-start.result l ++ all_written extra (drop c.len-start.result l)) (c.deref_mut-2.ensures.value ∙ before)
-    ∙ written_behind extra old (all_written key more) c.len-start.result from ∙ ap (λ l. old ++ l) (sym (all_written-append key extra more))
+-- it lies behind what was there
+items : (c : After-push_merged) → c.push_merged.new.registers.items ≡ c.self.inside.registers.items ++ row_of c
+items c = c.push_merged.ensures ∙ ap (λ l. l ++ row_of c) c.in_ok-reserve.ensures.items
+
+row_wide : (c : After-push_merged) → length c.binding.inside.registers.now ≡ c.self.inside.width → length (row_of c) ≡ c.self.inside.width
+row_wide c w = length-all_written (given c.args.key c.args.key_values.now c.args.extra c.args.extra_values.now) c.binding.inside.registers.now ∙ w
 
 pub overflow_add-self : goal.overflow_add-self
 overflow_add-self c =
@@ -130,21 +88,10 @@ overflow_add-self c =
     let small = c.self.inside.registers.small in
     omega (arith, few, len, small)
 
--- and the vector has them
-items : (c : After-write_values-2) (before : After-write_values)
-    → take c.extend_from_slice.new.self.len (c.write_values.new.registers ++ drop (length c.write_values.new.registers) c.extend_from_slice.new.self.items) ≡ c.self.inside.registers.items ++ all_written (zip c.args.key c.args.key_values.now) c.binding.inside.registers.now
-    → take c.extend_from_slice.new.self.len (c.write_values-2.new.registers ++ drop (length c.write_values-2.new.registers) (take c.extend_from_slice.new.self.len (c.write_values.new.registers ++ drop (length c.write_values.new.registers) c.extend_from_slice.new.self.items)))
-    ≡ c.self.inside.registers.items ++ row_of c
-items c before first_kept = with_items_is (with_items c.extend_from_slice.new.self c.write_values.new.registers) c.write_values-2.new.registers (c.write_values-2.auto.registers ∙ c.deref_mut-2.ensures.len) ∙ second c first_kept
-
-row_wide : (c : After-write_values-2) → length c.binding.inside.registers.now ≡ c.self.inside.width → length (row_of c) ≡ c.self.inside.width
-row_wide c w = length-all_written (given c.args.key c.args.key_values.now c.args.extra c.args.extra_values.now) c.binding.inside.registers.now ∙ w
-
 pub invariant_of-self-2 : goal.invariant_of-self-2
 invariant_of-self-2 c =
     let at = goal.at.invariant_of-self-2 c in
-    AreBindings-push c.self.inside.cols c.self.inside.width c.self.inside.count c.self.inside.registers.items (row_of at.After-write_values-2) _ c.self.invariant (row_wide at.After-write_values-2 (wide at.After-binding))
-    (items at.After-write_values-2 at.After-write_values (kept at.After-write_values))
+    AreBindings-push c.self.inside.cols c.self.inside.width c.self.inside.count c.self.inside.registers.items (row_of at.After-push_merged) _ c.self.invariant (row_wide at.After-push_merged (wide at.After-binding)) (items at.After-push_merged)
 
 pub returns-clause-ok : goal.returns-clause-ok
 returns-clause-ok c row is =
@@ -163,18 +110,14 @@ returns-clause-ok c row is =
     (elim (in_append k c.args.key c.args.extra (subst (In k) columns m)) [ inl h ↦ takes.key_within k h | inr h ↦ takes.extra_within k h ]) in
     let fit : fits_all cols values ps ≡ true = fits_all-append cols values key extra
     ∙ and_from (fits_all cols values key) (fits_all cols values extra) (sym c.fits_values.ensures.value ∙ c.if-not-fits_values.false) (sym c.fits_values-2.ensures.value ∙ c.if-not-fits_values-2.false) in
-    let merged : merges_of (tuple_in cols values) (row ∷ []) ≡ tuple_in xs (row_of at.After-write_values-2) ∷ [] =
+    let merged : merges_of (tuple_in cols values) (row ∷ []) ≡ tuple_in xs (row_of at.After-push_merged) ∷ [] =
     one_merge cols values c.binding.invariant.columns.set.rising ps row (subst (λ (z : OneBinding). IsRowWith z.tuple ps row) (sym c.binding.view_is) is) fit
     (given_one c.args.key c.args.key_values.now c.args.extra c.args.extra_values.now c.fits_values.ensures.set.rising c.fits_values-2.ensures.set.rising c.requires.keys c.requires.extras takes.apart)
     (λ p m. subst (λ w. p.0 < w) (sym (wide at.After-binding)) (c.self.invariant.columns.below p.0 (within p.0 (map_in (λ (q : ℕ × ℕ). q.0) p ps m))))
     xs c.self.invariant.columns.set.rising
     (λ k m. elim (takes.parts k (subst (In k) seen_cols m)) [ inl h ↦ inl (subst (In k) (sym seen_own) h) | inr h ↦ inr (subst (In k) (sym columns) h) ])
     (λ k m. subst (In k) (sym seen_cols) (takes.old_within k (subst (In k) seen_own m))) within in
-    let tuples = tuples_in-push xs c.self.inside.width c.self.inside.count c.self.inside.registers.items (row_of at.After-write_values-2) _ c.self.invariant (row_wide at.After-write_values-2 (wide at.After-binding))
-    (items at.After-write_values-2 at.After-write_values (kept at.After-write_values)) in
+    let tuples = tuples_in-push xs c.self.inside.width c.self.inside.count c.self.inside.registers.items (row_of at.After-push_merged) _ c.self.invariant (row_wide at.After-push_merged (wide at.After-binding)) (items at.After-push_merged) in
     let seen = seen_list xs c.self.inside.width c.self.inside.count c.self.inside.registers.items in
     ap (with_tuples seen) (tuples ∙ ap (λ l. seen.tuples ++ l) (sym merged ∙ ap (λ (z : OneBinding). merges_of z.tuple (row ∷ [])) c.binding.view_is))
     ∙ ap (λ (z : BindingList). with_tuples z (z.tuples ++ merges_of c.args.binding.now.tuple (row ∷ []))) c.self.view_is
-
-pub returns-clause-same : goal.returns-clause-same
-returns-clause-same c = ap (λ (z : BindingList). with_tuples z (tuples_in c.self.inside.cols c.self.inside.width (c.self.inside.count + 1) (with_items (with_items c.extend_from_slice.new.self c.write_values.new.registers) c.write_values-2.new.registers).items)) c.self.view_is

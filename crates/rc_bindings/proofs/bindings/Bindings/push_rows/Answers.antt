@@ -1,10 +1,10 @@
-use Rattle.std.proofs.Common.{◌≡◌, ◌+◌, ◌-◌, ◌<◌, ◌≤◌, ◌++◌, ◌∷◌, [], List, ℕ, drop, get_or, length, refl, suc, take, subst, sym, ap, ◌∙◌, arith}
+use Rattle.std.proofs.Common.{◌≡◌, ◌+◌, ◌-◌, ◌<◌, ◌++◌, ◌∷◌, [], List, ℕ, drop, get_or, length, take, subst, sym, ap, ◌∙◌, arith}
 use Rattle.std.proofs.lemmas.List.{append-nil, append_assoc, drop-drop, length-append, length-drop, take_all}
 use Rattle.std.specs.List.{flat_map}
 use Rattle.rc_tuple.specs.RisingSet.{In}
 use Rattle.rc_tuple.specs.RisingSetLaws.{get_or_in}
 use Rattle.rc_tuple.specs.Tuple.{Pairs, merges_of, project}
-use Rattle.rc_bindings.specs.Bindings.{BindingList, IsGivenBy, IsRowWith, OneBinding, TakesRows, given, key_and_extra, with_tuples}
+use Rattle.rc_bindings.specs.Bindings.{BindingList, IsGivenBy, IsRowWith, TakesRows, given, key_and_extra, seen_list, tuples_in, with_tuples}
 use Rattle.rc_bindings.specs.BindingsLaws.{drop_first, merges_more, next_row, none_left, row_left, take_first}
 use Rattle.rc_bindings.specs.Registers.{values_of}
 use Rattle.rc_bindings.proofs.bindings.Bindings.push_rows.Invariants.{HasPushed}
@@ -20,13 +20,14 @@ wide b key extra keys extras k x t is =
 
 pub loop-start-init : goal.loop-start-init
 loop-start-init c = record {
-  same = refl;
+  same = ap (λ (z : BindingList). with_tuples z (tuples_in c.self.inside.cols c.self.inside.width c.self.inside.count c.reserve.new.self.items)) c.self.view_is;
   within = omega arith;
   pushed = λ rows are given_by. record {
     done = 0;
     within = omega arith;
     left = are;
-    merged = ap (with_tuples c.args.self.now) (sym (append-nil c.args.self.now.tuples));
+    merged = ap (seen_list c.self.inside.cols c.self.inside.width c.self.inside.count) c.in_ok-reserve.ensures.items ∙ c.self.view_is
+        ∙ ap (with_tuples c.args.self.now) (sym (append-nil c.args.self.now.tuples));
   };
 }
 
