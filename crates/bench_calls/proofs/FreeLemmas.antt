@@ -1,21 +1,9 @@
 -- The passes of a store that was just built are free.
-use Rattle.std.proofs.Common.{◌≡◌, ℕ, ◌<◌, List, get_or, refl, sym, ap, ◌∙◌, subst, arith}
+use Rattle.std.proofs.Common.{◌≡◌, ℕ, ◌<◌, List, get_or, sym, ap, ◌∙◌, subst, arith}
 use Rattle.std.proofs.lemmas.List.FromFn.{get_or-map-range_with_len}
-use Rattle.rc_row.specs.declared.keeping.Keeping.{Keeping}
-use Rattle.rc_row.specs.declared.keeping.Keeping.TheVariants.{Counts, Entries}
-use Rattle.rc_row.specs.Passes.{KeepsAs, PassSeen, new_pass, new_passes, none_kept}
+use Rattle.rc_row.specs.Passes.{PassSeen, new_pass, new_passes}
+use Rattle.rc_store.specs.FreeLaws.{new_is_free}
 use Rattle.rc_store.specs.Store.{IsFree, StoreSeen}
-
-keeps_none : (keeping : Keeping) → KeepsAs keeping (none_kept keeping)
-keeps_none Entries = tt
-keeps_none Counts = tt
-
-new_is_free : (store : StoreSeen) (k : ℕ) → IsFree store (new_pass store.row k)
-new_is_free store k = record {
-  of_row = record { table = refl; inside = λ i d below. absurd (omega arith); shapes = λ i d below. absurd (omega arith); keeps = keeps_none store.row.keeping };
-  idle = refl;
-  few = omega arith;
-}
 
 pub free_at : (store : StoreSeen) (passes : List PassSeen) (k n : ℕ) (pass : PassSeen) → store.row.key.passes ≡ n → passes ≡ new_passes store.row → k < n
     → pass ≡ get_or passes k pass → IsFree store pass

@@ -1,6 +1,5 @@
 pub mod AskedLemmas
 pub mod CopyLemmas
 pub mod NumberLemmas
-pub mod PassLemmas
 pub mod SendLemmas
 pub mod SessionLemmas

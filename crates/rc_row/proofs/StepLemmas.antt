@@ -2,7 +2,7 @@
 use Rattle.std.proofs.Common.{◌≡◌, ℕ, ◌<◌, ◌==◌, List, [], ◌∷◌, ◌++◌, length, not, Option, None, sym, refl, ap, ◌∙◌, subst, arith}
 use Rattle.std.specs.Prelude.{vec_capacity}
 use Rattle.std.specs.Ordering.{nat_cmp}
-use Rattle.std.proofs.lemmas.List.Elements.{All-push}
+use Rattle.std.proofs.lemmas.List.Elements.{All-filter, All-push}
 use Rattle.rc_tuple.specs.RisingSet.{IsRising}
 use Rattle.rc_tuple.specs.RisingSetLaws.{rising_filter}
 use Rattle.rc_spec.specs.declared.lock.Mode.{Mode}
@@ -87,5 +87,13 @@ pass_of_taken row pass mode p rows of lt = record {
   table = of.table;
   inside = All-push (λ (h : HeldRows). h.stripe < stripes_of row) pass.held (just_held p mode (kept_of (spec_of row) rows)) of.inside lt;
   shapes = All-push (λ (h : HeldRows). h.fragment.table ≡ edge_table (spec_of row)) pass.held (just_held p mode (kept_of (spec_of row) rows)) of.shapes refl;
+  keeps = of.keeps;
+}
+
+pub pass_of_without : (row : RowSeen) (pass : PassSeen) (p : ℕ) → IsPassOf row pass → IsPassOf row (without_stripe p pass)
+pass_of_without row pass p of = record {
+  table = of.table;
+  inside = All-filter (λ (h : HeldRows). not (h.stripe == p)) (λ (h : HeldRows). h.stripe < stripes_of row) pass.held of.inside;
+  shapes = All-filter (λ (h : HeldRows). not (h.stripe == p)) (λ (h : HeldRows). h.fragment.table ≡ edge_table (spec_of row)) pass.held of.shapes;
   keeps = of.keeps;
 }

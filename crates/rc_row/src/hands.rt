@@ -1,6 +1,7 @@
 //! Which slot a seat can reach, and where a pass has the fragment of a stripe.
 
-ghost use Rattle.std.specs.Prelude.{◌≡◌, ◌/◌, ◌%◌, ◌<◌, ◌≤◌, ◌^◌, length, take};
+ghost use Rattle.std.specs.Prelude.{◌≡◌, ◌/◌, ◌%◌, ◌<◌, ◌≤◌, ◌^◌, length, take, vec_capacity};
+ghost use Rattle.std.specs.List.{remove, slice_index_or};
 ghost use Rattle.rc_tuple.specs.RisingSet.{In};
 ghost use Rattle.rc_core.specs.State.{stripes_in};
 ghost use Rattle.rc_row.specs.PassInside.{hands};
@@ -34,6 +35,22 @@ pub(crate) fn place_of(held: &Vec<HeldFragment>, stripe: u32) -> usize
         }
     }
     unreachable!()
+}
+
+/// Takes out the fragment at a place. The last one, which is mostly wanted, moves no other.
+pub(crate) fn take_at(held: &mut Vec<HeldFragment>, at: usize) -> HeldFragment
+    requires { at < length held.old.items }
+    ensures value { result ≡ slice_index_or held.old.items at result }
+    ensures items { held.new.items ≡ remove held.old.items at }
+    ensures capacity { vec_capacity held.new ≡ vec_capacity held.old }
+{
+    if at + 1 < held.len() {
+        return held.remove(at);
+    }
+    let Some(last) = held.pop() else {
+        unreachable!();
+    };
+    last
 }
 
 /// How many of the first are written.

@@ -12,7 +12,7 @@ ghost use Rattle.rc_row.specs.HeldRows.{just_held};
 ghost use Rattle.rc_row.specs.Passes.{HasWaited, IsPassOf, OfHeld, PassSeen, core_of, spec_of, stripes_of, with_standing, with_taken, without_stripe};
 ghost use Rattle.rc_row.specs.Standings.{HaveOneRelation, KeepsOut, turned_away};
 
-use crate::hands::{found_in, place_of, turn_by, written_among};
+use crate::hands::{found_in, place_of, take_at, turn_by, written_among};
 use crate::held::HeldFragment;
 use crate::law::View;
 use crate::pass::Pass;
@@ -126,7 +126,7 @@ impl Row {
         let above = written_among(&pass.held, pass.held.len()) - 1 - below;
         let mark = pass.number as u64 + 1;
         turn_by(&mut pass.seat, above);
-        let held = pass.held.remove(at);
+        let held = take_at(&mut pass.held, at);
         self.put_in(&mut pass.seat, stripe, held.fragment.into_keep());
         self.unlock_step(&mut pass.seat, mark, stripe);
         turn_by(&mut pass.seat, below);

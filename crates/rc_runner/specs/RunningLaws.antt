@@ -1,35 +1,31 @@
 -- Laws of passes that make the calls of a workload.
-use Rattle.std.proofs.Common.{◌≡◌, ℕ, zero, suc, ◌+◌, ◌<◌, ◌≤◌, ◌==◌, ◌^◌, List, [], ◌∷◌, ◌++◌, All, Some, map, filter, length, min, take, get_or, sum_by, sym, refl, ap, ◌∙◌, subst, arith}
+use Rattle.std.proofs.Common.{◌≡◌, ℕ, zero, suc, ◌+◌, ◌<◌, ◌≤◌, ◌==◌, List, [], ◌∷◌, ◌++◌, All, Some, map, filter, length, min, take, get_or, sum_by, sym, refl, ap, ◌∙◌, subst, arith}
 use Rattle.std.specs.Prelude.{IfOk, Result, Ok, Err}
-use Rattle.std.specs.List.{flat_map, range_with_len, slice_get}
+use Rattle.std.specs.List.{range_with_len, slice_get}
 use Rattle.std.proofs.Math.Seq.{take-append_seam}
 use Rattle.std.proofs.lemmas.List.{length-append, length-map, length-take, map-id}
-use Rattle.std.proofs.lemmas.List.Elements.{All-append, All-cons, All-from_get_or, All-get_or, All-head, All-nil, All-same, All-tail, All-weaker}
+use Rattle.std.proofs.lemmas.List.Elements.{All-cons, All-head, All-nil, All-tail, All-weaker}
 use Rattle.std.proofs.lemmas.List.FromFn.{length-range_with_len}
 use Rattle.std.proofs.lemmas.List.Sums.{count_by-le-length, length-filter, sum_by-cons, sum_by_more_le}
 use Rattle.std.proofs.lemmas.Simd.{map-map}
-use Rattle.std.proofs.lemmas.Option.{get_or_from_slice_get, slice_get_within}
 use Rattle.rc_spec.specs.declared.call.Call.{Call}
 use Rattle.rc_spec.specs.declared.call.Reply.{Reply}
 use Rattle.rc_spec.specs.declared.spec.Spec.{Spec}
-use Rattle.rc_rel.specs.declared.entry.Entry.{Entry}
 use Rattle.rc_rel.specs.declared.entry.Placed.{Placed}
-use Rattle.rc_rel.specs.History.{calls_of, own_placed, placed, steps_of}
+use Rattle.rc_rel.specs.History.{calls_of, placed, steps_of}
 use Rattle.rc_core.specs.declared.state.PassState.{PassState}
-use Rattle.rc_fragment.specs.Fragment.{edge_table}
 use Rattle.rc_plan.specs.Compiled.{SpecWithPlans}
-use Rattle.rc_row.specs.declared.keeping.Keeping.{Keeping}
-use Rattle.rc_row.specs.declared.keeping.Keeping.TheVariants.{Counts, Entries}
-use Rattle.rc_row.specs.HeldRows.{HeldRows}
-use Rattle.rc_row.specs.Passes.{AreIdlePasses, IsPassOf, KeepsAs, PassSeen, RowSeen, core_of, new_pass, new_passes, next_entry, none_kept, spec_of, stripes_of}
+use Rattle.rc_row.specs.declared.keeping.Keeping.TheVariants.{Entries}
+use Rattle.rc_row.specs.Passes.{AreIdlePasses, IsPassOf, PassSeen, RowSeen, core_of, new_pass, new_passes, next_entry, spec_of}
 use Rattle.rc_store.specs.declared.receipt.Receipt.{Receipt}
 use Rattle.rc_store.specs.Closed.{ClosedSeen, HasClosed, Leaves, where_kept}
+use Rattle.rc_store.specs.FreeLaws.{new_are_free as all_free}
 use Rattle.rc_store.specs.Store.{HasMade, IsAsBefore, IsFree, StoreSeen}
 use Rattle.rc_work.specs.declared.work.Turn.{Turn}
 use Rattle.rc_work.specs.declared.work.Work.{Work}
 use Rattle.rc_work.specs.Fitting.{HasThreads}
 use Rattle.rc_work.specs.Runs.{Runs, thread_calls}
-use Rattle.rc_rounds.specs.Rounds.{AreSingle, EachHasMade, HasCalled, HasGrown, HasMade as HasMadeRounds, HaveMade, IsClosed, MadeBy, Stand, entries_of}
+use Rattle.rc_rounds.specs.Rounds.{AreSingle, EachHasMade, HasCalled, HasGrown, HaveMade, IsClosed, MadeBy, Stand, entries_of}
 use Rattle.rc_rounds.specs.CloseLaws.{rounds_run}
 use Rattle.rc_runner.specs.Running.{HasRun, MayMake, number_of, numbers_of, stand_of, stands_of}
 
@@ -179,29 +175,13 @@ has_run store passes work closed h keeps count some turns made =
 
 -- ---- new passes
 
-kept_so : (keeping : Keeping) → KeepsAs keeping (none_kept keeping)
-kept_so Entries = tt
-kept_so Counts = tt
-
-pub new_free : (store : StoreSeen) (k : ℕ) → IsFree store (new_pass store.row k)
-new_free store k = record {
-  of_row = record {
-    table = refl;
-    inside = All-nil (λ (h : HeldRows). h.stripe < stripes_of store.row);
-    shapes = All-nil (λ (h : HeldRows). h.fragment.table ≡ edge_table (spec_of store.row));
-    keeps = kept_so store.row.keeping;
-  };
-  idle = refl;
-  few = omega arith;
-}
-
 each_new : (P : PassSeen → Type 0) (row : RowSeen) → ((k : ℕ) → P (new_pass row k)) → (numbers : List ℕ) → All P (map (new_pass row) numbers)
 each_new P row h [] = All-nil P
 each_new P row h (k ∷ numbers) = All-cons P (new_pass row k) (map (new_pass row) numbers) (h k) (each_new P row h numbers)
 
 module _ (store : StoreSeen) (passes : List PassSeen) (new : passes ≡ new_passes store.row) where
   pub new_are_free : All (IsFree store) passes
-  new_are_free = subst (All (IsFree store)) (sym new) (each_new (IsFree store) store.row (new_free store) (range_with_len 0 store.row.key.passes))
+  new_are_free = subst (All (IsFree store)) (sym new) (all_free store)
 
   pub new_have_none : All (λ (p : PassSeen). (core_of p).own ≡ []) passes
   new_have_none = subst (All (λ (p : PassSeen). (core_of p).own ≡ [])) (sym new) (each_new (λ (p : PassSeen). (core_of p).own ≡ []) store.row (λ k. refl) (range_with_len 0 store.row.key.passes))

@@ -4,6 +4,7 @@ pub mod Closed
 pub mod ClosedInside
 pub mod ClosedLaws
 pub mod CommitLaws
+pub mod FreeLaws
 pub mod HeldStripes
 pub mod Lending
 pub mod LendingLaws

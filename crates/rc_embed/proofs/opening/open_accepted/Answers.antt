@@ -2,7 +2,7 @@ use Rattle.std.proofs.Common.{◌≡◌, List, All, length, sym, subst, ap, ◌�
 use Rattle.std.proofs.lemmas.List.FromFn.{length-map-range_with_len}
 use Rattle.rc_row.specs.Passes.{PassSeen, new_pass}
 use Rattle.rc_store.specs.Store.{IsFree, StoreSeen}
-use Rattle.rc_embed.proofs.PassLemmas.{new_are_free}
+use Rattle.rc_store.specs.FreeLaws.{new_are_free}
 use Rattle.rc_embed.proofs.opening.open_accepted.Goals as goal
 
 pub invariant_of-result : goal.invariant_of-result

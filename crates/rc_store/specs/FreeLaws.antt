@@ -1,4 +1,4 @@
--- The passes of a new store are free.
+-- The passes of a store that was just built are free.
 use Rattle.std.proofs.Common.{ℕ, ◌<◌, All, refl, sym, subst, arith}
 use Rattle.std.proofs.lemmas.List.FromFn.{length-map-range_with_len, get_or-map-range_with_len}
 use Rattle.rc_row.specs.declared.keeping.Keeping.{Keeping}
@@ -10,7 +10,7 @@ keeps_none : (keeping : Keeping) → KeepsAs keeping (none_kept keeping)
 keeps_none Entries = tt
 keeps_none Counts = tt
 
-new_is_free : (store : StoreSeen) (k : ℕ) → IsFree store (new_pass store.row k)
+pub new_is_free : (store : StoreSeen) (k : ℕ) → IsFree store (new_pass store.row k)
 new_is_free store k = record {
   of_row = record { table = refl; inside = λ i d below. absurd (omega arith); shapes = λ i d below. absurd (omega arith); keeps = keeps_none store.row.keeping };
   idle = refl;
