@@ -8,7 +8,7 @@ ghost use Rattle.std.specs.Borrow.{full_share, sem};
 ghost use Rattle.std.specs.Ptr.{lies_at, room_at};
 ghost use Rattle.rc_embed.specs.Codes as codes;
 ghost use Rattle.rc_embed.specs.Frames.{AnswersBegin, AnswersCall, AnswersCommit, AnswersLearn};
-ghost use Rattle.rc_embed.specs.OpenFrames.{HasOpened, IsRefusedBy};
+ghost use Rattle.rc_embed.specs.OpenFrames.{HasOpened, IsRefusedBy, KeepsAsked};
 ghost use Rattle.rc_embed.specs.Opened.{OpenSeen};
 ghost use Rattle.rc_embed.specs.Session.{SessionSeen};
 ghost use Rattle.rc_embed.specs.contracts.opening.OpenStore as stores;
@@ -32,6 +32,7 @@ pub extern "C" fn relc_open(
 ) -> u32
     ensures opened { result ≡ codes.done → HasOpened text.now frame.old frame.new }
     ensures refused { (result ≡ codes.done → ⊥) → IsRefusedBy text.now frame.old frame.new result }
+    ensures asked { KeepsAsked frame.old frame.new }
 {
     let store = match open_by(alloc, text, frame) {
         Ok(store) => store,

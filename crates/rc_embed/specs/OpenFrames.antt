@@ -78,6 +78,12 @@ pub record HasRefusal (text : List ℕ) (frame : OpenFrame) : Type 0 where
       → (frame.length ≡ length text) × (take frame.length frame.refusal ≡ text)
   pub long : 64 < length text → frame.length ≡ 0
 
+-- what the frame asks stays
+pub record KeepsAsked (before after : OpenFrame) : Type 0 where
+  pub passes : after.passes ≡ before.passes
+  pub limit : after.limit ≡ before.limit
+  pub seed : after.seed ≡ before.seed
+
 -- the text gives a specification that keeps all rules, and this is a new store of it, as the frame
 -- asks
 abbrev pub IsOpenedBy : List ℕ → OpenFrame → OpenSeen → Type 0

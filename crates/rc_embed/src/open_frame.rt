@@ -3,7 +3,7 @@
 ghost use Rattle.std.specs.Prelude.{◌≡◌, IfErr, IfOk};
 ghost use Rattle.rc_row.specs.Passes.{spec_of};
 ghost use Rattle.rc_embed.specs.OpenFrames.{AnswersOperation, BreaksRule, HasItem, HasRefusal};
-ghost use Rattle.rc_embed.specs.OpenFrames.{IsOpenedBy, IsRefusedBy, fault_text, line_text};
+ghost use Rattle.rc_embed.specs.OpenFrames.{IsOpenedBy, IsRefusedBy, KeepsAsked, fault_text, line_text};
 ghost use Rattle.rc_embed.specs.OpenFrames.{op_kind_code, open_code, row_width, session_code};
 
 use crate::codes::{DONE, LINE, MEMORY, NONE_LEFT, OPERATION, OPTIONS, RULE, TOO_LONG};
@@ -89,6 +89,7 @@ impl OpenFrame {
         ensures code { IfOk result (λ code. code ≡ open_code fault.now) }
         ensures told { IfOk result (λ _. HasRefusal (fault_text fault.now) self.new) }
         ensures memory { IfErr result (λ _. BreaksRule fault.now × (self.new.length ≡ 0)) }
+        ensures asked { KeepsAsked self.old self.new }
     {
         self.length = 0;
         let text = fault_text(alloc, fault)?;
@@ -105,6 +106,7 @@ pub fn open_by(alloc: Global, text: &[u8], frame: &mut OpenFrame) -> Result<Open
     ensures opened { IfOk result (IsOpenedBy text.now frame.old) }
     ensures none { IfOk result (λ _. frame.new.length ≡ 0) }
     ensures refused { IfErr result (IsRefusedBy text.now frame.old frame.new) }
+    ensures asked { KeepsAsked frame.old frame.new }
 {
     frame.length = 0;
     let options = Options {

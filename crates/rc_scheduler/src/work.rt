@@ -175,7 +175,10 @@ fn run_all<R: Print>(
         let Some((ns, pid)) = first_in(session, operations, RUNNABLE, cpu)? else {
             return Ok(());
         };
-        let is_taken = take(session, operations.take, ns, pid)?;
+        // A process that somebody else has taken meanwhile is theirs.
+        if !take(session, operations.take, ns, pid)? {
+            continue;
+        }
         let process = Process {
             ns,
             pid,
@@ -183,7 +186,7 @@ fn run_all<R: Print>(
             cpu: if cpu == 0 { 1 } else { 0 },
         };
         let is_new = spawn(session, operations.spawn, process)?;
-        println!(rt; "processor {cpu}: ran {ns} {pid}, taken {is_taken}, new {is_new}")?;
+        println!(rt; "processor {cpu}: ran {ns} {pid}, new {is_new}")?;
     }
     Ok(())
 }
