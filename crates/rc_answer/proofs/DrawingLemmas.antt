@@ -9,7 +9,7 @@ use Rattle.rc_plan.specs.declared.statement.Statement.{Statement}
 use Rattle.rc_dot.specs.Dot.{plan_drawing_text}
 use Rattle.rc_reader.specs.Names.{number_among}
 use Rattle.rc_work.specs.LineRules.{op_number}
-use Rattle.rc_answer.specs.Answers.{IsDotPlanText, IsDrawnWhere}
+use Rattle.rc_answer.specs.Answers.{IsPlanDrawingNamed, IsPlanDrawingOrRefusal}
 use Rattle.rc_answer.specs.Writes.{Writes, WritesWhole}
 use Rattle.rc_answer.specs.declared.status.Status.{Status}
 use Rattle.rc_answer.specs.declared.status.Status.TheVariants.{Done}
@@ -38,6 +38,6 @@ operation_found accepted here ops name found op same all is by =
     ap (λ (items : List Op). number_among (op_names items) name) (sym (all ∙ ap (λ (s : Spec). s.ops) same)) ∙ sym is ∙ by
 
 -- what is written of it is what is written of its name
-pub drawn_by_name : (spec : Spec) (name : List ℕ) (op : Option ℕ) (old new : Option (List ℕ)) (r : Result Status Stop) → op_number spec name ≡ op → Writes (IsDrawnWhere spec op) old new r
-    → Writes (IsDotPlanText name spec) old new r
-drawn_by_name spec name op old new r found writes = subst (λ (o : Option ℕ). Writes (IsDrawnWhere spec o) old new r) (sym found) writes
+pub drawn_by_name : (spec : Spec) (name : List ℕ) (op : Option ℕ) (old new : Option (List ℕ)) (r : Result Status Stop) → op_number spec name ≡ op → Writes (IsPlanDrawingOrRefusal spec op) old new r
+    → Writes (IsPlanDrawingNamed name spec) old new r
+drawn_by_name spec name op old new r found writes = subst (λ (o : Option ℕ). Writes (IsPlanDrawingOrRefusal spec o) old new r) (sym found) writes

@@ -63,8 +63,8 @@ IsPlansText spec text status = (plans : List (List Statement)) × ArePlanned spe
 
 -- ---- dot
 
-abbrev pub IsDotText : Spec → List ℕ → Status → Type 0
-IsDotText spec text status = (text ≡ drawing_text spec) × (status ≡ Done)
+abbrev pub IsDrawing : Spec → List ℕ → Status → Type 0
+IsDrawing spec text status = (text ≡ drawing_text spec) × (status ≡ Done)
 
 abbrev pub operation_text : List ℕ
 operation_text = printed_lines (codes "refused operation" ∷ [])
@@ -74,18 +74,18 @@ abbrev pub IsOperationRefusal : List ℕ → Status → Type 0
 IsOperationRefusal text status = (text ≡ operation_text) × (status ≡ Refused)
 
 -- the drawing with the planned plan of the operation of this number
-abbrev pub IsDrawnPlan : Spec → ℕ → List ℕ → Status → Type 0
-IsDrawnPlan spec op text status =
+abbrev pub IsPlanDrawing : Spec → ℕ → List ℕ → Status → Type 0
+IsPlanDrawing spec op text status =
     (plan : List Statement) × IsPlanned spec (op_at spec op) plan × (text ≡ plan_drawing_text spec op plan) × (status ≡ Done)
 
 -- that drawing, or the refusal where no operation has the name
-abbrev pub IsDrawnWhere : Spec → Option ℕ → List ℕ → Status → Type 0
-IsDrawnWhere spec (Some op) text status = IsDrawnPlan spec op text status
-IsDrawnWhere spec None text status = IsOperationRefusal text status
+abbrev pub IsPlanDrawingOrRefusal : Spec → Option ℕ → List ℕ → Status → Type 0
+IsPlanDrawingOrRefusal spec (Some op) text status = IsPlanDrawing spec op text status
+IsPlanDrawingOrRefusal spec None text status = IsOperationRefusal text status
 
 -- the drawing with the plan of the operation of this name, where there is one
-abbrev pub IsDotPlanText : List ℕ → Spec → List ℕ → Status → Type 0
-IsDotPlanText name spec text status = IsDrawnWhere spec (op_number spec name) text status
+abbrev pub IsPlanDrawingNamed : List ℕ → Spec → List ℕ → Status → Type 0
+IsPlanDrawingNamed name spec text status = IsPlanDrawingOrRefusal spec (op_number spec name) text status
 
 -- ---- specifications that stand alone
 
@@ -128,8 +128,8 @@ abbrev pub Answers : TextCommand → List ℕ → List ℕ → Status → Type 0
 Answers Check input text status = AnswersAlone (λ spec. IsAcceptedText) (spec_of input) text status
 Answers Plan input text status = AnswersAlone IsPlansText (spec_of input) text status
 Answers Run input text status = AnswersRun input (spec_reading input) text status
-Answers Dot input text status = AnswersAlone IsDotText (spec_of input) text status
-Answers (DotPlan op) input text status = AnswersAlone (IsDotPlanText op) (spec_of input) text status
+Answers Dot input text status = AnswersAlone IsDrawing (spec_of input) text status
+Answers (DotPlan op) input text status = AnswersAlone (IsPlanDrawingNamed op) (spec_of input) text status
 
 -- an input that is too long
 abbrev pub IsSizeRefusal : List ℕ → Status → Type 0

@@ -2,7 +2,7 @@
 
 ghost use Rattle.std.specs.Prelude.{◌≡◌, ◌≤◌, ◌<◌, length, IsErrOf};
 ghost use Rattle.rc_io.specs.Counts.{Rose};
-ghost use Rattle.rc_answer.specs.Answers.{IsDotPlanText, IsDotText, IsDrawnPlan};
+ghost use Rattle.rc_answer.specs.Answers.{IsPlanDrawingNamed, IsDrawing, IsPlanDrawing};
 ghost use Rattle.rc_answer.specs.Writes.{Writes};
 
 use crate::refusing::refuse_operation;
@@ -21,7 +21,7 @@ pub(crate) fn write_drawing<K: Sink>(
     sink: &mut K,
     accepted: &Accepted,
 ) -> Result<Status, Stop>
-    ensures written { Writes (IsDotText accepted.now) (K.held sink.old) (K.held sink.new) result }
+    ensures written { Writes (IsDrawing accepted.now) (K.held sink.old) (K.held sink.new) result }
     ensures failed { IsErrOf result Stop.Sink → Rose (K.faults sink.old) (K.faults sink.new) }
     ensures count { K.faults sink.old ≤ K.faults sink.new }
 {
@@ -38,7 +38,7 @@ pub(crate) fn write_drawn_plan<K: Sink>(
     accepted: Accepted,
     name: &[u8],
 ) -> Result<Status, Stop>
-    ensures written { Writes (IsDotPlanText name.now accepted) (K.held sink.old) (K.held sink.new)
+    ensures written { Writes (IsPlanDrawingNamed name.now accepted) (K.held sink.old) (K.held sink.new)
         result }
     ensures failed { IsErrOf result Stop.Sink → Rose (K.faults sink.old) (K.faults sink.new) }
     ensures count { K.faults sink.old ≤ K.faults sink.new }
@@ -58,7 +58,7 @@ fn write_plan_of<K: Sink>(
     op: u8,
 ) -> Result<Status, Stop>
     requires { op < length accepted.ops }
-    ensures written { Writes (IsDrawnPlan accepted op) (K.held sink.old) (K.held sink.new) result }
+    ensures written { Writes (IsPlanDrawing accepted op) (K.held sink.old) (K.held sink.new) result }
     ensures failed { IsErrOf result Stop.Sink → Rose (K.faults sink.old) (K.faults sink.new) }
     ensures count { K.faults sink.old ≤ K.faults sink.new }
 {

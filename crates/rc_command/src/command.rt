@@ -195,7 +195,7 @@ fn alone_met(name: &str) -> Option<Command>
     Some(Command::OfText(command_named(name)?))
 }
 
-/// What a text is read for where a name stands behind which no word may stand.
+/// What a text is read for, by the name of a subcommand that takes no word.
 fn command_named(name: &str) -> Option<TextCommand>
     ensures { result ≡ command_named name.now }
 {

@@ -12,7 +12,7 @@ use Rattle.rc_work.specs.declared.work.Work.{Work}
 use Rattle.std.specs.Prelude.{IsSome}
 use Rattle.rc_work.specs.LineRules.{op_number}
 use Rattle.rc_work.specs.Ranking.{work_reading}
-use Rattle.rc_answer.specs.Answers.{Answers, AnswersAlone, AnswersRules, AnswersRun, AnswersWork, IsAcceptedText, IsDotPlanText, IsDotText, IsDrawnWhere, IsPlansText, IsSizeRefusal}
+use Rattle.rc_answer.specs.Answers.{Answers, AnswersAlone, AnswersRules, AnswersRun, AnswersWork, IsAcceptedText, IsPlanDrawingNamed, IsDrawing, IsPlanDrawingOrRefusal, IsPlansText, IsSizeRefusal}
 use Rattle.rc_work.specs.WholeText.{place_after}
 use Rattle.rc_answer.specs.Big.{IsBigText, big_text}
 use Rattle.rc_answer.specs.Writes.{Writes}
@@ -80,11 +80,11 @@ accepted_done spec text status (printed, done) = done
 plans_done : EndsDone IsPlansText
 plans_done spec text status (plans, planned, printed, done) = done
 
-dot_done : EndsDone IsDotText
+dot_done : EndsDone IsDrawing
 dot_done spec text status (printed, done) = done
 
 -- a drawing with a plan, or the refusal of its operation
-drawn_written : (spec : Spec) (op : Option ℕ) (text : List ℕ) (status : Status) → IsDrawnWhere spec op text status → IsWritten status
+drawn_written : (spec : Spec) (op : Option ℕ) (text : List ℕ) (status : Status) → IsPlanDrawingOrRefusal spec op text status → IsWritten status
 drawn_written spec (Some op) text status (plan, planned, printed, done) = inl done
 drawn_written spec None text status (printed, refused) = inr refused
 
@@ -103,9 +103,9 @@ written : (command : TextCommand) (input text : List ℕ) (status : Status) → 
 written Check input text status is = written_alone (λ spec. IsAcceptedText) (spec_of input) text status (λ spec h. inl (accepted_done spec text status h)) is
 written Plan input text status is = written_alone IsPlansText (spec_of input) text status (λ spec h. inl (plans_done spec text status h)) is
 written Run input text status is = written_run input (spec_reading input) text status is
-written Dot input text status is = written_alone IsDotText (spec_of input) text status (λ spec h. inl (dot_done spec text status h)) is
+written Dot input text status is = written_alone IsDrawing (spec_of input) text status (λ spec h. inl (dot_done spec text status h)) is
 written (DotPlan op) input text status is =
-    written_alone (IsDotPlanText op) (spec_of input) text status (λ spec h. drawn_written spec (op_number spec op) text status h) is
+    written_alone (IsPlanDrawingNamed op) (spec_of input) text status (λ spec h. drawn_written spec (op_number spec op) text status h) is
 
 -- told bytes that were read whole are answered
 pub read_ends : (command : TextCommand) (input bytes : List ℕ) (told left : Option (List ℕ)) (old new : Option (List ℕ)) (r : Result Status Stop)
@@ -184,13 +184,13 @@ refused_alone OfAccepted (Err broken) text done good is = absurd good
 refused_alone OfAccepted (Ok spec) text done good is = refused_rules spec (OfAccepted spec) text good (λ h. let e : Refused ≡ Done = done spec text Refused h in cc) is
 
 -- an operation that is there is drawn
-refused_drawn : (spec : Spec) (op : Option ℕ) (text : List ℕ) → IsSome op → IsDrawnWhere spec op text Refused → ⊥
+refused_drawn : (spec : Spec) (op : Option ℕ) (text : List ℕ) → IsSome op → IsPlanDrawingOrRefusal spec op text Refused → ⊥
 refused_drawn spec (Some op) text there (plan, planned, printed, done) = cc
 refused_drawn spec None text there is = cc
 
-refused_plan : (op : List ℕ) (reading : Result Spec Broken) (text : List ℕ) → IsGoodSpecWith op reading → AnswersAlone (IsDotPlanText op) reading text Refused → ⊥
+refused_plan : (op : List ℕ) (reading : Result Spec Broken) (text : List ℕ) → IsGoodSpecWith op reading → AnswersAlone (IsPlanDrawingNamed op) reading text Refused → ⊥
 refused_plan op (Err broken) text good is = absurd good
-refused_plan op (Ok spec) text good is = refused_rules spec (IsDotPlanText op spec) text good.0 (refused_drawn spec (op_number spec op) text good.1) is
+refused_plan op (Ok spec) text good is = refused_rules spec (IsPlanDrawingNamed op spec) text good.0 (refused_drawn spec (op_number spec op) text good.1) is
 
 refused_run : (input : List ℕ) (reading : Result Reading Broken) (text : List ℕ) → IsGoodReading input reading → AnswersRun input reading text Refused → ⊥
 refused_run input (Err broken) text good is = absurd good
@@ -202,7 +202,7 @@ refused_text : (command : TextCommand) (input text : List ℕ) → KeepsRules co
 refused_text Check input text good is = refused_alone (λ spec. IsAcceptedText) (spec_of input) text accepted_done good is
 refused_text Plan input text good is = refused_alone IsPlansText (spec_of input) text plans_done good is
 refused_text Run input text good is = refused_run input (spec_reading input) text good is
-refused_text Dot input text good is = refused_alone IsDotText (spec_of input) text dot_done good is
+refused_text Dot input text good is = refused_alone IsDrawing (spec_of input) text dot_done good is
 refused_text (DotPlan op) input text good is = refused_plan op (spec_of input) text good is
 
 -- a text that keeps all rules is answered, where nothing fails

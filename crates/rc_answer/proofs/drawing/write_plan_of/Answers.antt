@@ -2,7 +2,7 @@ use Rattle.std.proofs.Common.{◌≡◌, ◌∙◌, ◌<◌, length, refl, sym, 
 use Rattle.rc_dot.specs.Dot.{plan_drawing_text}
 use Rattle.rc_spec.specs.declared.spec.Spec.{Spec}
 use Rattle.rc_plan.specs.Compiled.{SpecWithPlans, plan_at}
-use Rattle.rc_answer.specs.Answers.{IsDrawnPlan}
+use Rattle.rc_answer.specs.Answers.{IsPlanDrawing}
 use Rattle.rc_answer.proofs.DrawingLemmas.{drawing_printed, text_begun, text_written}
 use Rattle.rc_answer.proofs.drawing.write_plan_of.Goals as goal
 
@@ -10,7 +10,7 @@ pub returns-in_err-write_text-clause-written : goal.returns-in_err-write_text-cl
 returns-in_err-write_text-clause-written g c =
     let made : SpecWithPlans = c.in_ok-compiled.compiled in
     let plan = plan_at made.plans c.args.op in
-    text_begun (IsDrawnPlan c.args.accepted c.args.op) (plan_drawing_text c.args.accepted c.args.op plan) c.deref.result.now
+    text_begun (IsPlanDrawing c.args.accepted c.args.op) (plan_drawing_text c.args.accepted c.args.op plan) c.deref.result.now
     (g.K.Sink.held c.args.sink.now) (g.K.Sink.held c.write_text.new.sink) c.from_residual-in_err-write_text.result c.from_residual-in_err-write_text.ensures.0
     (plan, c.in_ok-compiled.ensures.planned c.args.op c.requires, refl, refl)
     (drawing_printed c.args.accepted c.accepted.result.now c.args.op plan c.plan.result.now c.in_ok-text.text.items c.deref.result.now
@@ -21,7 +21,7 @@ pub returns-clause-written : goal.returns-clause-written
 returns-clause-written g c =
     let made : SpecWithPlans = c.in_ok-compiled.compiled in
     let plan = plan_at made.plans c.args.op in
-    text_written (IsDrawnPlan c.args.accepted c.args.op) (plan_drawing_text c.args.accepted c.args.op plan) c.deref.result.now
+    text_written (IsPlanDrawing c.args.accepted c.args.op) (plan_drawing_text c.args.accepted c.args.op plan) c.deref.result.now
     (g.K.Sink.held c.args.sink.now) (g.K.Sink.held c.write_text.new.sink)
     (plan, c.in_ok-compiled.ensures.planned c.args.op c.requires, refl, refl)
     (drawing_printed c.args.accepted c.accepted.result.now c.args.op plan c.plan.result.now c.in_ok-text.text.items c.deref.result.now
