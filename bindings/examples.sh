@@ -1,8 +1,8 @@
 #!/bin/sh
 # Builds the examples and runs each: rust/examples and c/graph.c, whose specifications stand in
-# rust/examples. Each compares what it finds with what it did, and fails where that differs. The
-# archive is made first, by build.sh, which takes RELC_ARCHIVE. Its last line is
-# 'N passed, M failed'.
+# rust/examples. Each compares what it finds with what it did, and fails where that differs. It
+# builds librelc first by build.sh, but where RELC_BUILT says that this was done just now. Its last
+# line is 'N passed, M failed', in which each step of the building counts, and each example.
 here=$(cd "$(dirname "$0")" && pwd)
 out=$here/out
 passed=0
@@ -11,19 +11,23 @@ run() {
     if "$@"; then passed=$((passed + 1)); else
         failed=$((failed + 1))
         echo "failed: $*" >&2
+        return 1
     fi
 }
-has() { command -v "$1" >/dev/null 2>&1; }
+trap 'echo "$passed passed, $failed failed"' EXIT
 
-"$here/build.sh" || exit 1
-${CC:-cc} -std=c11 -D_POSIX_C_SOURCE=200809L -O2 -Wall -Wextra -I"$here/c" -o "$out/graph" \
+if [ -z "$RELC_BUILT" ]; then
+    run "$here/build.sh" || exit 1
+fi
+run ${CC:-cc} -std=c11 -D_POSIX_C_SOURCE=200809L -O2 -Wall -Wextra -I"$here/c" -o "$out/graph" \
     "$here/c/graph.c" "$out/librelc.a" -lpthread || exit 1
 run "$out/graph" "$here/rust/examples/graph.relc"
-if has cargo; then
+if command -v cargo >/dev/null 2>&1; then
     cd "$here/rust" || exit 1
     for name in scheduler cache directory graph; do
         run cargo run --quiet --offline --release --example "$name"
     done
+else
+    echo "left out, since there is no cargo: the examples in Rust" >&2
 fi
-echo "$passed passed, $failed failed"
 [ "$failed" -eq 0 ]

@@ -1,6 +1,7 @@
 #!/bin/sh
 # Builds librelc, tests it from C and from Rust, and runs the examples, where gcc or clang, cargo
-# and valgrind are there. Its last line is 'N passed, M failed'.
+# and valgrind are there; what is left out is said. Its last line is 'N passed, M failed', in which
+# each step of the building counts, each program, each example, and all tests of the crate as one.
 here=$(cd "$(dirname "$0")" && pwd)
 out=$here/out
 passed=0
@@ -9,24 +10,33 @@ run() {
     if "$@"; then passed=$((passed + 1)); else
         failed=$((failed + 1))
         echo "failed: $*" >&2
+        return 1
     fi
 }
-has() { command -v "$1" >/dev/null 2>&1; }
+has() {
+    command -v "$1" >/dev/null 2>&1 && return
+    echo "left out, since there is no $1: $2" >&2
+    return 1
+}
+compile() {
+    run ${CC:-cc} -std=c11 -D_POSIX_C_SOURCE=200809L -O2 -Wall -Wextra "$@" -lpthread
+}
+trap 'echo "$passed passed, $failed failed"' EXIT
 
-"$here/build.sh" || exit 1
-${CC:-cc} -std=c11 -D_POSIX_C_SOURCE=200809L -O2 -Wall -Wextra -o "$out/test" "$here/c/test.c" \
-    "$out/librelc.a" -lpthread || exit 1
+run "$here/build.sh" || exit 1
+compile -o "$out/test" "$here/c/test.c" "$out/librelc.a" || exit 1
 run "$out/test"
-${CC:-cc} -std=c11 -D_POSIX_C_SOURCE=200809L -O2 -o "$out/test-shared" "$here/c/test.c" \
-    -L"$out" -lrelc -Wl,-rpath,"$out" -lpthread || exit 1
+compile -o "$out/test-shared" "$here/c/test.c" -L"$out" -lrelc -Wl,-rpath,"$out" || exit 1
 run "$out/test-shared"
-if has valgrind; then
+compile -o "$out/wakes" "$here/c/wakes.c" "$out/librelc.a" || exit 1
+run "$out/wakes"
+if has valgrind "the test in C once more, for memory"; then
     run valgrind -q --error-exitcode=1 --leak-check=full "$out/test"
 fi
-if has cargo; then
+if has cargo "the tests in Rust"; then
     run sh -c "cd '$here/rust' && cargo test --offline --release"
 fi
-"$here/examples.sh" | tee "$out/examples.log"
+RELC_BUILT=1 "$here/examples.sh" | tee "$out/examples.log"
 tally=$(tail -n 1 "$out/examples.log")
 case $tally in
 *" passed, "*" failed")
@@ -39,5 +49,4 @@ case $tally in
     echo "failed: examples.sh" >&2
     ;;
 esac
-echo "$passed passed, $failed failed"
 [ "$failed" -eq 0 ]

@@ -1,19 +1,29 @@
-/* Closes handles: what is behind one ends, and then its block is given back to the allocator that
- * librelc took it from. */
+/* What librelc has beside the exports of crates/rc_c: its version, and how handles are closed. What
+ * is behind a handle ends, and then its block is given back to the allocator that librelc took it
+ * from. */
 #include "relc.h"
 
 void relc_end_store(relc_store *store);
 void relc_end_session(relc_session *session);
 void rattle_dealloc(void *block);
 
+uint32_t relc_version(void)
+{
+    return RELC_VERSION;
+}
+
 void relc_close_store(relc_store *store)
 {
+    if (store == NULL)
+        return;
     relc_end_store(store);
     rattle_dealloc(store);
 }
 
 void relc_close_session(relc_session *session)
 {
+    if (session == NULL)
+        return;
     relc_end_session(session);
     rattle_dealloc(session);
 }

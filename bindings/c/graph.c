@@ -50,6 +50,14 @@ static void call(struct worker *worker, int op, uint32_t count, uint64_t a, uint
     check(relc_call(waiting, worker->session, frame) == RELC_DONE, "no call is refused");
 }
 
+/* Calls a query by one node; how many rows it has, which are all listed. */
+static uint64_t query(struct worker *worker, int op, uint64_t node)
+{
+    call(worker, op, 1, node, 0, 0);
+    check(worker->frame.kind == RELC_ROWS, "a node has at most 256 edges");
+    return worker->frame.number;
+}
+
 /* The cells of a row of the last reply. They stand in the frame until the next row is read. */
 static const uint64_t *row(struct worker *worker, uint64_t at)
 {
@@ -65,8 +73,7 @@ static uint64_t walk(struct worker *worker, int op, uint64_t from, char reached[
     memset(reached, 0, NODES);
     reached[from] = 1;
     while (left > 0) {
-        call(worker, op, 1, next[--left], 0, 0);
-        uint64_t rows = worker->frame.number;
+        uint64_t rows = query(worker, op, next[--left]);
         for (uint64_t at = 0; at < rows; at++) {
             uint64_t end = row(worker, at)[0];
             if (!reached[end]) {
@@ -131,8 +138,7 @@ static uint64_t count_edges(struct worker *worker)
     uint64_t weights[NODES][NODES], left = 0, entering = 0;
     char linked[NODES][NODES] = {{0}};
     for (uint64_t node = 0; node < NODES; node++) {
-        call(worker, SUCC, 1, node, 0, 0);
-        uint64_t rows = worker->frame.number;
+        uint64_t rows = query(worker, SUCC, node);
         left += rows;
         for (uint64_t at = 0; at < rows; at++) {
             const uint64_t *cells = row(worker, at);
@@ -141,8 +147,7 @@ static uint64_t count_edges(struct worker *worker)
         }
     }
     for (uint64_t node = 0; node < NODES; node++) {
-        call(worker, PRED, 1, node, 0, 0);
-        uint64_t rows = worker->frame.number;
+        uint64_t rows = query(worker, PRED, node);
         entering += rows;
         for (uint64_t at = 0; at < rows; at++) {
             const uint64_t *cells = row(worker, at);

@@ -8,19 +8,22 @@
  * Threads.    A session is used by one call at a time. It may move to another thread, where the
  *             move is ordered, as by a lock or by the start or the end of a thread. Different
  *             sessions are used at the same time. Of the functions that take a store one is called
- *             at a time for that store, beside calls on its sessions.
- * Codes.      Each function answers a code; RELC_DONE is 0. A call that is refused has changed
- *             nothing in the store, nor in the session but for RELC_UNSEEN; a relc_frame or a
- *             relc_operation_frame is as before but for what RELC_BUSY tells. Nothing aborts,
- *             nothing waits, and nothing is printed.
+ *             at a time for that store, beside calls on its sessions. A frame, too, is lent to one
+ *             call at a time.
+ * Codes.      Each function answers a code, but relc_version and those that close; RELC_DONE is 0.
+ *             A call that is refused has changed nothing in the store, nor in the session but for
+ *             RELC_UNSEEN; a relc_frame or a relc_operation_frame is as before but for what
+ *             RELC_BUSY tells. Nothing aborts, nothing waits, and nothing is printed.
  * Memory.     Every byte that is lent is initialised: frames (= {0}), and the places that store
- *             and session are written to (= NULL). No pointer is NULL, not even that of a text of
- *             no bytes. No function is called from a signal handler, nor in a forked child of a
- *             process with threads.
+ *             and session are written to (= NULL). What is lent is aligned as its type is. What one
+ *             call is lent doesn't overlap, and but for a text nobody else reads or writes it
+ *             meanwhile. No pointer is NULL, not even that of a text of no bytes, nor the frame of
+ *             relc_cancel; but the functions that close take NULL, and do nothing. No function is
+ *             called from a signal handler, nor in a forked child of a process with threads.
  *
- * What the functions promise is proved (crates/rc_c), but for the two that close; that callers
- * keep what is said here, and that this header agrees with crates/rc_embed/src/frame.rt and
- * open_frame.rt, is not. */
+ * What is proved of each function (crates/rc_c), and what is not, says docs/EMBEDDING.md. That
+ * callers keep what is said here is theirs to see to; that this header agrees with
+ * crates/rc_embed/src/frame.rt and open_frame.rt is tested. */
 #ifndef RELC_H
 #define RELC_H
 
@@ -31,7 +34,11 @@
 extern "C" {
 #endif
 
-/* the most columns, and so the most values of a call or of a row */
+/* the version of this header and of its library: it rises where programs must be compiled anew */
+#define RELC_VERSION 1
+
+/* how many values of a call, or of a row, there is room for: no specification has more than 16
+ * columns */
 #define RELC_VALUES 32
 
 /* the longest name of an operation, and the longest refusal */
@@ -124,6 +131,10 @@ typedef struct relc_frame {
                                      outputs, or of the columns of the tuple that was removed */
 } relc_frame;
 
+/* The RELC_VERSION of the library, for programs that load it as they start: where it is another
+ * than the one that they were compiled with, they call nothing else. */
+uint32_t relc_version(void);
+
 /* Opens a store by its specification's text. RELC_DONE: *store is the caller's. Else RELC_OPTIONS,
  * RELC_TOO_LONG, RELC_LINE or RELC_RULE, in that order of tests, or RELC_MEMORY, and *store is not
  * written. */
@@ -133,8 +144,9 @@ uint32_t relc_open(const uint8_t *text, size_t length, relc_open_frame *frame, r
 uint32_t relc_operation(relc_store *store, relc_operation_frame *frame);
 
 /* Begins a session, the n-th of its store with number n, from 0. RELC_DONE: *session is the
- * caller's. Else RELC_NONE_LEFT or RELC_MEMORY, and *session is not written. The pass of a session that was closed is not given to another: keep
- * sessions, and hand them on from thread to thread. */
+ * caller's. Else RELC_NONE_LEFT or RELC_MEMORY, and *session is not written. The pass of a session
+ * that was closed is not given to another: keep sessions, and hand them on from thread to
+ * thread. */
 uint32_t relc_open_session(relc_store *store, relc_session **session);
 
 /* Calls an operation, and waits for nobody. RELC_DONE: the call stands in the history of all calls
@@ -167,10 +179,11 @@ uint32_t relc_learn(relc_session *session, relc_frame *frame);
  * call that was made. RELC_DONE or RELC_NO_ROW. */
 uint32_t relc_row(relc_session *session, relc_frame *frame);
 
-/* Closes a store. Its sessions may go on. */
+/* Closes a store, where it isn't NULL. Its sessions may go on. */
 void relc_close_store(relc_store *store);
 
-/* Closes a session, and cancels the call that it has prepared, where there is one. */
+/* Closes a session, where it isn't NULL, and cancels the call that it has prepared, where there is
+ * one. */
 void relc_close_session(relc_session *session);
 
 #ifdef __cplusplus

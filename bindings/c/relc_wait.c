@@ -1,7 +1,8 @@
 /* An event count over POSIX threads. A waiter is counted before it tries, and whoever gives stripes
- * back looks for waiters after that. A refused call may have stood in another one's way for a
- * moment, and doesn't ring here: so nobody sleeps longer than a millisecond before it tries again,
- * by a clock that isn't set. */
+ * back looks for waiters after that. A refused try of a call that waits may have stood in another
+ * one's way for a moment, and doesn't ring: so nobody sleeps longer than RELC_NAP nanoseconds
+ * before it tries again, by a clock that isn't set. (wakes.c sleeps so long that only a ring ends
+ * it.) */
 #include "relc_wait.h"
 
 #include <pthread.h>
@@ -9,8 +10,12 @@
 #include <stdlib.h>
 #include <time.h>
 
+#ifndef RELC_NAP
+#define RELC_NAP 1000000L
+#endif
+
 #define TRIES 20
-#define NAP 1000000L /* nanoseconds */
+#define SECOND 1000000000L /* nanoseconds */
 
 struct relc_waiting {
     atomic_uint waiters;
@@ -47,6 +52,8 @@ relc_waiting *relc_open_waiting(void)
 
 void relc_close_waiting(relc_waiting *waiting)
 {
+    if (waiting == NULL)
+        return;
     pthread_cond_destroy(&waiting->rung);
     pthread_mutex_destroy(&waiting->lock);
     free(waiting);
@@ -67,10 +74,11 @@ static void nap(relc_waiting *waiting, unsigned before)
 {
     struct timespec until;
     clock_gettime(CLOCK_MONOTONIC, &until);
-    until.tv_nsec += NAP;
-    if (until.tv_nsec >= 1000000000L) {
+    until.tv_sec += RELC_NAP / SECOND;
+    until.tv_nsec += RELC_NAP % SECOND;
+    if (until.tv_nsec >= SECOND) {
         until.tv_sec++;
-        until.tv_nsec -= 1000000000L;
+        until.tv_nsec -= SECOND;
     }
     pthread_mutex_lock(&waiting->lock);
     int slept = 0;
@@ -87,22 +95,39 @@ static unsigned epoch_of(relc_waiting *waiting)
     return epoch;
 }
 
+/* asks relc_try_call or relc_begin until no other session is in the way */
+static uint32_t ask(relc_waiting *waiting, relc_session *session, relc_frame *frame,
+    uint32_t (*export)(relc_session *, relc_frame *))
+{
+    for (int tries = 0; tries < TRIES; tries++) {
+        uint32_t code = export(session, frame);
+        if (code != RELC_BUSY)
+            return code;
+    }
+    atomic_fetch_add(&waiting->waiters, 1);
+    uint32_t code;
+    for (;;) {
+        unsigned before = epoch_of(waiting);
+        code = export(session, frame);
+        if (code != RELC_BUSY)
+            break;
+        nap(waiting, before);
+    }
+    atomic_fetch_sub(&waiting->waiters, 1);
+    return code;
+}
+
 uint32_t relc_call(relc_waiting *waiting, relc_session *session, relc_frame *frame)
 {
-    uint32_t code = RELC_BUSY;
-    for (int tries = 0; tries < TRIES && code == RELC_BUSY; tries++)
-        code = relc_try_call(session, frame);
-    if (code == RELC_BUSY) {
-        atomic_fetch_add(&waiting->waiters, 1);
-        for (;;) {
-            unsigned before = epoch_of(waiting);
-            code = relc_try_call(session, frame);
-            if (code != RELC_BUSY)
-                break;
-            nap(waiting, before);
-        }
-        atomic_fetch_sub(&waiting->waiters, 1);
-    }
+    uint32_t code = ask(waiting, session, frame, relc_try_call);
     relc_ring(waiting);
+    return code;
+}
+
+uint32_t relc_begin_waiting(relc_waiting *waiting, relc_session *session, relc_frame *frame)
+{
+    uint32_t code = ask(waiting, session, frame, relc_begin);
+    if (code != RELC_DONE)
+        relc_ring(waiting);
     return code;
 }

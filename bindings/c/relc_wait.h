@@ -1,6 +1,9 @@
-/* relc_wait.h: calls that wait, over relc_try_call. Not proved: tested. One relc_waiting is shared
- * by all threads that call on one store. Calls that are made, committed or cancelled beside it ring
- * it by relc_ring. */
+/* relc_wait.h: calls that wait, over relc_try_call and relc_begin. Not proved: tested. One
+ * relc_waiting is shared by all threads that call on one store. Calls that are made, committed or
+ * cancelled beside it ring it by relc_ring. What relc.h says of sessions, frames and memory holds
+ * here too; a relc_waiting is used by any number of calls at a time. No thread is cancelled
+ * (pthread_cancel) in one of these functions: it might leave a lock taken, and all others would
+ * wait for it without an end. */
 #ifndef RELC_WAIT_H
 #define RELC_WAIT_H
 
@@ -12,17 +15,23 @@ extern "C" {
 
 typedef struct relc_waiting relc_waiting;
 
-/* NULL where memory or a lock is wanted. Whoever opens it closes it, once nobody calls by it. */
+/* NULL where memory or a lock is wanted. Whoever opens it closes it, once nobody calls by it;
+ * closing NULL does nothing. */
 relc_waiting *relc_open_waiting(void);
 void relc_close_waiting(relc_waiting *waiting);
 
 /* Calls as relc_try_call does, and waits while the answer is RELC_BUSY. Nothing is promised of when
- * it returns. Wait for nothing while you have a prepared call on another session: where it is that
+ * it returns. Whatever it answers, stripe, found and who may tell of a try that was refused
+ * meanwhile. Wait for nothing while you have a prepared call on another session: where it is that
  * call's stripes that are wanted, the wait has no end. */
 uint32_t relc_call(relc_waiting *waiting, relc_session *session, relc_frame *frame);
 
+/* Prepares a call as relc_begin does, and waits as relc_call does. */
+uint32_t relc_begin_waiting(relc_waiting *waiting, relc_session *session, relc_frame *frame);
+
 /* Wakes those that wait: to be called after each relc_try_call, relc_commit, relc_cancel or
- * relc_close_session that stands alone. */
+ * relc_close_session that stands alone, and after each relc_begin that is refused. Where nobody
+ * waits it costs one load. */
 void relc_ring(relc_waiting *waiting);
 
 #ifdef __cplusplus

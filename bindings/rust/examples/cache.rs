@@ -73,7 +73,7 @@ impl Cache {
             let ino = random % INODES;
             let (data, path) = on_disk(ino);
             match random / INODES % 10 {
-                0..6 => match session.call(self.by_path, [path])?.rows()[..] {
+                0..6 => match session.call(self.by_path, [path])?.rows()?[..] {
                     // what is found is whole, whatever the other threads do
                     [[dev, ino, data]] => {
                         assert_eq!((dev, on_disk(ino)), (DEVICE, (data, path)));
@@ -86,7 +86,7 @@ impl Cache {
                     },
                 },
                 6 | 7 => {
-                    let rows = session.call(self.by_inode, [DEVICE, ino])?.rows();
+                    let rows = session.call(self.by_inode, [DEVICE, ino])?.rows()?;
                     assert!(rows.iter().all(|row| *row == [path, data]));
                     tally.found += rows.len();
                 }
@@ -124,14 +124,17 @@ fn main() -> Result<(), Error> {
     let mut session = cache.store.session()?;
     let mut left = 0;
     for ino in 0..INODES {
-        for [path, data] in session.call(cache.by_inode, [DEVICE, ino])?.rows() {
-            let found = session.call(cache.by_path, [path])?.rows();
+        for [path, data] in session.call(cache.by_inode, [DEVICE, ino])?.rows()? {
+            let found = session.call(cache.by_path, [path])?.rows()?;
             assert_eq!(found, [[DEVICE, ino, data]]);
             left += 1;
         }
     }
-    let paths = (0..PATHS).map(|path| session.call(cache.by_path, [path]).unwrap().rows().len());
-    assert_eq!((left, paths.sum::<usize>()), (loaded - evicted, left));
+    let mut paths = 0;
+    for path in 0..PATHS {
+        paths += session.call(cache.by_path, [path])?.rows()?.len();
+    }
+    assert_eq!((left, paths), (loaded - evicted, left));
     println!("{left} files are left, each by both keys");
     Ok(())
 }

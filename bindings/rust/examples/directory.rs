@@ -70,11 +70,11 @@ impl Directories {
                     }
                 }
                 1 => {
-                    let found = session.call(self.lookup, [parent, name])?.rows();
+                    let found = session.call(self.lookup, [parent, name])?.rows()?;
                     assert!(found.iter().all(|[child]| home(*child) == [parent, name]));
                 }
                 2 => {
-                    let entries = session.call(self.list, [parent])?.rows();
+                    let entries = session.call(self.list, [parent])?.rows()?;
                     assert!(entries.is_sorted());
                     assert!(
                         entries
@@ -115,8 +115,8 @@ fn main() -> Result<(), Error> {
     let mut session = directories.store.session()?;
     let mut found = Vec::new();
     for parent in 0..DIRECTORIES {
-        let entries = session.call(directories.list, [parent])?.rows();
-        let names = session.call(directories.names, [parent])?.rows();
+        let entries = session.call(directories.list, [parent])?.rows()?;
+        let names = session.call(directories.names, [parent])?.rows()?;
         assert!(
             names
                 .into_iter()
@@ -124,13 +124,14 @@ fn main() -> Result<(), Error> {
         );
         for [name, child] in entries {
             assert_eq!(
-                session.call(directories.lookup, [parent, name])?.rows(),
+                session.call(directories.lookup, [parent, name])?.rows()?,
                 [[child]]
             );
             found.push(child);
         }
     }
-    (left.sort(), found.sort());
+    left.sort();
+    found.sort();
     assert_eq!(left, found);
     println!("{} entries are left", left.len());
     Ok(())

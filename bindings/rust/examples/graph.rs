@@ -63,7 +63,7 @@ impl Graph {
         let mut reached = BTreeSet::from([from]);
         let mut next = vec![from];
         while let Some(node) = next.pop() {
-            let ends = session.call(ends, [node])?.rows();
+            let ends = session.call(ends, [node])?.rows()?;
             next.extend(
                 ends.iter()
                     .map(|[end, _]| *end)
@@ -116,15 +116,15 @@ fn main() -> Result<(), Error> {
     let mut session = graph.store.session()?;
     let (mut from, mut to) = (BTreeSet::new(), BTreeSet::new());
     for node in 0..NODES {
-        let succ = session.call(graph.succ, [node])?.rows();
+        let succ = session.call(graph.succ, [node])?.rows()?;
         from.extend(succ.into_iter().map(|[end, weight]| [node, end, weight]));
-        let pred = session.call(graph.pred, [node])?.rows();
+        let pred = session.call(graph.pred, [node])?.rows()?;
         to.extend(pred.into_iter().map(|[end, weight]| [end, node, weight]));
     }
     assert_eq!(from, to);
     assert_eq!(from.len(), added - removed);
     for [src, dst, weight] in &from {
-        assert_eq!(session.call(graph.find, [*src, *dst])?.rows(), [[*weight]]);
+        assert_eq!(session.call(graph.find, [*src, *dst])?.rows()?, [[*weight]]);
         // there and back again
         assert!(graph.walk(&mut session, *src, graph.succ)?.contains(dst));
         assert!(graph.walk(&mut session, *dst, graph.pred)?.contains(src));

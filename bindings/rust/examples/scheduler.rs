@@ -19,8 +19,8 @@ use std::thread;
 
 const PROCESSORS: u64 = 4;
 
-/// How many processes each processor spawns. (A query tells up to 256 rows, and of more their
-/// number.)
+/// How many processes each processor spawns. (A query lists up to 256 rows, and of more tells the
+/// number: `rows` answers an error then. All processes together are fewer.)
 const SPAWNED: u64 = 60;
 
 const RUNNABLE: u64 = 0;
@@ -61,7 +61,7 @@ impl Processes {
     fn take_one(&self, session: &mut Session, cpu: u64) -> Result<Option<[u64; 4]>, Error> {
         for at in (cpu..cpu + PROCESSORS).map(|at| at % PROCESSORS) {
             for state in [RUNNABLE, SLEEPING] {
-                for name in session.call(self.queue, [state, at])?.rows() {
+                for name in session.call(self.queue, [state, at])?.rows()? {
                     // since the queue was read, another thread may have been faster
                     if let Some(process) = session.call(self.take, name)? {
                         return Ok(Some(process));
@@ -74,7 +74,9 @@ impl Processes {
 
     /// Spawns processes; then runs each runnable one that it gets hold of, and lets it sleep at the
     /// next processor; and kills each sleeping one. It acts on what `take` answers, since a process
-    /// may have moved on since the queue was read.
+    /// may have moved on since the queue was read. There is no update: between `take` and `spawn`
+    /// the process isn't there, so that no other thread can run it, nor find it, and a processor
+    /// that finds all queues empty in that time leaves.
     fn work(&self, cpu: u64) -> Result<Work, Error> {
         let mut session = self.store.session()?;
         for pid in cpu * SPAWNED..(cpu + 1) * SPAWNED {
@@ -122,9 +124,9 @@ fn main() -> Result<(), Error> {
         assert!(pids.into_iter().eq(0..PROCESSORS * SPAWNED));
     }
     let mut session = processes.store.session()?;
-    assert!(session.call(processes.find, [0, 0])?.rows().is_empty());
+    assert!(session.call(processes.find, [0, 0])?.rows()?.is_empty());
     for state in [RUNNABLE, SLEEPING] {
-        assert!(session.call(processes.all, [state])?.rows().is_empty());
+        assert!(session.call(processes.all, [state])?.rows()?.is_empty());
     }
     println!("{} processes ran once each", PROCESSORS * SPAWNED);
     Ok(())

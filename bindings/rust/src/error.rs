@@ -13,7 +13,20 @@ pub enum Found {
     Latch(u32),
 }
 
-/// Why something isn't done. The store is as before, and so is the session but for `Unseen`.
+/// A query has more rows than the 256 that an answer lists: so many.
+#[derive(Clone, Copy, Debug, PartialEq, Eq)]
+pub struct Many(pub u64);
+
+impl fmt::Display for Many {
+    fn fmt(&self, f: &mut fmt::Formatter<'_>) -> fmt::Result {
+        write!(f, "{} rows, and an answer lists at most 256", self.0)
+    }
+}
+
+impl std::error::Error for Many {}
+
+/// Why something isn't done. The store is as before, and so is the session but for `Unseen`; only
+/// `Many` speaks of a call that was made.
 #[derive(Clone, Debug, PartialEq, Eq)]
 pub enum Error {
     /// Memory was wanted.
@@ -38,7 +51,7 @@ pub enum Error {
     },
     /// All sessions are out, or spent.
     NoneLeft,
-    /// The operation is another store's.
+    /// The operation, or what was seen, is another store's.
     Foreign,
     /// Another session was in the way at this stripe. Only calls that don't wait are told so.
     Busy {
@@ -52,9 +65,17 @@ pub enum Error {
     /// A prepared call was forgotten, and is neither committed nor cancelled. Drop the session: its
     /// call is cancelled.
     Prepared,
-    /// The session has looked, and has seen less than what was to be learned: as where no session
-    /// of this store has seen so much.
+    /// The session has looked, and has seen less than what was to be learned. What a session of
+    /// this store has seen is never refused so: it is built so, but that isn't proved.
     Unseen,
+    /// The query was answered, but with more rows than an answer lists: `Answer::rows` says so.
+    Many(Many),
+}
+
+impl From<Many> for Error {
+    fn from(many: Many) -> Error {
+        Error::Many(many)
+    }
 }
 
 impl fmt::Display for Error {
@@ -68,11 +89,12 @@ impl fmt::Display for Error {
             Error::Kind(name) => write!(f, "the operation {name} is of another kind"),
             Error::Arity { has, asked } => write!(f, "{has} values, and {asked} were asked for"),
             Error::NoneLeft => write!(f, "all sessions are out, or spent"),
-            Error::Foreign => write!(f, "the operation is another store's"),
+            Error::Foreign => write!(f, "the operation, or what was seen, is another store's"),
             Error::Busy { stripe, found } => write!(f, "busy at stripe {stripe}: {found:?}"),
             Error::Spent => write!(f, "the session has made all its calls"),
             Error::Prepared => write!(f, "a prepared call was forgotten"),
             Error::Unseen => write!(f, "the session has seen less than that"),
+            Error::Many(many) => many.fmt(f),
         }
     }
 }

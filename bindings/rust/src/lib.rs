@@ -8,8 +8,8 @@
 //! let insert = store.insert::<3>("ins")?;
 //! let successors = store.query::<1, 2>("succ")?;
 //! let mut session = store.session()?;
-//! session.call(insert, [1, 2, 10])?;
-//! for [node, weight] in session.call(successors, [1])?.rows() {
+//! assert_eq!(session.call(insert, [1, 2, 10])?, relc::Inserted::Added);
+//! for [node, weight] in session.call(successors, [1])?.rows()? {
 //!     println!("{node} {weight}");
 //! }
 //! # Ok(())
@@ -26,7 +26,7 @@ mod store;
 mod sys;
 mod waiting;
 
-pub use error::{Error, Found};
+pub use error::{Error, Found, Many};
 pub use operation::{Answer, Insert, Inserted, Operation, Query, Remove};
-pub use session::{Position, Prepared, Session};
+pub use session::{Position, Prepared, Seen, Session};
 pub use store::{Options, Store};

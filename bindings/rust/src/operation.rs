@@ -1,5 +1,6 @@
 //! Operations that were looked up, and what their calls answer.
 
+use crate::error::Many;
 use crate::session::Session;
 use crate::sys;
 
@@ -44,6 +45,7 @@ pub struct Insert<const N: usize>(pub(crate) Number);
 
 /// What an insert answers.
 #[derive(Clone, Copy, Debug, PartialEq, Eq)]
+#[must_use = "an insert may add nothing: `Present` and `Conflict` are no errors"]
 pub enum Inserted {
     /// The tuple was added.
     Added,
@@ -102,7 +104,7 @@ impl<const K: usize, const N: usize> Sealed for Remove<K, N> {
 #[derive(Clone, Copy, Debug)]
 pub struct Query<const K: usize, const N: usize>(pub(crate) Number);
 
-/// What a query answers.
+/// What a query answers. Where more than 256 rows are no error, match on it in place of `rows`.
 #[derive(Clone, Debug, PartialEq, Eq)]
 pub enum Answer<const N: usize> {
     /// Its distinct rows, rising, at most 256.
@@ -112,11 +114,11 @@ pub enum Answer<const N: usize> {
 }
 
 impl<const N: usize> Answer<N> {
-    /// The rows; none where there are more than 256.
-    pub fn rows(self) -> Vec<[u64; N]> {
+    /// The rows, or how many they are where they are more than 256.
+    pub fn rows(self) -> Result<Vec<[u64; N]>, Many> {
         match self {
-            Answer::Rows(rows) => rows,
-            Answer::Many(_) => Vec::new(),
+            Answer::Rows(rows) => Ok(rows),
+            Answer::Many(number) => Err(Many(number)),
         }
     }
 }

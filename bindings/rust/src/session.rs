@@ -8,8 +8,14 @@ use std::ffi::c_void;
 use std::mem::ManuallyDrop;
 use std::sync::Arc;
 
+#[cfg(test)]
+mod tests;
+
 /// How often a call that waits tries before it sleeps.
 const TRIES: u32 = 20;
+
+/// An export that takes a session and a frame.
+type Export = unsafe extern "C" fn(*mut c_void, *mut Frame) -> u32;
 
 /// Where a call stands in the one history of all calls of its store.
 #[derive(Clone, Copy, Debug, PartialEq, Eq)]
@@ -19,6 +25,32 @@ pub struct Position {
     /// Its number among the calls of its session, counted from 0. A session that is handed out
     /// again goes on counting.
     pub nth: u64,
+    store: u64,
+}
+
+impl Position {
+    /// The history up to this call, and with it, for another session to learn.
+    pub fn seen(&self) -> Seen {
+        Seen {
+            store: self.store,
+            length: self.place + 1,
+        }
+    }
+}
+
+/// How much of its store's history somebody has seen. It may be handed to any thread, whose session
+/// learns it.
+#[derive(Clone, Copy, Debug, PartialEq, Eq)]
+pub struct Seen {
+    store: u64,
+    length: u64,
+}
+
+impl Seen {
+    /// How many calls.
+    pub fn length(&self) -> u64 {
+        self.length
+    }
 }
 
 /// A thread's end of a store.
@@ -63,10 +95,25 @@ impl Session {
     }
 
     /// Calls one of the session's exports.
-    fn ask(&mut self, export: unsafe extern "C" fn(*mut c_void, *mut Frame) -> u32) -> u32 {
+    fn ask(&mut self, export: Export) -> u32 {
         // SAFETY: `&mut self` lets one call at a time use the session, and the frame is initialised
         // and lent for the call.
         unsafe { export(self.begun.handle.0.as_ptr(), &mut *self.frame) }
+    }
+
+    /// Calls one of the session's exports until no other session is in the way.
+    fn ask_waiting(&mut self, export: Export) -> u32 {
+        for _ in 0..TRIES {
+            match self.ask(export) {
+                sys::BUSY => std::hint::spin_loop(),
+                code => return code,
+            }
+        }
+        let shared = self.shared.clone();
+        shared.events.wait(|| match self.ask(export) {
+            sys::BUSY => None,
+            code => Some(code),
+        })
     }
 
     fn put<const N: usize, O: Operation<N>>(
@@ -106,10 +153,47 @@ impl Session {
         }
     }
 
-    fn position(&self) -> Position {
+    /// Where the call stands that was made just now. The last one that the session may make leaves
+    /// it spent.
+    fn position(&mut self) -> Position {
+        let Frame { place, nth, .. } = *self.frame;
+        self.spent |= nth + 1 == self.shared.limit;
         Position {
-            place: self.frame.place,
-            nth: self.frame.nth,
+            place,
+            nth,
+            store: self.shared.number(),
+        }
+    }
+
+    /// What a call was answered, and where it stands, or why it wasn't made.
+    fn made<const N: usize, O: Operation<N>>(
+        &mut self,
+        code: u32,
+    ) -> Result<(O::Reply, Position), Error> {
+        match code {
+            sys::DONE => {
+                let position = self.position();
+                Ok((O::read(self), position))
+            }
+            code => Err(self.error(code)),
+        }
+    }
+
+    /// The call that was prepared, or why it wasn't.
+    fn prepared<const N: usize, O: Operation<N>>(
+        &mut self,
+        code: u32,
+    ) -> Result<Prepared<'_, O::Reply>, Error> {
+        match code {
+            sys::DONE => Ok(Prepared {
+                reply: Some(O::read(self)),
+                session: self,
+            }),
+            code => {
+                // a refused call may have stood in another one's way for a moment
+                self.shared.events.ring();
+                Err(self.error(code))
+            }
         }
     }
 
@@ -133,13 +217,7 @@ impl Session {
         self.put(&op, values)?;
         let code = self.ask(sys::relc_try_call);
         self.shared.events.ring();
-        match code {
-            sys::DONE => {
-                let position = self.position();
-                Ok((O::read(self), position))
-            }
-            code => Err(self.error(code)),
-        }
+        self.made::<N, O>(code)
     }
 
     /// Calls the operation, and waits for nobody.
@@ -159,25 +237,10 @@ impl Session {
         op: O,
         values: [u64; N],
     ) -> Result<(O::Reply, Position), Error> {
-        for _ in 0..TRIES {
-            match self.try_call_placed(op, values) {
-                Err(Error::Busy { .. }) => std::hint::spin_loop(),
-                answer => return answer,
-            }
-        }
-        let shared = self.shared.clone();
-        let code = shared.events.wait(|| match self.ask(sys::relc_try_call) {
-            sys::BUSY => None,
-            code => Some(code),
-        });
-        shared.events.ring();
-        match code {
-            sys::DONE => {
-                let position = self.position();
-                Ok((O::read(self), position))
-            }
-            code => Err(self.error(code)),
-        }
+        self.put(&op, values)?;
+        let code = self.ask_waiting(sys::relc_try_call);
+        self.shared.events.ring();
+        self.made::<N, O>(code)
     }
 
     /// Calls the operation, and waits while another session is in the way, as `call_placed` does.
@@ -197,31 +260,45 @@ impl Session {
         values: [u64; N],
     ) -> Result<Prepared<'_, O::Reply>, Error> {
         self.put(&op, values)?;
-        match self.ask(sys::relc_begin) {
-            sys::DONE => Ok(Prepared {
-                reply: Some(O::read(self)),
-                session: self,
-            }),
-            code => {
-                self.shared.events.ring();
-                Err(self.error(code))
-            }
-        }
+        let code = self.ask(sys::relc_begin);
+        self.prepared::<N, O>(code)
+    }
+
+    /// Prepares a call as `begin` does, and waits while another session is in the way. What
+    /// `call_placed` says of waiting holds here too.
+    pub fn begin_waiting<const N: usize, O: Operation<N>>(
+        &mut self,
+        op: O,
+        values: [u64; N],
+    ) -> Result<Prepared<'_, O::Reply>, Error> {
+        self.put(&op, values)?;
+        let code = self.ask_waiting(sys::relc_begin);
+        self.prepared::<N, O>(code)
     }
 
     /// Sees what stands in the history now: later calls come after all of it. Answers how much that
     /// is; it is above the place of each of the session's calls.
-    pub fn look(&mut self) -> Result<u64, Error> {
-        self.learn(0)
+    pub fn look(&mut self) -> Result<Seen, Error> {
+        self.see(0)
     }
 
-    /// Learns that another session of the store has seen so much: later calls of this one come
-    /// after all of it. Answers how much this one has seen then, at least as much. It looks also
-    /// where it has seen less and answers `Unseen`.
-    pub fn learn(&mut self, seen: u64) -> Result<u64, Error> {
-        self.frame.seen = seen;
+    /// Learns what somebody has seen, by `look` or by a call's `Position`: later calls of this
+    /// session come after all of it. Answers how much this one has seen then, at least as much. It
+    /// looks also where it has seen less and answers `Unseen`.
+    pub fn learn(&mut self, seen: Seen) -> Result<Seen, Error> {
+        if seen.store != self.shared.number() {
+            return Err(Error::Foreign);
+        }
+        self.see(seen.length)
+    }
+
+    fn see(&mut self, length: u64) -> Result<Seen, Error> {
+        self.frame.seen = length;
         match self.ask(sys::relc_learn) {
-            sys::DONE => Ok(self.frame.seen),
+            sys::DONE => Ok(Seen {
+                store: self.shared.number(),
+                length: self.frame.seen,
+            }),
             sys::UNSEEN => Err(Error::Unseen),
             code => Err(self.error(code)),
         }
@@ -229,6 +306,7 @@ impl Session {
 }
 
 /// A call that has its reply and holds its stripes. One that is dropped is cancelled.
+#[must_use = "a prepared call that is dropped is cancelled"]
 pub struct Prepared<'s, R> {
     session: &'s mut Session,
     /// None once it is committed.
@@ -244,7 +322,7 @@ impl<R> Prepared<'_, R> {
     /// Makes the call. It isn't refused.
     pub fn commit(mut self) -> (R, Position) {
         let code = self.session.ask(sys::relc_commit);
-        debug_assert_eq!(code, sys::DONE, "a call is prepared");
+        assert_eq!(code, sys::DONE, "a call is prepared");
         self.session.shared.events.ring();
         let reply = self.reply.take().expect("it is there until the commit");
         (reply, self.session.position())

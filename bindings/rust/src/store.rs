@@ -53,7 +53,9 @@ pub(crate) struct Begun {
 
 // SAFETY: what lies behind a handle may go to another thread (`sessions_are_send` and
 // `stores_are_send` of rc_embed are proved), and it is used by one call at a time: a session's by
-// `&mut Session`, the store's under its lock.
+// `&mut Session`, the store's under its lock. Rattle wants a move to be ordered by a lock, by a
+// thread's start or end, or by a sequentially consistent atomic; in safe Rust at the least a
+// release that an acquire sees orders it, as a channel's, and a lock orders no more than that.
 unsafe impl Send for Handle {}
 
 impl Begun {
@@ -66,6 +68,8 @@ impl Begun {
 
 pub(crate) struct Shared {
     number: u64,
+    /// How many calls each session may make.
+    pub(crate) limit: u64,
     store: Mutex<Opened>,
     /// Sessions that were dropped before they were spent, to be handed out again.
     idle: Mutex<Vec<Begun>>,
@@ -135,6 +139,7 @@ impl Store {
         }
         let shared = Shared {
             number: STORES.fetch_add(1, Relaxed),
+            limit: options.limit,
             store: Mutex::new(Opened {
                 handle: Handle(NonNull::new(store).ok_or(Error::Memory)?),
                 begun: 0,

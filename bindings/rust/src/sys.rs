@@ -80,12 +80,19 @@ pub struct Frame {
     pub cells: [u64; VALUES],
 }
 
-// the sizes and places of the structs of rc_embed
-const _: () = assert!(size_of::<OpenFrame>() == 96 && offset_of!(OpenFrame, seed) == 16);
-const _: () = assert!(offset_of!(OpenFrame, limit) == 8 && offset_of!(OpenFrame, refusal) == 32);
-const _: () = assert!(size_of::<OperationFrame>() == 72 && offset_of!(OperationFrame, name) == 24);
-const _: () = assert!(size_of::<Frame>() == 584 && offset_of!(Frame, kind) == 264);
-const _: () = assert!(offset_of!(Frame, number) == 280 && offset_of!(Frame, cells) == 328);
+/// Compares the size of a struct, and the place of each of its fields, with the given numbers.
+macro_rules! lies {
+    ($kind:ty, $size:literal, $($field:ident $at:literal),+) => {
+        const _: () = assert!(size_of::<$kind>() == $size $(&& offset_of!($kind, $field) == $at)+);
+    };
+}
+
+// The structs of rc_embed. The numbers are copied from them by hand, and are those of test.c; that
+// what a field is told comes at that place is what the tests see.
+lies!(OpenFrame, 96, passes 0, length 4, limit 8, seed 16, refusal 32);
+lies!(OperationFrame, 72, length 0, op 4, kind 8, count 12, width 16, name 24, columns 40);
+lies!(Frame, 584, op 0, count 4, values 8, kind 264, found 268, stripe 272, who 276);
+lies!(Frame, 584, number 280, place 288, nth 296, seen 304, row 312, width 320, cells 328);
 
 impl Frame {
     /// A frame of zeros: every byte that is lent is initialised.

@@ -4,9 +4,14 @@ use std::sync::atomic::{AtomicU32, Ordering::SeqCst};
 use std::sync::{Condvar, Mutex, PoisonError};
 use std::time::Duration;
 
-/// The longest sleep. A refused call that waits may have stood in another one's way for a moment,
-/// and doesn't ring: so nobody sleeps longer than this before it tries again.
-const NAP: Duration = Duration::from_millis(1);
+/// The longest sleep. A refused try of a call that waits may have stood in another one's way for a
+/// moment, and doesn't ring: so nobody sleeps longer than this before it tries again. In this
+/// crate's own tests it is so long that only a ring ends it.
+const NAP: Duration = if cfg!(test) {
+    Duration::from_secs(60)
+} else {
+    Duration::from_millis(1)
+};
 
 /// Counts the calls that have given stripes back, for those that wait. A waiter is counted before
 /// it tries, and whoever gives stripes back looks for waiters after that.
@@ -25,6 +30,12 @@ impl EventCount {
         }
         *self.epoch.lock().unwrap_or_else(PoisonError::into_inner) += 1;
         self.rung.notify_all();
+    }
+
+    /// How many calls sleep, or are about to.
+    #[cfg(test)]
+    pub fn waiters(&self) -> u32 {
+        self.waiters.load(SeqCst)
     }
 
     /// Tries until there is an answer, and sleeps between.

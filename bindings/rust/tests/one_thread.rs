@@ -2,8 +2,8 @@
 
 mod common;
 
-use common::{GRAPH, Random, graph};
-use relc::{Answer, Error, Found, Inserted, Options, Store};
+use common::{Random, graph, specification};
+use relc::{Answer, Error, Found, Inserted, Many, Options, Store};
 use std::collections::BTreeMap;
 
 #[test]
@@ -50,7 +50,9 @@ fn follows_a_map() {
                 let (reply, position) = session.call_placed(graph.succ, [src]).unwrap();
                 if rows.len() > 256 {
                     many += 1;
-                    assert_eq!(reply, Answer::Many(rows.len() as u64));
+                    let number = rows.len() as u64;
+                    assert_eq!(reply, Answer::Many(number));
+                    assert_eq!(reply.rows(), Err(Many(number)));
                 } else {
                     assert_eq!(reply, Answer::Rows(rows));
                 }
@@ -60,7 +62,7 @@ fn follows_a_map() {
         assert_eq!((position.place, position.nth), (place, place));
     }
     assert!(many > 100);
-    assert_eq!(session.look(), Ok(100_000));
+    assert_eq!(session.look().unwrap().length(), 100_000);
 }
 
 #[test]
@@ -69,29 +71,32 @@ fn refuses_texts() {
     let refused = |why: &str| Some(Error::Refused(why.into()));
     assert_eq!(open("relc 2\n"), refused("refused S1 line 1"));
     assert_eq!(
-        open(&GRAPH.replace("col weight num", "col weight what")),
-        refused("refused S2 line 4")
+        open(&specification().replace("col weight num", "col weight what")),
+        refused("refused S2 line 5")
     );
     assert_eq!(
-        open(&GRAPH.replace("lock k2 4 src", "lock k2 4 dst")),
+        open(&specification().replace("lock k2 4 src", "lock k2 4 dst")),
         refused("refused P5 edge e2")
     );
     assert_eq!(open(&"#".repeat((1 << 24) + 1)), Some(Error::TooLong));
     for sessions in [0, 256] {
         assert_eq!(
-            Store::open(GRAPH, Options::sessions(sessions)).err(),
+            Store::open(specification(), Options::sessions(sessions)).err(),
             Some(Error::Options)
         );
     }
     for limit in [0, (1 << 48) + 1] {
         let options = Options { sessions: 1, limit };
-        assert_eq!(Store::open(GRAPH, options).err(), Some(Error::Options));
+        assert_eq!(
+            Store::open(specification(), options).err(),
+            Some(Error::Options)
+        );
     }
 }
 
 #[test]
 fn refuses_operations() {
-    let store = Store::open(GRAPH, Options::sessions(1)).unwrap();
+    let store = Store::open(specification(), Options::sessions(1)).unwrap();
     let unknown = |name: &str| Some(Error::Unknown(name.into()));
     assert_eq!(store.insert::<3>("put").err(), unknown("put"));
     assert_eq!(store.insert::<3>("").err(), unknown(""));
@@ -111,7 +116,7 @@ fn refuses_operations() {
         store.query::<1, 3>("succ").err(),
         Some(Error::Arity { has: 2, asked: 3 })
     );
-    let other = Store::open(GRAPH, Options::sessions(1)).unwrap();
+    let other = Store::open(specification(), Options::sessions(1)).unwrap();
     let foreign = other.insert::<3>("ins").unwrap();
     assert_eq!(
         store.session().unwrap().call(foreign, [1, 2, 3]),
@@ -150,11 +155,71 @@ fn prepares() {
 }
 
 #[test]
+fn prepares_and_waits() {
+    let graph = graph(Options::sessions(2));
+    let mut session = graph.store.session().unwrap();
+    let prepared = session.begin_waiting(graph.ins, [1, 2, 10]).unwrap();
+    assert_eq!(*prepared.reply(), Inserted::Added);
+    let (reply, position) = prepared.commit();
+    assert_eq!((reply, position.place), (Inserted::Added, 0));
+    std::mem::forget(session.begin(graph.del, [1, 2]).unwrap());
+    assert_eq!(
+        session.begin_waiting(graph.del, [1, 2]).err(),
+        Some(Error::Prepared)
+    );
+}
+
+#[test]
+fn tells_what_is_in_the_way() {
+    let graph = graph(Options::sessions(3));
+    let [mut one, mut two, mut three] = [(); 3].map(|()| graph.store.session().unwrap());
+    // a node whose first stripe has another number than there are kinds of what is found
+    let node = (1..100).find(|node| {
+        let first = one.begin(graph.succ, [*node]).unwrap();
+        let second = two.begin(graph.succ, [*node]).unwrap();
+        assert_eq!(
+            (first.reply(), second.reply()),
+            (&Answer::Rows(vec![]), &Answer::Rows(vec![]))
+        );
+        match three.try_call(graph.ins, [*node, 2, 10]) {
+            Err(Error::Busy {
+                stripe,
+                found: Found::Readers(2),
+            }) => (3..8).contains(&stripe),
+            answer => panic!("{answer:?}"),
+        }
+    });
+    let node = node.expect("nodes are on several stripes");
+    let prepared = three.begin(graph.ins, [node, 2, 10]).unwrap();
+    match one.try_call(graph.succ, [node]) {
+        Err(Error::Busy {
+            stripe,
+            found: Found::Writer(2),
+        }) => assert!((3..8).contains(&stripe)),
+        answer => panic!("{answer:?}"),
+    }
+    drop(prepared);
+    assert_eq!(one.call(graph.succ, [node]), Ok(Answer::Rows(vec![])));
+}
+
+#[test]
+fn tells_which_dependency_breaks() {
+    let text = include_str!("../examples/cache.relc");
+    let store = Store::open(text, Options::sessions(1)).unwrap();
+    let load = store.insert::<4>("load").unwrap();
+    let mut session = store.session().unwrap();
+    assert_eq!(session.call(load, [8, 1, 5, 70]), Ok(Inserted::Added));
+    assert_eq!(session.call(load, [8, 1, 6, 70]), Ok(Inserted::Present));
+    assert_eq!(session.call(load, [8, 2, 5, 70]), Ok(Inserted::Conflict(2)));
+}
+
+#[test]
 fn ends_calls_at_the_limit() {
-    let graph = graph(Options {
+    let options = Options {
         sessions: 1,
         limit: 2,
-    });
+    };
+    let graph = graph(options);
     let mut session = graph.store.session().unwrap();
     for _ in 0..2 {
         session.call(graph.find, [1, 2]).unwrap();
@@ -166,16 +231,38 @@ fn ends_calls_at_the_limit() {
 }
 
 #[test]
+fn hands_out_no_session_without_calls() {
+    let options = Options {
+        sessions: 1,
+        limit: 2,
+    };
+    let graph = graph(options);
+    let mut session = graph.store.session().unwrap();
+    session.call(graph.find, [1, 2]).unwrap();
+    drop(session);
+    // one call is left, and after that none
+    let mut session = graph.store.session().unwrap();
+    let (_, position) = session.begin(graph.find, [1, 2]).unwrap().commit();
+    assert_eq!((session.number(), position.nth), (0, 1));
+    drop(session);
+    assert_eq!(graph.store.session().err(), Some(Error::NoneLeft));
+}
+
+#[test]
 fn learns() {
     let graph = graph(Options::sessions(2));
     let mut one = graph.store.session().unwrap();
     let mut other = graph.store.session().unwrap();
-    one.call(graph.ins, [1, 2, 3]).unwrap();
+    let (_, position) = one.call_placed(graph.ins, [1, 2, 3]).unwrap();
     let seen = one.look().unwrap();
-    assert_eq!(
-        (seen, other.learn(seen), other.learn(2)),
-        (1, Ok(1), Err(Error::Unseen))
-    );
+    assert_eq!((seen.length(), position.seen()), (1, seen));
+    assert_eq!(other.learn(seen), Ok(seen));
+    one.call(graph.find, [1, 2]).unwrap();
+    // it sees all that is there, which is more
+    assert_eq!(other.learn(seen).unwrap().length(), 2);
+    let elsewhere = common::graph(Options::sessions(1));
+    let foreign = elsewhere.store.session().unwrap().look().unwrap();
+    assert_eq!(one.learn(foreign), Err(Error::Foreign));
 }
 
 #[test]

@@ -1,14 +1,16 @@
-//! Four threads on few keys: their calls, by their places, are one legal history.
+//! Threads on few keys: their calls, by their places, are one legal history.
 
 mod common;
 
 use common::{Graph, Random, graph};
-use relc::{Answer, Error, Inserted, Options, Position, Session};
+use relc::{Answer, Error, Found, Inserted, Options, Position, Session};
 use std::collections::BTreeMap;
+use std::sync::atomic::{AtomicBool, Ordering::Relaxed};
 use std::thread;
+use std::time::{Duration, Instant};
 
 const THREADS: u64 = 4;
-const CALLS: u64 = 5_000;
+const CALLS: usize = 6_000;
 
 /// A call with what it was answered.
 enum Entry {
@@ -17,13 +19,32 @@ enum Entry {
     Successors(u64, Answer<2>),
 }
 
-/// The calls of one thread, with their places; each third waits, and the others try until nobody is
-/// in the way.
+/// How a call is made.
+#[derive(Clone, Copy)]
+enum How {
+    Waits,
+    /// It tries until nobody is in the way.
+    Tries,
+    /// It is prepared first.
+    Commits,
+    /// It is prepared, and then cancelled: nobody sees anything of it.
+    Cancels,
+}
+
+/// Of twelve calls three are prepared, one of which is cancelled, and three more wait.
+const HOW: [How; 12] = {
+    use How::{Cancels, Commits, Tries, Waits};
+    [
+        Waits, Tries, Commits, Tries, Waits, Tries, Cancels, Tries, Waits, Tries, Commits, Tries,
+    ]
+};
+
+/// The calls of one thread that weren't cancelled, with their places.
 fn work(graph: &Graph, thread: u64) -> Vec<(Position, Entry)> {
     let mut session = graph.store.session().unwrap();
     let mut random = Random(thread + 0x9e3779b97f4a7c15);
-    (0..CALLS)
-        .map(|call| entry(graph, &mut session, &mut random, call % 3 == 0))
+    (HOW.into_iter().cycle().take(CALLS))
+        .filter_map(|how| entry(graph, &mut session, &mut random, how))
         .collect()
 }
 
@@ -31,39 +52,45 @@ fn entry(
     graph: &Graph,
     session: &mut Session,
     random: &mut Random,
-    waits: bool,
-) -> (Position, Entry) {
+    how: How,
+) -> Option<(Position, Entry)> {
     let (src, dst, weight) = (random.below(3), random.below(4), random.below(100));
-    match random.below(3) {
+    Some(match random.below(3) {
         0 => {
-            let (reply, position) = made(session, waits, graph.ins, [src, dst, weight]);
+            let (reply, position) = made(session, how, graph.ins, [src, dst, weight])?;
             (position, Entry::Insert([src, dst, weight], reply))
         }
         1 => {
-            let (reply, position) = made(session, waits, graph.del, [src, dst]);
+            let (reply, position) = made(session, how, graph.del, [src, dst])?;
             (position, Entry::Remove([src, dst], reply))
         }
         _ => {
-            let (reply, position) = made(session, waits, graph.succ, [src]);
+            let (reply, position) = made(session, how, graph.succ, [src])?;
             (position, Entry::Successors(src, reply))
         }
-    }
+    })
 }
 
+/// What the call was answered, with its place; nothing where it was cancelled.
 fn made<const N: usize, O: relc::Operation<N>>(
     session: &mut Session,
-    waits: bool,
+    how: How,
     op: O,
     values: [u64; N],
-) -> (O::Reply, Position) {
-    if waits {
-        return session.call_placed(op, values).unwrap();
-    }
-    loop {
-        match session.try_call_placed(op, values) {
-            Ok(answer) => return answer,
-            Err(Error::Busy { .. }) => thread::yield_now(),
-            Err(error) => panic!("{error}"),
+) -> Option<(O::Reply, Position)> {
+    match how {
+        How::Waits => Some(session.call_placed(op, values).unwrap()),
+        How::Tries => loop {
+            match session.try_call_placed(op, values) {
+                Ok(answer) => break Some(answer),
+                Err(Error::Busy { .. }) => thread::yield_now(),
+                Err(error) => panic!("{error}"),
+            }
+        },
+        How::Commits => Some(session.begin_waiting(op, values).unwrap().commit()),
+        How::Cancels => {
+            drop(session.begin_waiting(op, values).unwrap());
+            None
         }
     }
 }
@@ -120,5 +147,40 @@ fn calls_are_one_history() {
         assert_eq!(*place, nth as u64);
         assert!(is_legal(&mut map, entry), "the call at place {place}");
     }
-    assert_eq!(history.len() as u64, THREADS * CALLS);
+    assert_eq!(history.len(), THREADS as usize * CALLS / 12 * 11);
+}
+
+/// Two threads that read one stripe get in each other's way by its latch alone, which each holds
+/// for a moment. How often is a matter of chance.
+#[test]
+fn readers_meet_at_a_latch() {
+    let graph = &graph(Options::sessions(2));
+    let (met, until) = (
+        &AtomicBool::new(false),
+        Instant::now() + Duration::from_secs(10),
+    );
+    let read = |mut session: Session| {
+        while !met.load(Relaxed) && Instant::now() < until {
+            match session.try_call(graph.succ, [1]) {
+                Ok(rows) => assert_eq!(rows, Answer::Rows(vec![])),
+                Err(Error::Busy {
+                    found: Found::Latch(other),
+                    stripe: 0..8,
+                }) => {
+                    assert_eq!(other, 1 - session.number());
+                    met.store(true, Relaxed);
+                }
+                Err(error) => panic!("{error}"),
+            }
+        }
+    };
+    thread::scope(|scope| {
+        for _ in 0..2 {
+            let session = graph.store.session().unwrap();
+            scope.spawn(move || read(session));
+        }
+    });
+    if !met.load(Relaxed) {
+        eprintln!("no reader met another's latch here: that isn't tested");
+    }
 }

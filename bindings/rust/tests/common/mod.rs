@@ -2,31 +2,11 @@
 
 use relc::{Insert, Options, Query, Remove, Store};
 
-/// A graph: ins, del, succ and find, as `examples/graph.relc` has them.
-pub const GRAPH: &str = "\
-relc 1
-col src num
-col dst num
-col weight num
-fd src dst -> weight
-node root
-node u src
-node w src dst
-node z src dst weight
-edge e1 root u hash src
-edge e2 u w ordered dst
-edge e3 w z singleton weight
-lock k1 8 src
-lock k2 4 src
-place e1 k1
-place e2 k2
-place e3 k2
-op ins insert src dst
-op del remove src dst
-op succ query src -> dst weight
-op find query src dst -> weight
-end
-";
+/// The specification of `examples/graph.relc`, without its workload: ins, del, succ and find.
+pub fn specification() -> &'static str {
+    let text = include_str!("../../../../examples/graph.relc");
+    text.split("\nwork").next().unwrap()
+}
 
 /// A graph with its operations.
 pub struct Graph {
@@ -39,7 +19,7 @@ pub struct Graph {
 }
 
 pub fn graph(options: Options) -> Graph {
-    let store = Store::open(GRAPH, options).unwrap();
+    let store = Store::open(specification(), options).unwrap();
     Graph {
         ins: store.insert("ins").unwrap(),
         del: store.remove("del").unwrap(),

@@ -2,7 +2,7 @@
 //! `bench/peers/store.rs` on its graph of both directions, in the same order, by one, two and four
 //! threads, each of which waits where another is in the way. `sh bench/embed.sh` runs it.
 //!
-//!     cargo run --offline --release --example calls [NODES [CALLS]]
+//!     cd bindings/rust && cargo run --offline --release --example calls [NODES [CALLS]]
 //!
 //! Each line: the mix, the threads, what was called, and the nanoseconds of a thread's call.
 
@@ -81,7 +81,7 @@ struct Relation {
 
 impl Relation {
     fn open(threads: usize) -> Result<Relation, relc::Error> {
-        let text = include_str!("../../../bench/split.relc");
+        let text = include_str!("../split.relc");
         let store = Store::open(text, Options::sessions(threads as u32))?;
         Ok(Relation {
             ins: store.insert("ins")?,
@@ -97,7 +97,7 @@ impl Relation {
             Call::Successors(node) => drop(black_box(session.call(self.succ, [node])?)),
             Call::Predecessors(node) => drop(black_box(session.call(self.pred, [node])?)),
             Call::Insert(source, target, weight) => {
-                black_box(session.call(self.ins, [source, target, weight])?);
+                let _ = black_box(session.call(self.ins, [source, target, weight])?);
             }
             Call::Remove(source, target) => {
                 black_box(session.call(self.del, [source, target])?);

@@ -1,0 +1,140 @@
+//! Whoever gives stripes back wakes those that sleep. A nap takes a minute here (`NAP`), and so
+//! whoever is back soon was woken.
+
+use super::*;
+use crate::{Insert, Inserted, Options, Query, Store};
+use std::mem::forget;
+use std::thread;
+use std::time::{Duration, Instant};
+
+/// Well below the length of a nap, and more than a busy machine takes to run a thread again.
+const SOON: Duration = Duration::from_secs(30);
+
+/// The edge that everybody wants.
+const EDGE: [u64; 3] = [1, 2, 10];
+
+struct Graph {
+    store: Store,
+    insert: Insert<3>,
+    find: Query<2, 1>,
+}
+
+impl Graph {
+    fn open() -> Graph {
+        let text = include_str!("../../../../examples/graph.relc");
+        let specification = text.split("\nwork").next().unwrap();
+        let store = Store::open(specification, Options::sessions(4)).unwrap();
+        Graph {
+            insert: store.insert("ins").unwrap(),
+            find: store.query("find").unwrap(),
+            store,
+        }
+    }
+
+    fn session(&self) -> Session {
+        self.store.session().unwrap()
+    }
+}
+
+fn prepared(session: &mut Session) -> Prepared<'_, Inserted> {
+    Prepared {
+        session,
+        reply: Some(Inserted::Added),
+    }
+}
+
+/// Lets a thread fall asleep behind a prepared call of another session, in each way to wait, and
+/// sees that it is back soon after `let_go`, which is given that other session.
+fn wakes(let_go: impl Fn(&Graph, Session)) {
+    let call = |graph: &Graph, waiter: &mut Session| {
+        let _ = waiter.call(graph.insert, EDGE).unwrap();
+    };
+    let begin = |graph: &Graph, waiter: &mut Session| {
+        drop(waiter.begin_waiting(graph.insert, EDGE).unwrap());
+    };
+    for waits in [call as fn(&Graph, &mut Session), begin] {
+        let graph = &Graph::open();
+        let (mut holder, mut waiter) = (graph.session(), graph.session());
+        forget(holder.begin(graph.insert, EDGE).unwrap());
+        let shared = holder.shared.clone();
+        let took = thread::scope(|scope| {
+            let back = scope.spawn(move || {
+                waits(graph, &mut waiter);
+                Instant::now()
+            });
+            while shared.events.waiters() == 0 {
+                thread::yield_now();
+            }
+            thread::sleep(Duration::from_millis(100));
+            let from = Instant::now();
+            let_go(graph, holder);
+            back.join().unwrap() - from
+        });
+        assert!(took < SOON, "the waiter was back after {took:?}");
+    }
+}
+
+/// Gives the session's stripes back, and tells nobody.
+fn commit_silently(mut holder: Session) {
+    assert_eq!(holder.ask(sys::relc_commit), sys::DONE);
+    // (the drop of a session that has prepared nothing doesn't ring)
+}
+
+/// A node whose stripes a third session has: it prepares an edge of it, and is forgotten, since its
+/// drop would ring.
+fn other_node(graph: &Graph) -> u64 {
+    let mut session = graph.session();
+    let is_free = |node: &u64| {
+        let prepared = session.begin(graph.insert, [*node, 1, 1]);
+        prepared.map(forget).is_ok()
+    };
+    let node = (2..100).find(is_free).unwrap();
+    forget(session);
+    node
+}
+
+#[test]
+fn a_commit_wakes() {
+    wakes(|_, mut holder| {
+        let _ = prepared(&mut holder).commit();
+    });
+}
+
+#[test]
+fn a_cancel_wakes() {
+    wakes(|_, mut holder| drop(prepared(&mut holder)));
+}
+
+#[test]
+fn a_dropped_session_wakes() {
+    wakes(|_, holder| drop(holder));
+}
+
+#[test]
+fn a_call_wakes() {
+    wakes(|graph, holder| {
+        commit_silently(holder);
+        graph.session().call(graph.find, [1, 2]).unwrap();
+    });
+    wakes(|graph, holder| {
+        commit_silently(holder);
+        graph.session().try_call(graph.find, [1, 2]).unwrap();
+    });
+}
+
+#[test]
+fn a_refused_call_wakes() {
+    let is_busy = |error: Option<Error>| matches!(error, Some(Error::Busy { .. }));
+    wakes(|graph, holder| {
+        let node = other_node(graph);
+        commit_silently(holder);
+        assert!(is_busy(
+            graph.session().try_call(graph.find, [node, 1]).err()
+        ));
+    });
+    wakes(|graph, holder| {
+        let node = other_node(graph);
+        commit_silently(holder);
+        assert!(is_busy(graph.session().begin(graph.find, [node, 1]).err()));
+    });
+}
