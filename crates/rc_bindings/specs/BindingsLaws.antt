@@ -1,24 +1,22 @@
 -- Laws of bindings.
 use Rattle.std.proofs.Common.{◌≡◌, ℕ, zero, suc, ◌+◌, ◌*◌, ◌<◌, ◌≤◌, List, [], ◌∷◌, ◌++◌, get_or, length, take, drop, refl, sym, ap, ◌∙◌, inl, inr, ◌⊎◌, true, false, cond, filter, map, subst, arith}
-use Rattle.std.proofs.lemmas.List.{take-append-le, drop-append-le, drop-drop, take_all, length-append, length-drop, map-append}
+use Rattle.std.proofs.lemmas.List.{append-nil, append_assoc, take-append-le, drop-append-le, drop-drop, take_all, length-append, length-drop, map-append}
 use Rattle.std.proofs.Math.ListN.{drop_of_length-le}
 use Rattle.std.proofs.Math.Nat.{le-mul_of_pos_right, mul-le-mul_right, suc-mul, zero-mul}
 use Rattle.std.specs.declared.cmp.Ordering.{Ordering}
 use Rattle.std.specs.declared.cmp.Ordering.TheVariants.{Less}
 use Rattle.rc_tuple.specs.RisingSet.{In, IsRising}
-use Rattle.rc_tuple.specs.RisingSetLaws.{IsOrder, get_or_in, in_append, map_in}
+use Rattle.rc_tuple.specs.RisingSetLaws.{IsOrder, in_append, map_in}
 use Rattle.std.specs.List.{flat_map, zip}
-use Rattle.std.proofs.Math.Nat.{eq-or-lt_of_le}
-use Rattle.std.proofs.Math.Seq.{take-suc}
-use Rattle.std.proofs.lemmas.List.{drop_more}
 use Rattle.std.proofs.lemmas.List.Elements.{filter-append}
 use Rattle.rc_tuple.specs.ColSet.{Within}
-use Rattle.rc_tuple.specs.Tuple.{Pairs, agrees, cols_of, merge, merges_of, pair_cmp}
+use Rattle.rc_tuple.specs.Tuple.{Pairs, agrees, cols_of, merge, merges_of, pair_cmp, project}
 use Rattle.rc_tuple.specs.TupleLaws.{GivesOne, cols_of-zip, one_pair, rising_cols}
 use Rattle.std.specs.Ordering.{nat_cmp}
-use Rattle.rc_bindings.specs.Registers.{all_written, fits_all, tuple_in}
+use Rattle.rc_spec.specs.InRange.{IsSetBelow}
+use Rattle.rc_bindings.specs.Registers.{all_written, fits_all, tuple_in, values_of}
 use Rattle.rc_bindings.specs.RegistersLaws.{cols_of-tuple_in, fits_all-agree, merge-given}
-use Rattle.rc_bindings.specs.Bindings.{AreBindings, AreRows, IsRowWith, given, tuples_in}
+use Rattle.rc_bindings.specs.Bindings.{AreBindings, AreRows, BindingList, IsGivenBy, IsRowWith, TakesRows, given, key_and_extra, seen_one, tuples_in}
 
 pub length-tuples_in : (cols : List ℕ) (w count : ℕ) (registers : List ℕ) → length (tuples_in cols w count registers) ≡ count
 length-tuples_in cols w zero registers = refl
@@ -68,31 +66,13 @@ tuples-push cols w (suc n) registers row e h =
     ∙ ap (λ l. tuple_in cols (take w registers) ∷ tuples_in cols w (suc n) l) (drop-append-le w registers row h.0)
     ∙ ap (λ l. tuple_in cols (take w registers) ∷ l) (tuples-push cols w n (drop w registers) row e h.1)
 
--- a list in which each is below the next rises
-module _ {A : Type 0} (R : A → A → Ordering) (o : IsOrder R) (d : A) where
-  pub rising_by_steps : (xs : List A) → ((i : ℕ) → i + 1 < length xs → R (get_or xs i d) (get_or xs (i + 1) d) ≡ Less) → IsRising R xs
-  rising_by_steps [] steps = tt
-  rising_by_steps (x ∷ []) steps = ((λ y m. absurd m), tt)
-  rising_by_steps (x ∷ y ∷ xs) steps =
-      let later : IsRising R (y ∷ xs) = rising_by_steps (y ∷ xs) (λ i l. let e : suc i + 1 ≡ suc (i + 1) = omega arith in subst (λ k. R (get_or (y ∷ xs) i d) (get_or (x ∷ y ∷ xs) k d) ≡ Less) e (steps (suc i) (omega (arith, l)))) in
-      ((λ z m. below z m later), later)
-    where
-      first : R x y ≡ Less
-      first = steps 0 (omega arith)
-
-      below : (z : A) → In z (y ∷ xs) → IsRising R (y ∷ xs) → R x z ≡ Less
-      below z (inl p) later = subst (λ k. R x k ≡ Less) (sym p) first
-      below z (inr p) later = o.total.trans x y z first (later.0 z p)
-
--- and in one that rises each is below the next
-pub step_of_rising : {A : Type 0} (R : A → A → Ordering) (d : A) (xs : List A) (i : ℕ) → IsRising R xs → i + 1 < length xs
-    → R (get_or xs i d) (get_or xs (i + 1) d) ≡ Less
-step_of_rising R d [] i rises l = absurd (omega (arith, l))
-step_of_rising R d (x ∷ []) i rises l = absurd (omega (arith, l))
-step_of_rising R d (x ∷ y ∷ xs) zero rises l = rises.0 y (inl refl)
-step_of_rising R d (x ∷ y ∷ xs) (suc i) rises l =
-    let e : suc (i + 1) ≡ suc i + 1 = omega arith in
-    subst (λ k. R (get_or (y ∷ xs) i d) (get_or (x ∷ y ∷ xs) k d) ≡ Less) e (step_of_rising R d (y ∷ xs) i rises.1 (omega (arith, l)))
+-- where the first is below the second, all rise if the others do
+pub rising_behind : {A : Type 0} (R : A → A → Ordering) → IsOrder R → (x y : A) (xs : List A) → R x y ≡ Less → IsRising R (y ∷ xs) → IsRising R (x ∷ y ∷ xs)
+rising_behind R o x y xs first later = (below, later)
+  where
+    below : (z : _) → In z (y ∷ xs) → R x z ≡ Less
+    below z (inl p) = subst (λ k. R x k ≡ Less) (sym p) first
+    below z (inr p) = o.total.trans x y z first (later.0 z p)
 
 -- a row lies within the registers
 pub row_within : (w count : ℕ) (registers : List ℕ) (at : ℕ) → AreRows w count registers → at < count → at * w + w ≤ length registers
@@ -171,6 +151,20 @@ module _ (cols values : List ℕ) (rises : IsRising nat_cmp cols) (ps u : Pairs)
       ap (λ b. map (merge (tuple_in cols values)) (cond b (u ∷ []) [])) agreeing
       ∙ ap (λ t. t ∷ []) (sym (merge-given cols values rises ps u row.has row.only one below xs xs_rise parts old_within new_within agreeing))
 
+-- the row of registers that is added is the merge with the row that is given
+module _ (own held : List ℕ) (list : BindingList) (key kv extra xv : List ℕ) (row : Pairs) where
+  pub merged_row : IsSetBelow (length held) own → IsSetBelow list.width list.columns → TakesRows (seen_one own held) key extra list → IsRising nat_cmp key → IsRising nat_cmp extra
+      → length kv ≡ length key → length xv ≡ length extra → fits_all own held (given key kv extra xv) ≡ true → IsRowWith (tuple_in own held) (given key kv extra xv) row
+      → merges_of (tuple_in own held) (row ∷ []) ≡ tuple_in list.columns (all_written (given key kv extra xv) held) ∷ []
+  merged_row own_set set takes kr xr kl xl fit is =
+      let ps : Pairs = given key kv extra xv in
+      let columns : cols_of ps ≡ key ++ extra = cols_of-given key kv extra xv kl xl in
+      let within : (k : ℕ) → In k (cols_of ps) → In k list.columns = λ k m.
+      elim (in_append k key extra (subst (In k) columns m)) [ inl h ↦ takes.key_within k h | inr h ↦ takes.extra_within k h ] in
+      one_merge own held own_set.set.rising ps row is fit (given_one key kv extra xv kr xr kl xl takes.apart)
+      (λ p m. subst (λ w. p.0 < w) (sym takes.width) (set.below p.0 (within p.0 (map_in (λ (q : ℕ × ℕ). q.0) p ps m))))
+      list.columns set.set.rising (λ k m. elim (takes.parts k m) [ inl h ↦ inl h | inr h ↦ inr (subst (In k) (sym columns) h) ]) takes.old_within within
+
 -- ---- rows one behind the other
 
 pub take_first : {A : Type 0} (k : ℕ) (xs ys : List A) → length xs ≡ k → take k (xs ++ ys) ≡ xs
@@ -179,30 +173,86 @@ take_first k xs ys e = take-append-le k xs ys (omega (arith, e)) ∙ take_all k 
 pub drop_first : {A : Type 0} (k : ℕ) (xs ys : List A) → length xs ≡ k → drop k (xs ++ ys) ≡ ys
 drop_first k xs ys e = drop-append-le k xs ys (omega (arith, e)) ∙ ap (λ l. l ++ ys) (drop_of_length-le xs (omega (arith, e)))
 
-module _ (f : Pairs → List ℕ) (width : ℕ) (rows : List Pairs) (wide : (t : Pairs) → In t rows → length (f t) ≡ width) (behind : List ℕ) (done : ℕ) (is : behind ≡ flat_map f (drop done rows)) (within : done ≤ length rows) where
-  -- the next row, and those after it
-  pub next_row : done < length rows → behind ≡ f (get_or rows done []) ++ flat_map f (drop (done + 1) rows)
-  next_row l = is ∙ ap (flat_map f) (drop_more rows done [] l)
+-- the first of some rows, and those behind it
+pub record HasFirst (cols : List ℕ) (w n : ℕ) (registers row rest : List ℕ) : Type 0 where
+  pub left : ℕ
+  pub rows : AreRows w left rest
+  pub tuples : tuples_in cols w n registers ≡ tuple_in cols row ∷ tuples_in cols w left rest
 
-  pub row_left : 0 < width → width ≤ length behind → done < length rows
-  row_left some long = elim (eq-or-lt_of_le within) [
-    | inl e ↦ absurd (let none : length behind ≡ 0 = ap length (is ∙ ap (flat_map f) (drop_of_length-le rows (omega (arith, e)))) in omega (arith, some, long, none))
-    | inr l ↦ l
-  ]
-
-  pub none_left : length behind < width → done ≡ length rows
-  none_left short = elim (eq-or-lt_of_le within) [
-    | inl e ↦ e
-    | inr l ↦ absurd (
-        let both = ap length (next_row l) ∙ length-append (f (get_or rows done [])) (flat_map f (drop (done + 1) rows)) in
-        let one = wide (get_or rows done []) (get_or_in rows done [] l) in
-        omega (arith, short, both, one))
-  ]
+pub first_row : (cols : List ℕ) (w n : ℕ) (registers row rest : List ℕ) → 0 < w → AreRows w n registers → registers ≡ row ++ rest → length row ≡ w → HasFirst cols w n registers row rest
+first_row cols w zero registers row rest some rows is e = absurd (
+    let none : length registers ≡ 0 = ap length rows in
+    let both = ap length is ∙ length-append row rest in
+    omega (arith, some, none, both, e))
+first_row cols w (suc n) registers row rest some rows is e =
+    let first : take w registers ≡ row = ap (take w) is ∙ take_first w row rest e in
+    let behind : drop w registers ≡ rest = ap (drop w) is ∙ drop_first w row rest e in
+    record { left = n; rows = subst (AreRows w n) behind rows.1; tuples = λ i. tuple_in cols (first i) ∷ tuples_in cols w n (behind i) }
 
 -- the merges of one row more
-pub merges_more : (b : Pairs) (rows : List Pairs) (n : ℕ) → n < length rows → merges_of b (take (n + 1) rows) ≡ merges_of b (take n rows) ++ merges_of b (get_or rows n [] ∷ [])
-merges_more b rows n l =
-    let more : suc n ≡ n + 1 = omega arith in
-    ap (λ k. merges_of b (take k rows)) (sym more) ∙ ap (merges_of b) (take-suc rows n [] l)
-    ∙ ap (map (merge b)) (filter-append (agrees b) (take n rows) (get_or rows n [] ∷ []))
-    ∙ map-append (merge b) (filter (agrees b) (take n rows)) (filter (agrees b) (get_or rows n [] ∷ []))
+pub merges_more : (b row : Pairs) (rows : List Pairs) → merges_of b (row ∷ rows) ≡ merges_of b (row ∷ []) ++ merges_of b rows
+merges_more b row rows =
+    ap (map (merge b)) (filter-append (agrees b) (row ∷ []) rows) ∙ map-append (merge b) (filter (agrees b) (row ∷ [])) (filter (agrees b) rows)
+
+-- the values of these rows are still to come, and the merges of the others are there
+pub record HasPushed (b : Pairs) (key extra rest : List ℕ) (old new : BindingList) (rows : List Pairs) : Type 0 where
+  pub left : List Pairs
+  pub given_by : (row : Pairs) → In row left → IsGivenBy b key extra row
+  pub values : rest ≡ flat_map (key_and_extra key extra) left
+  pub merged : new.tuples ++ merges_of b left ≡ old.tuples ++ merges_of b rows
+
+module _ (b : Pairs) (key extra : List ℕ) (keys extras : ℕ) (k : keys ≡ length key) (x : extras ≡ length extra) (old new : BindingList) (rows : List Pairs) where
+  -- the row whose values come next
+  pub record IsNext (values rest : List ℕ) : Type 0 where
+    pub row : Pairs
+    pub with : IsRowWith b (given key (take keys values) extra (drop keys values)) row
+    pub pushed : (after : BindingList) → after.tuples ≡ new.tuples ++ merges_of b (row ∷ []) → HasPushed b key extra rest old after rows
+
+  wide : (t : Pairs) → IsGivenBy b key extra t → length (key_and_extra key extra t) ≡ keys + extras
+  wide t is =
+      let both = length-append (values_of (project key t)) (values_of (project extra t)) in
+      let a = is.keys in
+      let e = is.extras in
+      omega (arith, both, a, e, k, x)
+
+  pub next_row : (values rest : List ℕ) → length values ≡ keys + extras → 0 < keys + extras → HasPushed b key extra (values ++ rest) old new rows → IsNext values rest
+  next_row values rest long some before = go before.left before.given_by before.values before.merged
+    where
+      go : (left : List Pairs) → ((row : Pairs) → In row left → IsGivenBy b key extra row) → values ++ rest ≡ flat_map (key_and_extra key extra) left
+          → new.tuples ++ merges_of b left ≡ old.tuples ++ merges_of b rows → IsNext values rest
+      go [] given_by are merged = absurd (
+          let none : length (values ++ rest) ≡ 0 = ap length are in
+          let both = length-append values rest in
+          omega (arith, none, both, long, some))
+      go (t ∷ left) given_by are merged =
+          let is : IsGivenBy b key extra t = given_by t (inl refl) in
+          let kv : List ℕ = values_of (project key t) in
+          let xv : List ℕ = values_of (project extra t) in
+          let after : List ℕ = flat_map (key_and_extra key extra) left in
+          let both : values ++ rest ≡ (kv ++ xv) ++ after = are in
+          let own : values ≡ kv ++ xv = sym (take_first (keys + extras) values rest long) ∙ ap (take (keys + extras)) both ∙ take_first (keys + extras) (kv ++ xv) after (wide t is) in
+          let kl : length kv ≡ keys = is.keys ∙ sym k in
+          let key_part : take keys values ≡ kv = ap (take keys) own ∙ take_first keys kv xv kl in
+          let extra_part : drop keys values ≡ xv = ap (drop keys) own ∙ drop_first keys kv xv kl in
+          record {
+            row = t;
+            with = subst (λ v. IsRowWith b (given key v extra (drop keys values)) t) (sym key_part) (subst (λ v. IsRowWith b (given key kv extra v) t) (sym extra_part) is.with);
+            pushed = λ n e. record {
+              left = left;
+              given_by = λ r m. given_by r (inr m);
+              values = sym (drop_first (keys + extras) values rest long) ∙ ap (drop (keys + extras)) both ∙ drop_first (keys + extras) (kv ++ xv) after (wide t is);
+              merged = ap (λ l. l ++ merges_of b left) e ∙ append_assoc new.tuples (merges_of b (t ∷ [])) (merges_of b left) ∙ ap (λ l. new.tuples ++ l) (sym (merges_more b t left)) ∙ merged;
+            };
+          }
+
+  -- where fewer values are left than a row has, all are merged
+  pub all_pushed : (rest : List ℕ) → length rest < keys + extras → HasPushed b key extra rest old new rows → new.tuples ≡ old.tuples ++ merges_of b rows
+  all_pushed rest short before = go before.left before.given_by before.values before.merged
+    where
+      go : (left : List Pairs) → ((row : Pairs) → In row left → IsGivenBy b key extra row) → rest ≡ flat_map (key_and_extra key extra) left
+          → new.tuples ++ merges_of b left ≡ old.tuples ++ merges_of b rows → new.tuples ≡ old.tuples ++ merges_of b rows
+      go [] given_by are merged = sym (append-nil new.tuples) ∙ merged
+      go (t ∷ left) given_by are merged = absurd (
+          let both = ap length are ∙ length-append (key_and_extra key extra t) (flat_map (key_and_extra key extra) left) in
+          let one = wide t (given_by t (inl refl)) in
+          omega (arith, short, both, one))

@@ -11,7 +11,7 @@ use Rattle.std.proofs.lemmas.Option.{slice_get_within}
 use Rattle.std.proofs.lemmas.List.{append-nil, length-take-le, map-append, take_all}
 use Rattle.std.proofs.lemmas.List.Elements.{filter-append}
 use Rattle.std.proofs.lemmas.List.Sums.{fold-append}
-use Rattle.std.specs.List.{fold, list_all, range_with_len, zip}
+use Rattle.std.specs.List.{fold, range_with_len, zip}
 use Rattle.std.specs.Ordering.{nat_cmp, ordering_then}
 use Rattle.std.specs.Cmp.{nat_cmp_is}
 use Rattle.std.proofs.lemmas.Cmp.{ranked}
@@ -23,7 +23,7 @@ use Rattle.std.specs.List.{slice_get}
 use Rattle.rc_tuple.specs.ColSet.{IsColSet, Within, has, inter, union}
 use Rattle.rc_tuple.specs.ColSetLaws.{inter_in, rank_more, slice_get-rank, in_union, union_left, union_right, rising_range, in_range_below, range_with_len_more}
 use Rattle.rc_tuple.specs.Tuple.{Pairs, IsTuple, agrees, cols_of, get, merge, pair_cmp, project, tuple_cmp, value}
-use Rattle.rc_tuple.specs.TupleLaws.{zip_more, Agree, GivesOne, one_pair, agree_from, agrees_to, in_project, project_in, rising_cols, rising_pairs, pair_order, in_merge, merge_left, merge_right, rising_merge}
+use Rattle.rc_tuple.specs.TupleLaws.{zip_more, GivesOne, one_pair, agree_from, agrees_to, in_project, project_in, rising_cols, rising_pairs, pair_order, in_merge, merge_left, merge_right, rising_merge}
 use Rattle.rc_spec.specs.InRange.{IsSetBelow}
 use Rattle.rc_spec.specs.Stripes.{hash_of, mix}
 use Rattle.rc_bindings.specs.Registers.{all_written, columns_below, fits, fits_all, register, tuple_in, values_of}
@@ -455,17 +455,21 @@ fits_apart held values [] out = refl
 fits_apart held values (p ∷ ps) out =
     and_from (fits held values p) (fits_all held values ps) (or_left (not (has held p.0)) (register values p.0 == p.1) (ap not (out p.0 (inl refl)))) (fits_apart held values ps (λ c m. out c (inr m)))
 
+-- a column that isn't in the list is not found
+pub has_not : (cols : List ℕ) (c : ℕ) → (In c cols → ⊥) → has cols c ≡ false
+has_not cols c out = go (has cols c) refl
+  where
+    go : (b : Bool) → has cols c ≡ b → b ≡ false
+    go true h = absurd (out (in_has cols c h))
+    go false h = refl
+
 -- two sets that share no column
 pub none_shared : (held cols : List ℕ) (c : ℕ) → length (inter held cols) ≡ 0 → In c cols → has held c ≡ false
-none_shared held cols c none m = go (has held c) refl
+none_shared held cols c none m = has_not held c (λ h. some (inter held cols) (inter_in held cols c h m) none)
   where
     some : (xs : List ℕ) → In c xs → length xs ≡ 0 → ⊥
     some (x ∷ xs) k e = omega (arith, e)
     some [] k e = k
-
-    go : (b : Bool) → has held c ≡ b → b ≡ false
-    go false h = refl
-    go true h = absurd (some (inter held cols) (inter_in held cols c (in_has held c h) m) none)
 
 -- a column of the set stands with its value among the pairs
 pub zip_there : (cols values : List ℕ) (i c : ℕ) → slice_get cols i ≡ Some c → i < length values → In {A = ℕ × ℕ} (c, get_or values i 0) (zip cols values)

@@ -110,8 +110,10 @@ impl<'a> Binding<'a> {
     pub fn push_picked(&self, outs: &Cols, values: &mut Vec<u64>) -> Result<(), Memory>
         ensures { OnOk result (values.new.items ≡ values.old.items ++ pick outs.now self.now.tuple) }
     {
+        // Room for all at once, so that no value has to ask for its own.
+        values.reserve(outs.list().len())?;
         for col in outs.list() {
-            values.push(self.value(*col))?;
+            values.push_reserved(self.value(*col));
         }
         Ok(())
     }

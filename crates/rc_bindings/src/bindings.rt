@@ -185,21 +185,54 @@ impl Bindings {
             → self.new ≡ with_tuples self.old (self.old.tuples ++ merges_of binding.now.tuple rows)) }
         ensures same { self.new ≡ with_tuples self.old self.new.tuples }
     {
-        // Room for all at once, so that no row of these has to grow the list.
+        // Where none of the columns is held all rows agree, so that no row has to be tested or to ask for its own room.
+        if binding.cols.inter(key.union(extra)).is_empty() {
+            return self.push_all(binding, key, keys, extra, extras, values);
+        }
+        for row in values.chunks_exact(keys + extras) {
+            let (key_values, extra_values) = row.split_at(keys);
+            self.push_row(binding, key, key_values, extra, extra_values)?;
+        }
+        Ok(())
+    }
+
+    /// Adds the merges of a binding with some rows that are given as for `push_rows`, and makes room for all of them at first.
+    /// The binding holds none of the columns of their values, so that all agree with it.
+    fn push_all(
+        &mut self,
+        binding: &Binding,
+        key: ColSet,
+        keys: usize,
+        extra: ColSet,
+        extras: usize,
+        values: &[u64],
+    ) -> Result<(), Memory>
+        requires takes { TakesRows binding.now key extra self.old }
+        requires free { (c : ℕ) → In c binding.now.columns → In c (key ++ extra) → ⊥ }
+        requires keys { keys ≡ length key }
+        requires extras { extras ≡ length extra }
+        requires some { 0 < keys + extras }
+        requires few { keys + extras ≤ 64 }
+        ensures ok { OnOk result ((rows : List Pairs) → values.now ≡ flat_map (key_and_extra key extra) rows
+            → ((row : Pairs) → In row rows → IsGivenBy binding.now.tuple key extra row)
+            → self.new ≡ with_tuples self.old (self.old.tuples ++ merges_of binding.now.tuple rows)) }
+        ensures same { self.new ≡ with_tuples self.old self.new.tuples }
+    {
+        // A call of a set tells the check what holds of every set.
+        let _ = (key.within(key), extra.within(extra));
         let rows = values.len() / (keys + extras);
         self.registers.reserve(rows.saturating_mul(self.width))?;
-        let mut start = 0;
-        while start + keys + extras <= values.len() {
-            let middle = start + keys;
-            let end = middle + extras;
-            self.push_row(
-                binding,
+        for row in values.chunks_exact(keys + extras) {
+            let (key_values, extra_values) = row.split_at(keys);
+            push_merged(
+                &mut self.registers,
+                binding.registers,
                 key,
-                &values[start..middle],
+                key_values,
                 extra,
-                &values[middle..end],
-            )?;
-            start = end;
+                extra_values,
+            );
+            self.count += 1;
         }
         Ok(())
     }
@@ -226,15 +259,15 @@ impl Bindings {
         ensures { IsTrue result ↔ IsRising tuple_cmp self.now.tuples }
     {
         // The rows lie side by side, so neighbours are compared where they lie.
-        for at in 1..self.count {
-            let middle = at * self.width;
-            let start = middle - self.width;
-            let end = middle + self.width;
-            let earlier = part(&self.registers, start, middle);
-            let later = part(&self.registers, middle, end);
+        let mut rows = self.registers.chunks_exact(self.width);
+        let Some(mut earlier) = rows.next() else {
+            return true;
+        };
+        for later in rows {
             if !compare(self.cols, earlier, later).is_lt() {
                 return false;
             }
+            earlier = later;
         }
         true
     }
@@ -304,7 +337,8 @@ fn push_merged(
     requires keys { length key_values.now ≡ length key }
     requires extras { length extra_values.now ≡ length extra }
     requires apart { (c : ℕ) → In c key → In c extra → ⊥ }
-    ensures { registers.new.items ≡ registers.old.items ++ all_written (given key key_values.now extra extra_values.now) held.now }
+    ensures items { registers.new.items ≡ registers.old.items ++ all_written (given key key_values.now extra extra_values.now) held.now }
+    ensures capacity { vec_capacity registers.new ≡ vec_capacity registers.old }
 {
     // One walk: to copy the held registers and then write over them would take three.
     let mut keys = 0;

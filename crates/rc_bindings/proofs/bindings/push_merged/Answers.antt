@@ -1,4 +1,4 @@
-use Rattle.std.proofs.Common.{◌≡◌, ◌+◌, ◌<◌, ◌++◌, ◌∷◌, [], Bool, List, ℕ, cond, false, get_or, length, refl, suc, take, true, sym, ap, subst, ◌∙◌, arith}
+use Rattle.std.proofs.Common.{◌≡◌, ◌+◌, ◌<◌, ◌++◌, ◌∷◌, [], List, ℕ, cond, false, get_or, length, suc, take, true, sym, ap, subst, ◌∙◌, arith}
 use Rattle.std.proofs.Math.Seq.{take-suc}
 use Rattle.std.proofs.lemmas.Bool.{false≢true}
 use Rattle.std.proofs.lemmas.List.{append_assoc, take_all}
@@ -12,7 +12,7 @@ use Rattle.rc_tuple.specs.Tuple.{cols_of}
 use Rattle.rc_tuple.specs.TupleLaws.{cols_of-zip}
 use Rattle.rc_bindings.specs.Bindings.{given}
 use Rattle.rc_bindings.specs.Registers.{all_written, columns_below, register}
-use Rattle.rc_bindings.specs.RegistersLaws.{all_written-append, length-all_written, length-columns_below_more, place_within, register-unwritten, register-written, zip_there}
+use Rattle.rc_bindings.specs.RegistersLaws.{all_written-append, has_not, length-all_written, length-columns_below_more, place_within, register-unwritten, register-written, zip_there}
 use Rattle.rc_bindings.proofs.bindings.push_merged.Goals as goal
 use Rattle.rc_bindings.proofs.bindings.push_merged.Goals.{then-has, else-has+then-has-2, else-has+else-has-2}
 
@@ -32,13 +32,6 @@ unwritten cols values row n count out = register-unwritten (zip cols values) row
 
 not_in : (cols : List ℕ) (n : ℕ) → has cols n ≡ false → In n cols → ⊥
 not_in cols n h m = false≢true (sym h ∙ has_in cols n m)
-
-none : (cols : List ℕ) (n : ℕ) → (In n cols → ⊥) → has cols n ≡ false
-none cols n out = go (has cols n) refl
-  where
-    go : (b : Bool) → has cols n ≡ b → b ≡ false
-    go true h = absurd (out (in_has cols n h))
-    go false h = refl
 
 -- the register of each column in the row that is to be added
 module _ (key kv extra xv held : List ℕ) (n : ℕ) (kl : length kv ≡ length key) (xl : length xv ≡ length extra) where
@@ -114,12 +107,13 @@ loop-col-preserved c =
           let cap = ap (λ z. z.cap) w.registers-is ∙ w.push_reserved.ensures.capacity in
           record {
             keys = w.keys-is ∙ place_there key n c.loop-col.keys c.loop-col.invariant.keys h;
-            extras = w.extras-is ∙ place_out extra n c.loop-col.extras c.loop-col.invariant.extras (none extra n out);
+            extras = w.extras-is ∙ place_out extra n c.loop-col.extras c.loop-col.invariant.extras (has_not extra n out);
             few_keys = omega (arith, k, low_keys);
             few_extras = omega (arith, x, low_extras);
             items = ap (λ z. z.items) w.registers-is ∙ w.push_reserved.ensures.items
                 ∙ more old c.loop-col.registers.items all n (get_or kv c.loop-col.keys 0) c.loop-col.invariant.items below
                 (of_key key kv extra xv held n c.requires.keys c.requires.extras c.has.ensures.set c.requires.key_below out h ∙ ap (λ z. get_or kv z 0) (sym c.loop-col.invariant.keys));
+            capacity = cap ∙ c.loop-col.invariant.capacity;
             room = omega (arith, len, cap, room, l);
           }
       | else-has+then-has-2 w ↦
@@ -137,6 +131,7 @@ loop-col-preserved c =
             items = ap (λ z. z.items) w.registers-is ∙ w.push_reserved-then-has-2.ensures.items
                 ∙ more old c.loop-col.registers.items all n (get_or xv c.loop-col.extras 0) c.loop-col.invariant.items below
                 (of_extra key kv extra xv held n c.requires.keys c.requires.extras w.has-else-has.ensures.set c.requires.extra_below h ∙ ap (λ z. get_or xv z 0) (sym c.loop-col.invariant.extras));
+            capacity = cap ∙ c.loop-col.invariant.capacity;
             room = omega (arith, len, cap, room, l);
           }
       | else-has+else-has-2 w ↦
@@ -154,12 +149,13 @@ loop-col-preserved c =
             items = ap (λ z. z.items) w.registers-is ∙ w.push_reserved-else-has-2.ensures.items
                 ∙ more old c.loop-col.registers.items all n (register held n) c.loop-col.invariant.items below
                 (of_held key kv extra xv held n c.requires.keys c.requires.extras a b);
+            capacity = cap ∙ c.loop-col.invariant.capacity;
             room = omega (arith, len, cap, room, l);
           }
     ]
 
-pub returns : goal.returns
-returns c =
+pub returns-clause-items : goal.returns-clause-items
+returns-clause-items c =
     let held = c.args.held.now in
     let ps = given c.args.key c.args.key_values.now c.args.extra c.args.extra_values.now in
     let width = length-all_written ps held in

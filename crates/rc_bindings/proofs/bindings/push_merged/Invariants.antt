@@ -11,5 +11,6 @@ invariant-loop-col l = record {
   few_keys : l.keys ≤ l.col;
   few_extras : l.extras ≤ l.col;
   items : l.registers.items ≡ l.fn.registers.items ++ take l.col (all_written (given l.key l.key_values l.extra l.extra_values) l.held);
+  capacity : vec_capacity l.registers ≡ vec_capacity l.fn.registers;
   room : vec_len l.registers + (length l.held - l.col) ≤ vec_capacity l.registers;
 }

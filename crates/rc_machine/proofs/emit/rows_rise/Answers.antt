@@ -8,7 +8,7 @@ use Rattle.std.specs.declared.cmp.Ordering.TheVariants.{Less, Equal, Greater}
 use Rattle.rc_tuple.specs.RisingSetLaws.{number_lists_order}
 use Rattle.rc_tuple.specs.Tuple.{pick}
 use Rattle.rc_spec.specs.Plain.{row_cmp}
-use Rattle.rc_bindings.specs.BindingsLaws.{rising_by_steps}
+use Rattle.rc_machine.proofs.EmitLemmas.{rising_by_steps}
 use Rattle.rc_machine.proofs.emit.rows_rise.Goals as goal
 
 pub loop-at-preserved : goal.loop-at-preserved

@@ -1,13 +1,12 @@
-use Rattle.std.proofs.Common.{◌≡◌, ◌<◌, ◌++◌, ◌∷◌, ◌&&◌, [], List, ℕ, Bool, true, false, inl, inr, length, refl, subst, sym, ap, ◌∙◌, arith}
+use Rattle.std.proofs.Common.{◌≡◌, ◌<◌, ◌++◌, ◌∷◌, ◌&&◌, [], List, ℕ, Bool, true, false, length, refl, subst, sym, ap, ◌∙◌, arith}
 use Rattle.std.proofs.lemmas.Bool.{and_from}
 use Rattle.std.proofs.lemmas.List.{append-nil}
 use Rattle.std.specs.List.{zip}
 use Rattle.rc_tuple.specs.RisingSet.{In}
-use Rattle.rc_tuple.specs.RisingSetLaws.{in_append, map_in}
-use Rattle.rc_tuple.specs.Tuple.{Pairs, cols_of, merges_of}
-use Rattle.rc_bindings.specs.Bindings.{BindingList, IsRowWith, OneBinding, given, seen_list, with_tuples}
-use Rattle.rc_bindings.specs.BindingsLaws.{AreBindings-push, cols_of-given, count_within, given_one, no_merge, one_merge, tuples_in-push}
-use Rattle.rc_bindings.specs.Registers.{all_written, fits_all, tuple_in}
+use Rattle.rc_tuple.specs.Tuple.{Pairs, merges_of}
+use Rattle.rc_bindings.specs.Bindings.{BindingList, IsRowWith, OneBinding, TakesRows, given, seen_list, with_tuples}
+use Rattle.rc_bindings.specs.BindingsLaws.{AreBindings-push, count_within, merged_row, no_merge, tuples_in-push}
+use Rattle.rc_bindings.specs.Registers.{all_written, fits_all}
 use Rattle.rc_bindings.specs.RegistersLaws.{fits_all-append, length-all_written}
 use Rattle.rc_bindings.proofs.bindings.Bindings.push_row.Goals as goal
 use Rattle.rc_bindings.proofs.bindings.Bindings.push_row.Goals.{After-binding, After-push_merged}
@@ -76,7 +75,7 @@ row_of c = all_written (given c.args.key c.args.key_values.now c.args.extra c.ar
 
 -- it lies behind what was there
 items : (c : After-push_merged) → c.push_merged.new.registers.items ≡ c.self.inside.registers.items ++ row_of c
-items c = c.push_merged.ensures ∙ ap (λ l. l ++ row_of c) c.in_ok-reserve.ensures.items
+items c = c.push_merged.ensures.items ∙ ap (λ l. l ++ row_of c) c.in_ok-reserve.ensures.items
 
 row_wide : (c : After-push_merged) → length c.binding.inside.registers.now ≡ c.self.inside.width → length (row_of c) ≡ c.self.inside.width
 row_wide c w = length-all_written (given c.args.key c.args.key_values.now c.args.extra c.args.extra_values.now) c.binding.inside.registers.now ∙ w
@@ -101,23 +100,12 @@ returns-clause-ok c row is =
     let key = zip c.args.key c.args.key_values.now in
     let extra = zip c.args.extra c.args.extra_values.now in
     let ps = given c.args.key c.args.key_values.now c.args.extra c.args.extra_values.now in
-    let xs = c.self.inside.cols in
-    let takes = c.requires.takes in
-    let seen_cols : xs ≡ c.args.self.now.columns = ap (λ (z : BindingList). z.columns) c.self.view_is in
-    let seen_own : cols ≡ c.args.binding.now.columns = ap (λ (z : OneBinding). z.columns) c.binding.view_is in
-    let columns : cols_of ps ≡ c.args.key ++ c.args.extra = cols_of-given c.args.key c.args.key_values.now c.args.extra c.args.extra_values.now c.requires.keys c.requires.extras in
-    let within : (k : ℕ) → In k (cols_of ps) → In k xs = λ k m. subst (In k) (sym seen_cols)
-    (elim (in_append k c.args.key c.args.extra (subst (In k) columns m)) [ inl h ↦ takes.key_within k h | inr h ↦ takes.extra_within k h ]) in
+    let seen : BindingList = seen_list c.self.inside.cols c.self.inside.width c.self.inside.count c.self.inside.registers.items in
+    let takes = subst (λ (z : OneBinding). TakesRows z c.args.key c.args.extra seen) (sym c.binding.view_is) (subst (TakesRows c.args.binding.now c.args.key c.args.extra) (sym c.self.view_is) c.requires.takes) in
     let fit : fits_all cols values ps ≡ true = fits_all-append cols values key extra
     ∙ and_from (fits_all cols values key) (fits_all cols values extra) (sym c.fits_values.ensures.value ∙ c.if-not-fits_values.false) (sym c.fits_values-2.ensures.value ∙ c.if-not-fits_values-2.false) in
-    let merged : merges_of (tuple_in cols values) (row ∷ []) ≡ tuple_in xs (row_of at.After-push_merged) ∷ [] =
-    one_merge cols values c.binding.invariant.columns.set.rising ps row (subst (λ (z : OneBinding). IsRowWith z.tuple ps row) (sym c.binding.view_is) is) fit
-    (given_one c.args.key c.args.key_values.now c.args.extra c.args.extra_values.now c.fits_values.ensures.set.rising c.fits_values-2.ensures.set.rising c.requires.keys c.requires.extras takes.apart)
-    (λ p m. subst (λ w. p.0 < w) (sym (wide at.After-binding)) (c.self.invariant.columns.below p.0 (within p.0 (map_in (λ (q : ℕ × ℕ). q.0) p ps m))))
-    xs c.self.invariant.columns.set.rising
-    (λ k m. elim (takes.parts k (subst (In k) seen_cols m)) [ inl h ↦ inl (subst (In k) (sym seen_own) h) | inr h ↦ inr (subst (In k) (sym columns) h) ])
-    (λ k m. subst (In k) (sym seen_cols) (takes.old_within k (subst (In k) seen_own m))) within in
-    let tuples = tuples_in-push xs c.self.inside.width c.self.inside.count c.self.inside.registers.items (row_of at.After-push_merged) _ c.self.invariant (row_wide at.After-push_merged (wide at.After-binding)) (items at.After-push_merged) in
-    let seen = seen_list xs c.self.inside.width c.self.inside.count c.self.inside.registers.items in
+    let merged = merged_row cols values seen c.args.key c.args.key_values.now c.args.extra c.args.extra_values.now row c.binding.invariant.columns c.self.invariant.columns takes
+    c.fits_values.ensures.set.rising c.fits_values-2.ensures.set.rising c.requires.keys c.requires.extras fit (subst (λ (z : OneBinding). IsRowWith z.tuple ps row) (sym c.binding.view_is) is) in
+    let tuples = tuples_in-push seen.columns seen.width c.self.inside.count c.self.inside.registers.items (row_of at.After-push_merged) _ c.self.invariant (row_wide at.After-push_merged (wide at.After-binding)) (items at.After-push_merged) in
     ap (with_tuples seen) (tuples ∙ ap (λ l. seen.tuples ++ l) (sym merged ∙ ap (λ (z : OneBinding). merges_of z.tuple (row ∷ [])) c.binding.view_is))
     ∙ ap (λ (z : BindingList). with_tuples z (z.tuples ++ merges_of c.args.binding.now.tuple (row ∷ []))) c.self.view_is

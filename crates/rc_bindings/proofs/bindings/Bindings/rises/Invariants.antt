@@ -1,7 +1,18 @@
-use Rattle.std.proofs.Common.{◌≡◌, ℕ, ◌+◌, ◌<◌, [], get_or}
-use Rattle.std.specs.declared.cmp.Ordering.TheVariants.{Less}
+use Rattle.std.proofs.Common.{◌≡◌, ◌∷◌, ◌↔◌, ℕ, length}
+use Rattle.std.specs.Slice.Iter.{chunks_exact_rest, chunks_exact_size}
+use Rattle.rc_tuple.specs.RisingSet.{IsRising}
 use Rattle.rc_tuple.specs.Tuple.{tuple_cmp}
+use Rattle.rc_bindings.specs.Bindings.{AreRows, tuples_in}
+use Rattle.rc_bindings.specs.Registers.{tuple_in}
 use Rattle.rc_bindings.proofs.bindings.Bindings.rises.Given as goal
 
-abbrev pub invariant-loop-at : goal.invariant-loop-at
-invariant-loop-at l = (i : ℕ) → i + 1 < l.at → tuple_cmp (get_or l.self.tuples i []) (get_or l.self.tuples (i + 1) []) ≡ Less
+-- all rise where the rest does, behind the row before it
+abbrev pub invariant-loop-later : goal.invariant-loop-later
+invariant-loop-later l = record {
+  size : chunks_exact_size l.later-iterator ≡ l.self-inside.width;
+  wide : length l.earlier ≡ l.self-inside.width;
+  left : ℕ;
+  rows : AreRows l.self-inside.width left (chunks_exact_rest l.later-iterator);
+  rest : IsRising tuple_cmp l.fn.self.tuples
+      ↔ IsRising tuple_cmp (tuple_in l.self-inside.cols l.earlier ∷ tuples_in l.self-inside.cols l.self-inside.width left (chunks_exact_rest l.later-iterator));
+}
