@@ -5,7 +5,7 @@ use Rattle.std.specs.Option.{OnSome}
 use Rattle.std.specs.FinMap as fin
 use Rattle.std.specs.FinMap.{FinMap}
 use Rattle.rc_edges.specs.Values.{Values, values_cmp}
-use Rattle.rc_maps.specs.Keyed.{by_many, by_one, by_pair}
+use Rattle.rc_maps.specs.Keyed.{by_many, by_one, by_two}
 use Rattle.rc_maps.specs.declared.hash_table.HashTable.{HashTable}
 use Rattle.rc_maps.specs.declared.hash_table.HashTable.TheVariants.{One, Many}
 use Rattle.rc_maps.specs.contracts.hash_table.HashTable.{the_row}
@@ -13,7 +13,7 @@ use Rattle.rc_maps.specs.contracts.hash_table.HashTable.{the_row}
 -- the values by their keys
 abbrev pub entries_of : {X : Type 0} → HashTable X → FinMap values_cmp X
 entries_of (One table) = fin.from_entries (by_one table.entries)
-entries_of (Many pairs others alloc) = fin.from_entries (by_pair pairs.map.entries ++ by_many others.map.entries)
+entries_of (Many pairs others alloc) = fin.from_entries (by_two pairs.map.entries ++ by_many others.map.entries)
 
 -- whether only keys of one column are taken
 abbrev pub has_one_column : {X : Type 0} → HashTable X → Bool

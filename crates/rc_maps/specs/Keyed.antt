@@ -15,9 +15,9 @@ use Rattle.rc_maps.specs.declared.keyed.Keyed.{Keyed}
 abbrev pub by_one : {X : Type 0} → List (ℕ × X) → List (Values × X)
 by_one es = map (λ e. (e.0 ∷ [], e.1)) es
 
--- entries by arrays of two numbers, in the same form
-abbrev pub by_pair : {X : Type 0} → List (List ℕ × X) → List (Values × X)
-by_pair es = map (λ e. (e.0, e.1)) es
+-- entries by arrays of two numbers, which are the lists of their values already, in the form of the others
+abbrev pub by_two : {X : Type 0} → List (List ℕ × X) → List (Values × X)
+by_two es = map (λ e. (e.0, e.1)) es
 
 -- entries by vectors, as those by their values
 abbrev pub by_many : {X : Type 0} → List (Vec ℕ Global × X) → List (Values × X)

@@ -8,7 +8,7 @@ use Rattle.std.specs.Option.{OnSome}
 use Rattle.std.specs.FinMap as fin
 use Rattle.std.specs.FinMap.{FinMap}
 use Rattle.rc_edges.specs.Values.{Values, values_cmp}
-use Rattle.rc_maps.specs.KeyLengths.{no_pair}
+use Rattle.rc_maps.specs.KeyLengths.{none_has_two}
 use Rattle.rc_maps.specs.Keyed.{by_many}
 use Rattle.rc_maps.specs.declared.other_keys.OtherKeys.{OtherKeys}
 use Rattle.rc_maps.specs.contracts.other_keys.OtherKeys.{the_row}
@@ -23,4 +23,4 @@ lends_other X others key r = LendsSo (the_row X) X others r (λ new x. OnSome r 
 
 -- the map is all that there is
 pub same_others : {X : Type 0} (x y : OtherKeys X) → x.map ≡ y.map → x ≡ y
-same_others x y e i = record { map = e i; no_pair = is_prop→PathP (λ j. IsTrue (no_pair (keys_of (e j).entries))) (λ j. Bool-set _ _) x.no_pair y.no_pair i }
+same_others x y e i = record { map = e i; none_has_two = is_prop→PathP (λ j. IsTrue (none_has_two (keys_of (e j).entries))) (λ j. Bool-set _ _) x.none_has_two y.none_has_two i }

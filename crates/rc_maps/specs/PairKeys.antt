@@ -8,14 +8,14 @@ use Rattle.std.specs.Option.{OnSome}
 use Rattle.std.specs.FinMap as fin
 use Rattle.std.specs.FinMap.{FinMap}
 use Rattle.rc_edges.specs.Values.{Values, values_cmp}
-use Rattle.rc_maps.specs.KeyLengths.{all_pairs}
-use Rattle.rc_maps.specs.Keyed.{by_pair}
+use Rattle.rc_maps.specs.KeyLengths.{all_have_two}
+use Rattle.rc_maps.specs.Keyed.{by_two}
 use Rattle.rc_maps.specs.declared.pair_keys.PairKeys.{PairKeys}
 use Rattle.rc_maps.specs.contracts.pair_keys.PairKeys.{the_row}
 
 -- the values by their keys
 abbrev pub pairs_of : {X : Type 0} → PairKeys X → FinMap values_cmp X
-pairs_of pairs = fin.from_entries (by_pair pairs.map.entries)
+pairs_of pairs = fin.from_entries (by_two pairs.map.entries)
 
 -- the value at the key ends as the last one written through r, and at `None` the map stays
 abbrev pub lends_paired : (X : RattleType) → MutBor (PairKeys X.Denot) → Values → Option (MutBor X.Denot) → Fml
@@ -23,4 +23,4 @@ lends_paired X pairs key r = LendsSo (the_row X) X pairs r (λ new x. OnSome r (
 
 -- the map is all that there is
 pub same_pairs : {X : Type 0} (x y : PairKeys X) → x.map ≡ y.map → x ≡ y
-same_pairs x y e i = record { map = e i; all_pairs = is_prop→PathP (λ j. IsTrue (all_pairs (keys_of (e j).entries))) (λ j. Bool-set _ _) x.all_pairs y.all_pairs i }
+same_pairs x y e i = record { map = e i; all_have_two = is_prop→PathP (λ j. IsTrue (all_have_two (keys_of (e j).entries))) (λ j. Bool-set _ _) x.all_have_two y.all_have_two i }

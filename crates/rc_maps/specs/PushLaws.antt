@@ -24,11 +24,11 @@ rows-append items more =
     ap (flat_map line) (filter_map-append (λ (e : Values × Entry). option_map (λ (y : Counted). (e.0, y)) (now_of e.1)) items more)
     ∙ flat_map-append line (parts now_of items) (parts now_of more)
 
--- a list that stays, and was another with more behind it, begins with that other
-pub kept_before : (old more now new : Values) → now ≡ old ++ more → new ≡ now → take (length old) new ≡ old
-kept_before old more now new is kept =
+-- a list that is another with more behind it begins with that other
+pub kept_before : (old more now : Values) → now ≡ old ++ more → take (length old) now ≡ old
+kept_before old more now is =
     let l : length old ≤ length old = omega arith in
-    ap (take (length old)) (kept ∙ is) ∙ take-append-le (length old) old more l ∙ take_all (length old) old l
+    ap (take (length old)) is ∙ take-append-le (length old) old more l ∙ take_all (length old) old l
 
 -- ---- a walk by places
 
@@ -54,8 +54,8 @@ IsPushed-next all left e old now new h next = record {
   added = next ∙ ap (λ z. z ++ rows_of (e ∷ [])) h.added ∙ append_assoc old (rows_of h.walked) (rows_of (e ∷ [])) ∙ ap (λ z. old ++ z) (sym (rows-append h.walked (e ∷ [])));
 }
 
-pub IsPushed-kept : (all left : Items) (old now new : Values) → IsPushed all left old now → new ≡ now → take (length old) new ≡ old
-IsPushed-kept all left old now new h kept = kept_before old (rows_of h.walked) now new h.added kept
+pub IsPushed-kept : (all left : Items) (old now : Values) → IsPushed all left old now → take (length old) now ≡ old
+IsPushed-kept all left old now h = kept_before old (rows_of h.walked) now h.added
 
 pub IsPushed-all : (all : Items) (old now : Values) → IsPushed all [] old now → IsKeyed all → now ≡ old ++ listed (rows_in (fin.from_entries all)).now
 IsPushed-all all old now h keyed =

@@ -13,8 +13,8 @@ use Rattle.rc_edges.specs.Values.{Values, values_cmp, values_eq}
 use Rattle.rc_edges.specs.ValuesLaws.{pointwise_same, same_from_test, test_from_same}
 use Rattle.rc_edges.specs.EdgeMap.{written}
 use Rattle.rc_edges.specs.RowsLaws.{total, get-written, same_answers}
-use Rattle.rc_maps.specs.Keyed.{AreApart, by_many, by_pair}
-use Rattle.rc_maps.specs.KeyLengths.{all_pairs, is_no_pair, is_pair, no_pair}
+use Rattle.rc_maps.specs.Keyed.{AreApart, by_many, by_two}
+use Rattle.rc_maps.specs.KeyLengths.{all_have_two, has_other, has_two, none_has_two}
 use Rattle.rc_maps.specs.HashLaws.{VecKey, apart_many, vec_eq}
 use Rattle.rc_maps.specs.TableLaws.{apart_by_values, by_values, get-whole, many, none-whole, values-by_values, whole, whole-changed}
 
@@ -132,47 +132,53 @@ pair k = k
 abbrev pub pair_eq : Values → Values → Bool
 pair_eq x y = pointwise nat_eq x y
 
-pub pair_from : (key : Values) → length key ≡ 2 → IsTrue (is_pair key)
-pair_from key h = eq-eqb (length key) 2 h
+pub two_from : (key : Values) → length key ≡ 2 → IsTrue (has_two key)
+two_from key h = eq-eqb (length key) 2 h
 
-pub no_pair_from : (key : Values) → (length key ≡ 2 → ⊥) → is_pair key ≡ false
-no_pair_from key n = go (is_pair key) refl
+pub other_from : (key : Values) → (length key ≡ 2 → ⊥) → has_two key ≡ false
+other_from key n = go (has_two key) refl
   where
-    go : (b : Bool) → is_pair key ≡ b → b ≡ false
+    go : (b : Bool) → has_two key ≡ b → b ≡ false
     go true t = absurd (n (eqb-true (length key) 2 t))
     go false t = refl
 
 module _ {X : Type 0} where
-  pub found_pair : (key : Values) (o : Option X) (es : List (Values × X)) → o ≡ lookup (pair_eq key) es → fin.get (map_of (by_pair es)) key ≡ o
-  found_pair key o es h = get-whole pair (pair_eq key) key (λ x. pointwise_same key x) es ∙ sym h
+  pub found_two : (key : Values) (o : Option X) (es : List (Values × X)) → o ≡ lookup (pair_eq key) es → fin.get (map_of (by_two es)) key ≡ o
+  found_two key o es h = get-whole pair (pair_eq key) key (λ x. pointwise_same key x) es ∙ sym h
 
-  pub changed_pair : (key : Values) (w : Option X) (old new : List (Values × X)) → KeepsOthers pair_eq (pair_eq key) old new → lookup (pair_eq key) new ≡ w → map_of (by_pair new) ≡ written (map_of (by_pair old)) key w
-  changed_pair key w old new keeps here = whole-changed pair pair_eq (λ x y. pointwise_same x y) key (pair_eq key) (λ x. pointwise_same key x) w old new keeps here
+  pub changed_two : (key : Values) (w : Option X) (old new : List (Values × X)) → KeepsOthers pair_eq (pair_eq key) old new → lookup (pair_eq key) new ≡ w → map_of (by_two new) ≡ written (map_of (by_two old)) key w
+  changed_two key w old new keeps here = whole-changed pair pair_eq (λ x y. pointwise_same x y) key (pair_eq key) (λ x. pointwise_same key x) w old new keeps here
+
+  -- all keys have two values where one that has is written
+  pub two-changed : (key : Values) (w : X) (old new : List (Values × X)) → length key ≡ 2 → IsTrue (all_have_two (keys_of old)) → KeepsOthers pair_eq (pair_eq key) old new → lookup (pair_eq key) new ≡ Some w
+      → IsTrue (all_have_two (keys_of new))
+  two-changed key w old new two all keeps here =
+      passed-changed pair has_two old new key (Some w) all (λ n. absurd (false≢true (sym n ∙ two_from key two))) (changed_two key (Some w) old new keeps here)
 
   -- a key of two values is none of the others, and another is none of the pairs
-  no_other : (fs : List (VecKey × X)) → IsTrue (no_pair (keys_of fs)) → (key : Values) → length key ≡ 2 → fin.get (map_of (by_many fs)) key ≡ None
-  no_other fs h key two = no_failed many is_no_pair fs h key (ap not (pair_from key two))
+  no_other : (fs : List (VecKey × X)) → IsTrue (none_has_two (keys_of fs)) → (key : Values) → length key ≡ 2 → fin.get (map_of (by_many fs)) key ≡ None
+  no_other fs h key two = no_failed many has_other fs h key (ap not (two_from key two))
 
-  no_two : (es : List (Values × X)) → IsTrue (all_pairs (keys_of es)) → (key : Values) → (length key ≡ 2 → ⊥) → fin.get (map_of (by_pair es)) key ≡ None
-  no_two es h key n = no_failed pair is_pair es h key (no_pair_from key n)
+  no_two : (es : List (Values × X)) → IsTrue (all_have_two (keys_of es)) → (key : Values) → (length key ≡ 2 → ⊥) → fin.get (map_of (by_two es)) key ≡ None
+  no_two es h key n = no_failed pair has_two es h key (other_from key n)
 
 -- ---- the whole
 
 -- a key of two values is looked up and changed among the pairs, here under another name
-module _ {X : Type 0} (key k : Values) (es : List (Values × X)) (fs : List (VecKey × X)) (same : k ≡ key) (two : length key ≡ 2) (none : IsTrue (no_pair (keys_of fs))) where
-  pub pairs-found : (o : Option X) → o ≡ fin.get (map_of (by_pair es)) k → o ≡ fin.get (map_of (by_pair es ++ by_many fs)) key
-  pairs-found o h = h ∙ ap (fin.get (map_of (by_pair es))) same ∙ sym (in_first (by_pair es) (by_many fs) key (no_other fs none key two))
+module _ {X : Type 0} (key k : Values) (es : List (Values × X)) (fs : List (VecKey × X)) (same : k ≡ key) (two : length key ≡ 2) (none : IsTrue (none_has_two (keys_of fs))) where
+  pub pairs-found : (o : Option X) → o ≡ fin.get (map_of (by_two es)) k → o ≡ fin.get (map_of (by_two es ++ by_many fs)) key
+  pairs-found o h = h ∙ ap (fin.get (map_of (by_two es))) same ∙ sym (in_first (by_two es) (by_many fs) key (no_other fs none key two))
 
-  pub pairs-changed : (new : List (Values × X)) (w : Option X) → map_of (by_pair new) ≡ written (map_of (by_pair es)) k w → map_of (by_pair new ++ by_many fs) ≡ written (map_of (by_pair es ++ by_many fs)) key w
-  pairs-changed new w h = first-changed (by_pair es) (by_pair new) (by_many fs) key w (no_other fs none key two) (h ∙ ap (λ z. written (map_of (by_pair es)) z w) same)
+  pub pairs-changed : (new : List (Values × X)) (w : Option X) → map_of (by_two new) ≡ written (map_of (by_two es)) k w → map_of (by_two new ++ by_many fs) ≡ written (map_of (by_two es ++ by_many fs)) key w
+  pairs-changed new w h = first-changed (by_two es) (by_two new) (by_many fs) key w (no_other fs none key two) (h ∙ ap (λ z. written (map_of (by_two es)) z w) same)
 
 -- a key of another length among the others
-module _ {X : Type 0} (key : Values) (es : List (Values × X)) (fs : List (VecKey × X)) (other : length key ≡ 2 → ⊥) (all : IsTrue (all_pairs (keys_of es))) where
-  pub others-found : (o : Option X) → o ≡ fin.get (map_of (by_many fs)) key → o ≡ fin.get (map_of (by_pair es ++ by_many fs)) key
-  others-found o h = h ∙ sym (in_second (by_pair es) (by_many fs) key (no_two es all key other))
+module _ {X : Type 0} (key : Values) (es : List (Values × X)) (fs : List (VecKey × X)) (other : length key ≡ 2 → ⊥) (all : IsTrue (all_have_two (keys_of es))) where
+  pub others-found : (o : Option X) → o ≡ fin.get (map_of (by_many fs)) key → o ≡ fin.get (map_of (by_two es ++ by_many fs)) key
+  others-found o h = h ∙ sym (in_second (by_two es) (by_many fs) key (no_two es all key other))
 
-  pub others-changed : (new : List (VecKey × X)) (w : Option X) → map_of (by_many new) ≡ written (map_of (by_many fs)) key w → map_of (by_pair es ++ by_many new) ≡ written (map_of (by_pair es ++ by_many fs)) key w
-  others-changed new w h = second-changed (by_pair es) (by_many fs) (by_many new) key w (no_two es all key other) h
+  pub others-changed : (new : List (VecKey × X)) (w : Option X) → map_of (by_many new) ≡ written (map_of (by_many fs)) key w → map_of (by_two es ++ by_many new) ≡ written (map_of (by_two es ++ by_many fs)) key w
+  others-changed new w h = second-changed (by_two es) (by_many fs) (by_many new) key w (no_two es all key other) h
 
 module _ {X : Type 0} where
   behind : (key : Values) (ds : List (Values × X)) → find values_cmp key ds ≡ None → AllByRecursion (λ k. values_eq key k ≡ false) (keys_of ds)
@@ -184,28 +190,28 @@ module _ {X : Type 0} where
       both false h = (refl, h)
 
   -- the keys of the two parts are distinct
-  apart_split : (es : List (Values × X)) (fs : List (VecKey × X)) → AreApart (by_pair es) → AreApart (by_many fs) → IsTrue (all_pairs (keys_of es)) → IsTrue (no_pair (keys_of fs)) → AreApart (by_pair es ++ by_many fs)
+  apart_split : (es : List (Values × X)) (fs : List (VecKey × X)) → AreApart (by_two es) → AreApart (by_many fs) → IsTrue (all_have_two (keys_of es)) → IsTrue (none_has_two (keys_of fs)) → AreApart (by_two es ++ by_many fs)
   unfolding IsDistinct
   apart_split [] fs a b p n = b
-  apart_split (e ∷ es) fs a b p n = let parts = and_parts (is_pair e.0) (all_pairs (keys_of es)) p in (others es a.0 parts.0, apart_split es fs a.1 b parts.1 n)
+  apart_split (e ∷ es) fs a b p n = let parts = and_parts (has_two e.0) (all_have_two (keys_of es)) p in (others es a.0 parts.0, apart_split es fs a.1 b parts.1 n)
     where
-      others : (ds : List (Values × X)) → AllByRecursion (λ k. values_eq e.0 k ≡ false) (keys_of (by_pair ds)) → IsTrue (is_pair e.0) → AllByRecursion (λ k. values_eq e.0 k ≡ false) (keys_of (by_pair ds ++ by_many fs))
+      others : (ds : List (Values × X)) → AllByRecursion (λ k. values_eq e.0 k ≡ false) (keys_of (by_two ds)) → IsTrue (has_two e.0) → AllByRecursion (λ k. values_eq e.0 k ≡ false) (keys_of (by_two ds ++ by_many fs))
       others [] h t = behind e.0 (by_many fs) (sym (get-from_entries total (by_many fs) e.0) ∙ no_other fs n e.0 (eqb-true (length e.0) 2 t))
       others (d ∷ ds) h t = (h.0, others ds h.1 t)
 
-  pub apart_both : (es : List (Values × X)) (fs : List (VecKey × X)) → IsDistinct pair_eq (keys_of es) → IsDistinct vec_eq (keys_of fs) → IsTrue (all_pairs (keys_of es)) → IsTrue (no_pair (keys_of fs)) → AreApart (by_pair es ++ by_many fs)
+  pub apart_both : (es : List (Values × X)) (fs : List (VecKey × X)) → IsDistinct pair_eq (keys_of es) → IsDistinct vec_eq (keys_of fs) → IsTrue (all_have_two (keys_of es)) → IsTrue (none_has_two (keys_of fs)) → AreApart (by_two es ++ by_many fs)
   apart_both es fs a b p n = apart_split es fs (apart_by_values pair pair_eq (λ x y. pointwise_same x y) es a) (apart_many fs b) p n
 
   -- there are no entries where the map is empty
-  pub none-both : (es : List (Values × X)) (fs : List (VecKey × X)) → map_of (by_pair es ++ by_many fs) ≡ fin.empty → (length es ≡ 0) × (length fs ≡ 0)
+  pub none-both : (es : List (Values × X)) (fs : List (VecKey × X)) → map_of (by_two es ++ by_many fs) ≡ fin.empty → (length es ≡ 0) × (length fs ≡ 0)
   none-both [] fs h = (refl, (none-whole many fs).1 h)
-  none-both (e ∷ es) fs h = absurd (none-some e.1 (sym (get-empty values_cmp e.0) ∙ ap (λ z. fin.get z e.0) (sym h) ∙ get-from_entries total (by_pair (e ∷ es) ++ by_many fs) e.0
-      ∙ ap (λ b. cond b (Some e.1) (find values_cmp e.0 (by_pair es ++ by_many fs))) (test_from_same e.0 e.0 refl)))
+  none-both (e ∷ es) fs h = absurd (none-some e.1 (sym (get-empty values_cmp e.0) ∙ ap (λ z. fin.get z e.0) (sym h) ∙ get-from_entries total (by_two (e ∷ es) ++ by_many fs) e.0
+      ∙ ap (λ b. cond b (Some e.1) (find values_cmp e.0 (by_two es ++ by_many fs))) (test_from_same e.0 e.0 refl)))
 
-  pub both-none : (es : List (Values × X)) (fs : List (VecKey × X)) → length es ≡ 0 → length fs ≡ 0 → map_of (by_pair es ++ by_many fs) ≡ fin.empty
+  pub both-none : (es : List (Values × X)) (fs : List (VecKey × X)) → length es ≡ 0 → length fs ≡ 0 → map_of (by_two es ++ by_many fs) ≡ fin.empty
   both-none [] fs z h = (none-whole many fs).0 h
   both-none (e ∷ es) fs z h = absurd (cc)
 
-  pub values-both : (es : List (Values × X)) (fs : List (VecKey × X)) → values_of (by_pair es ++ by_many fs) ≡ values_of es ++ values_of fs
+  pub values-both : (es : List (Values × X)) (fs : List (VecKey × X)) → values_of (by_two es ++ by_many fs) ≡ values_of es ++ values_of fs
   values-both [] fs = values-by_values many fs
   values-both (e ∷ es) fs = ap (λ z. e.1 ∷ z) (values-both es fs)

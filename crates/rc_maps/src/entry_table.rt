@@ -41,7 +41,8 @@ pub trait EntryTable: Sized {
         ensures value { option_copied_mut result ≡ fin.get (entries self.old) key.now };
 
     /// Raises the count of the entry's row at the key by 1, or puts a new entry with the row's count 1
-    /// there. Where memory is wanted nothing changes.
+    /// there. Where memory is wanted nothing changes. Costs one search, and a second one for a new key
+    /// in a block of its own.
     fn raise(&mut self, alloc: Global, key: &[u64], extra: &[u64]) -> Result<(), Memory>
         requires width { HasWidth (one_column self.old) key.now }
         requires room { count_of (row_at (entries self.old) key.now) < 2 ^ 63 }
@@ -56,6 +57,23 @@ pub trait EntryTable: Sized {
         ensures ok { OnOk result (entries self.new ≡ fin.insert (entries self.old) key.now entry) }
         ensures err { OnErr result (entries self.new ≡ entries self.old) }
         ensures width { one_column self.new ≡ one_column self.old };
+
+    /// The same in two searches for a key that isn't there, since one that is there is not to cost a
+    /// block: a table's `raise` for keys in blocks of their own.
+    fn raise_any(&mut self, alloc: Global, key: &[u64], extra: &[u64]) -> Result<(), Memory>
+        requires width { HasWidth (one_column self.old) key.now }
+        requires room { count_of (row_at (entries self.old) key.now) < 2 ^ 63 }
+        requires same { HasExtra (row_at (entries self.old) key.now) extra.now }
+        ensures ok { OnOk result (IsRaised (entries self.old) (entries self.new) key.now extra.now) }
+        ensures err { OnErr result (entries self.new ≡ entries self.old) }
+        ensures width { one_column self.new ≡ one_column self.old }
+    {
+        if let Some(entry) = self.entry_mut(key) {
+            return entry.raise(extra);
+        }
+        let entry = Entry::new(alloc, extra)?;
+        self.put(key, entry)
+    }
 
     /// Takes out the entry at the key, if there is one.
     fn take_out(&mut self, key: &[u64])

@@ -24,15 +24,18 @@ use std::slice;
 ///
 /// Keys of one column are plain numbers, and those of two are pairs: neither takes memory of its
 /// own. A key of any other length is in a block of its own. A look-up hashes the key once, and takes
-/// no memory.
+/// no memory. A table is made by `new`.
 #[derive(Drop, Debug)]
 pub enum HashTable<V> {
     /// Keys of one column.
     One(HashMap<u64, V, Seed>),
     /// Keys of any columns: those of two, and all others.
     Many {
+        /// Keys of two columns.
         pairs: PairKeys<V>,
+        /// Keys of any other number of columns, each in a block of its own.
         others: OtherKeys<V>,
+        /// Where these blocks are taken.
         alloc: Global,
     },
 }
@@ -168,12 +171,12 @@ impl<V> HashTable<V> {
             }
             HashTable::Many { pairs, others, .. } => {
                 let (pairs, others) = (&pairs.map, &others.map);
-                let mut all = Vec::with_capacity(alloc, pairs.len())?;
+                let len = pairs.len().saturating_add(others.len());
+                let mut all = Vec::with_capacity(alloc, len)?;
                 for (pair, value) in pairs {
                     let key = pair.as_slice();
                     all.push(Keyed { key, value })?;
                 }
-                all.reserve(others.len())?;
                 for (key, value) in others {
                     let key = key.as_slice();
                     all.push(Keyed { key, value })?;
@@ -209,7 +212,10 @@ impl EntryTable for HashTable<Entry> {
                 };
                 raise_one(map, alloc, *only, extra)
             }
-            HashTable::Many { .. } => raise_any(self, alloc, key, extra),
+            HashTable::Many { pairs, .. } => match both(key) {
+                Some(pair) => pairs.raise(alloc, pair, extra),
+                None => self.raise_any(alloc, key, extra),
+            },
         }
     }
 
@@ -274,26 +280,4 @@ fn raise_one(
             Ok(())
         }
     }
-}
-
-/// Raises the entry at the key, or puts a new one there. A key that is not there is searched for
-/// twice, since one that is there is not to cost a block.
-fn raise_any(
-    table: &mut HashTable<Entry>,
-    alloc: Global,
-    key: &[u64],
-    extra: &[u64],
-) -> Result<(), Memory>
-    requires width { HasWidth (has_one_column table.old) key.now }
-    requires room { count_of (row_at (entries_of table.old) key.now) < 2 ^ 63 }
-    requires same { HasExtra (row_at (entries_of table.old) key.now) extra.now }
-    ensures ok { OnOk result (IsRaised (entries_of table.old) (entries_of table.new) key.now extra.now) }
-    ensures err { OnErr result (entries_of table.new ≡ entries_of table.old) }
-    ensures width { has_one_column table.new ≡ has_one_column table.old }
-{
-    if let Some(entry) = table.get_mut(key) {
-        return entry.raise(extra);
-    }
-    let entry = Entry::new(alloc, extra)?;
-    table.insert(key, entry)
 }

@@ -14,5 +14,7 @@ pub use entry_table::EntryTable;
 pub use hash_table::HashTable;
 pub use keyed::Keyed;
 pub use ordered_table::OrderedTable;
+pub use other_keys::OtherKeys;
+pub use pair_keys::PairKeys;
 pub use seed::{Seed, SeededHasher};
 pub use table_edge::{HashEdge, OrderedEdge, TableEdge};

@@ -9,7 +9,7 @@ ghost use Rattle.rc_edges.specs.EdgeMap.{HasExtra, HasWidth, count_of, listed};
 ghost use Rattle.rc_edges.specs.Entry.{rows_in};
 ghost use Rattle.rc_maps.specs.OrderedTable.{entries_of, has_one_column, lends_value};
 ghost use Rattle.rc_maps.specs.Keyed.{IsKeyed, pair_of};
-ghost use Rattle.rc_maps.specs.Raised.{IsRaised, entries_many, entries_one, row_at};
+ghost use Rattle.rc_maps.specs.Raised.{IsRaised, entries_one, row_at};
 
 use crate::keyed::{has_row, only};
 use crate::{EntryTable, Keyed};
@@ -202,7 +202,7 @@ impl EntryTable for OrderedTable<Entry> {
                 };
                 raise_one(map, alloc, *only, extra)
             }
-            OrderedTable::Many(map, _) => raise_many(map, alloc, key, extra),
+            OrderedTable::Many(_, _) => self.raise_any(alloc, key, extra),
         }
     }
 
@@ -268,26 +268,4 @@ fn raise_one(
             Ok(())
         }
     }
-}
-
-/// Raises the entry at the key, or puts a new one there. A key that is not there is searched for
-/// twice, since one that is there is not to cost a block.
-fn raise_many(
-    map: &mut BTreeMap<Vec<u64>, Entry>,
-    alloc: Global,
-    key: &[u64],
-    extra: &[u64],
-) -> Result<(), Memory>
-    requires room { count_of (row_at (entries_many map.old.entries) key.now) < 2 ^ 63 }
-    requires same { HasExtra (row_at (entries_many map.old.entries) key.now) extra.now }
-    ensures ok { OnOk result (IsRaised (entries_many map.old.entries) (entries_many map.new.entries) key.now extra.now) }
-    ensures err { OnErr result (entries_many map.new.entries ≡ entries_many map.old.entries) }
-{
-    if let Some(entry) = map.get_mut(key) {
-        return entry.raise(extra);
-    }
-    let entry = Entry::new(alloc, extra)?;
-    let key = Vec::from_slice(alloc, key)?;
-    map.insert(key, entry)?;
-    Ok(())
 }

@@ -2,7 +2,7 @@
 
 ghost use Rattle.std.specs.Prelude.{IsTrue};
 ghost use Rattle.std.specs.Map.{keys_of};
-ghost use Rattle.rc_maps.specs.KeyLengths.{no_pair};
+ghost use Rattle.rc_maps.specs.KeyLengths.{none_has_two};
 
 use crate::Seed;
 use rc_tuple::Memory;
@@ -13,7 +13,7 @@ use std::collections::HashMap;
 #[derive(Drop, Debug)]
 pub struct OtherKeys<V> {
     pub(crate) map: HashMap<Vec<u64>, V, Seed>,
-    ghost no_pair: { IsTrue (no_pair (keys_of map.entries)) },
+    ghost none_has_two: { IsTrue (none_has_two (keys_of map.entries)) },
 }
 
 impl<V> OtherKeys<V> {

@@ -2,18 +2,19 @@
 
 ghost use Rattle.std.specs.Prelude.{◌≡◌, IsTrue, IfSome, IfNone, length};
 ghost use Rattle.std.specs.Map.{keys_of};
-ghost use Rattle.rc_maps.specs.KeyLengths.{all_pairs};
+ghost use Rattle.rc_maps.specs.KeyLengths.{all_have_two};
 
 use crate::Seed;
+use rc_edges::Entry;
 use rc_tuple::Memory;
 use std::alloc::Global;
-use std::collections::HashMap;
+use std::collections::{HashMap, hash_map};
 
 /// A hash map from keys of two columns, which take no memory of their own.
 #[derive(Drop, Debug)]
 pub struct PairKeys<V> {
     pub(crate) map: HashMap<[u64; 2], V, Seed>,
-    ghost all_pairs: { IsTrue (all_pairs (keys_of map.entries)) },
+    ghost all_have_two: { IsTrue (all_have_two (keys_of map.entries)) },
 }
 
 impl<V> PairKeys<V> {
@@ -59,6 +60,36 @@ impl<V> PairKeys<V> {
         ensures entries { pairs_of self.new ≡ fin.remove (pairs_of self.old) key.now }
     {
         self.map.remove(key)
+    }
+}
+
+impl PairKeys<Entry> {
+    ghost use Rattle.std.specs.Prelude.{◌<◌, ◌^◌, OnOk, OnErr};
+    ghost use Rattle.rc_edges.specs.EdgeMap.{HasExtra, count_of};
+    ghost use Rattle.rc_maps.specs.PairKeys.{pairs_of};
+    ghost use Rattle.rc_maps.specs.Raised.{IsRaised, row_at};
+
+    /// Raises the entry at the key, or puts a new one there, in one search.
+    pub(crate) fn raise(
+        &mut self,
+        alloc: Global,
+        key: &[u64; 2],
+        extra: &[u64],
+    ) -> Result<(), Memory>
+        requires two { length key.now ≡ 2 }
+        requires room { count_of (row_at (pairs_of self.old) key.now) < 2 ^ 63 }
+        requires same { HasExtra (row_at (pairs_of self.old) key.now) extra.now }
+        ensures ok { OnOk result (IsRaised (pairs_of self.old) (pairs_of self.new) key.now extra.now) }
+        ensures err { OnErr result (pairs_of self.new ≡ pairs_of self.old) }
+    {
+        match self.map.entry(*key)? {
+            hash_map::Entry::Occupied(found) => found.into_mut().raise(extra),
+            hash_map::Entry::Vacant(place) => {
+                let entry = Entry::new(alloc, extra)?;
+                place.insert(entry);
+                Ok(())
+            }
+        }
     }
 }
 

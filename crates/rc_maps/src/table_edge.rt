@@ -13,8 +13,8 @@ use std::marker::Model;
 /// Entries in a table by their keys.
 ///
 /// `get` looks up once; `add`, `sub`, `revert` and `settle` do once, and a second time where an
-/// entry comes or goes, but that `add` never does where only keys of one column are taken. `scan`,
-/// `len` and `copy` walk all entries.
+/// entry goes, or one comes with a key in a block of its own. `scan`, `len` and `copy` walk all
+/// entries.
 #[derive(Drop, Debug)]
 pub struct TableEdge<T: EntryTable> {
     table: T,

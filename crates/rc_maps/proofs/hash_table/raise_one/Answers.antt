@@ -3,9 +3,10 @@ use Rattle.std.specs.Option.{option_and_then}
 use Rattle.std.specs.HashMap.Entry.{entry_value}
 use Rattle.rc_edges.specs.EdgeMap.{HasExtra, count_of}
 use Rattle.rc_edges.specs.Entry.{now_of}
+use Rattle.rc_edges.specs.OneMapLaws.{on_ok}
 use Rattle.rc_maps.specs.HashLaws.{changed_one, found_one}
 use Rattle.rc_maps.specs.Raised.{entries_one}
-use Rattle.rc_maps.specs.RaisedLaws.{on_err_too, on_ok_too, raised, stays}
+use Rattle.rc_maps.specs.RaisedLaws.{on_err_too, raised, stays}
 use Rattle.rc_maps.proofs.hash_table.raise_one.Goals as goal
 
 pub raise-requires-clause-room : goal.raise-requires-clause-room
@@ -29,7 +30,7 @@ returns-in-Occupied-clause-ok c =
     let at = found_one (c.args.key ∷ []) c.args.key (Some v) c.args.map.now.entries refl found in
     let w = c.raise.new.self in
     let u = c.in_ok-found.ensures.update.0 w in
-    on_ok_too c.raise.result (λ now. raised (entries_one c.args.map.now.entries) _ (c.args.key ∷ []) w (Some v) at
+    on_ok c.raise.result (λ now. raised (entries_one c.args.map.now.entries) _ (c.args.key ∷ []) w (Some v) at
     (changed_one (c.args.key ∷ []) c.args.key (Some w) c.args.map.now.entries _ refl (search rules) (search rules)) c.args.extra.now now c.raise.ensures.taken) c.raise.ensures.ok
 
 pub returns-in-Occupied-clause-err : goal.returns-in-Occupied-clause-err

@@ -3,7 +3,7 @@ use Rattle.std.specs.FinMap as fin
 use Rattle.rc_maps.specs.HashTable.{entries_of}
 use Rattle.rc_maps.specs.TableLaws.{no_one}
 use Rattle.rc_maps.specs.HashLaws.{found_many, found_one}
-use Rattle.rc_maps.specs.SplitLaws.{found_pair, others-found, pairs-found}
+use Rattle.rc_maps.specs.SplitLaws.{found_two, others-found, pairs-found}
 use Rattle.rc_maps.proofs.hash_table.HashTable.get.Goals as goal
 
 pub returns-in-Some : goal.returns-in-Some
@@ -19,7 +19,7 @@ returns-in-Some-both g c =
     let es = c.in-Many.pairs.map.entries in
     let fs = c.in-Many.others.map.entries in
     let pair = c.in-Some-both in
-    pairs-found key pair.pair.now es fs pair.ensures.same pair.ensures.two c.in-Many.others.no_pair _ (sym (found_pair pair.pair.now _ es c.get-in-Some-both.ensures.value))
+    pairs-found key pair.pair.now es fs pair.ensures.same pair.ensures.two c.in-Many.others.none_has_two _ (sym (found_two pair.pair.now _ es c.get-in-Some-both.ensures.value))
     ∙ ap (λ z. fin.get (entries_of z) key) (sym c.in-Many.is)
 
 pub returns-in-None-both : goal.returns-in-None-both
@@ -27,5 +27,5 @@ returns-in-None-both g c =
     let key = c.args.key.now in
     let es = c.in-Many.pairs.map.entries in
     let fs = c.in-Many.others.map.entries in
-    others-found key es fs c.in-None-both.ensures.other c.in-Many.pairs.all_pairs _ (sym (found_many key _ fs c.get-in-None-both.ensures.value))
+    others-found key es fs c.in-None-both.ensures.other c.in-Many.pairs.all_have_two _ (sym (found_many key _ fs c.get-in-None-both.ensures.value))
     ∙ ap (λ z. fin.get (entries_of z) key) (sym c.in-Many.is)

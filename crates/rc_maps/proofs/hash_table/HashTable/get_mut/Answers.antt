@@ -27,11 +27,11 @@ returns-in-Many g c =
       (
         refl,
         (λ w. on_some_too c.get_mut.result
-            (λ e. record { entries = pairs-changed key k es fs c.in-Some.ensures.same c.in-Some.ensures.two t.others.no_pair (c.get_mut.follows.lender w).map.entries (Some w) e; width = refl })
+            (λ e. record { entries = pairs-changed key k es fs c.in-Some.ensures.same c.in-Some.ensures.two t.others.none_has_two (c.get_mut.follows.lender w).map.entries (Some w) e; width = refl })
             (rw t.pairs-is at c.get_mut.follows.holds w)),
         ap (λ z. table.Many z t.others t.alloc) (same_pairs _ t.pairs (rw t.pairs-is at c.get_mut.follows.holds-at-none)),
       ),
-      record { writes_back = tt; value = pairs-found key k es fs c.in-Some.ensures.same c.in-Some.ensures.two t.others.no_pair _ value },
+      record { writes_back = tt; value = pairs-found key k es fs c.in-Some.ensures.same c.in-Some.ensures.two t.others.none_has_two _ value },
     )
 
 pub returns-in-Some-only : goal.returns-in-Some-only
@@ -68,9 +68,9 @@ returns-in-Many-self g c =
       (
         refl,
         (λ w. on_some_too c.get_mut-in-Many-self.result
-            (λ e. record { entries = others-changed key es fs c.in-None.ensures.other t.pairs.all_pairs (c.get_mut-in-Many-self.follows.lender w).map.entries (Some w) e; width = refl })
+            (λ e. record { entries = others-changed key es fs c.in-None.ensures.other t.pairs.all_have_two (c.get_mut-in-Many-self.follows.lender w).map.entries (Some w) e; width = refl })
             (rw t.others-is at c.get_mut-in-Many-self.follows.holds w)),
         ap (λ z. table.Many t.pairs z t.alloc) (same_others _ t.others (rw t.others-is at c.get_mut-in-Many-self.follows.holds-at-none)),
       ),
-      record { writes_back = tt; value = others-found key es fs c.in-None.ensures.other t.pairs.all_pairs _ value },
+      record { writes_back = tt; value = others-found key es fs c.in-None.ensures.other t.pairs.all_have_two _ value },
     )

@@ -2,7 +2,7 @@ use Rattle.std.proofs.Common.{◌≡◌, ◌++◌, map, sym, ap, subst, ◌∙�
 use Rattle.std.specs.List.{All}
 use Rattle.std.proofs.lemmas.List.{append-nil}
 use Rattle.rc_edges.specs.EdgeMap.{HasWidth}
-use Rattle.rc_maps.specs.Keyed.{AreApart, by_many, by_one, by_pair, pair_of}
+use Rattle.rc_maps.specs.Keyed.{AreApart, by_many, by_one, by_two, pair_of}
 use Rattle.rc_maps.specs.HashTable.{has_one_column}
 use Rattle.rc_maps.specs.HashLaws.{apart_one}
 use Rattle.rc_maps.specs.SplitLaws.{apart_both}
@@ -33,10 +33,9 @@ returns-in-None-3-clause-apart g c =
     let all = c.loop-key-2.all.items in
     let in_pairs = c.into_iter-pair-iterator.ensures.into_iter_gives in
     let in_others = c.into_iter-key-iterator-in-Many.ensures.into_iter_gives in
-    let walked : map pair_of pairs ≡ by_pair es =
-    sym (append-nil (map pair_of pairs)) ∙ ap (λ z. map pair_of pairs ++ by_pair z) (sym c.in-None-2.ensures.steps.0) ∙ c.loop-pair.invariant ∙ ap by_pair in_pairs.0 in
-    let start : map pair_of c.reserve.new.self.items ≡ by_pair es = ap (map pair_of) c.in_ok-reserve-in-Many.ensures.items ∙ walked in
-    let e : map pair_of all ≡ by_pair es ++ by_many fs =
+    let walked : map pair_of pairs ≡ by_two es =
+    sym (append-nil (map pair_of pairs)) ∙ ap (λ z. map pair_of pairs ++ by_two z) (sym c.in-None-2.ensures.steps.0) ∙ c.loop-pair.invariant ∙ ap by_two in_pairs.0 in
+    let e : map pair_of all ≡ by_two es ++ by_many fs =
     sym (append-nil (map pair_of all)) ∙ ap (λ z. map pair_of all ++ by_many z) (sym c.in-None-3.ensures.steps.0) ∙ c.loop-key-2.invariant
-    ∙ (λ i. start i ++ by_many (in_others.0 i)) in
-    subst AreApart (sym e) (apart_both es fs in_pairs.4 in_others.4 c.in-Many.pairs.all_pairs c.in-Many.others.no_pair)
+    ∙ (λ i. walked i ++ by_many (in_others.0 i)) in
+    subst AreApart (sym e) (apart_both es fs in_pairs.4 in_others.4 c.in-Many.pairs.all_have_two c.in-Many.others.none_has_two)

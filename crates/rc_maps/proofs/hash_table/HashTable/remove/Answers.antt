@@ -32,7 +32,7 @@ returns-in-Some-both-clause-value g c =
     let es = c.in-Many.pairs.map.entries in
     let fs = c.in-Many.others.map.entries in
     let pair = c.in-Some-both in
-    pairs-found key pair.pair.now es fs pair.ensures.same pair.ensures.two c.in-Many.others.no_pair _ c.remove-in-Some-both.ensures.value ∙ ap (λ z. fin.get (entries_of z) key) (sym c.in-Many.is)
+    pairs-found key pair.pair.now es fs pair.ensures.same pair.ensures.two c.in-Many.others.none_has_two _ c.remove-in-Some-both.ensures.value ∙ ap (λ z. fin.get (entries_of z) key) (sym c.in-Many.is)
 
 pub returns-in-Some-both-clause-entries : goal.returns-in-Some-both-clause-entries
 returns-in-Some-both-clause-entries g c =
@@ -40,7 +40,7 @@ returns-in-Some-both-clause-entries g c =
     let es = c.in-Many.pairs.map.entries in
     let fs = c.in-Many.others.map.entries in
     let pair = c.in-Some-both in
-    pairs-changed key pair.pair.now es fs pair.ensures.same pair.ensures.two c.in-Many.others.no_pair c.remove-in-Some-both.new.self.map.entries None c.remove-in-Some-both.ensures.entries
+    pairs-changed key pair.pair.now es fs pair.ensures.same pair.ensures.two c.in-Many.others.none_has_two c.remove-in-Some-both.new.self.map.entries None c.remove-in-Some-both.ensures.entries
     ∙ ap (λ z. written (entries_of z) key None) (sym c.in-Many.is)
 
 pub returns-in-None-both-clause-value : goal.returns-in-None-both-clause-value
@@ -48,12 +48,12 @@ returns-in-None-both-clause-value g c =
     let key = c.args.key.now in
     let es = c.in-Many.pairs.map.entries in
     let fs = c.in-Many.others.map.entries in
-    others-found key es fs c.in-None-both.ensures.other c.in-Many.pairs.all_pairs _ c.remove-in-None-both.ensures.value ∙ ap (λ z. fin.get (entries_of z) key) (sym c.in-Many.is)
+    others-found key es fs c.in-None-both.ensures.other c.in-Many.pairs.all_have_two _ c.remove-in-None-both.ensures.value ∙ ap (λ z. fin.get (entries_of z) key) (sym c.in-Many.is)
 
 pub returns-in-None-both-clause-entries : goal.returns-in-None-both-clause-entries
 returns-in-None-both-clause-entries g c =
     let key = c.args.key.now in
     let es = c.in-Many.pairs.map.entries in
     let fs = c.in-Many.others.map.entries in
-    others-changed key es fs c.in-None-both.ensures.other c.in-Many.pairs.all_pairs c.remove-in-None-both.new.self.map.entries None c.remove-in-None-both.ensures.entries
+    others-changed key es fs c.in-None-both.ensures.other c.in-Many.pairs.all_have_two c.remove-in-None-both.new.self.map.entries None c.remove-in-None-both.ensures.entries
     ∙ ap (λ z. written (entries_of z) key None) (sym c.in-Many.is)

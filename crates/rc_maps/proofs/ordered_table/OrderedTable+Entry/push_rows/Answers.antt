@@ -1,4 +1,4 @@
-use Rattle.std.proofs.Common.{◌≡◌, ◌∷◌, [], ◌++◌, sym, ap, subst, ◌∙◌}
+use Rattle.std.proofs.Common.{◌≡◌, ◌∷◌, [], ◌++◌, length, take, sym, ap, subst, ◌∙◌}
 use Rattle.rc_edges.specs.Values.{Values}
 use Rattle.rc_edges.specs.EdgeMap.{listed}
 use Rattle.rc_edges.specs.Entry.{rows_in}
@@ -26,7 +26,8 @@ pub returns-in_err-push_row-in-One-clause-err : goal.returns-in_err-push_row-in-
 returns-in_err-push_row-in-One-clause-err c =
     let out : Values = c.loop-key.out.items in
     on_err c.from_residual-in_err-push_row-in-One.result
-    (IsPushed-kept (by_one c.into_iter-key-iterator.result) (by_one c.loop-key.key-iterator) c.args.out.now.items out c.push_row.new.out.items c.loop-key.invariant c.in_err-push_row-in-One.ensures.err)
+    (ap (take (length c.args.out.now.items)) c.in_err-push_row-in-One.ensures.err
+    ∙ IsPushed-kept (by_one c.into_iter-key-iterator.result) (by_one c.loop-key.key-iterator) c.args.out.now.items out c.loop-key.invariant)
 
 pub loop-key-2-preserved : goal.loop-key-2-preserved
 loop-key-2-preserved c =
@@ -44,7 +45,8 @@ pub returns-in_err-push_row-in-Many-clause-err : goal.returns-in_err-push_row-in
 returns-in_err-push_row-in-Many-clause-err c =
     let out : Values = c.loop-key-2.out.items in
     on_err c.from_residual-in_err-push_row-in-Many.result
-    (IsPushed-kept (by_many c.into_iter-key-iterator-in-Many.result) (by_many c.loop-key-2.key-iterator) c.args.out.now.items out c.push_row-in-loop-key-2.new.out.items c.loop-key-2.invariant c.in_err-push_row-in-Many.ensures.err)
+    (ap (take (length c.args.out.now.items)) c.in_err-push_row-in-Many.ensures.err
+    ∙ IsPushed-kept (by_many c.into_iter-key-iterator-in-Many.result) (by_many c.loop-key-2.key-iterator) c.args.out.now.items out c.loop-key-2.invariant)
 
 pub returns-in-None-clause-ok : goal.returns-in-None-clause-ok
 returns-in-None-clause-ok c =

@@ -1,7 +1,7 @@
 use Rattle.std.proofs.Common.{Some, not, ap}
 use Rattle.rc_maps.specs.HashLaws.{changed_many}
-use Rattle.rc_maps.specs.KeyLengths.{is_no_pair}
-use Rattle.rc_maps.specs.SplitLaws.{no_pair_from, passed-put}
+use Rattle.rc_maps.specs.KeyLengths.{has_other}
+use Rattle.rc_maps.specs.SplitLaws.{other_from, passed-put}
 use Rattle.rc_maps.specs.TableLaws.{many}
 use Rattle.rc_maps.proofs.other_keys.OtherKeys.insert.Goals as goal
 
@@ -10,7 +10,7 @@ invariant_of-self g c =
     let old = c.args.self.now.map.entries in
     let new = c.insert.new.self.entries in
     record {
-      no_pair = passed-put many is_no_pair c.insert.result old new c.args.key.items c.args.value c.args.self.now.no_pair (ap not (no_pair_from c.args.key.items c.requires))
+      none_has_two = passed-put many has_other c.insert.result old new c.args.key.items c.args.value c.args.self.now.none_has_two (ap not (other_from c.args.key.items c.requires))
           (λ u. changed_many c.args.key.items (Some c.args.value) old new u.3 u.1) c.insert.ensures.updates c.insert.ensures.err;
     }
 

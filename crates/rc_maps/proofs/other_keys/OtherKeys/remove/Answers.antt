@@ -1,6 +1,6 @@
 use Rattle.std.proofs.Common.{None, refl, sym}
 use Rattle.rc_maps.specs.HashLaws.{changed_many, found_many}
-use Rattle.rc_maps.specs.KeyLengths.{is_no_pair}
+use Rattle.rc_maps.specs.KeyLengths.{has_other}
 use Rattle.rc_maps.specs.SplitLaws.{passed-changed}
 use Rattle.rc_maps.specs.TableLaws.{many}
 use Rattle.rc_maps.proofs.other_keys.OtherKeys.remove.Goals as goal
@@ -11,7 +11,7 @@ invariant_of-self g c =
     let old = c.args.self.now.map.entries in
     let new = c.remove.new.self.entries in
     let u = c.remove.ensures.updates in
-    record { no_pair = passed-changed many is_no_pair old new key None c.args.self.now.no_pair (λ n. refl) (changed_many key None old new u.3 u.1) }
+    record { none_has_two = passed-changed many has_other old new key None c.args.self.now.none_has_two (λ n. refl) (changed_many key None old new u.3 u.1) }
 
 pub returns-clause-value : goal.returns-clause-value
 returns-clause-value g c = sym (found_many c.args.key.now _ c.args.self.now.map.entries c.remove.ensures.value)

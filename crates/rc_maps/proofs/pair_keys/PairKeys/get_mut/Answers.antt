@@ -1,6 +1,6 @@
 use Rattle.std.proofs.Common.{Some, refl, sym}
 use Rattle.rc_maps.specs.TableLaws.{on_found}
-use Rattle.rc_maps.specs.SplitLaws.{changed_pair, found_pair}
+use Rattle.rc_maps.specs.SplitLaws.{changed_two, found_two}
 use Rattle.rc_maps.proofs.pair_keys.PairKeys.get_mut.Goals as goal
 
 pub returns : goal.returns
@@ -12,8 +12,8 @@ returns g c =
         refl,
         (λ w. on_found (λ x. x.now) c.get_mut.result _ value (λ there.
             let u = (c.get_mut.follows.holds w).3 there in
-            changed_pair key (Some w) es (c.get_mut.follows.lender w).entries u.3 u.1)),
+            changed_two key (Some w) es (c.get_mut.follows.lender w).entries u.3 u.1)),
         c.get_mut.follows.holds-at-none,
       ),
-      record { writes_back = tt; value = sym (found_pair key _ es value) },
+      record { writes_back = tt; value = sym (found_two key _ es value) },
     )

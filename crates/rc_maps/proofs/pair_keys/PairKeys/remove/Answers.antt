@@ -1,6 +1,6 @@
 use Rattle.std.proofs.Common.{None, refl, sym}
-use Rattle.rc_maps.specs.KeyLengths.{is_pair}
-use Rattle.rc_maps.specs.SplitLaws.{changed_pair, found_pair, pair, passed-changed}
+use Rattle.rc_maps.specs.KeyLengths.{has_two}
+use Rattle.rc_maps.specs.SplitLaws.{changed_two, found_two, pair, passed-changed}
 use Rattle.rc_maps.proofs.pair_keys.PairKeys.remove.Goals as goal
 
 pub invariant_of-self : goal.invariant_of-self
@@ -9,12 +9,12 @@ invariant_of-self g c =
     let old = c.args.self.now.map.entries in
     let new = c.remove.new.self.entries in
     let u = c.remove.ensures.updates in
-    record { all_pairs = passed-changed pair is_pair old new key None c.args.self.now.all_pairs (λ n. refl) (changed_pair key None old new u.3 u.1) }
+    record { all_have_two = passed-changed pair has_two old new key None c.args.self.now.all_have_two (λ n. refl) (changed_two key None old new u.3 u.1) }
 
 pub returns-clause-value : goal.returns-clause-value
-returns-clause-value g c = sym (found_pair c.args.key.now _ c.args.self.now.map.entries c.remove.ensures.value)
+returns-clause-value g c = sym (found_two c.args.key.now _ c.args.self.now.map.entries c.remove.ensures.value)
 
 pub returns-clause-entries : goal.returns-clause-entries
 returns-clause-entries g c =
     let u = c.remove.ensures.updates in
-    changed_pair c.args.key.now None c.args.self.now.map.entries c.remove.new.self.entries u.3 u.1
+    changed_two c.args.key.now None c.args.self.now.map.entries c.remove.new.self.entries u.3 u.1
