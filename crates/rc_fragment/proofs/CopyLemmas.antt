@@ -1,17 +1,15 @@
 -- What a copy of the containers keeps of them.
-use Rattle.std.specs.Prelude.{◌≡◌, ℕ, zero, suc, Bool, true, false, cond, ◌==◌, Option, None, Some, List, [], ◌∷◌, ◌++◌, length, map}
-use Rattle.std.specs.List.{IsDistinct}
-use Rattle.std.specs.Map.{keys_of}
+use Rattle.std.specs.Prelude.{◌≡◌, ℕ, zero, suc, Bool, true, false, cond, Option, None, Some, List, [], ◌∷◌, ◌++◌, length}
 use Rattle.std.specs.Option.{option_map}
 use Rattle.std.specs.FinMap as fin
-use Rattle.std.specs.FinMap.{FinMap, find, get-empty, get-from_entries}
+use Rattle.std.specs.FinMap.{find, get-empty, get-from_entries}
 use Rattle.std.proofs.Common.{refl, sym, ap, subst, ◌∙◌, inl, inr}
 use Rattle.std.proofs.lemmas.List.{length-map}
 use Rattle.rc_edges.specs.Values.{Values, values_cmp, values_eq}
 use Rattle.rc_edges.specs.EdgeMap.{Counted, Rows}
 use Rattle.rc_maps.specs.Keyed.{AreApart}
 use Rattle.rc_fragment.specs.Container.{Form, form_in, now_in, taken_in}
-use Rattle.rc_fragment.specs.Sources.{AreOfShape, AreSame, AreSeenAlike, IsEmptied, SeenContainer, HaveForm, Sources, form_of, seen_container, sources_of, found_at, found_in}
+use Rattle.rc_fragment.specs.Sources.{AreSame, AreSeenAlike, IsEmptied, SeenContainer, HaveForm, Sources, seen_container, sources_of, found_at, found_in}
 use Rattle.rc_fragment.specs.Listing.{AreStored, IsFiled, IsStored, found_by, shapes}
 use Rattle.rc_fragment.specs.Notes.{AreWithin, IsEmptiedAt, IsFragment}
 use Rattle.rc_fragment.specs.RowValues.{HasValues, IsParted, row_from}

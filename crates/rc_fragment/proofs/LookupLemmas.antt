@@ -1,5 +1,5 @@
 -- What look-ups and scans answer, by the rows of all edges.
-use Rattle.std.specs.Prelude.{◌≡◌, ℕ, T, Option, None, Some, List, [], ◌∷◌, ◌++◌, map}
+use Rattle.std.specs.Prelude.{◌≡◌, ℕ, T, Option, None, Some, List, [], ◌∷◌, ◌++◌}
 use Rattle.std.specs.List.{flat_map, slice_get}
 use Rattle.std.specs.declared.cmp.Ordering.{Ordering}
 use Rattle.std.specs.declared.cmp.Ordering.TheVariants.{Less, Equal, Greater}
@@ -11,14 +11,13 @@ use Rattle.std.proofs.Common.{refl, sym, ap, subst, ◌∙◌, inl, inr}
 use Rattle.std.proofs.lemmas.Option.{none-some}
 use Rattle.rc_tuple.specs.RisingSet.{In, IsRising}
 use Rattle.rc_tuple.specs.RisingSetLaws.{in_map, map_in}
-use Rattle.rc_tuple.specs.Tuple.{Pairs, cols_of}
+use Rattle.rc_tuple.specs.Tuple.{Pairs}
 use Rattle.rc_edges.specs.Values.{Values, values_cmp}
 use Rattle.rc_edges.specs.EdgeMap.{Counted, extra_of}
 use Rattle.rc_fragment.specs.Container.{now_in}
 use Rattle.rc_fragment.specs.Fragment.{AreAllRows, HasScanned, HasShape, IsFoundAt, IsThere, IsThereWith, IsLookedUp, IsScan, key_and_extra}
 use Rattle.rc_fragment.specs.Listing.{listing, shapes, found_by, row_found, rows_with, source_rows, AreStored}
-use Rattle.rc_fragment.specs.RowValues.{HasValues, extra_columns, row_from, values_at}
-use Rattle.rc_fragment.specs.RowValuesLaws.{row_from_values}
+use Rattle.rc_fragment.specs.RowValues.{HasValues, row_from, values_at}
 use Rattle.rc_fragment.specs.Sources.{sources_of, found_in, found_at, now_at, listed_in, IsStoredRow}
 use Rattle.rc_fragment.specs.declared.container.Container.{Container}
 use Rattle.rc_fragment.specs.declared.edge_rows.EdgeRows.{EdgeRows}

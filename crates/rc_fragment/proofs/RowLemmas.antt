@@ -13,7 +13,7 @@ use Rattle.rc_edges.specs.EdgeMap.{Counted, HasExtra, Rows, count_of, lowered}
 use Rattle.rc_spec.specs.CountedRows.{count_at, with_count}
 use Rattle.rc_fragment.specs.Container.{now_in, taken_in}
 use Rattle.rc_fragment.specs.Fragment.{AreRowsOf, HasAlone, HasSingle, IsThere}
-use Rattle.rc_fragment.specs.Listing.{listing, shapes, found_of, found_by, IsFiled, AreStored, AreEmpty}
+use Rattle.rc_fragment.specs.Listing.{listing, shapes, found_of, found_by, AreStored, AreEmpty}
 use Rattle.rc_fragment.specs.Notes.{IsFragment, Place, PlaceBecomes, now_at_place}
 use Rattle.rc_fragment.specs.RowValues.{HasValues, IsParted, row_from}
 use Rattle.rc_fragment.specs.RowValuesLaws.{row_from_values, same_key, same_source}

@@ -155,7 +155,7 @@ table_width v of one b key (inl e) is w = subst (λ z. HasWidth z key) (sym is) 
 table_width v of one b key (inr e) is w = subst (λ z. HasWidth z key) (sym is) (subst (λ z. HasWidth (takes_one z one) key) e w)
 
 pub takes_alone : (v : Container) (of : EdgeKind) (one : Bool) (key : Values) → IsOfForm v of one → HasWidth one key → (of ≡ kind.Singleton → (k : Values) → IsSome (fin.get (now_in v) k) → k ≡ key) → takes v key
-takes_alone (container.Hash map) of one key e w h = table_width (container.Hash map) of one map.one_column key (inl (ap (λ (f : Form). f.0) e)) (ap (λ (f : Form). f.1) e) w
+takes_alone (container.Hash map) of one key e w h = table_width (container.Hash map) of one map.value.one_column key (inl (ap (λ (f : Form). f.0) e)) (ap (λ (f : Form). f.1) e) w
 takes_alone (container.Ordered map) of one key e w h = table_width (container.Ordered map) of one map.one_column key (inr (ap (λ (f : Form). f.0) e)) (ap (λ (f : Form). f.1) e) w
 takes_alone (container.List map) of one key e w h = tt
 takes_alone (container.Singleton map) of one key e w h = h (sym (ap (λ (f : Form). f.0) e))

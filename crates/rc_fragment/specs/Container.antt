@@ -9,14 +9,14 @@ use Rattle.rc_fragment.specs.declared.container.Container.TheVariants as contain
 
 -- the rows now, by their keys
 abbrev pub now_in : Container → Rows
-now_in (container.Hash map) = map.now
+now_in (container.Hash map) = map.value.now
 now_in (container.Ordered map) = map.now
 now_in (container.List map) = map.now
 now_in (container.Singleton map) = map.now
 
 -- the rows as they were taken
 abbrev pub taken_in : Container → Rows
-taken_in (container.Hash map) = map.taken
+taken_in (container.Hash map) = map.value.taken
 taken_in (container.Ordered map) = map.taken
 taken_in (container.List map) = map.taken
 taken_in (container.Singleton map) = map.taken
@@ -26,7 +26,7 @@ abbrev pub Form : Type 0
 Form = EdgeKind × Bool
 
 abbrev pub form_in : Container → Form
-form_in (container.Hash map) = (kind.Hash, map.one_column)
+form_in (container.Hash map) = (kind.Hash, map.value.one_column)
 form_in (container.Ordered map) = (kind.Ordered, map.one_column)
 form_in (container.List map) = (kind.List, false)
 form_in (container.Singleton map) = (kind.Singleton, false)
@@ -40,7 +40,7 @@ takes_one kind.Singleton one = false
 
 -- whether it takes a row at the key: one of its width, and a singleton only where no other key is there
 abbrev pub takes : Container → Values → Type 0
-takes (container.Hash map) key = HasWidth map.one_column key
+takes (container.Hash map) key = HasWidth map.value.one_column key
 takes (container.Ordered map) key = HasWidth map.one_column key
 takes (container.List map) key = Unit {0}
 takes (container.Singleton map) key = HasNoOther map.now key

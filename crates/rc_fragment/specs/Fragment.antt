@@ -14,26 +14,34 @@ use Rattle.rc_fragment.specs.Container.{now_in, taken_in}
 use Rattle.rc_fragment.specs.FragmentRows.{FragmentRows}
 use Rattle.rc_fragment.specs.Listing.{listing}
 use Rattle.rc_fragment.specs.Notes.{IsFragment, room_in}
-use Rattle.rc_fragment.specs.RowValues.{HasValues, extra_columns, values_at}
+use Rattle.rc_fragment.specs.RowValues.{extra_columns, values_at}
 use Rattle.rc_fragment.specs.declared.edge_rows.EdgeRows.{EdgeRows}
 use Rattle.rc_fragment.specs.declared.fragment.Fragment.TheInside.{Inside}
+use Rattle.rc_fragment.specs.declared.fragment.Parts.{Parts}
 use Rattle.rc_fragment.specs.declared.shape.EdgeShape.{EdgeShape}
+
+-- what is seen of a fragment with these parts
+abbrev pub seen_parts : Parts → FragmentRows
+seen_parts p = record {
+  table = map (λ (edge : EdgeRows). edge.shape) p.edges.items;
+  now = listing now_in p.edges.items;
+  taken = listing taken_in p.edges.items;
+  room = p.room;
+  changes = length p.notes.items;
+}
 
 -- what is seen of a fragment
 abbrev pub seen : Inside → FragmentRows
-seen a = record {
-  table = map (λ (edge : EdgeRows). edge.shape) a.edges.items;
-  now = listing now_in a.edges.items;
-  taken = listing taken_in a.edges.items;
-  room = a.room;
-  changes = length a.notes.items;
-}
+seen a = seen_parts a.parts.value
 
 -- what a fragment keeps: each row in its own place, every changed place noted, no value where there is no note, and room for what is promised
-pub record IsWhole (a : Inside) : Type 0 where
-  pub fragment : IsFragment a.edges.items a.notes.items a.noted.items
-  pub unnoted : a.notes.items ≡ [] → a.noted.items ≡ []
-  pub room : a.room ≤ room_in a.notes a.noted
+pub record AreWhole (p : Parts) : Type 0 where
+  pub fragment : IsFragment p.edges.items p.notes.items p.noted.items
+  pub unnoted : p.notes.items ≡ [] → p.noted.items ≡ []
+  pub room : p.room ≤ room_in p.notes p.noted
+
+abbrev pub IsWhole : Inside → Type 0
+IsWhole a = AreWhole a.parts.value
 
 -- the shape of an edge
 abbrev pub shape_of : Spec → Edge → EdgeShape

@@ -1,5 +1,5 @@
 -- The shapes of an accepted specification's edges.
-use Rattle.std.specs.Prelude.{◌≡◌, ℕ, ◌<◌, Some, List, length}
+use Rattle.std.specs.Prelude.{◌≡◌, ℕ, ◌<◌, Some, length}
 use Rattle.std.specs.List.{slice_get}
 use Rattle.std.proofs.Common.{subst}
 use Rattle.std.proofs.lemmas.Option.{get_or_from_slice_get, slice_get_within}

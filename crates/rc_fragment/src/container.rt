@@ -12,27 +12,32 @@ use rc_tuple::Memory;
 use std::alloc::Global;
 
 /// The rows of an edge at one row of its source, in a container of the edge's kind.
+///
+/// A hash container is in a block of its own, so that one of another kind is not as large as it.
 #[derive(Drop, Debug)]
 pub enum Container {
-    Hash(HashEdge),
+    Hash(Box<HashEdge>),
     Ordered(OrderedEdge),
     List(ListMap),
     Singleton(OneMap),
 }
 
 impl Container {
-    /// The container of the kind with no row, which takes no memory. Where a table is to have keys of
-    /// one column alone, they are plain numbers in it.
-    pub fn new(alloc: Global, seed: Seed, kind: EdgeKind, one_column: bool) -> Self
-        ensures now { now_in result ≡ fin.empty }
-        ensures taken { taken_in result ≡ fin.empty }
-        ensures form { form_in result ≡ (kind, takes_one kind one_column) }
+    /// The container of the kind with no row; only a hash container takes memory. Where a table is to
+    /// have keys of one column alone, they are plain numbers in it.
+    pub fn new(alloc: Global, seed: Seed, kind: EdgeKind, one_column: bool) -> Result<Self, Memory>
+        ensures now { IfOk result (λ container. now_in container ≡ fin.empty) }
+        ensures taken { IfOk result (λ container. taken_in container ≡ fin.empty) }
+        ensures form { IfOk result (λ container. form_in container ≡ (kind, takes_one kind one_column)) }
     {
         match kind {
-            EdgeKind::Hash => Container::Hash(HashEdge::new(alloc, seed, one_column)),
-            EdgeKind::Ordered => Container::Ordered(OrderedEdge::new(alloc, one_column)),
-            EdgeKind::List => Container::List(ListMap::new(alloc)),
-            EdgeKind::Singleton => Container::Singleton(OneMap::new(alloc)),
+            EdgeKind::Hash => {
+                let map = HashEdge::new(alloc, seed, one_column);
+                Ok(Container::Hash(Box::new(alloc, map)?))
+            }
+            EdgeKind::Ordered => Ok(Container::Ordered(OrderedEdge::new(alloc, one_column))),
+            EdgeKind::List => Ok(Container::List(ListMap::new(alloc))),
+            EdgeKind::Singleton => Ok(Container::Singleton(OneMap::new(alloc))),
         }
     }
 
@@ -153,7 +158,10 @@ impl Container {
         ensures form { IfOk result (λ copy. form_in copy ≡ form_in self.now) }
     {
         match self {
-            Container::Hash(map) => Ok(Container::Hash(map.copy()?)),
+            Container::Hash(map) => {
+                let copy = map.copy()?;
+                Ok(Container::Hash(Box::new(*Box::allocator(map), copy)?))
+            }
             Container::Ordered(map) => Ok(Container::Ordered(map.copy()?)),
             Container::List(map) => Ok(Container::List(map.copy()?)),
             Container::Singleton(map) => Ok(Container::Singleton(map.copy()?)),

@@ -58,7 +58,7 @@ impl EdgeRows {
             container.add(key, extra)?;
             return Ok(());
         }
-        let mut container = Container::new(self.alloc, self.seed, self.shape.kind, key.len() == 1);
+        let mut container = Container::new(self.alloc, self.seed, self.shape.kind, key.len() == 1)?;
         container.add(key, extra)?;
         self.sources.insert(source, container)
     }

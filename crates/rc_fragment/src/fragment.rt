@@ -2,7 +2,7 @@
 
 ghost use Rattle.std.specs.Prelude.{◌≡◌, ◌<◌, ◌^◌, length, OnOk, OnErr, IfOk, option_copied};
 ghost use Rattle.rc_spec.specs.CountedRows.{count_at, lowered, raised};
-ghost use Rattle.rc_fragment.specs.Fragment.{AreAllRows, AreRowsOf, HasAlone, HasColumns, HasScanned, HasShape, HasSingle, IsFoundAt, IsLookedUp, IsScan, IsThere, edge_table, shape_of};
+ghost use Rattle.rc_fragment.specs.Fragment.{AreAllRows, AreRowsOf, AreWhole, HasAlone, HasColumns, HasScanned, HasShape, HasSingle, IsFoundAt, IsLookedUp, IsScan, IsThere, edge_table, seen_parts, shape_of};
 ghost use Rattle.rc_fragment.specs.FragmentRows.{changed, no_rows, rolled_back, settled, with_promise, without_promise};
 ghost use Rattle.rc_fragment.specs.Listing.{AreEmpty, AreStored, found_by, shapes};
 ghost use Rattle.rc_fragment.specs.Container.{now_in, taken_in};
@@ -25,12 +25,21 @@ use std::marker::Model;
 /// A fragment also keeps its rows as they were taken. Changes are made in place, where `own` promised
 /// room for them, and noted; `revert` takes them back and `settle` makes them count as taken. Both cost
 /// the changes, whatever the fragment's size, take no memory and leave no note.
+///
+/// Its parts are in a block of their own, so that a stripe that is taken or given back moves a pointer.
 #[derive(Drop, Debug)]
 pub struct Fragment {
-    edges: Vec<EdgeRows>,
-    notes: Vec<Note>,
-    noted: Vec<u64>,
-    room: usize,
+    parts: Box<Parts>,
+}
+
+/// What a fragment keeps: the rows of each edge, the changes since they were taken with the values of
+/// their places, and for how many further changes room is promised.
+#[derive(Drop, Debug)]
+pub struct Parts {
+    pub edges: Vec<EdgeRows>,
+    pub notes: Vec<Note>,
+    pub noted: Vec<u64>,
+    pub room: usize,
 }
 
 impl Model for Fragment {
@@ -52,12 +61,13 @@ impl Fragment {
     pub fn empty(alloc: Global, seed: Seed, accepted: &Accepted) -> Result<Fragment, Memory>
         ensures { IfOk result (λ fragment. fragment ≡ no_rows (edge_table accepted.now)) }
     {
-        Ok(Fragment {
+        let parts = Parts {
             edges: empty_edges(alloc, seed, accepted)?,
             notes: Vec::new(alloc),
             noted: Vec::new(alloc),
             room: 0,
-        })
+        };
+        boxed(alloc, parts)
     }
 
     /// Makes room for at least so many further changes in all. It may be called again. Where memory is
@@ -67,9 +77,10 @@ impl Fragment {
         ensures err { OnErr result (self.new ≡ self.old) }
     {
         let promised = changes as usize;
-        self.notes.reserve(promised)?;
-        self.noted.reserve(promised * VALUES_OF_NOTE)?;
-        self.room = self.room.max(promised);
+        let parts = &mut *self.parts;
+        parts.notes.reserve(promised)?;
+        parts.noted.reserve(promised * VALUES_OF_NOTE)?;
+        parts.room = parts.room.max(promised);
         Ok(())
     }
 
@@ -77,7 +88,7 @@ impl Fragment {
     pub(crate) fn disown(&mut self)
         ensures { self.new ≡ without_promise self.old }
     {
-        self.room = 0;
+        self.parts.room = 0;
     }
 
     /// Adds the row to the edge with the count 1, or raises its count by 1, where there is room for a
@@ -94,8 +105,15 @@ impl Fragment {
         ensures ok { OnOk result (self.new ≡ changed (raised edge row.now) self.old) }
         ensures err { OnErr result (self.new ≡ self.old) }
     {
-        add_noted(&mut self.edges, &mut self.notes, &mut self.noted, edge, row)?;
-        self.room -= 1;
+        let parts = &mut *self.parts;
+        add_noted(
+            &mut parts.edges,
+            &mut parts.notes,
+            &mut parts.noted,
+            edge,
+            row,
+        )?;
+        parts.room -= 1;
         Ok(())
     }
 
@@ -107,8 +125,15 @@ impl Fragment {
         requires there { IsThere self.old.now edge row.now }
         ensures { self.new ≡ changed (lowered edge row.now) self.old }
     {
-        sub_noted(&mut self.edges, &mut self.notes, &mut self.noted, edge, row);
-        self.room -= 1;
+        let parts = &mut *self.parts;
+        sub_noted(
+            &mut parts.edges,
+            &mut parts.notes,
+            &mut parts.noted,
+            edge,
+            row,
+        );
+        parts.room -= 1;
     }
 
     /// Makes the rows what they were as taken (a rollback). Takes no memory. Costs the changes since
@@ -116,7 +141,8 @@ impl Fragment {
     pub fn revert(&mut self)
         ensures { self.new ≡ rolled_back self.old }
     {
-        revert_noted(&mut self.edges, &mut self.notes, &mut self.noted);
+        let parts = &mut *self.parts;
+        revert_noted(&mut parts.edges, &mut parts.notes, &mut parts.noted);
     }
 
     /// Makes the rows now count as taken (a commit). Takes no memory. Costs the changes since they were
@@ -124,7 +150,8 @@ impl Fragment {
     pub fn settle(&mut self)
         ensures { self.new ≡ settled self.old }
     {
-        settle_noted(&mut self.edges, &mut self.notes, &mut self.noted);
+        let parts = &mut *self.parts;
+        settle_noted(&mut parts.edges, &mut parts.notes, &mut parts.noted);
     }
 
     /// Of the row of the edge with these values at the source's and at the key's columns, each in column
@@ -136,7 +163,7 @@ impl Fragment {
         requires { edge < length self.now.table }
         ensures { (shape : EdgeShape) → HasShape self.now.table edge shape → IsLookedUp shape self.now.now edge source.now key.now (option_copied result) }
     {
-        let rows = &self.edges[edge as usize];
+        let rows = &self.parts.edges[edge as usize];
         rows.get(source, key)
     }
 
@@ -149,7 +176,7 @@ impl Fragment {
         ensures ok { OnOk result ((shape : EdgeShape) → HasShape self.now.table edge shape → HasScanned shape self.now.now edge source.now out.old.items out.new.items) }
         ensures err { OnErr result (out.new.items ≡ out.old.items) }
     {
-        let rows = &self.edges[edge as usize];
+        let rows = &self.parts.edges[edge as usize];
         rows.scan(source, out)
     }
 
@@ -159,7 +186,7 @@ impl Fragment {
         requires { edge < length self.now.table }
         ensures { IfOk result (λ row. (shape : EdgeShape) → HasShape self.now.table edge shape → IsFoundAt shape self.now.now edge source.now key.now row) }
     {
-        let rows = &self.edges[edge as usize];
+        let rows = &self.parts.edges[edge as usize];
         rows.row_at(source, key)
     }
 
@@ -169,7 +196,7 @@ impl Fragment {
         requires { edge < length self.now.table }
         ensures { IfOk result (λ rows. (shape : EdgeShape) → HasShape self.now.table edge shape → IsScan shape self.now.now edge source.now rows) }
     {
-        let rows = &self.edges[edge as usize];
+        let rows = &self.parts.edges[edge as usize];
         rows.rows_at(source)
     }
 
@@ -179,7 +206,7 @@ impl Fragment {
         ensures now { AreRowsOf self.now.table self.now.now }
         ensures taken { AreRowsOf self.now.table self.now.taken }
     {
-        let _ = &self.edges;
+        let _ = &self.parts;
     }
 
     /// The rows of the edge, each at least once, in no particular order.
@@ -187,7 +214,7 @@ impl Fragment {
         requires { edge < length self.now.table }
         ensures { IfOk result (λ rows. AreAllRows self.now.now edge rows) }
     {
-        let rows = &self.edges[edge as usize];
+        let rows = &self.parts.edges[edge as usize];
         rows.all()
     }
 
@@ -196,13 +223,24 @@ impl Fragment {
     pub fn copy(&self, alloc: Global) -> Result<Fragment, Memory>
         ensures { IfOk result (λ copy. copy ≡ without_promise self.now) }
     {
-        Ok(Fragment {
-            edges: copy_edges(alloc, &self.edges)?,
-            notes: Vec::from_slice(alloc, self.notes.as_slice())?,
-            noted: Vec::from_slice(alloc, self.noted.as_slice())?,
+        let parts = Parts {
+            edges: copy_edges(alloc, &self.parts.edges)?,
+            notes: Vec::from_slice(alloc, self.parts.notes.as_slice())?,
+            noted: Vec::from_slice(alloc, self.parts.noted.as_slice())?,
             room: 0,
-        })
+        };
+        boxed(alloc, parts)
     }
+}
+
+/// The fragment with these parts, in their block.
+fn boxed(alloc: Global, parts: Parts) -> Result<Fragment, Memory>
+    requires { AreWhole parts }
+    ensures { IfOk result (λ fragment. fragment ≡ seen_parts parts) }
+{
+    Ok(Fragment {
+        parts: Box::new(alloc, parts)?,
+    })
 }
 
 /// A copy of the edges, with their rows now and as taken.

@@ -1,12 +1,12 @@
-use Rattle.std.proofs.Common.{◌≡◌, ◌+◌, ◌-◌, ◌<◌, ◌^◌, ◌++◌, ◌∷◌, [], ℕ, suc, pred, length, take, Option, Some, refl, sym, ap, subst, ◌∙◌, arith}
-use Rattle.std.specs.Prelude.{IsSome, List}
+use Rattle.std.proofs.Common.{◌≡◌, ◌+◌, ◌-◌, ◌<◌, ◌^◌, ◌++◌, ◌∷◌, [], ℕ, suc, length, take, Option, Some, refl, sym, ap, subst, ◌∙◌, arith}
+use Rattle.std.specs.Prelude.{List}
 use Rattle.std.specs.List.{slice_get}
 use Rattle.std.specs.Vec.{vec_len, vec_capacity}
 use Rattle.std.proofs.Math.Seq.{take-append_seam}
 use Rattle.rc_tuple.specs.RisingSetLaws.{slice_get_in}
 use Rattle.rc_tuple.specs.Tuple.{Pairs, cols_of}
 use Rattle.rc_edges.specs.Values.{Values}
-use Rattle.rc_edges.specs.EdgeMap.{Counted, HasExtra, count_of, lowered}
+use Rattle.rc_edges.specs.EdgeMap.{Counted, HasExtra, count_of}
 use Rattle.rc_spec.specs.CountedRows.{count_at, with_count}
 use Rattle.rc_fragment.specs.Container.{now_in}
 use Rattle.rc_fragment.specs.Listing.{AreStored, listing, found_by}

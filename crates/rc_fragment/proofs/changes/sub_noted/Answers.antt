@@ -1,19 +1,14 @@
-use Rattle.std.proofs.Common.{◌≡◌, ◌+◌, ◌-◌, ◌<◌, ◌^◌, ◌++◌, ◌∷◌, [], ℕ, suc, pred, length, take, Option, Some, refl, sym, ap, subst, ◌∙◌, arith}
+use Rattle.std.proofs.Common.{◌≡◌, ◌++◌, ◌∷◌, [], ℕ, pred, length, Option, Some, refl, sym, ap, subst, ◌∙◌}
 use Rattle.std.specs.Prelude.{IsSome, List}
 use Rattle.std.specs.List.{slice_get}
-use Rattle.std.specs.Vec.{vec_len, vec_capacity}
-use Rattle.std.proofs.Math.Seq.{take-append_seam}
 use Rattle.rc_tuple.specs.RisingSetLaws.{slice_get_in}
-use Rattle.rc_tuple.specs.Tuple.{Pairs, cols_of}
+use Rattle.rc_tuple.specs.Tuple.{Pairs}
 use Rattle.rc_edges.specs.Values.{Values}
 use Rattle.rc_edges.specs.EdgeMap.{Counted, HasExtra, count_of, lowered}
 use Rattle.rc_spec.specs.CountedRows.{count_at, with_count}
 use Rattle.rc_fragment.specs.Container.{now_in}
 use Rattle.rc_fragment.specs.Listing.{AreStored, listing, found_by}
-use Rattle.rc_fragment.specs.Notes.{IsFragment, IsNoteWithin, IsRowAt, Place, PlaceBecomes, now_at_place, taken_at_place, place_of}
-use Rattle.rc_fragment.specs.RowValues.{HasValues, row_from}
-use Rattle.rc_fragment.specs.RowValuesLaws.{values_of_row}
-use Rattle.rc_fragment.specs.Sources.{IsSingle}
+use Rattle.rc_fragment.specs.Notes.{IsFragment, IsNoteWithin, Place, PlaceBecomes, now_at_place, taken_at_place, place_of}
 use Rattle.rc_fragment.specs.declared.edge_rows.EdgeRows.{EdgeRows}
 use Rattle.rc_fragment.specs.declared.note.Note.{Note}
 use Rattle.rc_fragment.proofs.ChangeLemmas.{IsWholeRow, found_edge}

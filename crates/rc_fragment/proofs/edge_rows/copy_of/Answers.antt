@@ -3,7 +3,7 @@ use Rattle.std.specs.Prelude.{List, map}
 use Rattle.std.specs.FinMap as fin
 use Rattle.rc_tuple.specs.RisingSet.{In}
 use Rattle.rc_tuple.specs.RisingSetLaws.{get_or_in, map_in}
-use Rattle.std.proofs.lemmas.List.{drop_all, drop_more}
+use Rattle.std.proofs.lemmas.List.{drop_more}
 use Rattle.rc_edges.specs.Values.{Values}
 use Rattle.rc_edges.specs.EdgeMap.{HasWidth}
 use Rattle.rc_maps.specs.HashTable.{entries_of}
@@ -11,7 +11,7 @@ use Rattle.rc_maps.specs.Keyed.{AreApart, pair_of}
 use Rattle.rc_maps.specs.declared.keyed.Keyed.{Keyed}
 use Rattle.rc_fragment.specs.Sources.{seen_container}
 use Rattle.rc_fragment.specs.declared.container.Container.{Container}
-use Rattle.rc_fragment.proofs.CopyLemmas.{IsCopied, IsCopied-all, IsCopied-more, IsCopied-none}
+use Rattle.rc_fragment.proofs.CopyLemmas.{IsCopied, IsCopied-more, IsCopied-none}
 use Rattle.rc_fragment.proofs.WalkLemmas.{apart_from, got_from, width_there}
 use Rattle.rc_fragment.proofs.edge_rows.copy_of.Goals as goal
 

@@ -1,4 +1,4 @@
-use Rattle.std.proofs.Common.{◌≡◌, ◌+◌, ◌-◌, ◌<◌, ◌≤◌, length, ap, subst, sym, arith}
+use Rattle.std.proofs.Common.{◌≡◌, ◌-◌, ◌<◌, ◌≤◌, length, ap, arith}
 use Rattle.std.specs.Vec.{vec_len, vec_capacity}
 use Rattle.rc_fragment.specs.RowValues.{extra_columns, values_at}
 use Rattle.rc_fragment.proofs.NoteLemmas.{few_pairs, few_values, parted_columns, room_some, room_less}

@@ -1,4 +1,4 @@
-use Rattle.std.proofs.Common.{◌+◌, ◌≤◌, arith}
+use Rattle.std.proofs.Common.{arith}
 use Rattle.rc_fragment.proofs.NoteLemmas.{values_shorter}
 use Rattle.rc_fragment.proofs.values.values_at.Goals as goal
 

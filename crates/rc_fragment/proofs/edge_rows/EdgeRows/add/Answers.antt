@@ -1,13 +1,12 @@
-use Rattle.std.proofs.Common.{◌≡◌, ◌+◌, ◌<◌, ◌^◌, ◌==◌, lit<, inl, inr, Option, Some, None, refl, sym, ap, subst, ◌∙◌}
+use Rattle.std.proofs.Common.{◌≡◌, ◌+◌, ◌<◌, ◌^◌, ◌==◌, lit<, Option, Some, None, refl, sym, ap, subst, ◌∙◌}
 use Rattle.std.specs.Prelude.{IsSome, length}
 use Rattle.std.specs.Option.{OnSome}
 use Rattle.std.specs.FinMap as fin
-use Rattle.std.proofs.lemmas.Bool.{false≢true}
 use Rattle.rc_edges.specs.Values.{Values}
-use Rattle.rc_edges.specs.EdgeMap.{Counted, HasExtra, count_of, lowered, written}
+use Rattle.rc_edges.specs.EdgeMap.{Counted, HasExtra, count_of, written}
 use Rattle.rc_maps.specs.HashTable.{IsSet, entries_of, has_one_column}
 use Rattle.rc_fragment.specs.Container.{now_in, taken_in, takes_one}
-use Rattle.rc_fragment.specs.Sources.{AreOfShape, Becomes, HaveForm, IsEmptied, IsSetAt, Sources, form_of, found_at, found_in, sources_of}
+use Rattle.rc_fragment.specs.Sources.{Sources, form_of, found_in, sources_of}
 use Rattle.rc_fragment.specs.declared.container.Container.{Container}
 use Rattle.rc_fragment.specs.declared.edge_rows.EdgeRows.{EdgeRows}
 use Rattle.rc_fragment.proofs.SourcesLemmas.{set_by, set_same, set_form, again, emptied_same, emptied_written, has_width, takes_alone, takes_first, none_there, on_err, on_err_from, on_ok_from, same_entries}
@@ -71,15 +70,15 @@ returns-in-Some-clause-ok c =
 
 pub add-requires-2-clause-room : goal.add-requires-2-clause-room
 add-requires-2-clause-room c =
-    subst (λ z. count_of z < 2 ^ 63) (sym (none_there (now_in c.new-container.result) c.new-container.ensures.now c.args.key.now)) (lit< tt)
+    subst (λ z. count_of z < 2 ^ 63) (sym (none_there (now_in c.in_ok-container.container) c.in_ok-container.ensures.now c.args.key.now)) (lit< tt)
 
 pub add-requires-2-clause-same : goal.add-requires-2-clause-same
-add-requires-2-clause-same c = subst (λ z. HasExtra z c.args.extra.now) (sym (none_there (now_in c.new-container.result) c.new-container.ensures.now c.args.key.now)) tt
+add-requires-2-clause-same c = subst (λ z. HasExtra z c.args.extra.now) (sym (none_there (now_in c.in_ok-container.container) c.in_ok-container.ensures.now c.args.key.now)) tt
 
 pub add-requires-2-clause-single : goal.add-requires-2-clause-single
 add-requires-2-clause-single c =
-    takes_first c.new-container.result c.args.self.now.shape.kind (length c.args.key.now == 1) c.args.key.now c.new-container.ensures.form (has_width (length c.args.key.now) c.args.key.now refl)
-    c.new-container.ensures.now
+    takes_first c.in_ok-container.container c.args.self.now.shape.kind (length c.args.key.now == 1) c.args.key.now c.in_ok-container.ensures.form (has_width (length c.args.key.now) c.args.key.now refl)
+    c.in_ok-container.ensures.now
 
 pub returns-clause-ok : goal.returns-clause-ok
 returns-clause-ok c =
@@ -87,13 +86,13 @@ returns-clause-ok c =
     let source : Values = c.args.source.now in
     let key : Values = c.args.key.now in
     let es : Sources = sources_of x in
-    let b : Container = c.new-container.result in
+    let b : Container = c.in_ok-container.container in
     let w : Container = c.add-2.new.self in
     let f : fin.get es source ≡ None = sym c.in_default.ensures.value in
     let set : Sources = entries_of c.insert.new.self in
     let g : (o : Option Container) → Option Counted = λ o. Some (c.args.extra.now, count_of (found_in now_in o key) + 1) in
-    let no_now : (k : Values) → fin.get (now_in b) k ≡ None = none_there (now_in b) c.new-container.ensures.now in
-    let no_taken : (k : Values) → fin.get (taken_in b) k ≡ None = none_there (taken_in b) c.new-container.ensures.taken in
+    let no_now : (k : Values) → fin.get (now_in b) k ≡ None = none_there (now_in b) c.in_ok-container.ensures.now in
+    let no_taken : (k : Values) → fin.get (taken_in b) k ≡ None = none_there (taken_in b) c.in_ok-container.ensures.taken in
     on_ok_from _ _ c.insert.result c.insert.ensures.ok (λ p.
     let e : set ≡ written es source (Some w) = p ∙ ap (λ t. written (entries_of t) source (Some w)) c.get_mut.follows.holds-at-none in
     record {
@@ -104,11 +103,16 @@ returns-clause-ok c =
       emptied = emptied_written es set source (Some w) e;
       forms = record {
         forms = set_form es set source None w f e (form_of x.shape) c.requires.forms.forms
-            (c.add-2.ensures.form ∙ c.new-container.ensures.form ∙ ap (λ n. (x.shape.kind, takes_one x.shape.kind (n == 1))) c.requires.width.key_width);
+            (c.add-2.ensures.form ∙ c.in_ok-container.ensures.form ∙ ap (λ n. (x.shape.kind, takes_one x.shape.kind (n == 1))) c.requires.width.key_width);
         width = c.insert.ensures.width ∙ ap has_one_column c.get_mut.follows.holds-at-none ∙ c.requires.forms.width;
       };
       shape = refl;
     })
+
+pub returns-in_err-container-clause-err : goal.returns-in_err-container-clause-err
+returns-in_err-container-clause-err c =
+    let x : EdgeRows = c.args.self.now in
+    on_err _ c.from_residual-in_err-container.result (same_entries x (record x { sources = c.get_mut.follows.lender-at-none }) (ap entries_of c.get_mut.follows.holds-at-none) (ap has_one_column c.get_mut.follows.holds-at-none) refl c.requires.forms)
 
 pub returns-in_err-add-2-clause-err : goal.returns-in_err-add-2-clause-err
 returns-in_err-add-2-clause-err c =

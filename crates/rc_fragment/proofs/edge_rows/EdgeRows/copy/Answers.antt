@@ -1,4 +1,4 @@
-use Rattle.std.proofs.Common.{◌≡◌, ◌==◌, refl, sym, ap, ◌∙◌}
+use Rattle.std.proofs.Common.{◌==◌, refl, sym, ap, ◌∙◌}
 use Rattle.rc_maps.specs.HashTable.{entries_of}
 use Rattle.rc_fragment.specs.Container.{now_in, taken_in}
 use Rattle.rc_fragment.specs.Sources.{SeenContainer, Sources, form_of, sources_of}

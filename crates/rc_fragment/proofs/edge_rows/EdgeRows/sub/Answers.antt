@@ -1,13 +1,11 @@
-use Rattle.std.proofs.Common.{◌≡◌, ◌+◌, ◌<◌, ◌^◌, ◌==◌, lit<, inl, inr, Option, Some, None, refl, sym, ap, subst, ◌∙◌}
-use Rattle.std.specs.Prelude.{IsSome, length}
+use Rattle.std.proofs.Common.{◌≡◌, Some, refl, sym, ap, subst, ◌∙◌}
 use Rattle.std.specs.Option.{OnSome}
 use Rattle.std.specs.FinMap as fin
-use Rattle.std.proofs.lemmas.Bool.{false≢true}
 use Rattle.rc_edges.specs.Values.{Values}
-use Rattle.rc_edges.specs.EdgeMap.{Counted, HasExtra, count_of, lowered, written}
+use Rattle.rc_edges.specs.EdgeMap.{lowered, written}
 use Rattle.rc_maps.specs.HashTable.{IsSet, entries_of}
-use Rattle.rc_fragment.specs.Container.{now_in, taken_in, takes_one}
-use Rattle.rc_fragment.specs.Sources.{AreOfShape, Becomes, HaveForm, IsEmptied, IsSetAt, Sources, form_of, found_at, found_in, sources_of}
+use Rattle.rc_fragment.specs.Container.{now_in, taken_in}
+use Rattle.rc_fragment.specs.Sources.{Sources, form_of, found_in, sources_of}
 use Rattle.rc_fragment.specs.declared.container.Container.{Container}
 use Rattle.rc_fragment.specs.declared.edge_rows.EdgeRows.{EdgeRows}
 use Rattle.rc_fragment.proofs.SourcesLemmas.{set_by, set_form, again, emptied_written}

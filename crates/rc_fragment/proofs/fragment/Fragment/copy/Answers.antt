@@ -1,37 +1,58 @@
 use Rattle.std.proofs.Common.{◌≡◌, sym, ap, subst, ◌∙◌}
 use Rattle.std.specs.Prelude.{List, length}
 use Rattle.rc_fragment.specs.Container.{now_in, taken_in}
+use Rattle.rc_fragment.specs.Fragment.{AreWhole, seen_parts}
 use Rattle.rc_fragment.specs.FragmentRows.{without_promise}
 use Rattle.rc_fragment.specs.Listing.{AreStored, listing}
 use Rattle.rc_fragment.specs.Notes.{IsFragment}
 use Rattle.rc_fragment.specs.declared.edge_rows.EdgeRows.{EdgeRows}
+use Rattle.rc_fragment.specs.declared.fragment.Parts.{Parts}
 use Rattle.rc_fragment.proofs.ChangeLemmas.{same_listing}
 use Rattle.rc_fragment.proofs.CopyLemmas.{same_fragment}
 use Rattle.rc_fragment.proofs.NoteLemmas.{zero_least}
 use Rattle.rc_fragment.proofs.RowLemmas.{filed_now, filed_taken}
+use Rattle.rc_fragment.proofs.SourcesLemmas.{if_ok_from}
 use Rattle.rc_fragment.proofs.fragment.Fragment.copy.Goals as goal
+use Rattle.rc_fragment.proofs.fragment.Fragment.copy.Goals.{After-as_slice-2, After-deref}
 
-pub invariant_of-result : goal.invariant_of-result
-invariant_of-result c =
-    let edges : List EdgeRows = c.self.inside.edges.items in
+-- what holds of the parts that are read
+whole : (c : After-deref) → AreWhole c.deref.result.now
+whole c = subst AreWhole (sym c.deref.ensures) c.self.invariant
+
+-- the notes and the values that are copied are those of these parts
+notes : (c : After-as_slice-2) → c.as_slice.result.now ≡ c.deref.result.now.notes.items
+notes c = c.as_slice.ensures.value ∙ ap (λ (p : Parts). p.notes.items) (c.deref-2.ensures ∙ sym c.deref.ensures)
+
+noted : (c : After-as_slice-2) → c.as_slice-2.result.now ≡ c.deref.result.now.noted.items
+noted c = c.as_slice-2.ensures.value ∙ ap (λ (p : Parts). p.noted.items) (c.deref-3.ensures ∙ sym c.deref.ensures)
+
+pub copy_edges-requires : goal.copy_edges-requires
+copy_edges-requires c = (whole (goal.at.copy_edges-requires c).After-deref).fragment.stored
+
+pub boxed-requires : goal.boxed-requires
+boxed-requires c =
+    let read : Parts = c.deref.result.now in
     let new : List EdgeRows = c.in_ok-copy_edges.field-0.items in
     let e = c.in_ok-copy_edges.ensures in
-    let n : c.in_ok-from_slice.field-0.items ≡ c.self.inside.notes.items = c.in_ok-from_slice.ensures.items ∙ c.as_slice.ensures.value in
-    let p : c.in_ok-from_slice-2.field-0.items ≡ c.self.inside.noted.items = c.in_ok-from_slice-2.ensures.items ∙ c.as_slice-2.ensures.value in
+    let all : AreWhole read = whole (goal.at.boxed-requires c).After-deref in
+    let n : c.in_ok-from_slice.field-0.items ≡ read.notes.items = c.in_ok-from_slice.ensures.items ∙ notes (goal.at.boxed-requires c).After-as_slice-2 in
+    let p : c.in_ok-from_slice-2.field-0.items ≡ read.noted.items = c.in_ok-from_slice-2.ensures.items ∙ noted (goal.at.boxed-requires c).After-as_slice-2 in
     record {
       fragment = subst (IsFragment new c.in_ok-from_slice.field-0.items) (sym p)
-          (subst (λ z. IsFragment new z c.self.inside.noted.items) (sym n) (same_fragment edges new c.self.inside.notes.items c.self.inside.noted.items c.self.invariant.fragment e.shapes e.stored e.now e.taken e.emptied));
-      unnoted = λ none. p ∙ c.self.invariant.unnoted (sym n ∙ none);
+          (subst (λ z. IsFragment new z read.noted.items) (sym n) (same_fragment read.edges.items new read.notes.items read.noted.items all.fragment e.shapes e.stored e.now e.taken e.emptied));
+      unnoted = λ none. p ∙ all.unnoted (sym n ∙ none);
       room = zero_least _;
     }
 
 pub returns : goal.returns
 returns c =
-    let edges : List EdgeRows = c.self.inside.edges.items in
+    let edges : List EdgeRows = c.deref.result.now.edges.items in
     let new : List EdgeRows = c.in_ok-copy_edges.field-0.items in
-    let stored : AreStored edges = c.self.invariant.fragment.stored in
+    let stored : AreStored edges = (whole (goal.at.returns c).After-deref).fragment.stored in
     let e = c.in_ok-copy_edges.ensures in
     let now : listing now_in new ≡ listing now_in edges = same_listing now_in now_in new edges (filed_now new e.stored) (filed_now edges stored) e.shapes e.now in
     let taken : listing taken_in new ≡ listing taken_in edges = same_listing taken_in taken_in new edges (filed_taken new e.stored) (filed_taken edges stored) e.shapes e.taken in
-    let n : c.in_ok-from_slice.field-0.items ≡ c.self.inside.notes.items = c.in_ok-from_slice.ensures.items ∙ c.as_slice.ensures.value in
-    (λ i. record { table = e.shapes i; now = now i; taken = taken i; room = 0; changes = length (n i) }) ∙ ap without_promise c.self.view_is
+    let n : c.in_ok-from_slice.field-0.items ≡ c.deref.result.now.notes.items = c.in_ok-from_slice.ensures.items ∙ notes (goal.at.returns c).After-as_slice-2 in
+    if_ok_from c.boxed.result c.boxed.ensures (λ copy is.
+    is ∙ (λ i. record { table = e.shapes i; now = now i; taken = taken i; room = 0; changes = length (n i) })
+    ∙ ap (λ (p : Parts). without_promise (seen_parts p)) c.deref.ensures ∙ ap without_promise c.self.view_is)

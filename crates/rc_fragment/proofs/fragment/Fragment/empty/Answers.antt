@@ -1,13 +1,14 @@
-use Rattle.std.proofs.Common.{[], sym, subst, ap}
+use Rattle.std.proofs.Common.{[], sym, subst, ap, ◌∙◌}
 use Rattle.std.specs.Prelude.{length}
 use Rattle.rc_fragment.specs.Container.{now_in, taken_in}
 use Rattle.rc_fragment.specs.Notes.{IsFragment}
 use Rattle.rc_fragment.proofs.NoteLemmas.{zero_least}
+use Rattle.rc_fragment.proofs.SourcesLemmas.{if_ok_from}
 use Rattle.rc_fragment.proofs.RowLemmas.{none_listed, empty_fragment}
 use Rattle.rc_fragment.proofs.fragment.Fragment.empty.Goals as goal
 
-pub invariant_of-result : goal.invariant_of-result
-invariant_of-result c = record {
+pub boxed-requires : goal.boxed-requires
+boxed-requires c = record {
   fragment = subst (λ z. IsFragment c.in_ok-empty_edges.field-0.items z c.new-2.result.items) (sym c.new.ensures.items)
       (subst (IsFragment c.in_ok-empty_edges.field-0.items []) (sym c.new-2.ensures.items) (empty_fragment c.in_ok-empty_edges.field-0.items c.in_ok-empty_edges.ensures.empty));
   unnoted = λ none. c.new-2.ensures.items;
@@ -15,10 +16,10 @@ invariant_of-result c = record {
 }
 
 pub returns : goal.returns
-returns c = λ i. record {
+returns c = if_ok_from c.boxed.result c.boxed.ensures (λ fragment is. is ∙ (λ i. record {
   table = c.in_ok-empty_edges.ensures.shapes i;
   now = none_listed now_in c.in_ok-empty_edges.field-0.items c.in_ok-empty_edges.ensures.empty i;
   taken = none_listed taken_in c.in_ok-empty_edges.field-0.items c.in_ok-empty_edges.ensures.empty i;
   room = 0;
   changes = ap length c.new.ensures.items i;
-}
+}))

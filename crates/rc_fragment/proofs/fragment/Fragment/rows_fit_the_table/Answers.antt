@@ -9,10 +9,10 @@ use Rattle.rc_fragment.proofs.fragment.Fragment.rows_fit_the_table.Goals as goal
 
 pub returns-clause-now : goal.returns-clause-now
 returns-clause-now c =
-    let edges : List EdgeRows = c.self.inside.edges.items in
+    let edges : List EdgeRows = c.self.inside.parts.value.edges.items in
     subst (λ (z : FragmentRows). AreRowsOf z.table z.now) c.self.view_is (rows_of_table now_in edges (filed_now edges c.self.invariant.fragment.stored))
 
 pub returns-clause-taken : goal.returns-clause-taken
 returns-clause-taken c =
-    let edges : List EdgeRows = c.self.inside.edges.items in
+    let edges : List EdgeRows = c.self.inside.parts.value.edges.items in
     subst (λ (z : FragmentRows). AreRowsOf z.table z.taken) c.self.view_is (rows_of_table taken_in edges (filed_taken edges c.self.invariant.fragment.stored))
