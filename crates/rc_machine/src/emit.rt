@@ -13,30 +13,20 @@ use rc_spec::{MAX_ROWS, OpKind, Reply, RowList};
 use rc_tuple::{Cols, Memory};
 use std::alloc::Global;
 
-/// The reply of a query's Emit. The scratch holds a row's values.
-pub(crate) fn emit(
-    alloc: Global,
-    kind: &OpKind,
-    bindings: &Bindings,
-    row: &mut Vec<u64>,
-) -> Result<Reply, Memory>
+/// The reply of a query's Emit.
+pub(crate) fn emit(alloc: Global, kind: &OpKind, bindings: &Bindings) -> Result<Reply, Memory>
     requires { IsQuery kind.now }
     ensures { IfOk result (λ reply. (outs : List ℕ) → kind.now ≡ Query outs → reply ≡ answer outs bindings.now.tuples) }
 {
     match kind {
-        OpKind::Query { outs } => answer(alloc, outs, bindings, row),
+        OpKind::Query { outs } => answer(alloc, outs, bindings),
         OpKind::Insert | OpKind::Remove => unreachable!(),
     }
 }
 
 /// The reply of a query from its bindings: the distinct rows of the outputs where there are few, and else their number.
 /// Mostly the rows rise as the bindings do; where they don't, they are gathered.
-fn answer(
-    alloc: Global,
-    outs: &Cols,
-    bindings: &Bindings,
-    row: &mut Vec<u64>,
-) -> Result<Reply, Memory>
+fn answer(alloc: Global, outs: &Cols, bindings: &Bindings) -> Result<Reply, Memory>
     ensures { IfOk result (λ reply. reply ≡ answer outs.now bindings.now.tuples) }
 {
     if !rows_rise(outs, bindings) {
@@ -45,7 +35,7 @@ fn answer(
     if bindings.len() > MAX_ROWS {
         return Ok(Reply::Many(bindings.len() as u64));
     }
-    Ok(Reply::Rows(rows(alloc, outs, bindings, row)?))
+    Ok(Reply::Rows(rows(alloc, outs, bindings)?))
 }
 
 /// Whether each binding's row is below the next one's.
@@ -64,21 +54,14 @@ fn rows_rise(outs: &Cols, bindings: &Bindings) -> bool
     true
 }
 
-/// The row of each binding.
-fn rows(
-    alloc: Global,
-    outs: &Cols,
-    bindings: &Bindings,
-    row: &mut Vec<u64>,
-) -> Result<RowList, Memory>
+/// The row of each binding, in one block.
+fn rows(alloc: Global, outs: &Cols, bindings: &Bindings) -> Result<RowList, Memory>
     ensures { IfOk result (λ rows. rows ≡ map (pick outs.now) bindings.now.tuples) }
 {
-    let values = bindings.len().saturating_mul(outs.list().len());
-    let mut rows = RowList::with_room(alloc, bindings.len(), values)?;
+    let width = outs.list().len();
+    let mut values = Vec::with_capacity(alloc, bindings.len().saturating_mul(width))?;
     for at in 0..bindings.len() {
-        row.clear();
-        bindings.get(at).push_picked(outs, row)?;
-        rows.push(row)?;
+        bindings.get(at).push_picked(outs, &mut values)?;
     }
-    Ok(rows)
+    Ok(RowList::of_width(values, bindings.len(), width))
 }

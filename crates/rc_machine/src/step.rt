@@ -82,7 +82,7 @@ pub(crate) fn step<H: Holder>(
         }
         Statement::Emit => {
             let kind = &spec.op(call.op).kind;
-            Ok(Some(emit(alloc, kind, &space.bindings, &mut space.finder.rows)?))
+            Ok(Some(emit(alloc, kind, &space.bindings)?))
         }
         Statement::Commit | Statement::Release { .. } => unreachable!(),
     }

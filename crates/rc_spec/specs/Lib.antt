@@ -25,6 +25,8 @@ pub mod PlacementLaws
 pub mod Plain
 pub mod PlainLaws
 pub mod RefusalText
+pub mod RowEnds
+pub mod RowEndsLaws
 pub mod RowLists
 pub mod RowListsLaws
 pub mod Rows

@@ -1,8 +1,12 @@
 -- Laws of rows whose values stand one behind the other.
-use Rattle.std.proofs.Common.{◌≡◌, ℕ, zero, suc, ◌+◌, ◌-◌, ◌<◌, ◌≤◌, List, [], ◌∷◌, ◌++◌, get_or, length, take, drop, refl, sym, ap, ◌∙◌, subst, arith}
-use Rattle.std.proofs.lemmas.List.{take-append-le, drop-append-le, length-drop, take_all}
+use Rattle.std.proofs.Common.{◌≡◌, ℕ, zero, suc, ◌+◌, ◌-◌, ◌*◌, ◌<◌, ◌≤◌, List, [], ◌∷◌, ◌++◌, get_or, length, map, take, drop, refl, sym, ap, subst, ◌∙◌, arith}
+use Rattle.std.proofs.lemmas.List.{take-append-le, drop-append-le, length-append, length-drop, take_all}
 use Rattle.std.proofs.Math.ListN.{drop_of_length-le}
-use Rattle.rc_spec.specs.RowLists.{AreEnds, rows_from}
+use Rattle.std.proofs.Math.Nat.{suc-mul}
+use Rattle.std.proofs.Math.Seq.{drop-append_seam, drop-drop, take-append_seam}
+use Rattle.std.specs.List.{flat_map}
+use Rattle.rc_spec.specs.RowEnds.{even_ends}
+use Rattle.rc_spec.specs.RowLists.{AreEnds, rows_from, rows_of_width}
 
 pub length-rows_from : (start : ℕ) (ends values : List ℕ) → length (rows_from start ends values) ≡ length ends
 length-rows_from start [] values = refl
@@ -26,6 +30,11 @@ pub end_within : (start : ℕ) (ends : List ℕ) (count at : ℕ) → AreEnds st
 end_within start [] count at h l = absurd (omega (arith, l))
 end_within start (end ∷ ends) count zero h l = start_within end ends count h.1
 end_within start (end ∷ ends) count (suc at) h l = end_within end ends count at h.1 (omega (arith, l))
+
+-- the last row ends where the values do
+pub last_end : (start : ℕ) (ends : List ℕ) (count : ℕ) → AreEnds start ends count → get_or (start ∷ ends) (length ends) 0 ≡ count
+last_end start [] count h = h
+last_end start (end ∷ ends) count h = last_end end ends count h.1
 
 -- the row at a place
 pub row_at : (start : ℕ) (ends values : List ℕ) (at : ℕ) → at < length ends
@@ -59,3 +68,44 @@ rows_from-push start [] values row end h e = ap (λ r. r ∷ []) (last_row start
 rows_from-push start (next ∷ ends) values row end h e =
     ap (λ r. r ∷ rows_from next (ends ++ end ∷ []) (values ++ row)) (take_within start next values row h.0 (start_within next ends (length values) h.1))
     ∙ ap (λ rs. take (next - start) (drop start values) ∷ rs) (rows_from-push next ends values row end h.1 e)
+
+-- ---- rows of one width
+
+pub AreEnds-even : (start width rows : ℕ) → AreEnds start (even_ends start width rows) (start + rows * width)
+AreEnds-even start width zero = omega arith
+AreEnds-even start width (suc rows) =
+    let one = suc-mul rows width in
+    (omega arith, subst (AreEnds (start + width) (even_ends (start + width) width rows)) (omega (arith, one)) (AreEnds-even (start + width) width rows))
+
+pub rows_from-even : (start width rows : ℕ) (values : List ℕ) → rows_from start (even_ends start width rows) values ≡ rows_of_width width rows (drop start values)
+rows_from-even start width zero values = refl
+rows_from-even start width (suc rows) values =
+    let behind : List (List ℕ) = rows_from (start + width) (even_ends (start + width) width rows) values in
+    let wide : start + width - start ≡ width = omega arith in
+    ap (λ n. take n (drop start values) ∷ behind) wide
+    ∙ ap (λ rs. take width (drop start values) ∷ rs)
+    (rows_from-even (start + width) width rows values ∙ ap (rows_of_width width rows) (sym (drop-drop width start values)))
+
+-- a row of the width before so many
+pub rows_of_width-row : (rows : ℕ) (row values : List ℕ) → rows_of_width (length row) (suc rows) (row ++ values) ≡ row ∷ rows_of_width (length row) rows values
+rows_of_width-row rows row values =
+    ap (λ r. r ∷ rows_of_width (length row) rows (drop (length row) (row ++ values))) (take-append_seam row values)
+    ∙ ap (λ l. row ∷ rows_of_width (length row) rows l) (drop-append_seam row values)
+
+-- a row of one width for each element of a list, and their values one behind the other
+pub length-flat_map_width : {X : Type 0} (f : X → List ℕ) (width : ℕ) → ((x : X) → length (f x) ≡ width) → (xs : List X) → length (flat_map f xs) ≡ length xs * width
+length-flat_map_width f width wide [] = omega arith
+length-flat_map_width f width wide (x ∷ xs) =
+    let rest = length-flat_map_width f width wide xs in
+    let first = wide x in
+    let both = length-append (f x) (flat_map f xs) in
+    let one = suc-mul (length xs) width in
+    omega (arith, rest, first, both, one)
+
+pub rows_of_width-flat_map : {X : Type 0} (f : X → List ℕ) (width : ℕ) → ((x : X) → length (f x) ≡ width) → (xs : List X)
+    → rows_of_width width (length xs) (flat_map f xs) ≡ map f xs
+rows_of_width-flat_map f width wide [] = refl
+rows_of_width-flat_map f width wide (x ∷ xs) =
+    subst (λ w. rows_of_width w (length (x ∷ xs)) (flat_map f (x ∷ xs)) ≡ f x ∷ rows_of_width w (length xs) (flat_map f xs)) (wide x)
+    (rows_of_width-row (length xs) (f x) (flat_map f xs))
+    ∙ ap (λ rs. f x ∷ rs) (rows_of_width-flat_map f width wide xs)

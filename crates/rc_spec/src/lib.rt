@@ -13,6 +13,7 @@ mod named;
 mod names;
 mod query_rows;
 mod refusal;
+mod row_ends;
 mod row_list;
 mod spec;
 mod stripes;

@@ -1,17 +1,19 @@
 //! Lists of rows.
 
-ghost use Rattle.std.specs.Prelude.{◌≡◌, ◌==◌, ◌↔◌, ◌<◌, ◌≤◌, ◌-◌, [], ◌∷◌, ◌++◌, drop, get_or, length, option_copied, slice_get, take, IsTrue, IfOk, OnErr, OnOk};
+ghost use Rattle.std.specs.Prelude.{◌≡◌, ◌==◌, ◌↔◌, ◌<◌, ◌≤◌, ◌-◌, ◌*◌, [], ◌∷◌, ◌++◌, drop, get_or, length, option_copied, slice_get, take, IsTrue, IfOk, OnErr, OnOk};
+ghost use Rattle.rc_spec.specs.RowLists.{rows_of_width};
 
+use crate::row_ends::RowEnds;
 use rc_tuple::Memory;
 use std::alloc::Global;
 use std::marker::Model;
 
 /// Rows of values, each in the order of a query's outputs. The values of all rows stand one behind the other in one block, so
-/// that no row takes memory of its own.
+/// that no row takes memory of its own. Where the rows differ in length, a second block has where each ends.
 #[derive(Drop, Debug)]
 pub struct RowList {
     values: Vec<u64>,
-    ends: Vec<usize>,
+    ends: RowEnds,
 }
 
 impl Model for RowList {
@@ -20,9 +22,9 @@ impl Model for RowList {
 
     ghost Value = { List (List ℕ) };
 
-    ghost view = { λ l. rows_from 0 l.ends.items l.values.items };
+    ghost view = { λ l. rows_from 0 l.ends l.values.items };
 
-    ghost invariant = { λ l. AreEnds 0 l.ends.items (length l.values.items) };
+    ghost invariant = { λ l. AreEnds 0 l.ends (length l.values.items) };
 }
 
 impl RowList {
@@ -32,18 +34,19 @@ impl RowList {
     {
         RowList {
             values: Vec::new(alloc),
-            ends: Vec::new(alloc),
+            ends: RowEnds::new(),
         }
     }
 
-    /// No row, with room for so many rows that have so many values together.
-    pub fn with_room(alloc: Global, rows: usize, values: usize) -> Result<RowList, Memory>
-        ensures { IfOk result (λ list. list ≡ []) }
+    /// So many rows of one width, whose values stand one behind the other. Takes no memory.
+    pub fn of_width(values: Vec<u64>, rows: usize, width: usize) -> RowList
+        requires { length values.items ≡ rows * width }
+        ensures { result ≡ rows_of_width width rows values.items }
     {
-        Ok(RowList {
-            values: Vec::with_capacity(alloc, values)?,
-            ends: Vec::with_capacity(alloc, rows)?,
-        })
+        RowList {
+            values,
+            ends: RowEnds::of_width(rows, width),
+        }
     }
 
     /// How many rows there are.
@@ -57,7 +60,7 @@ impl RowList {
     pub fn is_empty(&self) -> bool
         ensures { result ≡ (length self.now == 0) }
     {
-        self.ends.is_empty()
+        self.len() == 0
     }
 
     /// The values of the row with this number, from 0. The cost is constant.
@@ -65,7 +68,7 @@ impl RowList {
         requires { at < length self.now }
         ensures { result.now ≡ get_or self.now at [] }
     {
-        part(&self.values, start_of(&self.ends, at), self.ends[at])
+        part(&self.values, self.ends.start_of(at), self.ends.end_of(at))
     }
 
     /// The values of the row with this number, from 0; `None` exactly where there is no such row. The cost is constant.
@@ -79,25 +82,28 @@ impl RowList {
         }
     }
 
-    /// Adds a row at the end. Where memory is wanted the list stays. Costs the row, and memory that the rows that follow share.
+    /// Adds a row at the end. Where memory is wanted the list stays. Costs the row, and memory that the rows that follow share;
+    /// the first row of another length than those before it costs as much as there are rows.
     pub fn push(&mut self, row: &[u64]) -> Result<(), Memory>
         ensures ok { OnOk result (self.new ≡ self.old ++ row.now ∷ []) }
         ensures err { OnErr result (self.new ≡ self.old) }
     {
-        self.ends.reserve(1)?;
+        let alloc = *self.values.allocator();
+        self.values.reserve(row.len())?;
+        self.ends.push(alloc, self.values.len() + row.len())?;
+        // There is room: this can't fail, now that the end stands.
         self.values.extend_from_slice(row)?;
-        self.ends.push_reserved(self.values.len());
         Ok(())
     }
 
-    /// Another list of the same rows, in two blocks. Costs all values.
+    /// Another list of the same rows, in one block, or in two where the rows differ in length. Costs all values.
     pub fn copy(&self) -> Result<RowList, Memory>
         ensures { IfOk result (λ copy. copy ≡ self.now) }
     {
         let alloc = *self.values.allocator();
         Ok(RowList {
             values: Vec::from_slice(alloc, &self.values)?,
-            ends: Vec::from_slice(alloc, &self.ends)?,
+            ends: self.ends.copy(alloc)?,
         })
     }
 
@@ -115,14 +121,6 @@ impl RowList {
         }
         true
     }
-}
-
-/// Where the row with this number begins.
-fn start_of(ends: &[usize], at: usize) -> usize
-    requires { at ≤ length ends.now }
-    ensures { result ≡ get_or (0 ∷ ends.now) at 0 }
-{
-    if at == 0 { 0 } else { ends[at - 1] }
 }
 
 /// The values from one place up to another.

@@ -1,6 +1,7 @@
-use Rattle.std.proofs.Common.{◌≡◌, map, take}
+use Rattle.std.proofs.Common.{◌≡◌, take}
+use Rattle.std.specs.List.{flat_map}
 use Rattle.rc_tuple.specs.Tuple.{pick}
 use Rattle.rc_machine.proofs.emit.rows.Given as goal
 
 abbrev pub invariant-loop-at : goal.invariant-loop-at
-invariant-loop-at l = l.rows ≡ map (pick l.outs) (take l.at l.bindings.tuples)
+invariant-loop-at l = l.values.items ≡ flat_map (pick l.outs) (take l.at l.bindings.tuples)

@@ -5,7 +5,6 @@ use Rattle.rc_spec.proofs.row_list.RowList.len.Goals as goal
 pub returns : goal.returns
 returns c =
     let len = c.len.ensures in
-    let items = c.self.inside.ends.ok.0 in
-    let rows = length-rows_from 0 c.self.inside.ends.items c.self.inside.values.items in
+    let rows = length-rows_from 0 c.self.inside.ends c.self.inside.values.items in
     let seen = ap length c.self.view_is in
-    omega (arith, len, items, rows, seen)
+    omega (arith, len, rows, seen)

@@ -1,0 +1,14 @@
+use Rattle.std.proofs.Common.{ap, length, subst, sym, ◌∙◌, arith}
+use Rattle.rc_spec.specs.RowEnds.{even_ends}
+use Rattle.rc_spec.specs.RowLists.{AreEnds, rows_from}
+use Rattle.rc_spec.specs.RowListsLaws.{AreEnds-even, rows_from-even}
+use Rattle.rc_spec.proofs.row_list.RowList.of_width.Goals as goal
+
+pub invariant_of-result : goal.invariant_of-result
+invariant_of-result c =
+    let count = c.requires in
+    subst (λ l. AreEnds 0 l (length c.args.values.items)) (sym c.of_width.ensures)
+    (subst (AreEnds 0 (even_ends 0 c.args.width c.args.rows)) (omega (arith, count)) (AreEnds-even 0 c.args.width c.args.rows))
+
+pub returns : goal.returns
+returns c = ap (λ l. rows_from 0 l c.args.values.items) c.of_width.ensures ∙ rows_from-even 0 c.args.width c.args.rows c.args.values.items
