@@ -19,7 +19,8 @@ use crate::places::{RowPlace, make_room, place_rows};
 use crate::workspace::Workspace;
 use rc_bindings::{Binding, Bindings};
 use rc_fragment::Holder;
-use rc_spec::{OpKind, Reply, Spec};
+use rc_plan::Compiled;
+use rc_spec::{OpKind, Reply};
 use rc_tuple::{Memory, Tuple};
 use std::alloc::Global;
 
@@ -27,22 +28,22 @@ use std::alloc::Global;
 pub(crate) fn apply<H: Holder>(
     alloc: Global,
     holder: &mut H,
-    spec: &Spec,
+    compiled: &Compiled,
     kind: &OpKind,
     args: &Tuple,
     space: &mut Workspace,
 ) -> Result<Reply, Memory>
-    requires sealed { IsSealed spec.now }
-    requires table { (H.seen holder.old).table ≡ edge_table spec.now }
-    requires wide { AreWide spec.now space.old }
+    requires sealed { IsSealed compiled.now.spec }
+    requires table { (H.seen holder.old).table ≡ edge_table compiled.now.spec }
+    requires wide { AreWide compiled.now.spec space.old }
     requires unchanged { AreAsTaken (held_of (H.seen holder.old)) }
-    requires can { CanApply spec.now kind.now args.now space.old.bindings.tuples (held_of (H.seen holder.old)) }
-    ensures ok { IfOk result (HasApplied spec.now kind.now args.now space.old.bindings.tuples (held_of (H.seen holder.old)) (held_of (H.seen holder.new))) }
+    requires can { CanApply compiled.now.spec kind.now args.now space.old.bindings.tuples (held_of (H.seen holder.old)) }
+    ensures ok { IfOk result (HasApplied compiled.now.spec kind.now args.now space.old.bindings.tuples (held_of (H.seen holder.old)) (held_of (H.seen holder.new))) }
     ensures err { OnErr result (held_of (H.seen holder.new) ≡ held_of (H.seen holder.old)) }
     ensures lent { IsSameButLent (H.seen holder.old) (H.seen holder.new) }
     ensures sound { (spec : Spec) → H.is_sound holder.old spec → H.is_sound holder.new spec }
 {
-    match change_rows(alloc, holder, spec, kind, args, space) {
+    match change_rows(alloc, holder, compiled, kind, args, space) {
         Ok(reply) => Ok(reply),
         Err(memory) => {
             holder.revert();
@@ -55,16 +56,16 @@ pub(crate) fn apply<H: Holder>(
 fn change_rows<H: Holder>(
     alloc: Global,
     holder: &mut H,
-    spec: &Spec,
+    compiled: &Compiled,
     kind: &OpKind,
     args: &Tuple,
     space: &mut Workspace,
 ) -> Result<Reply, Memory>
-    requires sealed { IsSealed spec.now }
-    requires table { (H.seen holder.old).table ≡ edge_table spec.now }
-    requires wide { AreWide spec.now space.old }
-    requires can { CanApply spec.now kind.now args.now space.old.bindings.tuples (held_of (H.seen holder.old)) }
-    ensures ok { IfOk result (HasApplied spec.now kind.now args.now space.old.bindings.tuples (held_of (H.seen holder.old)) (held_of (H.seen holder.new))) }
+    requires sealed { IsSealed compiled.now.spec }
+    requires table { (H.seen holder.old).table ≡ edge_table compiled.now.spec }
+    requires wide { AreWide compiled.now.spec space.old }
+    requires can { CanApply compiled.now.spec kind.now args.now space.old.bindings.tuples (held_of (H.seen holder.old)) }
+    ensures ok { IfOk result (HasApplied compiled.now.spec kind.now args.now space.old.bindings.tuples (held_of (H.seen holder.old)) (held_of (H.seen holder.new))) }
     ensures alike { OnErr result (AreTakenAlike (held_of (H.seen holder.old)) (held_of (H.seen holder.new))) }
     ensures lent { IsSameButLent (H.seen holder.old) (H.seen holder.new) }
     ensures sound { (spec : Spec) → H.is_sound holder.old spec → H.is_sound holder.new spec }
@@ -74,10 +75,18 @@ fn change_rows<H: Holder>(
         OpKind::Insert => {
             space.found.begin(args.cols());
             space.found.push_projection(args)?;
-            add_rows(holder, spec, args, &space.found.get(0), &mut space.places)?;
+            add_rows(
+                holder,
+                compiled,
+                args,
+                &space.found.get(0),
+                &mut space.places,
+            )?;
             Ok(Reply::Inserted)
         }
-        OpKind::Remove => { remove_least(alloc, holder, spec, &space.bindings, &mut space.places) }
+        OpKind::Remove => {
+            remove_least(alloc, holder, compiled, &space.bindings, &mut space.places)
+        }
     }
 }
 
@@ -85,15 +94,15 @@ fn change_rows<H: Holder>(
 fn remove_least<H: Holder>(
     alloc: Global,
     holder: &mut H,
-    spec: &Spec,
+    compiled: &Compiled,
     bindings: &Bindings,
     places: &mut Vec<RowPlace>,
 ) -> Result<Reply, Memory>
-    requires sealed { IsSealed spec.now }
-    requires table { (H.seen holder.old).table ≡ edge_table spec.now }
-    requires wide { bindings.now.width ≡ length spec.now.columns }
-    requires can { (b : Pairs) → In b bindings.now.tuples → CanRemove spec.now b (held_of (H.seen holder.old)) }
-    ensures ok { IfOk result (HasRemoved spec.now bindings.now.tuples (held_of (H.seen holder.old)) (held_of (H.seen holder.new))) }
+    requires sealed { IsSealed compiled.now.spec }
+    requires table { (H.seen holder.old).table ≡ edge_table compiled.now.spec }
+    requires wide { bindings.now.width ≡ length compiled.now.spec.columns }
+    requires can { (b : Pairs) → In b bindings.now.tuples → CanRemove compiled.now.spec b (held_of (H.seen holder.old)) }
+    ensures ok { IfOk result (HasRemoved compiled.now.spec bindings.now.tuples (held_of (H.seen holder.old)) (held_of (H.seen holder.new))) }
     ensures err { OnErr result (held_of (H.seen holder.new) ≡ held_of (H.seen holder.old)) }
     ensures lent { IsSameButLent (H.seen holder.old) (H.seen holder.new) }
     ensures sound { (spec : Spec) → H.is_sound holder.old spec → H.is_sound holder.new spec }
@@ -103,7 +112,7 @@ fn remove_least<H: Holder>(
     }
     let least = bindings.get(0);
     let removed = least.tuple(alloc)?;
-    sub_rows(holder, spec, &removed, &least, places)?;
+    sub_rows(holder, compiled, &removed, &least, places)?;
     Ok(Reply::Removed(removed))
 }
 
@@ -111,22 +120,22 @@ fn remove_least<H: Holder>(
 /// edges may be added.
 pub(crate) fn add_rows<H: Holder>(
     holder: &mut H,
-    spec: &Spec,
+    compiled: &Compiled,
     tuple: &Tuple,
     binding: &Binding,
     places: &mut Vec<RowPlace>,
 ) -> Result<(), Memory>
-    requires sealed { IsSealed spec.now }
+    requires sealed { IsSealed compiled.now.spec }
     requires same { binding.now.tuple ≡ tuple.now }
-    requires wide { binding.now.width ≡ length spec.now.columns }
-    requires table { (H.seen holder.old).table ≡ edge_table spec.now }
-    requires can { CanInsert spec.now tuple.now (held_of (H.seen holder.old)) }
-    ensures ok { OnOk result (held_of (H.seen holder.new) ≡ all_changed raised spec.now tuple.now (edge_numbers spec.now) (held_of (H.seen holder.old))) }
-    ensures some { (n : ℕ) × (held_of (H.seen holder.new) ≡ all_changed raised spec.now tuple.now (range_with_len 0 n) (held_of (H.seen holder.old))) }
+    requires wide { binding.now.width ≡ length compiled.now.spec.columns }
+    requires table { (H.seen holder.old).table ≡ edge_table compiled.now.spec }
+    requires can { CanInsert compiled.now.spec tuple.now (held_of (H.seen holder.old)) }
+    ensures ok { OnOk result (held_of (H.seen holder.new) ≡ all_changed raised compiled.now.spec tuple.now (edge_numbers compiled.now.spec) (held_of (H.seen holder.old))) }
+    ensures some { (n : ℕ) × (held_of (H.seen holder.new) ≡ all_changed raised compiled.now.spec tuple.now (range_with_len 0 n) (held_of (H.seen holder.old))) }
     ensures lent { IsSameButLent (H.seen holder.old) (H.seen holder.new) }
     ensures sound { (spec : Spec) → H.is_sound holder.old spec → H.is_sound holder.new spec }
 {
-    place_rows(spec, tuple, binding, places)?;
+    place_rows(compiled, tuple, binding, places)?;
     make_room(holder, places)?;
     for place in places.iter() {
         holder.add_row(place.stripe, place.edge, &place.row)?;
@@ -137,22 +146,22 @@ pub(crate) fn add_rows<H: Holder>(
 /// Takes the tuple's row out of each edge, on the stripe on which it falls. Where memory is wanted the rows stay.
 pub(crate) fn sub_rows<H: Holder>(
     holder: &mut H,
-    spec: &Spec,
+    compiled: &Compiled,
     tuple: &Tuple,
     binding: &Binding,
     places: &mut Vec<RowPlace>,
 ) -> Result<(), Memory>
-    requires sealed { IsSealed spec.now }
+    requires sealed { IsSealed compiled.now.spec }
     requires same { binding.now.tuple ≡ tuple.now }
-    requires wide { binding.now.width ≡ length spec.now.columns }
-    requires table { (H.seen holder.old).table ≡ edge_table spec.now }
-    requires can { CanRemove spec.now tuple.now (held_of (H.seen holder.old)) }
-    ensures ok { OnOk result (held_of (H.seen holder.new) ≡ all_changed lowered spec.now tuple.now (edge_numbers spec.now) (held_of (H.seen holder.old))) }
+    requires wide { binding.now.width ≡ length compiled.now.spec.columns }
+    requires table { (H.seen holder.old).table ≡ edge_table compiled.now.spec }
+    requires can { CanRemove compiled.now.spec tuple.now (held_of (H.seen holder.old)) }
+    ensures ok { OnOk result (held_of (H.seen holder.new) ≡ all_changed lowered compiled.now.spec tuple.now (edge_numbers compiled.now.spec) (held_of (H.seen holder.old))) }
     ensures err { OnErr result (held_of (H.seen holder.new) ≡ held_of (H.seen holder.old)) }
     ensures lent { IsSameButLent (H.seen holder.old) (H.seen holder.new) }
     ensures sound { (spec : Spec) → H.is_sound holder.old spec → H.is_sound holder.new spec }
 {
-    place_rows(spec, tuple, binding, places)?;
+    place_rows(compiled, tuple, binding, places)?;
     make_room(holder, places)?;
     for place in places.iter() {
         holder.sub_row(place.stripe, place.edge, &place.row);

@@ -19,36 +19,35 @@ ghost use Rattle.rc_machine.specs.declared.stop.Stop.TheVariants as stop;
 ghost use Rattle.rc_plan.specs.StripeLocks.{band};
 
 use crate::Stop;
-use crate::stripe::stripe_of;
 use rc_bindings::Bindings;
 use rc_fragment::{Holder, TakeStop};
-use rc_plan::Which;
-use rc_spec::{Mode, Spec, band_start};
+use rc_plan::{Compiled, Which};
+use rc_spec::Mode;
 use rc_tuple::Memory;
 
 /// Takes the stripes of a class on which the bindings fall, or all of them, in rising order. After a stop those that
 /// were taken stay held.
 pub(crate) fn lock<H: Holder>(
     holder: &mut H,
-    spec: &Spec,
+    compiled: &Compiled,
     class: u8,
     which: Which,
     mode: Mode,
     bindings: &Bindings,
     stripes: &mut Vec<u32>,
 ) -> Result<(), Stop>
-    requires sealed { IsSealed spec.now }
-    requires known { class < length spec.now.classes }
-    requires wide { bindings.now.width ≡ length spec.now.columns }
-    requires total { length (H.seen holder.old).offered ≡ stripe_total spec.now }
-    requires above { (s : ℕ) → In s (stripes_locked spec.now class which bindings.now.tuples) → IsAbove (held_of (H.seen holder.old)) s }
-    ensures ok { OnOk result (HasLocked (H.seen holder.old) (H.seen holder.new) (gather nat_cmp (stripes_locked spec.now class which bindings.now.tuples)) mode) }
-    ensures some { (n : ℕ) × HasLocked (H.seen holder.old) (H.seen holder.new) (take n (gather nat_cmp (stripes_locked spec.now class which bindings.now.tuples))) mode }
-    ensures refused { (h : Held) → result ≡ Err (stop.Held h) → HasRefusedOne (H.seen holder.old) (H.seen holder.new) (gather nat_cmp (stripes_locked spec.now class which bindings.now.tuples)) mode h }
+    requires sealed { IsSealed compiled.now.spec }
+    requires known { class < length compiled.now.spec.classes }
+    requires wide { bindings.now.width ≡ length compiled.now.spec.columns }
+    requires total { length (H.seen holder.old).offered ≡ stripe_total compiled.now.spec }
+    requires above { (s : ℕ) → In s (stripes_locked compiled.now.spec class which bindings.now.tuples) → IsAbove (held_of (H.seen holder.old)) s }
+    ensures ok { OnOk result (HasLocked (H.seen holder.old) (H.seen holder.new) (gather nat_cmp (stripes_locked compiled.now.spec class which bindings.now.tuples)) mode) }
+    ensures some { (n : ℕ) × HasLocked (H.seen holder.old) (H.seen holder.new) (take n (gather nat_cmp (stripes_locked compiled.now.spec class which bindings.now.tuples))) mode }
+    ensures refused { (h : Held) → result ≡ Err (stop.Held h) → HasRefusedOne (H.seen holder.old) (H.seen holder.new) (gather nat_cmp (stripes_locked compiled.now.spec class which bindings.now.tuples)) mode h }
     ensures goes_on { GoesOn (H.seen holder.old) (H.seen holder.new) }
     ensures sound { (spec : Spec) → H.is_sound holder.old spec → H.is_sound holder.new spec }
 {
-    name_stripes(stripes, spec, class, which, bindings)?;
+    name_stripes(stripes, compiled, class, which, bindings)?;
     sort(stripes);
     take_all(holder, stripes, mode)?;
     Ok(())
@@ -58,49 +57,52 @@ pub(crate) fn lock<H: Holder>(
 /// class.
 fn name_stripes(
     stripes: &mut Vec<u32>,
-    spec: &Spec,
+    compiled: &Compiled,
     class: u8,
     which: Which,
     bindings: &Bindings,
 ) -> Result<(), Memory>
-    requires sealed { IsSealed spec.now }
-    requires known { class < length spec.now.classes }
-    requires wide { bindings.now.width ≡ length spec.now.columns }
-    ensures { OnOk result (stripes.new.items ≡ stripes_locked spec.now class which bindings.now.tuples) }
+    requires sealed { IsSealed compiled.now.spec }
+    requires known { class < length compiled.now.spec.classes }
+    requires wide { bindings.now.width ≡ length compiled.now.spec.columns }
+    ensures { OnOk result (stripes.new.items ≡ stripes_locked compiled.now.spec class which bindings.now.tuples) }
 {
     stripes.clear();
     match which {
-        Which::Keyed => push_fallen_on(stripes, spec, class, bindings),
-        Which::All => push_band(stripes, spec, class),
+        Which::Keyed => push_fallen_on(stripes, compiled, class, bindings),
+        Which::All => push_band(stripes, compiled, class),
     }
 }
 
 /// Adds the stripe on which each binding falls.
 fn push_fallen_on(
     stripes: &mut Vec<u32>,
-    spec: &Spec,
+    compiled: &Compiled,
     class: u8,
     bindings: &Bindings,
 ) -> Result<(), Memory>
-    requires sealed { IsSealed spec.now }
-    requires known { class < length spec.now.classes }
-    requires wide { bindings.now.width ≡ length spec.now.columns }
-    ensures { OnOk result (stripes.new.items ≡ stripes.old.items ++ map (physical_stripe spec.now class) bindings.now.tuples) }
+    requires sealed { IsSealed compiled.now.spec }
+    requires known { class < length compiled.now.spec.classes }
+    requires wide { bindings.now.width ≡ length compiled.now.spec.columns }
+    ensures { OnOk result (stripes.new.items ≡ stripes.old.items ++ map (physical_stripe compiled.now.spec class) bindings.now.tuples) }
 {
+    // The class and its first stripe are found once for all bindings.
+    let named = compiled.class(class);
+    let start = compiled.band_start(class);
     for at in 0..bindings.len() {
-        stripes.push(stripe_of(spec, class, &bindings.get(at)))?;
+        stripes.push(start + bindings.get(at).stripe_of(named))?;
     }
     Ok(())
 }
 
 /// Adds all stripes of the class.
-fn push_band(stripes: &mut Vec<u32>, spec: &Spec, class: u8) -> Result<(), Memory>
-    requires sealed { IsSealed spec.now }
-    requires known { class < length spec.now.classes }
-    ensures { OnOk result (stripes.new.items ≡ stripes.old.items ++ band spec.now class) }
+fn push_band(stripes: &mut Vec<u32>, compiled: &Compiled, class: u8) -> Result<(), Memory>
+    requires sealed { IsSealed compiled.now.spec }
+    requires known { class < length compiled.now.spec.classes }
+    ensures { OnOk result (stripes.new.items ≡ stripes.old.items ++ band compiled.now.spec class) }
 {
-    let start = band_start(spec, class);
-    for place in 0..spec.class(class).stripes {
+    let start = compiled.band_start(class);
+    for place in 0..compiled.class(class).stripes {
         stripes.push(start + place)?;
     }
     Ok(())

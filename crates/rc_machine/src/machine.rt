@@ -44,14 +44,13 @@ pub fn run_plan<H: Holder>(
     ensures goes_on { GoesOn (H.seen holder.old) (H.seen holder.new) }
     ensures sound { (spec : Spec) → H.is_sound holder.old spec → H.is_sound holder.new spec }
 {
-    let spec = compiled.accepted().spec();
     let plan = compiled.plan(call.op).list();
     let alloc = space.alloc();
-    space.clear_for(spec.columns.list().len());
+    space.clear_for(compiled.accepted().spec().columns.list().len());
     space.bindings.begin(call.args.cols());
     space.bindings.push_projection(&call.args)?;
     for at in 0..plan.len() {
-        if let Some(reply) = step(alloc, holder, spec, call, plan, at, space)? {
+        if let Some(reply) = step(alloc, holder, compiled, call, plan, at, space)? {
             return Ok(reply);
         }
     }

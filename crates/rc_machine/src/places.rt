@@ -16,7 +16,7 @@ ghost use Rattle.rc_machine.specs.declared.places.RowPlace.{RowPlace};
 use crate::stripe::stripe_of;
 use rc_bindings::Binding;
 use rc_fragment::Holder;
-use rc_spec::Spec;
+use rc_plan::Compiled;
 use rc_tuple::{Memory, Tuple};
 use std::alloc::Global;
 
@@ -39,40 +39,40 @@ pub(crate) struct ClassStripe {
 /// The binding is the tuple in registers. Edges that follow each other are mostly of one class, whose stripe is found once.
 /// Memory is taken only where the places had room for fewer edges or columns.
 pub(crate) fn place_rows(
-    spec: &Spec,
+    compiled: &Compiled,
     tuple: &Tuple,
     binding: &Binding,
     places: &mut Vec<RowPlace>,
 ) -> Result<(), Memory>
-    requires sealed { IsSealed spec.now }
+    requires sealed { IsSealed compiled.now.spec }
     requires same { binding.now.tuple ≡ tuple.now }
-    requires wide { binding.now.width ≡ length spec.now.columns }
-    requires whole { cols_of tuple.now ≡ all_columns spec.now }
-    ensures { OnOk result (places.new.items ≡ map (place_in spec.now tuple.now) (edge_numbers spec.now)) }
+    requires wide { binding.now.width ≡ length compiled.now.spec.columns }
+    requires whole { cols_of tuple.now ≡ all_columns compiled.now.spec }
+    ensures { OnOk result (places.new.items ≡ map (place_in compiled.now.spec tuple.now) (edge_numbers compiled.now.spec)) }
 {
-    let edges = spec.edges.list().len();
+    let edges = compiled.accepted().spec().edges.list().len();
     resize(places, edges, tuple.alloc())?;
     let mut last = None;
     for edge in 0..edges as u8 {
-        let class = spec.class_of(edge);
-        let stripe = stripe_after(spec, class, binding, last);
+        let class = compiled.edge(edge).class;
+        let stripe = stripe_after(compiled, class, binding, last);
         last = Some(ClassStripe { class, stripe });
-        place_row(spec, tuple, edge, stripe, &mut places[edge as usize])?;
+        place_row(compiled, tuple, edge, stripe, &mut places[edge as usize])?;
     }
     Ok(())
 }
 
 /// The number, among all stripes, of the class's stripe on which the binding falls, where the last one was found before.
-fn stripe_after(spec: &Spec, class: u8, binding: &Binding, last: Option<ClassStripe>) -> u32
-    requires sealed { IsSealed spec.now }
-    requires known { class < length spec.now.classes }
-    requires wide { binding.now.width ≡ length spec.now.columns }
-    requires last { IfSome last (IsStripeOf spec.now binding.now.tuple) }
-    ensures { result ≡ physical_stripe spec.now class binding.now.tuple }
+fn stripe_after(compiled: &Compiled, class: u8, binding: &Binding, last: Option<ClassStripe>) -> u32
+    requires sealed { IsSealed compiled.now.spec }
+    requires known { class < length compiled.now.spec.classes }
+    requires wide { binding.now.width ≡ length compiled.now.spec.columns }
+    requires last { IfSome last (IsStripeOf compiled.now.spec binding.now.tuple) }
+    ensures { result ≡ physical_stripe compiled.now.spec class binding.now.tuple }
 {
     match last {
         Some(last) if last.class == class => last.stripe,
-        _ => stripe_of(spec, class, binding),
+        _ => stripe_of(compiled, class, binding),
     }
 }
 
@@ -93,21 +93,21 @@ fn resize(places: &mut Vec<RowPlace>, count: usize, alloc: Global) -> Result<(),
 
 /// Makes the place that of the tuple's row in the edge, on the stripe on which the tuple falls.
 fn place_row(
-    spec: &Spec,
+    compiled: &Compiled,
     tuple: &Tuple,
     edge: u8,
     stripe: u32,
     place: &mut RowPlace,
 ) -> Result<(), Memory>
-    requires sealed { IsSealed spec.now }
-    requires known { edge < length spec.now.edges }
-    requires falls { stripe ≡ physical_stripe spec.now (class_of spec.now edge) tuple.now }
-    requires whole { cols_of tuple.now ≡ all_columns spec.now }
-    ensures { OnOk result (place.new ≡ place_in spec.now tuple.now edge) }
+    requires sealed { IsSealed compiled.now.spec }
+    requires known { edge < length compiled.now.spec.edges }
+    requires falls { stripe ≡ physical_stripe compiled.now.spec (class_of compiled.now.spec edge) tuple.now }
+    requires whole { cols_of tuple.now ≡ all_columns compiled.now.spec }
+    ensures { OnOk result (place.new ≡ place_in compiled.now.spec tuple.now edge) }
 {
     place.edge = edge;
     place.stripe = stripe;
-    tuple.project_into(spec.bound(spec.edge(edge).to), &mut place.row)
+    tuple.project_into(compiled.edge(edge).target, &mut place.row)
 }
 
 /// Makes room on each row's stripe for a change of each of the rows that fall on it. No row changes. Rows that follow each

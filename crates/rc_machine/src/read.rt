@@ -22,8 +22,7 @@ use crate::edge_read::EdgeRead;
 use crate::workspace::{Finder, Workspace};
 use rc_bindings::{Binding, Bindings};
 use rc_fragment::{Fragment, Holder};
-use rc_plan::ReadMode;
-use rc_spec::Spec;
+use rc_plan::{Compiled, ReadMode};
 use rc_tuple::{ColSet, Memory};
 use std::alloc::Global;
 use std::mem;
@@ -34,22 +33,24 @@ use std::mem;
 pub(crate) fn read<H: Holder>(
     alloc: Global,
     holder: &H,
-    spec: &Spec,
+    compiled: &Compiled,
     edge: u8,
     mode: ReadMode,
     space: &mut Workspace,
 ) -> Result<(), Memory>
-    requires sealed { IsSealed spec.now }
-    requires known { edge < length spec.now.edges }
-    requires wide { AreWide spec.now space.old }
-    requires table { (H.seen holder.now).table ≡ edge_table spec.now }
-    requires good { AreGood spec.now (held_of (H.seen holder.now)) }
-    requires readers { AreReaders spec.now edge mode (held_of (H.seen holder.now)) space.old.bindings.tuples }
+    requires sealed { IsSealed compiled.now.spec }
+    requires known { edge < length compiled.now.spec.edges }
+    requires wide { AreWide compiled.now.spec space.old }
+    requires table { (H.seen holder.now).table ≡ edge_table compiled.now.spec }
+    requires good { AreGood compiled.now.spec (held_of (H.seen holder.now)) }
+    requires readers { AreReaders compiled.now.spec edge mode (held_of (H.seen holder.now)) space.old.bindings.tuples }
     ensures joined { OnOk result (space.new.bindings.tuples ≡ join space.old.bindings.tuples (tuples_of_edge edge (rows_now (held_of (H.seen holder.now))))) }
-    ensures wide { OnOk result (AreWide spec.now space.new) }
+    ensures wide { OnOk result (AreWide compiled.now.spec space.new) }
 {
-    let read = EdgeRead::of(spec, edge, mode);
-    space.found.begin(space.bindings.cols().union(spec.bound(spec.edge(edge).to)));
+    let read = EdgeRead::of(compiled, edge, mode);
+    space
+        .found
+        .begin(space.bindings.cols().union(read.resolved.target));
     for at in 0..space.bindings.len() {
         let binding = space.bindings.get(at);
         push_joined(&mut space.found, &mut space.finder, holder, &read, &binding)?;
@@ -101,7 +102,7 @@ fn push_from_band<H: Holder>(
     ensures merged { OnOk result (HasMergedOn binding.now.tuple read.now.edge (held_of (H.seen holder.now)) (band read.now.spec.now (class_of read.now.spec.now read.now.edge)) found.old.tuples found.new.tuples) }
     ensures same { OnOk result (HasMoreTuples found.old found.new) }
 {
-    let start = read.start;
+    let start = read.resolved.start;
     for place in 0..read.class.stripes {
         push_found(found, finder, holder, start + place, read, binding)?;
     }
@@ -131,7 +132,7 @@ fn push_found<H: Holder>(
     match read.mode {
         ReadMode::Lookup => push_looked_up(found, finder, fragment, read, binding),
         // Without a key a source has one row, which a scan's list may not tell.
-        ReadMode::Scan if read.key.is_empty() => {
+        ReadMode::Scan if read.resolved.key.is_empty() => {
             push_looked_up(found, finder, fragment, read, binding)
         }
         ReadMode::Scan => push_scanned(found, finder, fragment, read, binding),
@@ -156,11 +157,11 @@ fn push_looked_up(
     ensures same { OnOk result (HasMoreTuples found.old found.new) }
 {
     finder.source.clear();
-    binding.push_values(read.source, &mut finder.source)?;
+    binding.push_values(read.resolved.source, &mut finder.source)?;
     finder.key.clear();
-    binding.push_values(read.key, &mut finder.key)?;
+    binding.push_values(read.resolved.key, &mut finder.key)?;
     match fragment.lookup(read.edge, &finder.source, &finder.key) {
-        Some(values) => found.push_row(binding, ColSet::empty(), &[], read.extra, values),
+        Some(values) => found.push_row(binding, ColSet::empty(), &[], read.resolved.extra, values),
         None => Ok(()),
     }
 }
@@ -179,20 +180,20 @@ fn push_scanned(
     requires own { cols_of binding.now.tuple ≡ binding.now.columns }
     requires tuple { IsTuple binding.now.tuple }
     requires reader { IsReader read.now.spec.now read.now.edge read_mode.Scan binding.now.tuple }
-    requires keyed { read.now.key ≡ [] → ⊥ }
+    requires keyed { read.now.resolved.now.key ≡ [] → ⊥ }
     ensures merged { OnOk result (HasMerged binding.now.tuple read.now.edge fragment.now.now found.old.tuples found.new.tuples) }
     ensures same { OnOk result (HasMoreTuples found.old found.new) }
 {
     finder.source.clear();
-    binding.push_values(read.source, &mut finder.source)?;
+    binding.push_values(read.resolved.source, &mut finder.source)?;
     finder.rows.clear();
     fragment.scan(read.edge, &finder.source, &mut finder.rows)?;
     found.push_rows(
         binding,
-        read.key,
-        read.keys,
-        read.extra,
-        read.extras,
+        read.resolved.key,
+        read.resolved.keys,
+        read.resolved.extra,
+        read.resolved.extras,
         &finder.rows,
     )
 }

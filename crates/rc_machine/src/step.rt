@@ -21,8 +21,8 @@ use crate::lock::lock;
 use crate::read::read;
 use crate::workspace::Workspace;
 use rc_fragment::Holder;
-use rc_plan::Statement;
-use rc_spec::{Call, Reply, Spec};
+use rc_plan::{Compiled, Statement};
+use rc_spec::{Call, Reply};
 use std::alloc::Global;
 
 /// Runs the statement with this number. The run goes on, or has answered; after a stop no held stripe is changed.
@@ -30,33 +30,34 @@ use std::alloc::Global;
 pub(crate) fn step<H: Holder>(
     alloc: Global,
     holder: &mut H,
-    spec: &Spec,
+    compiled: &Compiled,
     call: &Call,
     plan: &[Statement],
     at: usize,
     space: &mut Workspace,
 ) -> Result<Option<Reply>, Stop>
-    requires sealed { IsSealed spec.now }
-    requires fits { Fits spec.now call.now }
-    requires planned { IsPlanOf spec.now call.now.op plan.now }
+    requires sealed { IsSealed compiled.now.spec }
+    requires fits { Fits compiled.now.spec call.now }
+    requires planned { IsPlanOf compiled.now.spec call.now.op plan.now }
     requires there { at < length plan.now }
-    requires sound { H.is_sound holder.old spec.now }
-    requires run { IsAt spec.now plan.now call.now (drop at plan.now) space.old.bindings.tuples (held_of (H.seen holder.old)) }
-    requires wide { AreWide spec.now space.old }
+    requires sound { H.is_sound holder.old compiled.now.spec }
+    requires run { IsAt compiled.now.spec plan.now call.now (drop at plan.now) space.old.bindings.tuples (held_of (H.seen holder.old)) }
+    requires wide { AreWide compiled.now.spec space.old }
     requires taken { AreTakenAsOffered (H.seen holder.old) }
-    ensures run { IfOk result (HasGoneOn spec.now plan.now call.now (drop (at + 1) plan.now) space.new.bindings.tuples (held_of (H.seen holder.new))) }
-    ensures wide { IfOk result (StaysWide spec.now space.new) }
+    ensures run { IfOk result (HasGoneOn compiled.now.spec plan.now call.now (drop (at + 1) plan.now) space.new.bindings.tuples (held_of (H.seen holder.new))) }
+    ensures wide { IfOk result (StaysWide compiled.now.spec space.new) }
     ensures taken { AreTakenAsOffered (H.seen holder.new) }
     ensures stopped { IfErr result (λ _. AreAsTaken (held_of (H.seen holder.new))) }
-    ensures refused { (h : Held) → result ≡ Err (stop.Held h) → IsRefused spec.now plan.now call.now (H.seen holder.old) (H.seen holder.new) h }
+    ensures refused { (h : Held) → result ≡ Err (stop.Held h) → IsRefused compiled.now.spec plan.now call.now (H.seen holder.old) (H.seen holder.new) h }
     ensures goes_on { GoesOn (H.seen holder.old) (H.seen holder.new) }
     ensures sound { (spec : Spec) → H.is_sound holder.old spec → H.is_sound holder.new spec }
 {
+    let spec = compiled.accepted().spec();
     match plan[at] {
         Statement::Lock { class, which, mode } => {
             lock(
                 holder,
-                spec,
+                compiled,
                 class,
                 which,
                 mode,
@@ -71,14 +72,14 @@ pub(crate) fn step<H: Holder>(
             Ok(None)
         }
         Statement::Read { edge, mode } => {
-            read(alloc, holder, spec, edge, mode, space)?;
+            read(alloc, holder, compiled, edge, mode, space)?;
             Ok(None)
         }
         Statement::CheckAbsent => Ok(present(&space.bindings)),
         Statement::CheckDep { dep } => Ok(conflict(spec, dep, &call.args, &space.bindings)),
         Statement::Apply => {
             let kind = &spec.op(call.op).kind;
-            Ok(Some(apply(alloc, holder, spec, kind, &call.args, space)?))
+            Ok(Some(apply(alloc, holder, compiled, kind, &call.args, space)?))
         }
         Statement::Emit => {
             let kind = &spec.op(call.op).kind;

@@ -40,11 +40,11 @@ fn plan_all(alloc: Global, accepted: &Accepted) -> Result<Vec<Plan>, Memory>
 }
 
 /// Plans every operation of an accepted specification: each gets the plan that the planning rules give it, which keeps
-/// K1 to K7.
+/// K1 to K7. Where memory is wanted, the specification is gone.
 pub fn compile(alloc: Global, accepted: Accepted) -> Result<Compiled, Memory>
     ensures same { IfOk result (λ compiled. compiled.spec ≡ accepted) }
     ensures planned { IfOk result (λ compiled. (op : ℕ) → op < length accepted.ops → IsPlanned accepted (op_at accepted op) (plan_at compiled.plans op)) }
 {
     let plans = plan_all(alloc, &accepted)?;
-    Ok(Compiled::seal(accepted, plans))
+    Compiled::seal(alloc, accepted, plans)
 }

@@ -1,4 +1,5 @@
 mod Example
 mod ExamplePlans
+mod ResolvedLemmas
 mod RowLemmas
 mod TextLemmas

@@ -14,6 +14,7 @@ pub mod PlanRulesLaws
 pub mod PlanText
 pub mod QueryLaws
 pub mod RemoveLaws
+pub mod Resolved
 pub mod RunLaws
 pub mod Search
 pub mod ServeLaws

@@ -1,35 +1,56 @@
-ghost use Rattle.std.specs.Prelude.{◌≡◌, ◌<◌, length};
+ghost use Rattle.std.specs.Prelude.{◌≡◌, ◌<◌, length, IfOk};
 ghost use Rattle.rc_spec.specs.Acceptance.{IsSealed};
+ghost use Rattle.rc_spec.specs.InRange.{IsSetBelow};
+ghost use Rattle.rc_spec.specs.Placement.{class_at};
+ghost use Rattle.rc_spec.specs.Stripes.{band_start};
 ghost use Rattle.rc_plan.specs.Compiled.{ArePlansOf, IsPlanOf, plan_at};
+ghost use Rattle.rc_plan.specs.Resolved.{IsResolvedEdge};
 
-use crate::Plan;
-use rc_spec::Accepted;
+use crate::resolved::{band_starts, resolve_edges};
+use crate::{Plan, ResolvedEdge};
+use rc_spec::{Accepted, Class};
+use rc_tuple::Memory;
+use std::alloc::Global;
 use std::marker::Model;
 
-/// An accepted specification with a plan for each of its operations, each of which keeps K1 to K7.
+/// An accepted specification with a plan for each of its operations, each of which keeps K1 to K7. What plans ask of
+/// edges and classes stands beside them, found once for all calls; contracts see the specification and the plans alone.
 #[derive(Debug, Drop)]
 pub struct Compiled {
     accepted: Accepted,
     plans: Vec<Plan>,
+    edges: Vec<ResolvedEdge>,
+    /// The number, among all stripes, of the first of each class.
+    starts: Vec<u32>,
 }
 
 impl Model for Compiled {
-    ghost use Rattle.rc_plan.specs.Compiled.{SpecWithPlans, IsCompiled};
+    ghost use Rattle.rc_plan.specs.Compiled.{SpecWithPlans};
+    ghost use Rattle.rc_plan.specs.Resolved.{IsCompiledWith};
 
     ghost Value = { SpecWithPlans };
 
     ghost view = { λ c. record { spec = c.accepted; plans = c.plans.items } };
 
-    ghost invariant = { λ c. IsCompiled c.accepted c.plans.items };
+    ghost invariant = { λ c. IsCompiledWith c.accepted c.plans.items c.edges.items c.starts.items };
 }
 
 impl Compiled {
-    /// Keeps an accepted specification with as many plans as operations, each for its own.
-    pub fn seal(accepted: Accepted, plans: Vec<Plan>) -> Compiled
+    /// Keeps an accepted specification with as many plans as operations, each for its own. Costs, for each edge, a walk
+    /// over the placements and the classes, and takes two small lists; where memory is wanted for them, specification
+    /// and plans are gone.
+    pub fn seal(alloc: Global, accepted: Accepted, plans: Vec<Plan>) -> Result<Compiled, Memory>
         requires { ArePlansOf accepted plans.items }
-        ensures { result ≡ record { spec = accepted; plans = plans.items } }
+        ensures { IfOk result (λ compiled. compiled ≡ record { spec = accepted; plans = plans.items }) }
     {
-        Compiled { accepted, plans }
+        let edges = resolve_edges(alloc, &accepted)?;
+        let starts = band_starts(alloc, &accepted)?;
+        Ok(Compiled {
+            accepted,
+            plans,
+            edges,
+            starts,
+        })
     }
 
     /// The specification.
@@ -48,5 +69,30 @@ impl Compiled {
         ensures accepted { IsPlanOf self.now.spec op result.now }
     {
         &self.plans[op as usize]
+    }
+
+    /// What plans ask of an edge, by its number.
+    pub fn edge(&self, number: u8) -> &ResolvedEdge
+        requires { number < length self.now.spec.edges }
+        ensures { IsResolvedEdge self.now.spec number result.now }
+    {
+        &self.edges[number as usize]
+    }
+
+    /// A lock class, by its number.
+    pub fn class(&self, number: u8) -> &Class
+        requires { number < length self.now.spec.classes }
+        ensures value { result.now ≡ class_at self.now.spec number }
+        ensures known { IsSetBelow (length self.now.spec.columns) result.now.cols }
+    {
+        self.accepted.spec().class(number)
+    }
+
+    /// The number, among all stripes, of the first of a class, by the number of the class.
+    pub fn band_start(&self, class: u8) -> u32
+        requires { class < length self.now.spec.classes }
+        ensures { result ≡ band_start self.now.spec class }
+    {
+        self.starts[class as usize]
     }
 }

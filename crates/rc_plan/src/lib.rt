@@ -6,6 +6,7 @@ mod evaluation;
 mod laws;
 mod printing;
 mod refusal;
+mod resolved;
 mod statement;
 
 pub use compiled::Compiled;
@@ -17,4 +18,5 @@ pub use laws::{
 };
 pub use printing::{print_plan, push_column, push_statement};
 pub use refusal::{PlanRefusal, PlanRule};
+pub use resolved::ResolvedEdge;
 pub use statement::{Plan, ReadMode, Statement, Which};

@@ -15,14 +15,14 @@ use Rattle.rc_machine.proofs.apply.change_rows.Goals as goal
 
 pub returns-in_err-add_rows-in-Insert-clause-alike : goal.returns-in_err-add_rows-in-Insert-clause-alike
 returns-in_err-add_rows-in-Insert-clause-alike g c =
-    at_err _ (ap (map reverted) c.add_rows.ensures.some.1 ∙ taken_alike raised c.args.spec.now c.args.args.now (range_with_len 0 c.add_rows.ensures.some.0) (held_of (g.H.Holder.seen c.args.holder.now)))
+    at_err _ (ap (map reverted) c.add_rows.ensures.some.1 ∙ taken_alike raised c.args.compiled.now.spec c.args.args.now (range_with_len 0 c.add_rows.ensures.some.0) (held_of (g.H.Holder.seen c.args.holder.now)))
 
 pub returns-in-Remove-clause-alike : goal.returns-in-Remove-clause-alike
 returns-in-Remove-clause-alike g c = on_err c.remove_least.result (ap (map reverted)) c.remove_least.ensures.err
 
 -- what Insert adds has all columns
 pub begin-requires : goal.begin-requires
-begin-requires g c n m = subst (λ w. n < w) (sym c.requires.wide.found) (all_below c.args.spec.now n (subst (In n) (c.cols.ensures.cols ∙ (subst (λ k. CanApply c.args.spec.now k c.args.args.now c.args.space.now.bindings.tuples (held_of (g.H.Holder.seen c.args.holder.now))) c.in-Insert.is c.requires.can).whole) m))
+begin-requires g c n m = subst (λ w. n < w) (sym c.requires.wide.found) (all_below c.args.compiled.now.spec n (subst (In n) (c.cols.ensures.cols ∙ (subst (λ k. CanApply c.args.compiled.now.spec k c.args.args.now c.args.space.now.bindings.tuples (held_of (g.H.Holder.seen c.args.holder.now))) c.in-Insert.is c.requires.can).whole) m))
 
 pub add_rows-requires-clause-same : goal.add_rows-requires-clause-same
 add_rows-requires-clause-same g c =

@@ -5,6 +5,6 @@ use Rattle.rc_machine.proofs.apply.sub_rows.Given as goal
 
 abbrev pub invariant-loop-place : goal.invariant-loop-place
 invariant-loop-place g l = record {
-  rows : AreChangedFirst lowered l.spec l.tuple l.place-items l.place-index (g.H.Holder.seen l.fn.holder) (g.H.Holder.seen l.holder);
+  rows : AreChangedFirst lowered l.compiled.spec l.tuple l.place-items l.place-index (g.H.Holder.seen l.fn.holder) (g.H.Holder.seen l.holder);
   sound : (spec : Spec) → g.H.Holder.is_sound l.fn.holder spec → g.H.Holder.is_sound l.holder spec;
 }

@@ -10,18 +10,18 @@ use Rattle.rc_machine.proofs.lock.lock.Goals.{After-deref}
 use Rattle.rc_machine.proofs.lock.lock.Goals as goal
 
 -- the stripes taken are those that the Lock names
-are : (g : Over) (c : After-deref g) → c.deref.result.now ≡ gather nat_cmp (stripes_locked c.args.spec.now c.args.class c.args.which c.args.bindings.now.tuples)
+are : (g : Over) (c : After-deref g) → c.deref.result.now ≡ gather nat_cmp (stripes_locked c.args.compiled.now.spec c.args.class c.args.which c.args.bindings.now.tuples)
 are g c = c.deref.ensures.value ∙ c.sort.ensures ∙ ap (gather nat_cmp) c.in_ok-name_stripes.ensures
 
-named : (g : Over) (c : After-deref g) (s : _) → In s c.deref.result.now → In s (stripes_locked c.args.spec.now c.args.class c.args.which c.args.bindings.now.tuples)
-named g c s m = in_gather nat_cmp nat_order s (stripes_locked c.args.spec.now c.args.class c.args.which c.args.bindings.now.tuples) (subst (In s) (are g c) m)
+named : (g : Over) (c : After-deref g) (s : _) → In s c.deref.result.now → In s (stripes_locked c.args.compiled.now.spec c.args.class c.args.which c.args.bindings.now.tuples)
+named g c s m = in_gather nat_cmp nat_order s (stripes_locked c.args.compiled.now.spec c.args.class c.args.which c.args.bindings.now.tuples) (subst (In s) (are g c) m)
 
 pub take_all-requires-clause-known : goal.take_all-requires-clause-known
 take_all-requires-clause-known g c s m =
-    subst (λ z. s < z) (sym c.requires.total) (locked_known c.args.spec.now c.requires.sealed.accepted.placed c.args.class c.args.which c.args.bindings.now.tuples c.requires.known s (named g c s m))
+    subst (λ z. s < z) (sym c.requires.total) (locked_known c.args.compiled.now.spec c.requires.sealed.accepted.placed c.args.class c.args.which c.args.bindings.now.tuples c.requires.known s (named g c s m))
 
 pub take_all-requires-clause-rising : goal.take_all-requires-clause-rising
-take_all-requires-clause-rising g c = subst (IsRising nat_cmp) (sym (are g c)) (rising_gather nat_cmp nat_order (stripes_locked c.args.spec.now c.args.class c.args.which c.args.bindings.now.tuples))
+take_all-requires-clause-rising g c = subst (IsRising nat_cmp) (sym (are g c)) (rising_gather nat_cmp nat_order (stripes_locked c.args.compiled.now.spec c.args.class c.args.which c.args.bindings.now.tuples))
 
 pub take_all-requires-clause-above : goal.take_all-requires-clause-above
 take_all-requires-clause-above g c s m = c.requires.above s (named g c s m)

@@ -2,11 +2,7 @@ use Rattle.std.proofs.Common.{◌+◌, ◌∷◌, ◌++◌, [], sym, ap, ◌∙�
 use Rattle.std.proofs.lemmas.List.{append_assoc}
 use Rattle.std.specs.List.{range_with_len}
 use Rattle.rc_tuple.specs.ColSetLaws.{range_with_len_more}
-use Rattle.rc_spec.specs.PlacementLaws.{placed_total}
 use Rattle.rc_machine.proofs.lock.push_band.Goals as goal
-
-pub band_start-start-requires-clause-few : goal.band_start-start-requires-clause-few
-band_start-start-requires-clause-few c = placed_total c.args.spec.now c.requires.sealed.accepted.placed
 
 pub loop-place-preserved : goal.loop-place-preserved
 loop-place-preserved c =

@@ -6,8 +6,6 @@ use Rattle.rc_tuple.specs.TupleLaws.{rising_pairs}
 use Rattle.rc_bindings.specs.Bindings.{BindingList}
 use Rattle.rc_machine.proofs.StripeLemmas.{args_below}
 use Rattle.rc_spec.specs.declared.spec.Spec.{Spec}
-use Rattle.rc_spec.specs.Acceptance.{IsSealed}
-use Rattle.rc_spec.specs.Calls.{Fits}
 use Rattle.rc_fragment.specs.Holder.{HeldStripe, held_of}
 use Rattle.rc_fragment.specs.HoldingLaws.{goes_on_same}
 use Rattle.rc_plan.specs.declared.statement.Statement.{Statement}
@@ -17,43 +15,42 @@ use Rattle.rc_machine.specs.Run.{IsAt}
 use Rattle.rc_machine.proofs.GoLemmas.{refused_since}
 use Rattle.rc_machine.proofs.StepLemmas.{begins}
 use Rattle.rc_machine.proofs.machine.run_plan.Given.{Over}
-use Rattle.rc_machine.proofs.machine.run_plan.Goals.{After-list-plan}
+use Rattle.rc_machine.proofs.machine.run_plan.Goals.{After-list, After-list-plan}
 use Rattle.rc_machine.proofs.machine.run_plan.Goals as goal
 
 -- the specification and the call's plan are those of what is compiled
-spec_is : (g : Over) (c : After-list-plan g) → c.spec-spec.result.now ≡ c.args.compiled.now.spec
-spec_is g c = c.spec-spec.ensures.value ∙ c.accepted.ensures.value
+spec_is : (g : Over) (c : After-list g) → c.spec.result.now ≡ c.args.compiled.now.spec
+spec_is g c = c.spec.ensures.value ∙ c.accepted.ensures.value
 
 plan_is : (g : Over) (c : After-list-plan g) → c.list-plan.result.now ≡ plan_at c.args.compiled.now.plans c.args.call.now.op
 plan_is g c = c.list-plan.ensures ∙ c.plan.ensures.value
 
+-- so many columns it has
+columns_are : (g : Over) (c : After-list g) → length c.list.result.now ≡ length c.args.compiled.now.spec.columns
+columns_are g c = ap length c.list.ensures ∙ ap (λ (s : Spec). length s.columns) (spec_is g c)
+
 -- the specification has a column, and few
 pub clear_for-requires-clause-some : goal.clear_for-requires-clause-some
-clear_for-requires-clause-some g c = subst (λ l. 0 < length l) (sym c.list.ensures) (subst IsSealed (sym c.spec-spec.ensures.value) c.spec-spec.ensures.sealed).populated.column
+clear_for-requires-clause-some g c = subst (λ n. 0 < n) (sym (columns_are g (goal.at.clear_for-requires-clause-some g c).After-list)) c.accepted.ensures.sealed.populated.column
 
 pub clear_for-requires-clause-few : goal.clear_for-requires-clause-few
-clear_for-requires-clause-few g c = subst (λ l. length l ≤ 32) (sym c.list.ensures) (subst IsSealed (sym c.spec-spec.ensures.value) c.spec-spec.ensures.sealed).in_range.columns
+clear_for-requires-clause-few g c = subst (λ n. n ≤ 32) (sym (columns_are g (goal.at.clear_for-requires-clause-few g c).After-list)) c.accepted.ensures.sealed.in_range.columns
 
 pub begin-requires : goal.begin-requires
 begin-requires g c n m =
-    let at = (goal.at.begin-requires g c).After-list-plan in
-    let spec : Spec = c.spec-spec.result.now in
-    let sealed : IsSealed spec = subst IsSealed (sym c.spec-spec.ensures.value) c.spec-spec.ensures.sealed in
-    let fits : Fits spec c.args.call.now = subst (λ z. Fits z c.args.call.now) (sym (spec_is g at)) c.requires.fits in
-    subst (λ w. n < w) (sym (ap (λ (z : BindingList). z.width) c.clear_for.ensures.bindings ∙ ap length c.list.ensures)) (args_below spec sealed c.args.call.now fits n (subst (In n) c.cols.ensures.cols m))
+    subst (λ w. n < w) (sym (ap (λ (z : BindingList). z.width) c.clear_for.ensures.bindings ∙ columns_are g (goal.at.begin-requires g c).After-list))
+    (args_below c.args.compiled.now.spec c.accepted.ensures.sealed c.args.call.now c.requires.fits n (subst (In n) c.cols.ensures.cols m))
 
 pub push_projection-requires : goal.push_projection-requires
 push_projection-requires g c n m = subst (In n) c.cols.ensures.cols (subst (λ (z : BindingList). In n z.columns) c.begin.ensures m)
 
 pub loop-at-init : goal.loop-at-init
 loop-at-init g c =
-    let spec : Spec = c.spec-spec.result.now in
+    let at = goal.at.loop-at-init g c in
+    let spec : Spec = c.args.compiled.now.spec in
     let plan : List Statement = c.list-plan.result.now in
-    let same : spec ≡ c.args.compiled.now.spec = spec_is g (goal.at.loop-at-init g c).After-list-plan in
-    let sealed : IsSealed spec = subst IsSealed (sym c.spec-spec.ensures.value) c.spec-spec.ensures.sealed in
-    let fits : Fits spec c.args.call.now = subst (λ z. Fits z c.args.call.now) (sym same) c.requires.fits in
-    let planned : IsPlanOf spec c.args.call.now.op plan = subst (λ z. IsPlanOf z c.args.call.now.op plan) (sym same) (subst (IsPlanOf c.args.compiled.now.spec c.args.call.now.op) (sym c.list-plan.ensures) c.plan.ensures.accepted) in
-    let start : IsAt spec plan c.args.call.now plan (c.args.call.now.args ∷ []) [] = begins spec sealed plan c.args.call.now fits planned in
+    let planned : IsPlanOf spec c.args.call.now.op plan = subst (IsPlanOf spec c.args.call.now.op) (sym c.list-plan.ensures) c.plan.ensures.accepted in
+    let start : IsAt spec plan c.args.call.now plan (c.args.call.now.args ∷ []) [] = begins spec c.accepted.ensures.sealed plan c.args.call.now c.requires.fits planned in
     let whole : project c.begin.new.self.columns c.args.call.now.args ≡ c.args.call.now.args =
     ap (λ (z : BindingList). project z.columns c.args.call.now.args) c.begin.ensures
     ∙ project_all c.cols.result c.args.call.now.args (rising_pairs c.args.call.now.args c.cols.ensures.tuple) (λ n m. subst (In n) (sym c.cols.ensures.cols) m) in
@@ -61,8 +58,8 @@ loop-at-init g c =
     ap (λ (z : BindingList). z.tuples) c.in_ok-push_projection.ensures.ok ∙ ap (λ t. c.begin.new.self.tuples ++ t ∷ []) whole ∙ ap (λ (z : BindingList). z.tuples ++ c.args.call.now.args ∷ []) c.begin.ensures in
     record {
       wide = record {
-        bindings = ap (λ (z : BindingList). z.width) c.in_ok-push_projection.ensures.ok ∙ ap (λ (z : BindingList). z.width) c.begin.ensures ∙ ap (λ (z : BindingList). z.width) c.clear_for.ensures.bindings ∙ ap length c.list.ensures;
-        found = ap (λ (z : BindingList). z.width) c.clear_for.ensures.found ∙ ap length c.list.ensures;
+        bindings = ap (λ (z : BindingList). z.width) c.in_ok-push_projection.ensures.ok ∙ ap (λ (z : BindingList). z.width) c.begin.ensures ∙ ap (λ (z : BindingList). z.width) c.clear_for.ensures.bindings ∙ columns_are g at.After-list;
+        found = ap (λ (z : BindingList). z.width) c.clear_for.ensures.found ∙ columns_are g at.After-list;
       };
       run = subst (λ (z : List Pairs). IsAt spec plan c.args.call.now plan z (held_of (g.H.Holder.seen c.args.holder.now))) (sym args)
           (subst (λ (z : List HeldStripe). IsAt spec plan c.args.call.now plan (c.args.call.now.args ∷ []) z) (sym c.requires.free) start);
@@ -75,9 +72,8 @@ pub returns-in_err-reply-clause-refused : goal.returns-in_err-reply-clause-refus
 returns-in_err-reply-clause-refused g c h e =
     let given = c.from_residual-in_err-reply.ensures.1 in
     let is = rw e at given in
-    let at = (goal.at.returns-in_err-reply-clause-refused g c).After-list-plan in
+    let spec : Spec = c.args.compiled.now.spec in
     let old = g.H.Holder.seen c.args.holder.now in
     let new = g.H.Holder.seen c.step.new.holder in
-    subst (λ (z : Spec). IsRefused z (plan_at c.args.compiled.now.plans c.args.call.now.op) c.args.call.now old new h) (spec_is g at)
-    (subst (λ (z : List Statement). IsRefused c.spec-spec.result.now z c.args.call.now old new h) (plan_is g at)
-    (refused_since c.spec-spec.result.now c.list-plan.result.now c.args.call.now old (g.H.Holder.seen c.loop-at.holder) new h c.loop-at.invariant.goes_on (c.in_err-reply.ensures.refused h (ap Err (sym is)))))
+    subst (λ (z : List Statement). IsRefused spec z c.args.call.now old new h) (plan_is g (goal.at.returns-in_err-reply-clause-refused g c).After-list-plan)
+    (refused_since spec c.list-plan.result.now c.args.call.now old (g.H.Holder.seen c.loop-at.holder) new h c.loop-at.invariant.goes_on (c.in_err-reply.ensures.refused h (ap Err (sym is))))

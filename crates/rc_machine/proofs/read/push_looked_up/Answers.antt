@@ -13,13 +13,13 @@ use Rattle.rc_machine.proofs.read.push_looked_up.Goals.{After-lookup}
 -- the values of source and key by which the row is looked up
 source : (c : After-lookup) → c.deref.result.now ≡ values_at (bound c.args.read.now.spec.now (edge_at c.args.read.now.spec.now c.args.read.now.edge).from) c.args.binding.now.tuple
 source c =
-    c.deref.ensures.value ∙ c.in_ok-push_values.ensures ∙ ap (λ l. l ++ values_at c.args.read.now.source c.args.binding.now.tuple) c.clear.ensures.items
-    ∙ ap (λ xs. values_at xs c.args.binding.now.tuple) c.requires.read.resolved.source
+    c.deref.ensures.value ∙ c.in_ok-push_values.ensures ∙ ap (λ l. l ++ values_at c.args.read.now.resolved.now.source c.args.binding.now.tuple) c.clear.ensures.items
+    ∙ ap (λ xs. values_at xs c.args.binding.now.tuple) c.requires.read.resolved.edge.source
 
 key : (c : After-lookup) → c.deref-2.result.now ≡ values_at (edge_at c.args.read.now.spec.now c.args.read.now.edge).key c.args.binding.now.tuple
 key c =
-    c.deref-2.ensures.value ∙ c.in_ok-push_values-2.ensures ∙ ap (λ l. l ++ values_at c.args.read.now.key c.args.binding.now.tuple) c.clear-2.ensures.items
-    ∙ ap (λ k. values_at k c.args.binding.now.tuple) c.requires.read.resolved.key
+    c.deref-2.ensures.value ∙ c.in_ok-push_values-2.ensures ∙ ap (λ l. l ++ values_at c.args.read.now.resolved.now.key c.args.binding.now.tuple) c.clear-2.ensures.items
+    ∙ ap (λ k. values_at k c.args.binding.now.tuple) c.requires.read.resolved.edge.key
 
 -- the edge's shape in the fragment's table
 shape : (c : After-lookup) → HasShape c.args.fragment.now.table c.args.read.now.edge (shape_of c.args.read.now.spec.now (edge_at c.args.read.now.spec.now c.args.read.now.edge))
@@ -28,8 +28,8 @@ shape c = subst (λ t. HasShape t c.args.read.now.edge (shape_of c.args.read.now
 pub push_row-requires-clause-takes : goal.push_row-requires-clause-takes
 push_row-requires-clause-takes c =
     let takes = takes_extra c.args.read.now.spec.now c.requires.read.sealed c.args.read.now.edge c.requires.read.known c.args.binding.now c.args.found.now c.requires.takes c.requires.own Lookup c.requires.reader c.requires.reader.key in
-    subst (λ k. TakesRows c.args.binding.now k c.args.read.now.extra c.args.found.now) (sym c.empty.ensures)
-    (subst (λ x. TakesRows c.args.binding.now [] x c.args.found.now) (sym c.requires.read.resolved.extra) takes)
+    subst (λ k. TakesRows c.args.binding.now k c.args.read.now.resolved.now.extra c.args.found.now) (sym c.empty.ensures)
+    (subst (λ x. TakesRows c.args.binding.now [] x c.args.found.now) (sym c.requires.read.resolved.edge.extra) takes)
 
 pub push_row-requires-clause-extras : goal.push_row-requires-clause-extras
 push_row-requires-clause-extras c =
@@ -37,7 +37,7 @@ push_row-requires-clause-extras c =
     let row = c.in-Some.ensures (shape_of c.args.read.now.spec.now (edge_at c.args.read.now.spec.now c.args.read.now.edge)) (shape at.After-lookup) in
     let there = row.1.there in
     sym (ap length row.2) ∙ length_extra c.args.read.now.spec.now c.requires.read.sealed c.args.read.now.edge c.requires.read.known row.0 (c.requires.columns (c.args.read.now.edge, row.0, there.0) there.1)
-    ∙ ap length (sym c.requires.read.resolved.extra)
+    ∙ ap length (sym c.requires.read.resolved.edge.extra)
 
 pub returns-in-Some-clause-merged : goal.returns-in-Some-clause-merged
 returns-in-Some-clause-merged c =
@@ -50,9 +50,9 @@ returns-in-Some-clause-merged c =
     let by_key = key at.After-lookup in
     let with = row_looked_up c.args.read.now.spec.now c.requires.read.sealed c.args.read.now.edge c.requires.read.known b row.0 c.requires.tuple (c.requires.columns (c.args.read.now.edge, row.0, there.0) there.1) c.requires.reader.source
     (row.1.source_is ∙ by_source) c.requires.reader.key (row.1.key_is ∙ by_key) in
-    let is : IsRowWith b (given c.empty.result [] c.args.read.now.extra values) row.0 =
-    subst (λ k. IsRowWith b (given k [] c.args.read.now.extra values) row.0) (sym c.empty.ensures)
-    (subst (λ x. IsRowWith b (given [] [] x values) row.0) (sym c.requires.read.resolved.extra)
+    let is : IsRowWith b (given c.empty.result [] c.args.read.now.resolved.now.extra values) row.0 =
+    subst (λ k. IsRowWith b (given k [] c.args.read.now.resolved.now.extra values) row.0) (sym c.empty.ensures)
+    (subst (λ x. IsRowWith b (given [] [] x values) row.0) (sym c.requires.read.resolved.edge.extra)
     (subst (λ v. IsRowWith b (given [] [] (extra_columns (shape_of c.args.read.now.spec.now (edge_at c.args.read.now.spec.now c.args.read.now.edge))) v) row.0) row.2 with)) in
     let merged = looked_up_some c.args.read.now.spec.now c.requires.read.sealed c.args.read.now.edge c.requires.read.known b c.requires.tuple c.args.fragment.now.now c.requires.columns c.args.found.now.tuples values
     c.deref.result.now c.deref-2.result.now by_source by_key c.requires.reader row in

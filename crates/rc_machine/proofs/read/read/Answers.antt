@@ -4,7 +4,6 @@ use Rattle.rc_tuple.specs.ColSet.{union}
 use Rattle.rc_tuple.specs.RisingSet.{In, gather}
 use Rattle.rc_tuple.specs.RisingSetLaws.{get_or_in}
 use Rattle.rc_tuple.specs.Tuple.{tuple_cmp}
-use Rattle.rc_spec.specs.declared.items.Edge.{Edge}
 use Rattle.rc_spec.specs.Decomposition.{bound, edge_at}
 use Rattle.rc_bindings.specs.Bindings.{BindingList, with_tuples}
 use Rattle.rc_fragment.specs.Holder.{held_of}
@@ -13,25 +12,25 @@ use Rattle.rc_spec.specs.declared.spec.Spec.{Spec}
 use Rattle.rc_plan.specs.declared.statement.ReadMode.{ReadMode}
 use Rattle.rc_machine.specs.Machine.{stripes_held}
 use Rattle.rc_machine.specs.Read.{AreMerges, HasMergedAll, IsCovered, IsReader, TakesMerges}
-use Rattle.rc_machine.proofs.ReadLemmas.{merges_join, merges_more, merges_none, same_default, to_known}
+use Rattle.rc_machine.proofs.ReadLemmas.{merges_join, merges_more, merges_none, same_default}
 use Rattle.rc_machine.proofs.StripeLemmas.{joined_below}
 use Rattle.rc_machine.proofs.read.read.Given.{Over}
 use Rattle.rc_machine.proofs.read.read.Goals.{After-get-binding, After-union}
 use Rattle.rc_machine.proofs.read.read.Goals as goal
 
-pub bound-requires : goal.bound-requires
-bound-requires g c = subst (λ (z : Edge). z.to < length c.args.spec.now.nodes) (sym c.edge.ensures.value) (to_known c.args.spec.now c.requires.sealed c.args.edge c.requires.known)
-
 -- the columns of what is found
-columns : (g : Over) (c : After-union g) → c.union.result ≡ union c.args.space.now.bindings.columns (bound c.args.spec.now (edge_at c.args.spec.now c.args.edge).to)
+columns : (g : Over) (c : After-union g) → c.union.result ≡ union c.args.space.now.bindings.columns (bound c.args.compiled.now.spec (edge_at c.args.compiled.now.spec c.args.edge).to)
 columns g c =
-    c.union.ensures.value ∙ ap (λ xs. union xs c.bound.result) c.cols.ensures.columns
-    ∙ ap (union c.args.space.now.bindings.columns) (c.bound.ensures ∙ ap (λ (z : Edge). bound c.args.spec.now z.to) c.edge.ensures.value)
+    let read = c.of-read.result in
+    let target : read.resolved.now.target ≡ bound c.args.compiled.now.spec (edge_at c.args.compiled.now.spec c.args.edge).to =
+    c.of-read.ensures.resolved.edge.target ∙ ap (λ (s : Spec). bound s (edge_at s read.edge).to) c.of-read.ensures.spec
+    ∙ ap (λ e. bound c.args.compiled.now.spec (edge_at c.args.compiled.now.spec e).to) c.of-read.ensures.edge in
+    c.union.ensures.value ∙ ap (λ xs. union xs read.resolved.now.target) c.cols.ensures.columns ∙ ap (union c.args.space.now.bindings.columns) target
 
 pub begin-requires : goal.begin-requires
 begin-requires g c n m =
     subst (λ w. n < w) (sym c.requires.wide.found)
-    (joined_below c.args.spec.now c.requires.sealed c.args.edge c.requires.known c.args.space.now.bindings.columns (λ k h. subst (λ w. k < w) c.requires.wide.bindings (c.cols.ensures.below.below k h))
+    (joined_below c.args.compiled.now.spec c.requires.sealed c.args.edge c.requires.known c.args.space.now.bindings.columns (λ k h. subst (λ w. k < w) c.requires.wide.bindings (c.cols.ensures.below.below k h))
     n (subst (In n) (columns g (goal.at.begin-requires g c).After-union) m))
 
 pub loop-at-init : goal.loop-at-init
@@ -60,8 +59,8 @@ push_joined-requires-clause-reader g c =
     let b = c.get-binding.result.tuple in
     let read = c.of-read.ensures in
     subst (λ (s : Spec). IsReader s c.of-read.result.edge c.of-read.result.mode b) (sym read.spec)
-    (subst (λ e. IsReader c.args.spec.now e c.of-read.result.mode b) (sym read.edge)
-    (subst (λ (m : ReadMode). IsReader c.args.spec.now c.args.edge m b) (sym read.mode)
+    (subst (λ e. IsReader c.args.compiled.now.spec e c.of-read.result.mode b) (sym read.edge)
+    (subst (λ (m : ReadMode). IsReader c.args.compiled.now.spec c.args.edge m b) (sym read.mode)
     (c.requires.readers.readers b (there g (goal.at.push_joined-requires-clause-reader g c).After-get-binding))))
 
 pub push_joined-requires-clause-covered : goal.push_joined-requires-clause-covered
@@ -70,7 +69,7 @@ push_joined-requires-clause-covered g c =
     let stripes = stripes_held (held_of (g.H.Holder.seen c.args.holder.now)) in
     let read = c.of-read.ensures in
     subst (λ (s : Spec). IsCovered s (class_of s c.of-read.result.edge) stripes b) (sym read.spec)
-    (subst (λ e. IsCovered c.args.spec.now (class_of c.args.spec.now e) stripes b) (sym read.edge)
+    (subst (λ e. IsCovered c.args.compiled.now.spec (class_of c.args.compiled.now.spec e) stripes b) (sym read.edge)
     (c.requires.readers.covered b (there g (goal.at.push_joined-requires-clause-covered g c).After-get-binding)))
 
 pub push_joined-requires-clause-wide : goal.push_joined-requires-clause-wide
@@ -84,11 +83,11 @@ push_joined-requires-clause-takes g c =
     let start : c.loop-at.space.found ≡ with_tuples c.begin.new.self c.loop-at.space.found.tuples = c.loop-at.invariant.same in
     let read = c.of-read.ensures in
     subst (λ (s : Spec). TakesMerges s c.of-read.result.edge c.get-binding.result c.loop-at.space.found) (sym read.spec)
-    (subst (λ e. TakesMerges c.args.spec.now e c.get-binding.result c.loop-at.space.found) (sym read.edge) record {
+    (subst (λ e. TakesMerges c.args.compiled.now.spec e c.get-binding.result c.loop-at.space.found) (sym read.edge) record {
       width = c.get-binding.ensures.width ∙ ap (λ (z : BindingList). z.width) c.loop-at.invariant.bindings ∙ c.requires.wide.bindings
           ∙ sym (ap (λ (z : BindingList). z.width) start ∙ ap (λ (z : BindingList). z.width) c.begin.ensures ∙ c.requires.wide.found);
       columns = ap (λ (z : BindingList). z.columns) start ∙ ap (λ (z : BindingList). z.columns) c.begin.ensures ∙ columns g at.After-union
-          ∙ ap (λ xs. union xs (bound c.args.spec.now (edge_at c.args.spec.now c.args.edge).to)) (sym (c.get-binding.ensures.columns ∙ ap (λ (z : BindingList). z.columns) c.loop-at.invariant.bindings));
+          ∙ ap (λ xs. union xs (bound c.args.compiled.now.spec (edge_at c.args.compiled.now.spec c.args.edge).to)) (sym (c.get-binding.ensures.columns ∙ ap (λ (z : BindingList). z.columns) c.loop-at.invariant.bindings));
     })
 
 pub loop-at-preserved : goal.loop-at-preserved

@@ -18,9 +18,9 @@ stripe_of-requires-clause-within c =
     (class_among spec (class_of spec c.args.self.now.edge) c.requires.sealed.in_range (class_known spec c.requires.sealed c.args.self.now.edge c.requires.known)))
 
 -- the stripe is the binding's
-is : (c : After-stripe_of) → c.args.self.now.start + c.stripe_of.result ≡ physical_stripe c.args.self.now.spec.now (class_of c.args.self.now.spec.now c.args.self.now.edge) c.args.binding.now.tuple
+is : (c : After-stripe_of) → c.args.self.now.resolved.now.start + c.stripe_of.result ≡ physical_stripe c.args.self.now.spec.now (class_of c.args.self.now.spec.now c.args.self.now.edge) c.args.binding.now.tuple
 is c =
-    ap (λ n. n + c.stripe_of.result) c.requires.resolved.start
+    ap (λ n. n + c.stripe_of.result) c.requires.resolved.edge.start
     ∙ ap (λ n. band_start c.args.self.now.spec.now (class_of c.args.self.now.spec.now c.args.self.now.edge) + n) (c.stripe_of.ensures.value ∙ ap (λ (z : Class). stripe_of z c.args.binding.now.tuple) c.requires.resolved.class)
 
 pub overflow_add-result : goal.overflow_add-result
