@@ -1,11 +1,15 @@
 -- Where the fragment of a held stripe is, and what turning the slots of a seat does.
 use Rattle.std.proofs.Common.{◌≡◌, ℕ, zero, suc, ◌+◌, ◌-◌, ◌<◌, ◌≤◌, List, [], ◌∷◌, ◌++◌, length, get_or, take, drop, None, sym, refl, ap, ◌∙◌, subst, inl, inr, arith, length-append, append_assoc}
+use Rattle.std.specs.declared.cmp.Ordering.TheVariants.{Less}
+use Rattle.std.specs.Ordering.{nat_cmp}
+use Rattle.std.proofs.lemmas.Cmp.{ranked}
 use Rattle.std.proofs.lemmas.List.{append-nil, take_more, length-take-le, take-append-drop}
 use Rattle.std.proofs.Math.Seq.{drop-cons, get_or-append_seam}
-use Rattle.rc_tuple.specs.RisingSet.{In}
-use Rattle.rc_tuple.specs.RisingSetLaws.{in_append}
+use Rattle.rc_tuple.specs.RisingSet.{In, IsRising}
+use Rattle.rc_tuple.specs.RisingSetLaws.{get_or_in, in_append, map_in}
 use Rattle.rc_spec.specs.declared.lock.Mode.TheVariants.{Shared, Exclusive}
-use Rattle.rc_core.specs.State.{stripes_in}
+use Rattle.rc_core.specs.State.{hold, stripes_in}
+use Rattle.rc_core.specs.ListLaws.{stripes_have}
 use Rattle.atomic_table.specs.Table.{turned}
 use Rattle.rc_row.specs.HeldRows.{HeldRows}
 use Rattle.rc_row.specs.Law.{Slot}
@@ -43,6 +47,21 @@ not_yet held p i d lt none not is m =
       | inr (inl e) ↦ not (sym e)
       | inr (inr x) ↦ absurd x
     ]
+
+-- in rising stripes none is twice
+pub not_before : (held : List HeldRows) (p i : ℕ) (d : HeldRows) → i < length held → IsRising nat_cmp (stripes_in (holds_taken held)) → d.stripe ≡ p → d ≡ get_or held i d
+    → In p (stripes_in (holds_taken (take i held))) → ⊥
+not_before [] p i d lt up same is m = absurd (omega arith)
+not_before (h ∷ held) p zero d lt up same is m = absurd m
+not_before (h ∷ held) p (suc i) d lt up same is m = elim m [
+  | inl e ↦
+      let here : In d held = subst (λ (x : HeldRows). In x held) (sym is) (get_or_in held i d (omega arith)) in
+      let held_so = λ (x : HeldRows). hold x.stripe x.mode x.fragment.taken in
+      let there : In d.stripe (stripes_in (holds_taken held)) = stripes_have (held_so d) (holds_taken held) (map_in held_so d held here) in
+      let below = ranked h.stripe p Less (sym (up.0 p (subst (λ (q : ℕ). In q (stripes_in (holds_taken held))) same there))) in
+      omega (arith, below, e)
+  | inr n ↦ not_before held p i d (omega arith) up.1 same is n
+]
 
 pub is_held_at : (held : List HeldRows) (p i : ℕ) (d : HeldRows) → i < length held → (In p (stripes_in (holds_taken (take i held))) → ⊥) → d.stripe ≡ p → d ≡ get_or held i d → IsHeldAt held p i
 is_held_at held p i d lt none stripe is = record {

@@ -15,7 +15,6 @@ use crate::waiting::Waiting;
 use atomic_table::{Refused, Seat, Table};
 use rc_fragment::{Fragment, Keep};
 use rc_journal::Part;
-use rc_machine::Workspace;
 use rc_maps::Seed;
 use rc_plan::Compiled;
 use rc_spec::{Accepted, stripe_total};
@@ -82,7 +81,7 @@ impl Row {
             made: 0,
             held,
             entries,
-            space: Workspace::new(self.alloc),
+            space: None,
             alloc: self.alloc,
             seat: dealt,
         }

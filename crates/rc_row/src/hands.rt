@@ -2,7 +2,8 @@
 
 ghost use Rattle.std.specs.Prelude.{◌≡◌, ◌/◌, ◌%◌, ◌<◌, ◌≤◌, ◌^◌, length, take, vec_capacity};
 ghost use Rattle.std.specs.List.{remove, slice_index_or};
-ghost use Rattle.rc_tuple.specs.RisingSet.{In};
+ghost use Rattle.std.specs.Ordering.{nat_cmp};
+ghost use Rattle.rc_tuple.specs.RisingSet.{In, IsRising};
 ghost use Rattle.rc_core.specs.State.{stripes_in};
 ghost use Rattle.rc_row.specs.PassInside.{hands};
 ghost use Rattle.rc_row.specs.Passes.{holds_taken};
@@ -30,6 +31,20 @@ pub(crate) fn place_of(held: &Vec<HeldFragment>, stripe: u32) -> usize
     ensures { IsHeldAt held.now.items stripe result }
 {
     for i in 0..held.len() {
+        if held[i].stripe == stripe {
+            return i;
+        }
+    }
+    unreachable!()
+}
+
+/// Where it is, looked for from the end: what was taken last is mostly given back first.
+pub(crate) fn place_from_end(held: &Vec<HeldFragment>, stripe: u32) -> usize
+    requires there { In stripe (stripes_in (holds_taken held.now.items)) }
+    requires rising { IsRising nat_cmp (stripes_in (holds_taken held.now.items)) }
+    ensures { IsHeldAt held.now.items stripe result }
+{
+    for i in (0..held.len()).rev() {
         if held[i].stripe == stripe {
             return i;
         }

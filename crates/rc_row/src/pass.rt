@@ -14,7 +14,6 @@ use rc_rel::Placed;
 use rc_tuple::Memory;
 use std::alloc::Global;
 use std::marker::Model;
-use std::mem;
 
 /// What a thread locks, commits and unlocks with (PLDI 2012, a transaction's thread). One thread has it at a time.
 ///
@@ -28,7 +27,7 @@ pub struct Pass {
     pub(crate) made: u64,
     pub(crate) held: Vec<HeldFragment>,
     pub(crate) entries: Option<Part>,
-    pub(crate) space: Workspace,
+    pub(crate) space: Option<Box<Workspace>>,
     pub(crate) alloc: Global,
     pub(crate) seat: Seat<Option<Keep>, View>,
 }
@@ -47,18 +46,21 @@ impl Model for Pass {
 
 impl Pass {
     /// Hands out the space with which the pass runs plans, whose memory the next run uses again; `put_space` gives it back.
-    /// Takes no memory.
-    pub fn take_space(&mut self) -> Workspace
+    /// Takes memory only where the pass has none: the first time, and while its space is handed out.
+    pub fn take_space(&mut self) -> Result<Box<Workspace>, Memory>
         ensures { self.new ≡ self.old }
     {
-        mem::replace(&mut self.space, Workspace::new(self.alloc))
+        match self.space.take() {
+            Some(space) => Ok(space),
+            None => Ok(Box::new(self.alloc, Workspace::new(self.alloc))?),
+        }
     }
 
     /// Takes back the space that `take_space` handed out.
-    pub fn put_space(&mut self, space: Workspace)
+    pub fn put_space(&mut self, space: Box<Workspace>)
         ensures { self.new ≡ self.old }
     {
-        self.space = space;
+        self.space = Some(space);
     }
 
     /// Its number in the row, from 0.

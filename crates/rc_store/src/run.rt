@@ -29,8 +29,9 @@ pub(crate) fn run_call<T: Takes>(
     requires fits { Fits compiled.now.spec call.now }
     ensures { HasRunPlan T.waits row.now call.now pass.old pass.new result }
 {
+    pass.held_agrees();
     let mut refused = None;
-    let mut space = pass.take_space();
+    let mut space = pass.take_space()?;
     let answer = run_lent::<Brand, T>(row, compiled, call, &mut space, pass, taking, &mut refused);
     pass.put_space(space);
     answer
