@@ -49,16 +49,23 @@ impl Operation {
 /// A mix of calls on a graph.
 #[derive(Debug)]
 pub struct Mix {
-    pub subject: Subject,
+    /// The specifications of the graph on which its calls are made.
+    pub subjects: &'static [Subject],
     /// How many of a hundred calls are of each of its operations.
     pub name: &'static str,
     shares: &'static [(Operation, u64)],
 }
 
-/// The mixes that are measured. Those on the split graph have successors, predecessors, inserts and removes. (PLDI 2012.)
+/// Graphs with a path for each direction.
+const SPLITS: [Subject; 2] = [Subject::Split, Subject::ShortSplit];
+
+/// Graphs whose edges are found by their sources.
+const BY_SOURCES: [Subject; 2] = [Subject::BySource, Subject::ShortBySource];
+
+/// The mixes that are measured. Those on split graphs have successors, predecessors, inserts and removes. (PLDI 2012.)
 pub const MIXES: [Mix; 5] = [
     Mix {
-        subject: Subject::Split,
+        subjects: &SPLITS,
         name: "70-0-20-10",
         shares: &[
             (Operation::Successors, 70),
@@ -67,7 +74,7 @@ pub const MIXES: [Mix; 5] = [
         ],
     },
     Mix {
-        subject: Subject::Split,
+        subjects: &SPLITS,
         name: "35-35-20-10",
         shares: &[
             (Operation::Successors, 35),
@@ -77,12 +84,12 @@ pub const MIXES: [Mix; 5] = [
         ],
     },
     Mix {
-        subject: Subject::Split,
+        subjects: &SPLITS,
         name: "0-0-50-50",
         shares: &[(Operation::Insert, 50), (Operation::Remove, 50)],
     },
     Mix {
-        subject: Subject::Split,
+        subjects: &SPLITS,
         name: "45-45-9-1",
         shares: &[
             (Operation::Successors, 45),
@@ -92,7 +99,7 @@ pub const MIXES: [Mix; 5] = [
         ],
     },
     Mix {
-        subject: Subject::BySource,
+        subjects: &BY_SOURCES,
         name: "finds and inserts 50-50",
         shares: &[(Operation::Find, 50), (Operation::Insert, 50)],
     },
