@@ -46,5 +46,5 @@ pub fn compile(alloc: Global, accepted: Accepted) -> Result<Compiled, Memory>
     ensures planned { IfOk result (λ compiled. (op : ℕ) → op < length accepted.ops → IsPlanned accepted (op_at accepted op) (plan_at compiled.plans op)) }
 {
     let plans = plan_all(alloc, &accepted)?;
-    Compiled::seal(alloc, accepted, plans)
+    Ok(Compiled::seal(accepted, plans))
 }

@@ -1,19 +1,24 @@
--- Lists of resolved edges, and of the bands' starts.
-use Rattle.std.specs.Prelude.{ℕ, ◌+◌, ◌<◌, List, [], ◌∷◌, ◌++◌, get_or}
-use Rattle.std.proofs.Common.{inl, inr, sym, ap, subst, ◌∙◌, arith}
-use Rattle.std.proofs.lemmas.List.{get_or_append_left, length-append}
-use Rattle.std.proofs.Math.Seq.{get_or-append_seam}
+-- Lists in which each number below a bound has its own.
+use Rattle.std.specs.Prelude.{◌≡◌, ℕ, ◌+◌, ◌<◌, ◌≤◌, List, Some, length, slice_set}
+use Rattle.std.proofs.Common.{inl, inr, get_or, sym, ap, subst, ◌∙◌, arith}
 use Rattle.std.proofs.lemmas.Bool.{cases_eq}
-use Rattle.rc_spec.specs.declared.spec.Spec.{Spec}
-use Rattle.rc_plan.specs.Resolved.{AreResolved, IsResolvedEdge}
-use Rattle.rc_plan.specs.declared.resolved.ResolvedEdge.{ResolvedEdge}
+use Rattle.std.proofs.lemmas.Grind.{get_or-set_at}
+use Rattle.std.proofs.lemmas.List.{get_or-set_other, length-set}
+use Rattle.std.proofs.lemmas.Option.{get_or_from_slice_get, slice_get-get_or}
+use Rattle.rc_plan.specs.Resolved.{AllBelow}
 
--- one edge more
-pub resolved_more : (spec : Spec) (edges : List ResolvedEdge) (r : ResolvedEdge) (n : ℕ) → AreResolved spec n edges → IsResolvedEdge spec n r → AreResolved spec (n + 1) (edges ++ r ∷ [])
-resolved_more spec edges r n before here = record {
-  count = length-append edges (r ∷ []) ∙ ap (λ z. z + 1) before.count;
-  each = λ e s l is. elim (cases_eq e n) [
-    | inl same ↦ subst (λ (z : ResolvedEdge). IsResolvedEdge spec e z) (sym (is ∙ ap (λ k. get_or (edges ++ r ∷ []) k s) (same ∙ sym before.count) ∙ get_or-append_seam edges r [] s)) (subst (λ k. IsResolvedEdge spec k r) (sym same) here)
-    | inr other ↦ (let less : e < n = omega arith in before.each e s less (is ∙ get_or_append_left edges (r ∷ []) s e (omega (arith, less, before.count))))
-  ];
-}
+module _ {X : Type 0} (holds : ℕ → X → Type 0) (items : List X) where
+  -- one more, put at its number
+  pub one_more : (n : ℕ) (x : X) → n < length items → AllBelow holds n items → holds n x → AllBelow holds (n + 1) (slice_set items n x)
+  one_more n x within before here = record {
+    count = subst (λ k. n + 1 ≤ k) (sym (length-set items n x)) (omega (arith, within));
+    each = λ i y below at. elim (cases_eq i n) [
+      | inl same ↦
+          let is : x ≡ y = sym (get_or-set_at items n i x y same within) ∙ get_or_from_slice_get (slice_set items n x) i y y at in
+          subst (holds i) is (subst (λ k. holds k x) (sym same) here)
+      | inr other ↦
+          let less : i < n = omega arith in
+          let is : get_or items i y ≡ y = sym (get_or-set_other items n i x y other) ∙ get_or_from_slice_get (slice_set items n x) i y y at in
+          before.each i y less (slice_get-get_or items i y (omega (arith, less, within)) ∙ ap Some is)
+    ];
+  }

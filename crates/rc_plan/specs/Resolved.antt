@@ -1,8 +1,8 @@
 -- What plans ask of the edges and the lock classes of a specification, found once for all calls.
-use Rattle.std.specs.Prelude.{◌≡◌, ℕ, ◌+◌, ◌<◌, ◌≤◌, List, get_or, length, map}
-use Rattle.std.specs.List.{range_with_len}
-use Rattle.rc_tuple.specs.ColSet.{minus, union}
-use Rattle.rc_spec.specs.Decomposition.{bound, edge_at}
+use Rattle.std.specs.Prelude.{◌≡◌, ℕ, ◌+◌, ◌<◌, ◌≤◌, List, Some, length}
+use Rattle.std.specs.List.{slice_get}
+use Rattle.rc_tuple.specs.ColSet.{minus}
+use Rattle.rc_spec.specs.Decomposition.{bound, edge_at, source_and_key}
 use Rattle.rc_spec.specs.Placement.{class_of}
 use Rattle.rc_spec.specs.Stripes.{band_start}
 use Rattle.rc_spec.specs.declared.spec.Spec.{Spec}
@@ -17,22 +17,27 @@ pub record IsResolvedEdge (spec : Spec) (e : ℕ) (r : ResolvedEdge) : Type 0 wh
   pub source : r.source ≡ bound spec (edge_at spec e).from
   pub key : r.key ≡ (edge_at spec e).key
   pub target : r.target ≡ bound spec (edge_at spec e).to
-  pub extra : r.extra ≡ minus (bound spec (edge_at spec e).to) (union (bound spec (edge_at spec e).from) (edge_at spec e).key)
+  pub extra : r.extra ≡ minus (bound spec (edge_at spec e).to) (source_and_key spec (edge_at spec e))
   pub keys : r.keys ≡ length r.key
   pub extras : r.extras ≡ length r.extra
+  -- of columns below 32 no set has more than 32
   pub few : r.keys + r.extras ≤ 64
 
--- the first edges, each by its number
-pub record AreResolved (spec : Spec) (first : ℕ) (edges : List ResolvedEdge) : Type 0 where
-  pub count : length edges ≡ first
-  pub each : (e : ℕ) (r : ResolvedEdge) → e < first → r ≡ get_or edges e r → IsResolvedEdge spec e r
+-- at each number below n stands something of which this holds
+pub record AllBelow {X : Type 0} (holds : ℕ → X → Type 0) (n : ℕ) (items : List X) : Type 0 where
+  pub count : n ≤ length items
+  pub each : (i : ℕ) (x : X) → i < n → slice_get items i ≡ Some x → holds i x
 
--- all edges
+-- each edge, by its number
 abbrev pub AreResolvedEdges : Spec → List ResolvedEdge → Type 0
-AreResolvedEdges spec edges = AreResolved spec (length spec.edges) edges
+AreResolvedEdges spec edges = AllBelow (IsResolvedEdge spec) (length spec.edges) edges
+
+-- the first stripe of each class, by its number
+abbrev pub AreBandStarts : Spec → List ℕ → Type 0
+AreBandStarts spec starts = AllBelow (λ class start. start ≡ band_start spec class) (length spec.classes) starts
 
 -- an accepted specification with accepted plans, and what they ask of its edges and classes
 pub record IsCompiledWith (spec : Spec) (plans : List (List Statement)) (edges : List ResolvedEdge) (starts : List ℕ) : Type 0 where
   pub compiled : IsCompiled spec plans
   pub resolved : AreResolvedEdges spec edges
-  pub begun : starts ≡ map (band_start spec) (range_with_len 0 (length spec.classes))
+  pub begun : AreBandStarts spec starts

@@ -1,4 +1,4 @@
-ghost use Rattle.std.specs.Prelude.{◌≡◌, ◌<◌, length, IfOk};
+ghost use Rattle.std.specs.Prelude.{◌≡◌, ◌<◌, length};
 ghost use Rattle.rc_spec.specs.Acceptance.{IsSealed};
 ghost use Rattle.rc_spec.specs.InRange.{IsSetBelow};
 ghost use Rattle.rc_spec.specs.Placement.{class_at};
@@ -8,9 +8,7 @@ ghost use Rattle.rc_plan.specs.Resolved.{IsResolvedEdge};
 
 use crate::resolved::{band_starts, resolve_edges};
 use crate::{Plan, ResolvedEdge};
-use rc_spec::{Accepted, Class};
-use rc_tuple::Memory;
-use std::alloc::Global;
+use rc_spec::{Accepted, Class, MAX_CLASSES, MAX_EDGES};
 use std::marker::Model;
 
 /// An accepted specification with a plan for each of its operations, each of which keeps K1 to K7. What plans ask of
@@ -19,9 +17,10 @@ use std::marker::Model;
 pub struct Compiled {
     accepted: Accepted,
     plans: Vec<Plan>,
-    edges: Vec<ResolvedEdge>,
+    /// Each edge, by its number.
+    edges: [ResolvedEdge; MAX_EDGES],
     /// The number, among all stripes, of the first of each class.
-    starts: Vec<u32>,
+    starts: [u32; MAX_CLASSES],
 }
 
 impl Model for Compiled {
@@ -32,25 +31,24 @@ impl Model for Compiled {
 
     ghost view = { λ c. record { spec = c.accepted; plans = c.plans.items } };
 
-    ghost invariant = { λ c. IsCompiledWith c.accepted c.plans.items c.edges.items c.starts.items };
+    ghost invariant = { λ c. IsCompiledWith c.accepted c.plans.items c.edges c.starts };
 }
 
 impl Compiled {
-    /// Keeps an accepted specification with as many plans as operations, each for its own. Costs, for each edge, a walk
-    /// over the placements and the classes, and takes two small lists; where memory is wanted for them, specification
-    /// and plans are gone.
-    pub fn seal(alloc: Global, accepted: Accepted, plans: Vec<Plan>) -> Result<Compiled, Memory>
+    /// Keeps an accepted specification with as many plans as operations, each for its own. Takes no memory, and costs, for
+    /// each edge, a walk over the placements and the classes, and for each class one over the classes.
+    pub fn seal(accepted: Accepted, plans: Vec<Plan>) -> Compiled
         requires { ArePlansOf accepted plans.items }
-        ensures { IfOk result (λ compiled. compiled ≡ record { spec = accepted; plans = plans.items }) }
+        ensures { result ≡ record { spec = accepted; plans = plans.items } }
     {
-        let edges = resolve_edges(alloc, &accepted)?;
-        let starts = band_starts(alloc, &accepted)?;
-        Ok(Compiled {
+        let edges = resolve_edges(&accepted);
+        let starts = band_starts(&accepted);
+        Compiled {
             accepted,
             plans,
             edges,
             starts,
-        })
+        }
     }
 
     /// The specification.

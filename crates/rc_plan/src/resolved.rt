@@ -1,16 +1,13 @@
 //! What plans ask of edges and lock classes, found once for all calls.
 
-ghost use Rattle.std.specs.Prelude.{◌≡◌, ◌<◌, length, map, IfOk};
-ghost use Rattle.std.specs.List.{range_with_len};
+ghost use Rattle.std.specs.Prelude.{◌<◌, length};
 ghost use Rattle.rc_spec.specs.Acceptance.{IsSealed};
-ghost use Rattle.rc_spec.specs.Stripes.{band_start};
-ghost use Rattle.rc_plan.specs.Resolved.{AreResolvedEdges, IsResolvedEdge};
+ghost use Rattle.rc_plan.specs.Resolved.{AreBandStarts, AreResolvedEdges, IsResolvedEdge};
 
-use rc_spec::{Accepted, Spec, band_start};
-use rc_tuple::{ColSet, Memory};
-use std::alloc::Global;
+use rc_spec::{Accepted, MAX_CLASSES, MAX_EDGES, Spec, band_start};
+use rc_tuple::ColSet;
 
-/// An edge as a Read, a Lock and an Apply use it: where its rows stand, and how their columns are parted.
+/// An edge as a Read and an Apply use it: where its rows stand, and how their columns are parted.
 #[derive(Clone, Copy, Debug)]
 pub struct ResolvedEdge {
     /// The number of the class that the edge is placed on.
@@ -32,6 +29,20 @@ pub struct ResolvedEdge {
 }
 
 impl ResolvedEdge {
+    /// What stands where there is no edge.
+    fn none() -> ResolvedEdge {
+        ResolvedEdge {
+            class: 0,
+            start: 0,
+            source: ColSet::empty(),
+            key: ColSet::empty(),
+            target: ColSet::empty(),
+            extra: ColSet::empty(),
+            keys: 0,
+            extras: 0,
+        }
+    }
+
     /// The edge with this number. Costs a walk over the placements, and one over the classes.
     fn of(spec: &Spec, edge: u8) -> ResolvedEdge
         requires sealed { IsSealed spec.now }
@@ -57,26 +68,27 @@ impl ResolvedEdge {
     }
 }
 
-/// Each edge, by its number. Wants memory for one list.
-pub(crate) fn resolve_edges(alloc: Global, accepted: &Accepted) -> Result<Vec<ResolvedEdge>, Memory>
-    ensures { IfOk result (λ edges. AreResolvedEdges accepted.now edges.items) }
+/// Each edge, by its number. What stands behind the last is of no matter.
+pub(crate) fn resolve_edges(accepted: &Accepted) -> [ResolvedEdge; MAX_EDGES]
+    ensures { AreResolvedEdges accepted.now result }
 {
     let spec = accepted.spec();
-    let mut edges = Vec::new(alloc);
+    let mut edges = [ResolvedEdge::none(); MAX_EDGES];
     for edge in 0..spec.edges.list().len() as u8 {
-        edges.push(ResolvedEdge::of(spec, edge))?;
+        edges[edge as usize] = ResolvedEdge::of(spec, edge);
     }
-    Ok(edges)
+    edges
 }
 
-/// The number, among all stripes, of the first of each class, by the number of the class. Wants memory for one list.
-pub(crate) fn band_starts(alloc: Global, accepted: &Accepted) -> Result<Vec<u32>, Memory>
-    ensures { IfOk result (λ starts. starts.items ≡ map (band_start accepted.now) (range_with_len 0 (length accepted.now.classes))) }
+/// The number, among all stripes, of the first of each class, by the number of the class. What stands behind the last is
+/// of no matter.
+pub(crate) fn band_starts(accepted: &Accepted) -> [u32; MAX_CLASSES]
+    ensures { AreBandStarts accepted.now result }
 {
     let spec = accepted.spec();
-    let mut starts = Vec::new(alloc);
+    let mut starts = [0; MAX_CLASSES];
     for class in 0..spec.classes.list().len() as u8 {
-        starts.push(band_start(spec, class))?;
+        starts[class as usize] = band_start(spec, class);
     }
-    Ok(starts)
+    starts
 }

@@ -1,10 +1,10 @@
-use Rattle.std.proofs.Common.{◌∷◌, ◌++◌, [], map, ap, subst, sym, ◌∙◌, zero-add}
-use Rattle.std.specs.List.{range_with_len}
-use Rattle.std.proofs.lemmas.List.FromFn.{map-range_with_len_more}
+use Rattle.std.proofs.Common.{◌≡◌, length, ap, subst, sym, ◌∙◌, arith}
+use Rattle.std.proofs.lemmas.List.{length-set}
 use Rattle.rc_spec.specs.Acceptance.{IsSealed}
 use Rattle.rc_spec.specs.PlacementLaws.{placed_total}
 use Rattle.rc_spec.specs.Stripes.{band_start}
 use Rattle.rc_spec.specs.declared.spec.Spec.{Spec}
+use Rattle.rc_plan.proofs.ResolvedLemmas.{one_more}
 use Rattle.rc_plan.proofs.resolved.band_starts.Goals as goal
 
 pub band_start-requires-clause-few : goal.band_start-requires-clause-few
@@ -12,8 +12,14 @@ band_start-requires-clause-few c = placed_total c.spec-spec.result.now (subst Is
 
 pub loop-class-preserved : goal.loop-class-preserved
 loop-class-preserved c =
-    let spec = c.args.accepted.now in
+    let starts = c.loop-class.starts in
     let class = c.loop-class.class in
-    c.in_ok-push.ensures.items ∙ ap (λ z. z ++ c.band_start.result ∷ []) c.loop-class.invariant
-    ∙ ap (λ n. map (band_start spec) (range_with_len 0 class) ++ n ∷ []) (c.band_start.ensures ∙ ap (λ (s : Spec). band_start s class) c.spec-spec.ensures.value)
-    ∙ sym (map-range_with_len_more (band_start spec) 0 class class (zero-add class))
+    let room = c.loop-class.invariant.room in
+    let test = c.loop-class-test.true in
+    let few = c.spec-spec.ensures.sealed.in_range.classes in
+    let all = ap length c.list.ensures ∙ ap (λ (s : Spec). length s.classes) c.spec-spec.ensures.value in
+    record {
+      room = length-set starts class c.band_start.result ∙ room;
+      stand = one_more (λ n start. start ≡ band_start c.args.accepted.now n) starts class c.band_start.result (omega (arith, test, all, few, room)) c.loop-class.invariant.stand
+          (c.band_start.ensures ∙ ap (λ (s : Spec). band_start s class) c.spec-spec.ensures.value);
+    }

@@ -1,7 +1,10 @@
-use Rattle.std.proofs.Common.{◌≡◌, map}
-use Rattle.std.specs.List.{range_with_len}
+use Rattle.std.proofs.Common.{◌≡◌, length}
 use Rattle.rc_spec.specs.Stripes.{band_start}
+use Rattle.rc_plan.specs.Resolved.{AllBelow}
 use Rattle.rc_plan.proofs.resolved.band_starts.Given as goal
 
 abbrev pub invariant-loop-class : goal.invariant-loop-class
-invariant-loop-class l = l.starts.items ≡ map (band_start l.accepted) (range_with_len 0 l.class)
+invariant-loop-class l = record {
+  room : length l.starts ≡ 16;
+  stand : AllBelow (λ class start. start ≡ band_start l.accepted class) l.class l.starts;
+}
