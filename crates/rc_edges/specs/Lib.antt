@@ -1,5 +1,6 @@
 pub mod EdgeMap
 pub mod Entry
+pub mod Extra
 pub mod Key
 pub mod ListMap
 pub mod ListMapLaws

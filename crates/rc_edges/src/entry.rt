@@ -6,19 +6,22 @@ ghost use Rattle.rc_edges.specs.EdgeMap.{HasExtra, count_of, extra_of, lowered};
 ghost use Rattle.rc_edges.specs.Entry.{now_of, taken_of, is_gone};
 ghost use Rattle.rc_edges.specs.ListMap.{rows_of};
 
-use rc_tuple::{Memory, Vals};
+use crate::extra::Extra;
+use rc_tuple::Memory;
 use std::alloc::Global;
 use std::mem;
 
 /// A row's extra values and its count now, and the two as they were taken. A count of 0 says that
 /// there is no row. The values as taken stand in `extra` until another row's take their place, so
-/// that neither `settle` nor `revert` copies them. A row with no extra value takes no memory.
+/// that neither `settle` nor `revert` copies them. A row with at most one extra value takes no
+/// memory.
 #[derive(Drop, Debug)]
 pub struct Entry {
-    extra: Vals,
+    extra: Extra,
     count: u64,
     count_taken: u64,
-    extra_taken: Option<Vals>,
+    extra_taken: Option<Extra>,
+    alloc: Global,
 }
 
 impl Entry {
@@ -28,10 +31,11 @@ impl Entry {
         ensures taken { IfOk result (λ entry. taken_of entry ≡ None) }
     {
         Ok(Entry {
-            extra: Vals::from_slice(alloc, extra)?,
+            extra: Extra::from_slice(alloc, extra)?,
             count: 1,
             count_taken: 0,
             extra_taken: None,
+            alloc,
         })
     }
 
@@ -47,7 +51,7 @@ impl Entry {
             self.count += 1;
             return Ok(());
         }
-        let next = Vals::from_slice(self.extra.alloc(), extra)?;
+        let next = Extra::from_slice(self.alloc, extra)?;
         let last = mem::replace(&mut self.extra, next);
         self.count = 1;
         if self.extra_taken.is_none() {
@@ -91,7 +95,7 @@ impl Entry {
         ensures { option_copied result ≡ extra_of (now_of self.now) }
     {
         if self.count > 0 {
-            Some(self.extra.list())
+            Some(self.extra.as_slice())
         } else {
             None
         }
@@ -130,12 +134,13 @@ impl Entry {
             count: self.count,
             count_taken: self.count_taken,
             extra_taken,
+            alloc: self.alloc,
         })
     }
 }
 
 /// A copy of the values, if there are some.
-fn copy_of(values: &Option<Vals>) -> Result<Option<Vals>, Memory>
+fn copy_of(values: &Option<Extra>) -> Result<Option<Extra>, Memory>
     ensures { IfOk result (λ copy. copy ≡ values.now) }
 {
     match values {

@@ -3,6 +3,7 @@
 
 mod edge_map;
 mod entry;
+mod extra;
 mod key;
 mod list_map;
 mod one_map;
