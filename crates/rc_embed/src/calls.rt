@@ -40,8 +40,8 @@ impl Session {
         let State::Idle(pass) = &mut self.state else {
             unreachable!()
         };
-        let call = self.shared.call_of(self.alloc, op, values)?;
-        match self.shared.store.try_call(pass, &call) {
+        self.shared.refill_call(&mut self.call, op, values)?;
+        match self.shared.store.try_call(pass, &self.call) {
             Ok(Receipt { place, nth, reply }) => {
                 self.last = reply;
                 Ok(Position { place, nth })

@@ -22,9 +22,9 @@ use rc_mutate::compile;
 use rc_place::{AcceptFault, accept};
 use rc_reader::{ReadRefusal, number_among, read_spec_only};
 use rc_row::{Keeping, Pass};
-use rc_spec::{Accepted, Spec};
+use rc_spec::{Accepted, Call, Spec};
 use rc_store::{Quiet, Store};
-use rc_tuple::{Cols, Memory};
+use rc_tuple::{Cols, Memory, Tuple};
 use rc_work::columns_at;
 use std::alloc::{AllocFailed, Global};
 use std::marker::Model;
@@ -238,8 +238,11 @@ fn session_of(
     };
     let session = Session {
         shared,
-        alloc,
         state: State::Idle(pass),
+        call: Call {
+            op: 0,
+            args: Tuple::empty(alloc),
+        },
         last: None,
     };
     match Box::new(alloc, session) {

@@ -34,11 +34,11 @@ impl Session {
         ensures { Answers (λ _. HasPrepared self.old op values.now self.new)
             self.old op values.now self.new result }
     {
-        let call = self.shared.call_of(self.alloc, op, values)?;
+        self.shared.refill_call(&mut self.call, op, values)?;
         let State::Idle(pass) = mem::replace(&mut self.state, State::Moving) else {
             unreachable!()
         };
-        match self.shared.store.begin(pass, &call) {
+        match self.shared.store.begin(pass, &self.call) {
             Ok(running) => {
                 self.state = State::Prepared(running);
                 Ok(())

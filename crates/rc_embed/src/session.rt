@@ -1,17 +1,17 @@
 //! Sessions.
 
-ghost use Rattle.std.specs.Prelude.{◌≡◌, ◌==◌, ◌<◌, ◌≤◌, IsTrue, ◌↔◌, None, length, option_copied};
+ghost use Rattle.std.specs.Prelude.{◌≡◌, ◌==◌, ◌<◌, ◌≤◌, None, option_copied};
 ghost use Rattle.rc_spec.specs.InRange.{IsInRange};
 ghost use Rattle.rc_spec.specs.Names.{IsWellNamed};
-ghost use Rattle.rc_row.specs.Passes.{core_of, spec_of};
-ghost use Rattle.rc_embed.specs.Refused.{fault_by, fault_for};
+ghost use Rattle.rc_row.specs.Passes.{spec_of};
+ghost use Rattle.rc_embed.specs.Refused.{fault_for};
 ghost use Rattle.rc_embed.specs.Session.{IsIdle, IsStateOf, reply_of, seen_of};
 ghost use Rattle.rc_embed.specs.declared.session.State.TheVariants as states;
 
 use crate::fault::CallFault;
 use crate::shared::Shared;
 use rc_row::Pass;
-use rc_spec::{Reply, Spec};
+use rc_spec::{Call, Reply, Spec};
 use rc_store::Running;
 use std::alloc::Global;
 use std::marker::Model;
@@ -39,12 +39,15 @@ pub(crate) enum State {
 
 /// A thread's end of a store: a pass, and the reply of its last call. One thread uses it at a
 /// time, and it may move to another. One that is dropped in the midst of a prepared call keeps
-/// that call's stripes: cancel it before.
+/// that call's stripes: cancel it before. It keeps the memory of its largest call, in which it
+/// makes the next ones, so that a call whose values fit there takes none for them.
 #[derive(Drop)]
 pub struct Session {
     pub(crate) shared: Arc<Shared, Global>,
-    pub(crate) alloc: Global,
     pub(crate) state: State,
+    /// A call whose memory is used again: each call is made in it, and what stands in it between
+    /// calls means nothing.
+    pub(crate) call: Call,
     pub(crate) last: Option<Reply>,
 }
 
@@ -100,8 +103,8 @@ impl Session {
     {
         let Session {
             shared: _,
-            alloc: _,
             state,
+            call: _,
             last: _,
         } = self;
         match state {

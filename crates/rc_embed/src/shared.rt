@@ -1,6 +1,6 @@
 //! What a store shares with its sessions.
 
-ghost use Rattle.std.specs.Prelude.{◌≡◌, ◌<◌, ◌≤◌, length, IfOk};
+ghost use Rattle.std.specs.Prelude.{◌≡◌, ◌<◌, ◌≤◌, length, OnOk};
 ghost use Rattle.rc_spec.specs.Calls.{Fits};
 ghost use Rattle.rc_spec.specs.InRange.{IsInRange};
 ghost use Rattle.rc_spec.specs.Names.{IsWellNamed};
@@ -10,8 +10,7 @@ ghost use Rattle.rc_embed.specs.Asked.{TakesValues, call_of};
 
 use rc_spec::{Call, Spec};
 use rc_store::{Quiet, Store};
-use rc_tuple::{Cols, Memory, Tuple};
-use std::alloc::Global;
+use rc_tuple::{Cols, Memory};
 use std::marker::Model;
 
 /// A store, and the columns of each operation's values, which are looked up once.
@@ -62,17 +61,19 @@ impl Shared {
         self.columns[op as usize].list()
     }
 
-    /// The call of an operation with values that it takes.
-    pub(crate) fn call_of(&self, alloc: Global, op: u32, values: &[u64]) -> Result<Call, Memory>
+    /// Makes the call that of an operation with values that it takes, in the memory that the call has. Memory is
+    /// taken, and wanted, only where it had room for fewer values.
+    pub(crate) fn refill_call(&self, call: &mut Call, op: u32, values: &[u64]) -> Result<(), Memory>
         requires { TakesValues (spec_of self.now.row) op values.now }
-        ensures call { IfOk result (λ call. call ≡ call_of (spec_of self.now.row) op values.now) }
-        ensures fits { IfOk result (Fits (spec_of self.now.row)) }
+        ensures call { OnOk result (call.new ≡ call_of (spec_of self.now.row) op values.now) }
+        ensures fits { OnOk result (Fits (spec_of self.now.row) call.new) }
     {
         // A call of `spec` tells the check its range and its names.
         let _ = self.spec();
-        let args = Tuple::from_columns(alloc, self.columns(op), values)?;
+        call.args.refill(self.columns(op), values)?;
         // A call of `pairs` tells the check that they are a tuple.
-        let _ = args.pairs();
-        Ok(Call { op: op as u8, args })
+        let _ = call.args.pairs();
+        call.op = op as u8;
+        Ok(())
     }
 }

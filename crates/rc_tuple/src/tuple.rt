@@ -1,4 +1,5 @@
-ghost use Rattle.std.specs.Prelude.{◌≡◌, ℕ, ◌<◌, ◌||◌, ◌==◌, ◌++◌, [], not, length, IfOk, OnOk, OnErr};
+ghost use Rattle.std.specs.Prelude.{◌≡◌, ℕ, ◌<◌, ◌≤◌, ◌+◌, ◌||◌, ◌==◌, ◌++◌, [], not, length};
+ghost use Rattle.std.specs.Prelude.{IfOk, OnOk, OnErr, vec_capacity, vec_len};
 ghost use Rattle.std.specs.Ordering.{nat_cmp};
 ghost use Rattle.std.specs.List.{list_all, zip};
 ghost use Rattle.rc_tuple.specs.RisingSet.{In, IsRising, AreDistinct, IsPlace, put, gather};
@@ -44,18 +45,37 @@ impl Tuple {
         }
     }
 
-    /// The tuple that gives each of the columns, in any order, the value beside it.
+    /// The tuple that gives each of the columns, in any order, the value beside it. Costs one block, with room for all
+    /// of them, and for each column a search among those before it.
     pub fn from_columns(alloc: Global, cols: &[u8], vals: &[u64]) -> Result<Tuple, Memory>
         requires fits { length vals.now ≡ length cols.now }
         requires below { (c : ℕ) → In c cols.now → c < 32 }
         requires distinct { AreDistinct cols.now }
         ensures { IfOk result (λ t. t ≡ tuple_of cols.now vals.now) }
     {
-        let mut pairs = Vec::new(alloc);
+        let mut tuple = Tuple::empty(alloc);
+        tuple.refill(cols, vals)?;
+        Ok(tuple)
+    }
+
+    /// Becomes the tuple that gives each of the columns, in any order, the value beside it, in the memory that it has:
+    /// memory is taken only where it had room for fewer pairs than there are columns, and then for all of them at
+    /// once. Where memory is wanted, it has no pair. Costs for each column a search among those before it.
+    pub fn refill(&mut self, cols: &[u8], vals: &[u64]) -> Result<(), Memory>
+        requires fits { length vals.now ≡ length cols.now }
+        requires below { (c : ℕ) → In c cols.now → c < 32 }
+        requires distinct { AreDistinct cols.now }
+        ensures ok { OnOk result (self.new ≡ tuple_of cols.now vals.now) }
+        ensures err { OnErr result (self.new ≡ []) }
+    {
+        self.pairs.clear();
+        self.pairs.reserve(cols.len())?;
         for (place, col) in cols.iter().enumerate() {
-            put_pair(&mut pairs, (*col, vals[place]))?;
+            let Ok(()) = put_pair(&mut self.pairs, (*col, vals[place])) else {
+                unreachable!()
+            };
         }
-        Ok(Tuple { pairs })
+        Ok(())
     }
 
     /// The pairs, rising by their columns.
@@ -299,10 +319,13 @@ fn place_of_pair(pairs: &[(u8, u64)], pair: &(u8, u64)) -> Option<usize>
     Some(pairs.len())
 }
 
-/// Puts the pair at its place.
+/// Puts the pair at its place. Memory is taken, and wanted, only where there is no room for one more.
 fn put_pair(pairs: &mut Vec<(u8, u64)>, pair: (u8, u64)) -> Result<(), Memory>
     ensures ok { OnOk result (pairs.new.items ≡ put pair_cmp pair pairs.old.items) }
     ensures err { OnErr result (pairs.new.items ≡ pairs.old.items) }
+    ensures len { vec_len pairs.new ≤ vec_len pairs.old + 1 }
+    ensures capacity { vec_capacity pairs.old ≤ vec_capacity pairs.new }
+    ensures full { OnErr result (vec_capacity pairs.old ≤ vec_len pairs.old) }
 {
     if let Some(at) = place_of_pair(pairs, &pair) {
         pairs.insert(at, pair)?;

@@ -4,17 +4,21 @@ use Rattle.rc_tuple.specs.RisingSet.{put}
 use Rattle.rc_tuple.specs.RisingSetLaws.{in_from_places}
 use Rattle.rc_tuple.specs.Tuple.{IsTuple, pair_cmp, tuple_of}
 use Rattle.rc_tuple.specs.TupleLaws.{IsTuple-tuple_of, tuple_of_next}
-use Rattle.rc_tuple.proofs.tuple.Tuple.from_columns.Goals as goal
+use Rattle.rc_tuple.proofs.tuple.Tuple.refill.Goals as goal
 
 pub loop-place-preserved : goal.loop-place-preserved
-loop-place-preserved c =
-    c.in_ok-put_pair.ensures.ok ∙ ap (put pair_cmp _) c.loop-place.invariant
-    ∙ sym (tuple_of_next c.args.cols.now c.args.vals.now c.loop-place.place c.requires.fits (omega arith))
+loop-place-preserved c = record {
+  items =
+      c.in-Ok.ensures.ok ∙ ap (put pair_cmp _) c.loop-place.invariant.items
+      ∙ sym (tuple_of_next c.args.cols.now c.args.vals.now c.loop-place.place c.requires.fits (omega arith));
+  len = let more = c.in-Ok.ensures.len in let few = c.loop-place.invariant.len in omega arith;
+  room = let more = c.in-Ok.ensures.capacity in let room = c.loop-place.invariant.room in omega arith;
+}
 
-pub invariant_of-result : goal.invariant_of-result
-invariant_of-result c =
-    let whole : c.loop-place.pairs.items ≡ tuple_of c.args.cols.now c.args.vals.now =
-    c.loop-place.invariant
+pub invariant_of-self-in-loop-place : goal.invariant_of-self-in-loop-place
+invariant_of-self-in-loop-place c =
+    let whole : c.loop-place.self-inside.pairs.items ≡ tuple_of c.args.cols.now c.args.vals.now =
+    c.loop-place.invariant.items
     ∙ ap (λ l. tuple_of l (take c.loop-place.place c.args.vals.now)) (take_all c.loop-place.place c.args.cols.now (omega arith))
     ∙ ap (tuple_of c.args.cols.now) (take_all c.loop-place.place c.args.vals.now (let e = c.requires.fits in omega arith)) in
     subst IsTuple (sym whole)
