@@ -1,3 +1,4 @@
+mod SourceTableLemmas
 mod SourcesLemmas
 mod ListingLemmas
 mod BesideLemmas

@@ -51,10 +51,6 @@ module _ (edges : List EdgeRows) (all : AreStored edges) (e : ℕ) (x : EdgeRows
       sym (found_there now_in edges e x number (source_in x.shape row) (key_in x.shape row))
       ∙ own_place now_in edges (filed_now edges all) (e, row, there.0) x number (listed_row now_in edges (e, row, there.0) there.1)
 
-  pub there_columns : (row : Pairs) → IsThere (listing now_in edges) e row → cols_of row ≡ x.shape.target
-  there_columns row there =
-      (own_values now_in edges (filed_now edges all) (e, row, there.0) x number (listed_row now_in edges (e, row, there.0) there.1)).columns
-
   -- a row that is there is the one with its values
   pub there_whole : (row : Pairs) → IsThere (listing now_in edges) e row → IsWholeRow x.shape row
   there_whole row there = own_row now_in edges (filed_now edges all) (e, row, there.0) x number (listed_row now_in edges (e, row, there.0) there.1)

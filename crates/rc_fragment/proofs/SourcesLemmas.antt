@@ -7,11 +7,11 @@ use Rattle.std.proofs.Common.{refl, sym, ap, subst, ◌∙◌, inl, inr}
 use Rattle.std.proofs.lemmas.Bool.{false≢true, eqb-true}
 use Rattle.rc_edges.specs.Values.{Values, values_cmp, values_eq}
 use Rattle.rc_edges.specs.EdgeMap.{Counted, HasWidth, Rows, written}
-use Rattle.rc_maps.specs.HashTable.{has_one_column}
 use Rattle.rc_spec.specs.declared.items.EdgeKind.{EdgeKind}
 use Rattle.rc_spec.specs.declared.items.EdgeKind.TheVariants as kind
 use Rattle.rc_fragment.specs.Container.{Form, form_in, now_in, taken_in, takes, takes_one}
 use Rattle.rc_fragment.specs.declared.container.Container.TheVariants as container
+use Rattle.rc_fragment.specs.SourceTable.{width_for, width_of}
 use Rattle.rc_fragment.specs.Sources.{AreOfShape, AreSame, Sources, form_of, sources_of, found_in, found_at, IsEmptied, IsSetAt, HaveForm}
 use Rattle.rc_fragment.specs.declared.container.Container.{Container}
 use Rattle.rc_fragment.specs.declared.edge_rows.EdgeRows.{EdgeRows}
@@ -113,14 +113,14 @@ emptied_same old new source v w f e now taken s h = go (values_eq s source) refl
 
 -- ---- the same containers
 
-pub same_entries : (x y : EdgeRows) → sources_of y ≡ sources_of x → has_one_column y.sources ≡ has_one_column x.sources → y.shape ≡ x.shape → AreOfShape x → AreSame x y
+pub same_entries : (x y : EdgeRows) → sources_of y ≡ sources_of x → width_of y.sources ≡ width_of x.sources → y.shape ≡ x.shape → AreOfShape x → AreSame x y
 same_entries x y e width shape forms = record {
   now = λ s k. ap (λ (z : Sources). found_at now_in z s k) e;
   taken = λ s k. ap (λ (z : Sources). found_at taken_in z s k) e;
   emptied = λ s h. subst (λ (z : Sources). IsEmptied z s) e h;
   forms = record {
     forms = subst (λ (z : EdgeShape). HaveForm (form_of z) (sources_of y)) (sym shape) (subst (HaveForm (form_of x.shape)) (sym e) forms.forms);
-    width = width ∙ forms.width ∙ ap (λ (z : EdgeShape). length z.source == 1) (sym shape);
+    width = width ∙ forms.width ∙ ap (λ (z : EdgeShape). width_for (length z.source)) (sym shape);
   };
   shape = shape;
 }

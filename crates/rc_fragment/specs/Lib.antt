@@ -11,4 +11,5 @@ pub mod Listing
 pub mod Notes
 pub mod RowValues
 pub mod RowValuesLaws
+pub mod SourceTable
 pub mod Sources

@@ -6,10 +6,10 @@ use Rattle.std.specs.FinMap.{FinMap}
 use Rattle.rc_tuple.specs.Tuple.{Pairs}
 use Rattle.rc_edges.specs.Values.{Values, values_cmp, values_eq}
 use Rattle.rc_edges.specs.EdgeMap.{Counted, Rows, listed}
-use Rattle.rc_maps.specs.HashTable.{entries_of, has_one_column}
 use Rattle.rc_spec.specs.declared.items.EdgeKind.TheVariants.{Singleton}
 use Rattle.rc_fragment.specs.Container.{Form, now_in, taken_in, form_in, takes_one}
 use Rattle.rc_fragment.specs.RowValues.{row_from}
+use Rattle.rc_fragment.specs.SourceTable.{containers_of, width_for, width_of}
 use Rattle.rc_fragment.specs.declared.container.Container.{Container}
 use Rattle.rc_fragment.specs.declared.edge_rows.EdgeRows.{EdgeRows}
 use Rattle.rc_fragment.specs.declared.shape.EdgeShape.{EdgeShape}
@@ -19,7 +19,7 @@ abbrev pub Sources : Type 0
 Sources = FinMap values_cmp Container
 
 abbrev pub sources_of : EdgeRows → Sources
-sources_of rows = entries_of rows.sources
+sources_of rows = containers_of rows.sources
 
 -- what is found at a key of a source's container, if the source has one
 abbrev pub found_in : (Container → Rows) → Option Container → Values → Option Counted
@@ -44,10 +44,10 @@ form_of shape = (shape.kind, takes_one shape.kind (length shape.key == 1))
 abbrev pub HaveForm : Form → Sources → Type 0
 HaveForm form sources = (source : Values) (c : Container) → fin.get sources source ≡ Some c → form_in c ≡ form
 
--- the containers are of the edge's form, and so is what keeps them by their sources
+-- the containers are of the edge's form, and their table of its source's width
 pub record AreOfShape (rows : EdgeRows) : Type 0 where
   pub forms : HaveForm (form_of rows.shape) (sources_of rows)
-  pub width : has_one_column rows.sources ≡ (length rows.shape.source == 1)
+  pub width : width_of rows.sources ≡ width_for (length rows.shape.source)
 
 -- the source has a container that keeps no row, neither now nor as taken
 abbrev pub IsEmptied : Sources → Values → Type 0

@@ -5,26 +5,26 @@ ghost use Rattle.std.specs.FinMap as fin;
 ghost use Rattle.rc_tuple.specs.RisingSet.{In};
 ghost use Rattle.rc_tuple.specs.Tuple.{Pairs};
 ghost use Rattle.rc_edges.specs.EdgeMap.{HasExtra, count_of, extra_of, lowered};
-ghost use Rattle.rc_maps.specs.HashTable.{entries_of, has_one_column};
 ghost use Rattle.rc_fragment.specs.Container.{now_in};
 ghost use Rattle.rc_fragment.specs.Listing.{IsFiled, row_found, source_rows};
 ghost use Rattle.rc_fragment.specs.RowValues.{IsParted};
-ghost use Rattle.rc_fragment.specs.Sources.{AreOfShape, AreOfWidth, AreSame, AreSeenAlike, Becomes, IsEmptied, IsStoredRow, IsSingle, Reverts, Settles, sources_of, listed_in, now_at, taken_at};
+ghost use Rattle.rc_fragment.specs.Sources.{AreOfShape, AreOfWidth, AreSame, Becomes, IsEmptied, IsStoredRow, IsSingle, Reverts, Settles, sources_of, listed_in, now_at, taken_at};
 
 use crate::EdgeShape;
 use crate::container::Container;
 use crate::rows::{push_rows, row_of};
-use rc_maps::{HashTable, Seed};
+use crate::source_table::SourceTable;
+use rc_maps::Seed;
 use rc_tuple::{Memory, Tuple, Tuples};
 use std::alloc::Global;
 
 /// The rows of one edge in containers of the edge's kind, one for each row of the edge's source that
-/// has some. A look-up takes one of the source and one of the key, each by its values in the order of
-/// the columns, and no memory.
+/// has some. A look-up takes one of the key, and one of the source where that has columns, each by its
+/// values in the order of the columns, and no memory.
 #[derive(Drop, Debug)]
 pub struct EdgeRows {
     pub shape: EdgeShape,
-    pub sources: HashTable<Container>,
+    pub sources: SourceTable,
     pub seed: Seed,
     pub alloc: Global,
 }
@@ -38,7 +38,7 @@ impl EdgeRows {
     {
         EdgeRows {
             shape,
-            sources: HashTable::new(alloc, seed, shape.source.len() == 1),
+            sources: SourceTable::new(alloc, seed, shape.source.len()),
             seed,
             alloc,
         }
@@ -87,7 +87,7 @@ impl EdgeRows {
         };
         container.revert(key);
         if container.is_gone() {
-            let _ = self.sources.remove(source);
+            self.sources.remove(source);
         }
     }
 
@@ -103,7 +103,7 @@ impl EdgeRows {
         };
         container.settle(key);
         if container.is_gone() {
-            let _ = self.sources.remove(source);
+            self.sources.remove(source);
         }
     }
 
@@ -183,35 +183,12 @@ impl EdgeRows {
         requires { AreOfShape self.now }
         ensures { IfOk result (λ copy. AreSame self.now copy) }
     {
+        let columns = self.shape.source.len();
         Ok(EdgeRows {
             shape: self.shape,
-            sources: copy_of(
-                self.alloc,
-                self.seed,
-                self.shape.source.len() == 1,
-                &self.sources,
-            )?,
+            sources: self.sources.copy(self.alloc, self.seed, columns)?,
             seed: self.seed,
             alloc: self.alloc,
         })
     }
-}
-
-/// The same containers once more, by the same sources.
-fn copy_of(
-    alloc: Global,
-    seed: Seed,
-    one_column: bool,
-    sources: &HashTable<Container>,
-) -> Result<HashTable<Container>, Memory>
-    requires { has_one_column sources.now ≡ one_column }
-    ensures seen { IfOk result (λ copy. AreSeenAlike (entries_of sources.now) (entries_of copy)) }
-    ensures width { IfOk result (λ copy. has_one_column copy ≡ one_column) }
-{
-    let keyed = sources.keyed(alloc)?;
-    let mut copy = HashTable::new(alloc, seed, one_column);
-    for source in &keyed {
-        copy.insert(source.key, source.value.copy()?)?;
-    }
-    Ok(copy)
 }

@@ -14,6 +14,7 @@ mod note;
 mod places;
 mod rows;
 mod shape;
+mod source_table;
 mod values;
 
 pub use cow::CowFragment;

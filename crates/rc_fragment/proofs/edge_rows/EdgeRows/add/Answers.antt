@@ -4,7 +4,7 @@ use Rattle.std.specs.Option.{OnSome}
 use Rattle.std.specs.FinMap as fin
 use Rattle.rc_edges.specs.Values.{Values}
 use Rattle.rc_edges.specs.EdgeMap.{Counted, HasExtra, count_of, written}
-use Rattle.rc_maps.specs.HashTable.{IsSet, entries_of, has_one_column}
+use Rattle.rc_fragment.specs.SourceTable.{IsSet, containers_of, width_for, width_of}
 use Rattle.rc_fragment.specs.Container.{now_in, taken_in, takes_one}
 use Rattle.rc_fragment.specs.Sources.{Sources, form_of, found_in, sources_of}
 use Rattle.rc_fragment.specs.declared.container.Container.{Container}
@@ -30,8 +30,8 @@ returns-in_err-add-clause-err c =
     let w : Container = c.add.new.self in
     let f : fin.get es source ≡ Some v = sym c.in-Some.ensures.value in
     let u : IsSet x.sources (c.get_mut.follows.lender w) source w = subst (λ r. OnSome r (IsSet x.sources (c.get_mut.follows.lender w) source w)) c.in-Some.is (c.get_mut.follows.holds w) in
-    let set : Sources = entries_of (c.get_mut.follows.lender w) in
-    let e : set ≡ written es source (Some w) = u.entries in
+    let set : Sources = containers_of (c.get_mut.follows.lender w) in
+    let e : set ≡ written es source (Some w) = u.containers in
     on_err _ c.from_residual.result record {
       now = set_same es set source (Some v) w f e now_in v refl c.in_err-add.ensures.err;
       taken = set_same es set source (Some v) w f e taken_in v refl c.add.ensures.taken;
@@ -53,8 +53,8 @@ returns-in-Some-clause-ok c =
     let w : Container = c.add.new.self in
     let f : fin.get es source ≡ Some v = sym c.in-Some.ensures.value in
     let u : IsSet x.sources (c.get_mut.follows.lender w) source w = subst (λ r. OnSome r (IsSet x.sources (c.get_mut.follows.lender w) source w)) c.in-Some.is (c.get_mut.follows.holds w) in
-    let set : Sources = entries_of (c.get_mut.follows.lender w) in
-    let e : set ≡ written es source (Some w) = u.entries in
+    let set : Sources = containers_of (c.get_mut.follows.lender w) in
+    let e : set ≡ written es source (Some w) = u.containers in
     let g : (o : Option Container) → Option Counted = λ o. Some (c.args.extra.now, count_of (found_in now_in o key) + 1) in
     record {
       now = set_by es set source (Some v) w f e now_in (now_in v) key (g (fin.get es source)) (c.in_ok-add.ensures.ok ∙ ap (λ z. written (now_in v) key (g z)) (sym f)) (λ k. refl);
@@ -80,6 +80,9 @@ add-requires-2-clause-single c =
     takes_first c.in_ok-container.container c.args.self.now.shape.kind (length c.args.key.now == 1) c.args.key.now c.in_ok-container.ensures.form (has_width (length c.args.key.now) c.args.key.now refl)
     c.in_ok-container.ensures.now
 
+pub insert-requires : goal.insert-requires
+insert-requires c = ap width_of c.get_mut.follows.holds-at-none ∙ c.requires.forms.width ∙ ap width_for (sym c.requires.width.source_width)
+
 pub returns-clause-ok : goal.returns-clause-ok
 returns-clause-ok c =
     let x : EdgeRows = c.args.self.now in
@@ -89,12 +92,12 @@ returns-clause-ok c =
     let b : Container = c.in_ok-container.container in
     let w : Container = c.add-2.new.self in
     let f : fin.get es source ≡ None = sym c.in_default.ensures.value in
-    let set : Sources = entries_of c.insert.new.self in
+    let set : Sources = containers_of c.insert.new.self in
     let g : (o : Option Container) → Option Counted = λ o. Some (c.args.extra.now, count_of (found_in now_in o key) + 1) in
     let no_now : (k : Values) → fin.get (now_in b) k ≡ None = none_there (now_in b) c.in_ok-container.ensures.now in
     let no_taken : (k : Values) → fin.get (taken_in b) k ≡ None = none_there (taken_in b) c.in_ok-container.ensures.taken in
     on_ok_from _ _ c.insert.result c.insert.ensures.ok (λ p.
-    let e : set ≡ written es source (Some w) = p ∙ ap (λ t. written (entries_of t) source (Some w)) c.get_mut.follows.holds-at-none in
+    let e : set ≡ written es source (Some w) = p ∙ ap (λ t. written (containers_of t) source (Some w)) c.get_mut.follows.holds-at-none in
     record {
       now = set_by es set source None w f e now_in (now_in b) key (g (fin.get es source))
           (c.in_ok-add-2.ensures.ok ∙ ap (λ z. written (now_in b) key (Some (c.args.extra.now, count_of z + 1))) (no_now key) ∙ ap (λ z. written (now_in b) key (g z)) (sym f)) no_now;
@@ -104,7 +107,7 @@ returns-clause-ok c =
       forms = record {
         forms = set_form es set source None w f e (form_of x.shape) c.requires.forms.forms
             (c.add-2.ensures.form ∙ c.in_ok-container.ensures.form ∙ ap (λ n. (x.shape.kind, takes_one x.shape.kind (n == 1))) c.requires.width.key_width);
-        width = c.insert.ensures.width ∙ ap has_one_column c.get_mut.follows.holds-at-none ∙ c.requires.forms.width;
+        width = c.insert.ensures.width ∙ ap width_of c.get_mut.follows.holds-at-none ∙ c.requires.forms.width;
       };
       shape = refl;
     })
@@ -112,15 +115,15 @@ returns-clause-ok c =
 pub returns-in_err-container-clause-err : goal.returns-in_err-container-clause-err
 returns-in_err-container-clause-err c =
     let x : EdgeRows = c.args.self.now in
-    on_err _ c.from_residual-in_err-container.result (same_entries x (record x { sources = c.get_mut.follows.lender-at-none }) (ap entries_of c.get_mut.follows.holds-at-none) (ap has_one_column c.get_mut.follows.holds-at-none) refl c.requires.forms)
+    on_err _ c.from_residual-in_err-container.result (same_entries x (record x { sources = c.get_mut.follows.lender-at-none }) (ap containers_of c.get_mut.follows.holds-at-none) (ap width_of c.get_mut.follows.holds-at-none) refl c.requires.forms)
 
 pub returns-in_err-add-2-clause-err : goal.returns-in_err-add-2-clause-err
 returns-in_err-add-2-clause-err c =
     let x : EdgeRows = c.args.self.now in
-    on_err _ c.from_residual-in_err-add-2.result (same_entries x (record x { sources = c.get_mut.follows.lender-at-none }) (ap entries_of c.get_mut.follows.holds-at-none) (ap has_one_column c.get_mut.follows.holds-at-none) refl c.requires.forms)
+    on_err _ c.from_residual-in_err-add-2.result (same_entries x (record x { sources = c.get_mut.follows.lender-at-none }) (ap containers_of c.get_mut.follows.holds-at-none) (ap width_of c.get_mut.follows.holds-at-none) refl c.requires.forms)
 
 pub returns-clause-err : goal.returns-clause-err
 returns-clause-err c =
     let x : EdgeRows = c.args.self.now in
-    on_err_from _ _ c.insert.result c.insert.ensures.err (λ p. same_entries x (record x { sources = c.insert.new.self }) (p ∙ ap entries_of c.get_mut.follows.holds-at-none)
-    (c.insert.ensures.width ∙ ap has_one_column c.get_mut.follows.holds-at-none) refl c.requires.forms)
+    on_err_from _ _ c.insert.result c.insert.ensures.err (λ p. same_entries x (record x { sources = c.insert.new.self }) (p ∙ ap containers_of c.get_mut.follows.holds-at-none)
+    (c.insert.ensures.width ∙ ap width_of c.get_mut.follows.holds-at-none) refl c.requires.forms)

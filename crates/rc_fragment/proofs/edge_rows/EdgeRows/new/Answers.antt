@@ -1,13 +1,14 @@
-use Rattle.std.proofs.Common.{◌==◌, sym, ap, ◌∙◌}
+use Rattle.std.proofs.Common.{sym, ap, ◌∙◌}
 use Rattle.std.specs.FinMap as fin
 use Rattle.std.specs.FinMap.{get-empty}
 use Rattle.std.proofs.lemmas.Option.{none-some}
 use Rattle.rc_edges.specs.Values.{values_cmp}
+use Rattle.rc_fragment.specs.SourceTable.{width_for}
 use Rattle.rc_fragment.specs.Sources.{Sources}
 use Rattle.rc_fragment.proofs.edge_rows.EdgeRows.new.Goals as goal
 
 pub returns-clause-form : goal.returns-clause-form
 returns-clause-form c = record {
   forms = λ s v g. absurd (none-some v (sym (ap (λ (z : Sources). fin.get z s) c.new.ensures.empty ∙ get-empty values_cmp s) ∙ g));
-  width = c.new.ensures.width ∙ ap (λ n. n == 1) c.len.ensures.value;
+  width = c.new.ensures.width ∙ ap width_for c.len.ensures.value;
 }

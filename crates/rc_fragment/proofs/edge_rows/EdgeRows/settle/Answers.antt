@@ -4,7 +4,7 @@ use Rattle.std.specs.FinMap as fin
 use Rattle.std.proofs.lemmas.Bool.{false≢true}
 use Rattle.rc_edges.specs.Values.{Values}
 use Rattle.rc_edges.specs.EdgeMap.{Counted, written}
-use Rattle.rc_maps.specs.HashTable.{IsSet, entries_of}
+use Rattle.rc_fragment.specs.SourceTable.{IsSet, containers_of}
 use Rattle.rc_fragment.specs.Container.{now_in, taken_in}
 use Rattle.rc_fragment.specs.Sources.{Becomes, HaveForm, IsEmptied, IsSetAt, Sources, form_of, found_at, found_in, sources_of}
 use Rattle.rc_fragment.specs.declared.container.Container.{Container}
@@ -33,7 +33,7 @@ pub returns-in_default-clause-freed : goal.returns-in_default-clause-freed
 returns-in_default-clause-freed c =
     let source : Values = c.args.source.now in
     let es : Sources = sources_of c.args.self.now in
-    subst (λ z. IsEmptied (entries_of z) source → ⊥) (sym c.get_mut.follows.holds-at-none) (none_emptied es source (sym c.in_default.ensures.value))
+    subst (λ z. IsEmptied (containers_of z) source → ⊥) (sym c.get_mut.follows.holds-at-none) (none_emptied es source (sym c.in_default.ensures.value))
 
 pub returns-else-is_gone-clause-becomes : goal.returns-else-is_gone-clause-becomes
 returns-else-is_gone-clause-becomes c =
@@ -45,8 +45,8 @@ returns-else-is_gone-clause-becomes c =
     let w : Container = c.settle.new.self in
     let f : fin.get es source ≡ Some v = sym c.in-Some.ensures.value in
     let u : IsSet x.sources (c.get_mut.follows.lender w) source w = subst (λ r. OnSome r (IsSet x.sources (c.get_mut.follows.lender w) source w)) c.in-Some.is (c.get_mut.follows.holds w) in
-    let set : Sources = entries_of (c.get_mut.follows.lender w) in
-    let e : set ≡ written es source (Some w) = u.entries in
+    let set : Sources = containers_of (c.get_mut.follows.lender w) in
+    let e : set ≡ written es source (Some w) = u.containers in
     let o : Option Counted = found_in now_in (fin.get es source) key in
     let a : IsSetAt (found_at now_in es) (found_at now_in set) source key o = set_by es set source (Some v) w f e now_in (now_in v) key o
     (again (now_in w) (now_in v) key c.settle.ensures.now ∙ ap (λ z. written (now_in v) key (found_in now_in z key)) (sym f)) (λ k. refl) in
@@ -65,12 +65,12 @@ returns-else-is_gone-clause-freed c =
     let w : Container = c.settle.new.self in
     let f : fin.get es source ≡ Some v = sym c.in-Some.ensures.value in
     let u : IsSet x.sources (c.get_mut.follows.lender w) source w = subst (λ r. OnSome r (IsSet x.sources (c.get_mut.follows.lender w) source w)) c.in-Some.is (c.get_mut.follows.holds w) in
-    let set : Sources = entries_of (c.get_mut.follows.lender w) in
-    let e : set ≡ written es source (Some w) = u.entries in
+    let set : Sources = containers_of (c.get_mut.follows.lender w) in
+    let e : set ≡ written es source (Some w) = u.containers in
     not_emptied es set source w e (λ g. false≢true (sym c.if-is_gone.false ∙ c.is_gone.ensures.1 g))
 
 pub returns-then-is_gone-clause-freed : goal.returns-then-is_gone-clause-freed
-returns-then-is_gone-clause-freed c = out_emptied (entries_of (c.get_mut.follows.lender c.settle.new.self)) (entries_of c.remove.new.self) c.args.source.now c.remove.ensures.entries
+returns-then-is_gone-clause-freed c = out_emptied (containers_of (c.get_mut.follows.lender c.settle.new.self)) (containers_of c.remove.new.self) c.args.source.now c.remove.ensures.containers
 
 pub returns-then-is_gone-clause-becomes : goal.returns-then-is_gone-clause-becomes
 returns-then-is_gone-clause-becomes c =
@@ -82,16 +82,16 @@ returns-then-is_gone-clause-becomes c =
     let w : Container = c.settle.new.self in
     let f : fin.get es source ≡ Some v = sym c.in-Some.ensures.value in
     let u : IsSet x.sources (c.get_mut.follows.lender w) source w = subst (λ r. OnSome r (IsSet x.sources (c.get_mut.follows.lender w) source w)) c.in-Some.is (c.get_mut.follows.holds w) in
-    let set : Sources = entries_of (c.get_mut.follows.lender w) in
-    let e : set ≡ written es source (Some w) = u.entries in
+    let set : Sources = containers_of (c.get_mut.follows.lender w) in
+    let e : set ≡ written es source (Some w) = u.containers in
     let o : Option Counted = found_in now_in (fin.get es source) key in
     let a : IsSetAt (found_at now_in es) (found_at now_in set) source key o = set_by es set source (Some v) w f e now_in (now_in v) key o
     (again (now_in w) (now_in v) key c.settle.ensures.now ∙ ap (λ z. written (now_in v) key (found_in now_in z key)) (sym f)) (λ k. refl) in
     let b : IsSetAt (found_at taken_in es) (found_at taken_in set) source key o = set_by es set source (Some v) w f e taken_in (taken_in v) key o
     (c.settle.ensures.taken ∙ ap (λ z. written (taken_in v) key (found_in now_in z key)) (sym f)) (λ k. refl) in
     let k : HaveForm (form_of x.shape) set = set_form es set source (Some v) w f e (form_of x.shape) c.requires.forms.forms (c.settle.ensures.form ∙ c.requires.forms.forms source v f) in
-    let new : Sources = entries_of c.remove.new.self in
-    let out : new ≡ written set source None = c.remove.ensures.entries in
+    let new : Sources = containers_of c.remove.new.self in
+    let out : new ≡ written set source None = c.remove.ensures.containers in
     let gone : (now_in w ≡ fin.empty) × (taken_in w ≡ fin.empty) = c.is_gone.ensures.0 c.if-is_gone.true in
     record {
       now = λ s k. out_at es set new source w e out now_in gone.0 s k ∙ a s k;

@@ -3,7 +3,7 @@ use Rattle.std.specs.Option.{OnSome}
 use Rattle.std.specs.FinMap as fin
 use Rattle.rc_edges.specs.Values.{Values}
 use Rattle.rc_edges.specs.EdgeMap.{lowered, written}
-use Rattle.rc_maps.specs.HashTable.{IsSet, entries_of}
+use Rattle.rc_fragment.specs.SourceTable.{IsSet, containers_of}
 use Rattle.rc_fragment.specs.Container.{now_in, taken_in}
 use Rattle.rc_fragment.specs.Sources.{Sources, form_of, found_in, sources_of}
 use Rattle.rc_fragment.specs.declared.container.Container.{Container}
@@ -21,8 +21,8 @@ returns c =
     let w : Container = c.sub.new.self in
     let f : fin.get es source ≡ Some v = sym c.in-Some.ensures.value in
     let u : IsSet x.sources (c.get_mut.follows.lender w) source w = subst (λ r. OnSome r (IsSet x.sources (c.get_mut.follows.lender w) source w)) c.in-Some.is (c.get_mut.follows.holds w) in
-    let set : Sources = entries_of (c.get_mut.follows.lender w) in
-    let e : set ≡ written es source (Some w) = u.entries in
+    let set : Sources = containers_of (c.get_mut.follows.lender w) in
+    let e : set ≡ written es source (Some w) = u.containers in
     record {
       now = set_by es set source (Some v) w f e now_in (now_in v) key (lowered (found_in now_in (fin.get es source) key))
           (c.sub.ensures.now ∙ ap (λ z. written (now_in v) key (lowered (found_in now_in z key))) (sym f)) (λ k. refl);

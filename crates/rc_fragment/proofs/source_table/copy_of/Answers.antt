@@ -13,7 +13,7 @@ use Rattle.rc_fragment.specs.Sources.{seen_container}
 use Rattle.rc_fragment.specs.declared.container.Container.{Container}
 use Rattle.rc_fragment.proofs.CopyLemmas.{IsCopied, IsCopied-more, IsCopied-none}
 use Rattle.rc_fragment.proofs.WalkLemmas.{apart_from, got_from, width_there}
-use Rattle.rc_fragment.proofs.edge_rows.copy_of.Goals as goal
+use Rattle.rc_fragment.proofs.source_table.copy_of.Goals as goal
 
 pub loop-source-init : goal.loop-source-init
 loop-source-init c =

@@ -3,7 +3,7 @@ use Rattle.std.specs.Prelude.{map}
 use Rattle.rc_maps.specs.HashTable.{entries_of, has_one_column}
 use Rattle.rc_maps.specs.Keyed.{pair_of}
 use Rattle.rc_fragment.proofs.CopyLemmas.{IsCopied}
-use Rattle.rc_fragment.proofs.edge_rows.copy_of.Given as goal
+use Rattle.rc_fragment.proofs.source_table.copy_of.Given as goal
 
 abbrev pub invariant-loop-source : goal.invariant-loop-source
 invariant-loop-source l = record {
