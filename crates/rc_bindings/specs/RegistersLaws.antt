@@ -18,10 +18,10 @@ use Rattle.std.proofs.lemmas.Cmp.{ranked}
 use Rattle.std.specs.declared.cmp.Ordering.{Ordering}
 use Rattle.std.specs.declared.cmp.Ordering.TheVariants.{Less, Equal, Greater}
 use Rattle.rc_tuple.specs.RisingSet.{In, IsRising}
-use Rattle.rc_tuple.specs.RisingSetLaws.{in_map, map_in, get_or_in, same_rising, in_has, has_in, nat_order, not_below_itself, same_bool, list_all_in, in_list_all, rising_gather, rising_filter, in_filter, filter_in}
+use Rattle.rc_tuple.specs.RisingSetLaws.{in_map, map_in, get_or_in, same_rising, in_has, has_in, nat_order, not_below_itself, same_bool, list_all_in, in_list_all, rising_filter, in_filter, filter_in}
 use Rattle.std.specs.List.{slice_get}
-use Rattle.rc_tuple.specs.ColSet.{IsColSet, Within, has, inter, union}
-use Rattle.rc_tuple.specs.ColSetLaws.{inter_in, rank_more, slice_get-rank, in_union, union_left, union_right, rising_range, in_range_below, range_with_len_more}
+use Rattle.rc_tuple.specs.ColSet.{IsColSet, Within, has, inter}
+use Rattle.rc_tuple.specs.ColSetLaws.{inter_in, rank_more, slice_get-rank, rising_range, in_range_below, range_with_len_more}
 use Rattle.rc_tuple.specs.Tuple.{Pairs, IsTuple, agrees, cols_of, get, merge, pair_cmp, project, tuple_cmp, value}
 use Rattle.rc_tuple.specs.TupleLaws.{zip_more, GivesOne, one_pair, agree_from, agrees_to, in_project, project_in, rising_cols, rising_pairs, pair_order, in_merge, merge_left, merge_right, rising_merge}
 use Rattle.rc_spec.specs.InRange.{IsSetBelow}
@@ -122,55 +122,6 @@ fits_all-agrees cols values u = same_bool (fits_all cols values u) (agrees (tupl
         go q n true e =
             let same : (q.0, register values q.0) ≡ q = agree_from (tuple_in cols values) u h (q.0, register values q.0) q (tuple_in_has cols values (q.0, register values q.0) (in_has cols q.0 e) refl) n refl in
             or_right (not (has cols q.0)) (register values q.0 == q.1) (eq-eqb (register values q.0) q.1 (ap (λ (z : ℕ × ℕ). z.1) same))
-
--- a merge is a write
-pub merge-written : (cols values : List ℕ) (u : Pairs) → IsRising nat_cmp (cols_of u) → ((p : ℕ × ℕ) → In p u → p.0 < length values) → agrees (tuple_in cols values) u ≡ true
-    → tuple_in (union cols (cols_of u)) (all_written u values) ≡ merge (tuple_in cols values) u
-merge-written cols values u rises below agreeing =
-    same_rising pair_cmp pair_order (tuple_in (union cols (cols_of u)) (all_written u values)) (merge (tuple_in cols values) u)
-    (rising-tuple_in (union cols (cols_of u)) (all_written u values) (rising_gather nat_cmp nat_order (cols ++ cols_of u)))
-    (rising_merge (tuple_in cols values) u) to from
-  where
-    in_row : (c v : ℕ) → In c (cols_of u) → v ≡ register (all_written u values) c → In {A = ℕ × ℕ} (c, v) u
-    in_row c v m e =
-        let r : (z : ℕ × ℕ) × In z u × (c ≡ z.0) = in_map (λ (z : ℕ × ℕ). z.0) c u m in
-        let w : r.0.1 ≡ v = sym (e ∙ ap (register (all_written u values)) r.2 ∙ register-written u values rises below r.0 r.1) in
-        subst (λ (z : ℕ × ℕ). In z u) (λ i. (sym r.2 i, w i)) r.1
-
-    kept : (p : ℕ × ℕ) → (In p.0 (cols_of u) → ⊥) → In p.0 cols → p.1 ≡ register (all_written u values) p.0 → In p (tuple_in cols values)
-    kept p out m e = tuple_in_has cols values p m (e ∙ register-unwritten u values p.0 out)
-
-    to : (p : ℕ × ℕ) → In p (tuple_in (union cols (cols_of u)) (all_written u values)) → In p (merge (tuple_in cols values) u)
-    to p m = go (has (cols_of u) p.0) refl
-      where
-        q : In p.0 (union cols (cols_of u)) × (p.1 ≡ register (all_written u values) p.0)
-        q = in_tuple_in (union cols (cols_of u)) (all_written u values) p m
-
-        go : (b : Bool) → has (cols_of u) p.0 ≡ b → In p (merge (tuple_in cols values) u)
-        go true h = merge_right (tuple_in cols values) u p (in_row p.0 p.1 (in_has (cols_of u) p.0 h) q.1)
-        go false h =
-            let out : In p.0 (cols_of u) → ⊥ = λ k. false≢true (sym h ∙ has_in (cols_of u) p.0 k) in
-            elim (in_union cols (cols_of u) p.0 q.0) [ inl k ↦ merge_left (tuple_in cols values) u p (kept p out k q.1) | inr k ↦ absurd (out k) ]
-
-    from : (p : ℕ × ℕ) → In p (merge (tuple_in cols values) u) → In p (tuple_in (union cols (cols_of u)) (all_written u values))
-    from p m = elim (in_merge (tuple_in cols values) u p m) [ inl k ↦ left k | inr k ↦ right k ]
-      where
-        right : In p u → In p (tuple_in (union cols (cols_of u)) (all_written u values))
-        right k = tuple_in_has (union cols (cols_of u)) (all_written u values) p (union_right cols (cols_of u) p.0 (map_in (λ (z : ℕ × ℕ). z.0) p u k)) (sym (register-written u values rises below p k))
-
-        left : In p (tuple_in cols values) → In p (tuple_in (union cols (cols_of u)) (all_written u values))
-        left k = go (has (cols_of u) p.0) refl
-          where
-            q : In p.0 cols × (p.1 ≡ register values p.0)
-            q = in_tuple_in cols values p k
-
-            go : (b : Bool) → has (cols_of u) p.0 ≡ b → In p (tuple_in (union cols (cols_of u)) (all_written u values))
-            go true h =
-                let r : (z : ℕ × ℕ) × In z u × (p.0 ≡ z.0) = in_map (λ (z : ℕ × ℕ). z.0) p.0 u (in_has (cols_of u) p.0 h) in
-                let same : p ≡ r.0 = agree_from (tuple_in cols values) u agreeing p r.0 k r.1 r.2 in
-                right (subst (λ z. In z u) (sym same) r.1)
-            go false h = tuple_in_has (union cols (cols_of u)) (all_written u values) p (union_left cols (cols_of u) p.0 q.0)
-                (q.1 ∙ sym (register-unwritten u values p.0 (λ n. false≢true (sym h ∙ has_in (cols_of u) p.0 n))))
 
 -- ---- pairs in any order
 

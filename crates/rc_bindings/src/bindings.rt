@@ -243,7 +243,8 @@ impl Bindings {
         ensures same { self.new ≡ with_tuples self.old self.new.tuples }
         ensures ok { OnOk result (self.new ≡ with_tuples self.old (gather tuple_cmp self.old.tuples)) }
     {
-        if self.rises() {
+        // Mostly there is one, which needs no walk.
+        if self.len() < 2 || self.rises() {
             return Ok(());
         }
         let tuples = distinct(self.tuples(alloc)?);

@@ -72,12 +72,6 @@ target_rises spec sealed e k =
     let l : (edge_at spec e).to < length spec.nodes = (sealed.in_range.known_edges (edge_at spec e) (edge_at_in spec e k)).to in
     (sealed.in_range.known_nodes (node_at spec (edge_at spec e).to) (get_or_in spec.nodes (edge_at spec e).to no_node l)).set.rising
 
-pub from_known : (spec : Spec) → IsSealed spec → (e : ℕ) → e < length spec.edges → (edge_at spec e).from < length spec.nodes
-from_known spec sealed e k = (sealed.in_range.known_edges (edge_at spec e) (edge_at_in spec e k)).from
-
-pub to_known : (spec : Spec) → IsSealed spec → (e : ℕ) → e < length spec.edges → (edge_at spec e).to < length spec.nodes
-to_known spec sealed e k = (sealed.in_range.known_edges (edge_at spec e) (edge_at_in spec e k)).to
-
 -- ---- one stripe's answer
 
 -- what was there, and the merges with some tuples

@@ -6,7 +6,7 @@ use Rattle.std.proofs.lemmas.Cmp.{ranked}
 use Rattle.std.proofs.lemmas.List.{append-nil, take_more, length-take-le, take-append-drop}
 use Rattle.std.proofs.Math.Seq.{drop-cons, get_or-append_seam}
 use Rattle.rc_tuple.specs.RisingSet.{In, IsRising}
-use Rattle.rc_tuple.specs.RisingSetLaws.{get_or_in, in_append, map_in}
+use Rattle.rc_tuple.specs.RisingSetLaws.{get_or_in, map_in}
 use Rattle.rc_spec.specs.declared.lock.Mode.TheVariants.{Shared, Exclusive}
 use Rattle.rc_core.specs.State.{hold, stripes_in}
 use Rattle.rc_core.specs.ListLaws.{stripes_have}
@@ -38,15 +38,6 @@ hands-append (h ∷ a) b = ap (λ (slots : List (ℕ × Slot)). slots ++ hand_of
 pub stripes_of-append : (a b : List HeldRows) → stripes_in (holds_taken (a ++ b)) ≡ stripes_in (holds_taken a) ++ stripes_in (holds_taken b)
 stripes_of-append [] b = refl
 stripes_of-append (h ∷ a) b = ap (λ (xs : List ℕ). h.stripe ∷ xs) (stripes_of-append a b)
-
-pub not_yet : (held : List HeldRows) (p i : ℕ) (d : HeldRows) → i < length held → (In p (stripes_in (holds_taken (take i held))) → ⊥) → (d.stripe ≡ p → ⊥) → d ≡ get_or held i d
-    → In p (stripes_in (holds_taken (take (i + 1) held))) → ⊥
-not_yet held p i d lt none not is m =
-    elim (in_append p (stripes_in (holds_taken (take i held))) (d.stripe ∷ []) (subst (In p) (stripes_of-append (take i held) (d ∷ [])) (subst (λ (hs : List HeldRows). In p (stripes_in (holds_taken hs))) (take_more held i d lt ∙ ap (λ (x : HeldRows). take i held ++ x ∷ []) (sym is)) m))) [
-      | inl x ↦ none x
-      | inr (inl e) ↦ not (sym e)
-      | inr (inr x) ↦ absurd x
-    ]
 
 -- in rising stripes none is twice
 pub not_before : (held : List HeldRows) (p i : ℕ) (d : HeldRows) → i < length held → IsRising nat_cmp (stripes_in (holds_taken held)) → d.stripe ≡ p → d ≡ get_or held i d

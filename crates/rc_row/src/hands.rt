@@ -25,21 +25,8 @@ pub(crate) fn turn_by(seat: &mut Seat<Option<Keep>, View>, count: usize)
     }
 }
 
-/// Where the fragment of a held stripe is.
+/// Where the fragment of a held stripe is. It is looked for from the end, since what was taken last is given back first.
 pub(crate) fn place_of(held: &Vec<HeldFragment>, stripe: u32) -> usize
-    requires { In stripe (stripes_in (holds_taken held.now.items)) }
-    ensures { IsHeldAt held.now.items stripe result }
-{
-    for i in 0..held.len() {
-        if held[i].stripe == stripe {
-            return i;
-        }
-    }
-    unreachable!()
-}
-
-/// Where it is, looked for from the end: what was taken last is mostly given back first.
-pub(crate) fn place_from_end(held: &Vec<HeldFragment>, stripe: u32) -> usize
     requires there { In stripe (stripes_in (holds_taken held.now.items)) }
     requires rising { IsRising nat_cmp (stripes_in (holds_taken held.now.items)) }
     ensures { IsHeldAt held.now.items stripe result }

@@ -12,7 +12,7 @@ ghost use Rattle.rc_row.specs.HeldRows.{just_held};
 ghost use Rattle.rc_row.specs.Passes.{HasWaited, IsPassOf, OfHeld, PassSeen, core_of, spec_of, stripes_of, with_standing, with_taken, without_stripe};
 ghost use Rattle.rc_row.specs.Standings.{HaveOneRelation, KeepsOut, turned_away};
 
-use crate::hands::{found_in, place_from_end, take_at, turn_by, written_among};
+use crate::hands::{found_in, place_of, take_at, turn_by, written_among};
 use crate::held::HeldFragment;
 use crate::law::View;
 use crate::pass::Pass;
@@ -121,7 +121,7 @@ impl Row {
         ensures pass { IsPassOf self.now pass.new }
         ensures value { pass.new ≡ without_stripe stripe pass.old }
     {
-        let at = place_from_end(&pass.held, stripe);
+        let at = place_of(&pass.held, stripe);
         let below = written_among(&pass.held, at);
         let above = written_among(&pass.held, pass.held.len()) - 1 - below;
         let mark = pass.number as u64 + 1;

@@ -13,7 +13,7 @@ ghost use Rattle.rc_row.specs.Law.{kept_of, pass_view, standing_of};
 ghost use Rattle.rc_row.specs.Passes.{HasWaited, IsPassOf, PassSeen, core_of, spec_of, stripes_of, with_standing, with_taken, without_stripe};
 ghost use Rattle.rc_row.specs.Standings.{HaveOneRelation, KeepsOut, latched_out, turned_away, with_core, without_wish};
 
-use crate::hands::{found_in, place_from_end, take_at};
+use crate::hands::{found_in, place_of, take_at};
 use crate::held::HeldFragment;
 use crate::law::View;
 use crate::pass::Pass;
@@ -233,7 +233,7 @@ impl Row {
         ensures pass { IsPassOf self.now pass.new }
         ensures value { pass.new ≡ without_stripe stripe pass.old }
     {
-        let at = place_from_end(&pass.held, stripe);
+        let at = place_of(&pass.held, stripe);
         drop(take_at(&mut pass.held, at));
         self.leave_step(&mut pass.seat, stripe);
     }

@@ -1,4 +1,4 @@
-use Rattle.std.proofs.Common.{◌≡◌, cond, None, Some, ap, subst, sym, ◌∙◌}
+use Rattle.std.proofs.Common.{cond, None, Some, ap, sym, ◌∙◌}
 use Rattle.rc_tuple.specs.RisingSetLaws.{in_has}
 use Rattle.rc_tuple.specs.Tuple.{get}
 use Rattle.rc_bindings.specs.Bindings.{OneBinding}

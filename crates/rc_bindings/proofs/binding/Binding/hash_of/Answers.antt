@@ -1,6 +1,5 @@
-use Rattle.std.proofs.Common.{◌≡◌, ◌+◌, cond, ap, subst, sym, ◌∙◌, arith, length}
+use Rattle.std.proofs.Common.{◌≡◌, cond, ap, sym, ◌∙◌, arith}
 use Rattle.rc_tuple.specs.Tuple.{value}
-use Rattle.rc_spec.specs.InRange.{IsSetBelow}
 use Rattle.rc_spec.specs.Stripes.{hash_of, mix}
 use Rattle.rc_bindings.specs.Bindings.{OneBinding}
 use Rattle.rc_bindings.specs.Registers.{columns_below}

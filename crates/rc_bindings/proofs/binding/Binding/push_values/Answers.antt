@@ -1,4 +1,4 @@
-use Rattle.std.proofs.Common.{◌≡◌, ◌++◌, ap, map, subst, sym, ◌∙◌, length}
+use Rattle.std.proofs.Common.{◌++◌, ap, map, subst, sym, ◌∙◌}
 use Rattle.rc_tuple.specs.RisingSet.{In}
 use Rattle.rc_tuple.specs.ColSetLaws.{in_inter}
 use Rattle.rc_tuple.specs.ColSet.{inter}

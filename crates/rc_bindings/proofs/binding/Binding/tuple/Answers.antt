@@ -1,4 +1,4 @@
-use Rattle.std.proofs.Common.{◌≡◌, ap, ◌∙◌}
+use Rattle.std.proofs.Common.{ap, ◌∙◌}
 use Rattle.std.specs.List.{zip}
 use Rattle.rc_bindings.specs.Bindings.{OneBinding}
 use Rattle.rc_bindings.specs.RegistersLaws.{if_ok, zip-registers}

@@ -1,4 +1,4 @@
-use Rattle.std.proofs.Common.{◌≡◌, ◌+◌, ◌<◌, ◌++◌, ◌∷◌, [], suc, get_or, length, refl, subst, sym, ap, take, ◌∙◌, arith}
+use Rattle.std.proofs.Common.{◌≡◌, ◌+◌, ◌<◌, ◌++◌, ◌∷◌, [], List, suc, get_or, length, refl, subst, sym, ap, take, ◌∙◌, arith}
 use Rattle.std.proofs.Math.Seq.{take-suc}
 use Rattle.std.proofs.lemmas.List.{take_all}
 use Rattle.rc_tuple.specs.MergeLaws.{project_all}
@@ -9,10 +9,24 @@ use Rattle.rc_tuple.specs.TupleLaws.{tuple_order}
 use Rattle.rc_bindings.specs.Bindings.{BindingList, with_tuples}
 use Rattle.rc_bindings.specs.BindingsLaws.{in_tuples_in, rising_tuples_in}
 use Rattle.rc_bindings.proofs.bindings.Bindings.sort.Goals as goal
-use Rattle.rc_bindings.proofs.bindings.Bindings.sort.Goals.{In-loop-tuple}
+use Rattle.rc_bindings.proofs.bindings.Bindings.sort.Goals.{In-loop-tuple, Joined-then-len-lt2, then-len-lt2-via-else-len-lt2+then-rises, then-len-lt2-via-then-len-lt2}
 
-pub returns-then-rises-clause-ok : goal.returns-then-rises-clause-ok
-returns-then-rises-clause-ok c = ap (with_tuples c.args.self.now) (sym (gather-rising tuple_cmp tuple_order c.args.self.now.tuples (c.if-rises.ensures.0 refl)))
+-- one tuple rises, and none
+rising_short : (ts : List Pairs) → length ts < 2 → IsRising tuple_cmp ts
+rising_short [] short = tt
+rising_short (t ∷ []) short = ((λ u m. absurd m), tt)
+rising_short (t ∷ u ∷ ts) short = absurd (omega (arith, short))
+
+-- they rise, being few or tested
+rise : (c : Joined-then-len-lt2) → IsRising tuple_cmp c.args.self.now.tuples
+rise c =
+    elim c.then-len-lt2.branch [
+      | then-len-lt2-via-then-len-lt2 w ↦ rising_short c.args.self.now.tuples (subst (λ n. n < 2) c.len.ensures w.if-len-lt2.true)
+      | then-len-lt2-via-else-len-lt2+then-rises w ↦ w.rises.ensures.0 w.if-rises.true
+    ]
+
+pub returns-then-len-lt2-clause-ok : goal.returns-then-len-lt2-clause-ok
+returns-then-len-lt2-clause-ok c = ap (with_tuples c.args.self.now) (sym (gather-rising tuple_cmp tuple_order c.args.self.now.tuples (rise c)))
 
 -- the tuples that are put back
 items : (c : In-loop-tuple) → c.deref-tuple-items.result.now ≡ gather tuple_cmp c.args.self.now.tuples

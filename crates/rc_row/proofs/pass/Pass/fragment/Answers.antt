@@ -6,6 +6,9 @@ use Rattle.rc_row.proofs.ChangeLemmas.{of_held_here}
 use Rattle.rc_row.proofs.WholeLemmas.{rising_there}
 use Rattle.rc_row.proofs.pass.Pass.fragment.Goals as goal
 
+pub place_of-at-requires-clause-rising : goal.place_of-at-requires-clause-rising
+place_of-at-requires-clause-rising c = rising_there c.self.inside c.self.invariant
+
 pub returns : goal.returns
 returns c =
     let held = c.self.inside.held.items in

@@ -16,29 +16,29 @@ use Rattle.rc_row.proofs.StepLemmas.{KeepsOwn, pass_of_without, seen_without, wh
 use Rattle.rc_row.proofs.WholeLemmas.{rising_there, written_there}
 use Rattle.rc_row.proofs.row.Row.unlock.Goals as goal
 
-pub place_from_end-at-requires-clause-there : goal.place_from_end-at-requires-clause-there
-place_from_end-at-requires-clause-there c = written_there c.pass.inside c.pass.invariant c.args.pass.now c.pass.view_is c.args.stripe c.requires.held
+pub place_of-at-requires-clause-there : goal.place_of-at-requires-clause-there
+place_of-at-requires-clause-there c = written_there c.pass.inside c.pass.invariant c.args.pass.now c.pass.view_is c.args.stripe c.requires.held
 
-pub place_from_end-at-requires-clause-rising : goal.place_from_end-at-requires-clause-rising
-place_from_end-at-requires-clause-rising c = rising_there c.pass.inside c.pass.invariant
+pub place_of-at-requires-clause-rising : goal.place_of-at-requires-clause-rising
+place_of-at-requires-clause-rising c = rising_there c.pass.inside c.pass.invariant
 
 pub overflow_sub-above : goal.overflow_sub-above
 overflow_sub-above c =
-    let some = some_above c.pass.inside c.pass.invariant c.args.pass.now c.pass.view_is c.args.stripe c.place_from_end-at.result c.place_from_end-at.ensures c.requires.held c.written_among.result c.len.result c.written_among-below.result
+    let some = some_above c.pass.inside c.pass.invariant c.args.pass.now c.pass.view_is c.args.stripe c.place_of-at.result c.place_of-at.ensures c.requires.held c.written_among.result c.len.result c.written_among-below.result
     c.written_among.ensures c.len.ensures c.written_among-below.ensures in
     omega arith
 
 pub overflow_sub-above-2 : goal.overflow_sub-above-2
 overflow_sub-above-2 c =
-    let some = some_above c.pass.inside c.pass.invariant c.args.pass.now c.pass.view_is c.args.stripe c.place_from_end-at.result c.place_from_end-at.ensures c.requires.held c.written_among.result c.len.result c.written_among-below.result
+    let some = some_above c.pass.inside c.pass.invariant c.args.pass.now c.pass.view_is c.args.stripe c.place_of-at.result c.place_of-at.ensures c.requires.held c.written_among.result c.len.result c.written_among-below.result
     c.written_among.ensures c.len.ensures c.written_among-below.ensures in
     omega arith
 
 pub put_in-requires-clause-slot : goal.put_in-requires-clause-slot
 put_in-requires-clause-slot c =
-    let h = c.place_from_end-at.ensures in
+    let h = c.place_of-at.ensures in
     front_of c.turn_by.new.seat.me.1 (hands h.before ++ hands h.after) (c.args.stripe, None)
-    (front_here c.pass.inside c.pass.invariant c.args.pass.now c.pass.view_is c.args.stripe c.place_from_end-at.result h c.requires.held c.written_among.result c.len.result c.written_among-below.result
+    (front_here c.pass.inside c.pass.invariant c.args.pass.now c.pass.view_is c.args.stripe c.place_of-at.result h c.requires.held c.written_among.result c.len.result c.written_among-below.result
     c.written_among.ensures c.len.ensures c.written_among-below.ensures c.turn_by.new.seat.me.1 (ap (λ (m : Me Slot View). m.1) c.turn_by.ensures.2))
 
 pub unlock_step-requires-clause-slot : goal.unlock_step-requires-clause-slot
@@ -46,8 +46,8 @@ unlock_step-requires-clause-slot c =
     let p = c.args.stripe in
     let spec = spec_of c.args.self.now in
     let held = c.pass.inside.held.items in
-    let at = c.place_from_end-at.result in
-    let h = c.place_from_end-at.ensures in
+    let at = c.place_of-at.result in
+    let h = c.place_of-at.ensures in
     let fragment = ap (λ (x : HeldRows). x.fragment) (c.take_at-held.ensures.value ∙ read_here held p at h c.take_at-held.result) in
     let view = ap (λ (m : Me Slot View). m.0) (c.put_in.ensures.2) ∙ ap (λ (m : Me Slot View). m.0) c.turn_by.ensures.2 in
     let kept = c.into_keep.ensures ∙ home_here c.pass.inside c.pass.invariant c.args.pass.now c.pass.view_is p at h spec c.take_at-held.result.fragment c.put_in.new.seat.me.0 fragment c.requires.pass.shapes c.requires.rest view in
@@ -76,8 +76,8 @@ view c =
 slots : (c : goal.After-turn_by-2) → (new c).seat.me.1 ≡ hands (new c).held.items
 slots c =
     let p = c.args.stripe in
-    let at = c.place_from_end-at.result in
-    let h = c.place_from_end-at.ensures in
+    let at = c.place_of-at.result in
+    let h = c.place_of-at.ensures in
     let front = front_here c.pass.inside c.pass.invariant c.args.pass.now c.pass.view_is p at h c.requires.held c.written_among.result c.len.result c.written_among-below.result
     c.written_among.ensures c.len.ensures c.written_among-below.ensures c.turn_by.new.seat.me.1 (ap (λ (m : Me Slot View). m.1) c.turn_by.ensures.2) in
     ap (λ (m : Me Slot View). m.1) c.turn_by-2.ensures.2
@@ -88,12 +88,12 @@ slots c =
 pub invariant_of-pass : goal.invariant_of-pass
 invariant_of-pass c =
     whole_without c.pass.inside (new c) c.pass.invariant (keeps c) c.args.stripe (view c) (slots c)
-    (left_here c.pass.inside c.pass.invariant c.args.pass.now c.pass.view_is c.args.stripe c.place_from_end-at.result c.place_from_end-at.ensures c.take_at-held.new.held.items c.take_at-held.ensures.items).1
+    (left_here c.pass.inside c.pass.invariant c.args.pass.now c.pass.view_is c.args.stripe c.place_of-at.result c.place_of-at.ensures c.take_at-held.new.held.items c.take_at-held.ensures.items).1
 
 pub returns-clause-value : goal.returns-clause-value
 returns-clause-value c =
     seen_without c.pass.inside (new c) c.pass.invariant (keeps c) c.args.stripe c.args.pass.now c.pass.view_is (view c)
-    (left_here c.pass.inside c.pass.invariant c.args.pass.now c.pass.view_is c.args.stripe c.place_from_end-at.result c.place_from_end-at.ensures c.take_at-held.new.held.items c.take_at-held.ensures.items).1
+    (left_here c.pass.inside c.pass.invariant c.args.pass.now c.pass.view_is c.args.stripe c.place_of-at.result c.place_of-at.ensures c.take_at-held.new.held.items c.take_at-held.ensures.items).1
 
 pub returns-clause-pass : goal.returns-clause-pass
 returns-clause-pass c =

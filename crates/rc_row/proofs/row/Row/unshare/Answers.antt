@@ -8,11 +8,11 @@ use Rattle.rc_row.proofs.StepLemmas.{KeepsOwn, pass_of_without, seen_without, wh
 use Rattle.rc_row.proofs.WholeLemmas.{rising_there, shared_there}
 use Rattle.rc_row.proofs.row.Row.unshare.Goals as goal
 
-pub place_from_end-at-requires-clause-there : goal.place_from_end-at-requires-clause-there
-place_from_end-at-requires-clause-there c = shared_there c.pass.inside c.pass.invariant c.args.pass.now c.pass.view_is c.args.stripe c.requires.held
+pub place_of-at-requires-clause-there : goal.place_of-at-requires-clause-there
+place_of-at-requires-clause-there c = shared_there c.pass.inside c.pass.invariant c.args.pass.now c.pass.view_is c.args.stripe c.requires.held
 
-pub place_from_end-at-requires-clause-rising : goal.place_from_end-at-requires-clause-rising
-place_from_end-at-requires-clause-rising c = rising_there c.pass.inside c.pass.invariant
+pub place_of-at-requires-clause-rising : goal.place_of-at-requires-clause-rising
+place_of-at-requires-clause-rising c = rising_there c.pass.inside c.pass.invariant
 
 abbrev new : goal.After-leave_step → Inside
 new c = record c.pass.inside { held = c.take_at.new.held; seat = c.leave_step.new.seat }
@@ -30,8 +30,8 @@ keeps c = record {
 pub invariant_of-pass : goal.invariant_of-pass
 invariant_of-pass c =
     let p = c.args.stripe in
-    let at = c.place_from_end-at.result in
-    let h = c.place_from_end-at.ensures in
+    let at = c.place_of-at.result in
+    let h = c.place_of-at.ensures in
     let left = left_here c.pass.inside c.pass.invariant c.args.pass.now c.pass.view_is p at h c.take_at.new.held.items c.take_at.ensures.items in
     whole_without c.pass.inside (new c) c.pass.invariant (keeps c) p c.leave_step.ensures.told.0
     (c.leave_step.ensures.told.1 ∙ c.pass.invariant.agrees.hands_are
@@ -41,7 +41,7 @@ invariant_of-pass c =
 pub returns-clause-value : goal.returns-clause-value
 returns-clause-value c =
     seen_without c.pass.inside (new c) c.pass.invariant (keeps c) c.args.stripe c.args.pass.now c.pass.view_is c.leave_step.ensures.told.0
-    (left_here c.pass.inside c.pass.invariant c.args.pass.now c.pass.view_is c.args.stripe c.place_from_end-at.result c.place_from_end-at.ensures c.take_at.new.held.items c.take_at.ensures.items).1
+    (left_here c.pass.inside c.pass.invariant c.args.pass.now c.pass.view_is c.args.stripe c.place_of-at.result c.place_of-at.ensures c.take_at.new.held.items c.take_at.ensures.items).1
 
 pub returns-clause-pass : goal.returns-clause-pass
 returns-clause-pass c =
