@@ -11,15 +11,15 @@ use rc_row::{Keeping, Pass};
 use rc_spec::{Call, Found, fits};
 use rc_store::{Gate, OpenGate, Point, Store, Waking};
 use std::alloc::Global;
-use std::hint::spin_loop;
 use std::sync::Wait;
 use std::sync::atomic::AtomicU64;
 use std::sync::atomic::Ordering::SeqCst;
 use std::test::Fail;
-use std::thread::{Threads, join};
+use std::thread::{self, Threads, join};
 
-/// For so many turns a gate holds a call at most.
-pub(crate) const TURNS: u32 = 5_000_000;
+/// For so many turns a call is held, or tried again, at most. Each turn lets others run, so that a loaded machine doesn't
+/// run out of them.
+pub(crate) const TURNS: u32 = 2_000_000;
 
 /// The place of a call that waits, with its gate, where it is answered.
 pub(crate) fn place<R: Wait, G: Gate>(
@@ -138,7 +138,7 @@ pub(crate) fn wait_for(count: &AtomicU64, least: u64) -> bool {
         if count.load(SeqCst) >= least {
             return true;
         }
-        spin_loop();
+        thread::yield_now();
     }
     false
 }

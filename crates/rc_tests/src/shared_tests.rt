@@ -16,10 +16,9 @@ use rc_store::{Closed, OpenGate, Store, Waking};
 use rc_tuple::{Memory, Tuple};
 use std::alloc::Global;
 use std::cmp::Ordering;
-use std::hint::spin_loop;
 use std::sync::Wait;
 use std::test::Fail;
-use std::thread::{Threads, for_each_mut};
+use std::thread::{self, Threads, for_each_mut};
 
 // ---- limits and notes
 
@@ -116,7 +115,7 @@ fn try_often(store: &Store<Waking>, pass: &mut Pass, call: &Call)
 {
     for _ in 0..TURNS {
         match tried(store, pass, call) {
-            Outcome::Busy { .. } => spin_loop(),
+            Outcome::Busy { .. } => thread::yield_now(),
             _ => return,
         }
     }
