@@ -2,7 +2,7 @@
 
 use crate::machine::Telling;
 use crate::stop::Stop;
-use crate::{checks, machine, plain, routes, session};
+use crate::{checks, inlining, machine, plain, routes, session};
 use std::alloc::Global;
 
 /// Appends what the form answers to the input that the first word names.
@@ -31,6 +31,7 @@ fn fill_from(
 ) -> Result<(), Stop> {
     match form {
         "checks" => checks::check(alloc, words, text, out),
+        "inlined" => inlining::tell_inlined(alloc, text, out),
         "routes" => routes::find(alloc, words, text, out),
         "machine" => machine::run(alloc, Telling::All, text, out),
         "alike" => machine::run(alloc, Telling::Steps, text, out),

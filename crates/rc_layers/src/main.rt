@@ -1,5 +1,6 @@
-//! Runs cases of the libraries over accepted specifications: plans and the rules of plans, routes, calls on an instance and on
-//! the plain relation, calls that are stopped, and changes of an instance. What each answers to a text is compared with what the case says.
+//! Runs cases of the libraries over accepted specifications: what inlining leaves of them, plans and the rules of plans, routes,
+//! calls on an instance and on the plain relation, calls that are stopped, and changes of an instance. What each answers to a text
+//! is compared with what the case says.
 #![tactic(auto)]
 
 mod accepted;
@@ -7,6 +8,7 @@ mod calls;
 mod checks;
 mod filling;
 mod forms;
+mod inlining;
 mod machine;
 mod plain;
 mod plans;

@@ -1,0 +1,9 @@
+mod AcceptedLemmas
+mod AdequacyLemmas
+mod BackLemmas
+mod ContractionLemmas
+mod EdgeLemmas
+mod GraphLemmas
+mod KeptLemmas
+mod PlacementLemmas
+mod VisitedLemmas

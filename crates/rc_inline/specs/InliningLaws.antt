@@ -1,0 +1,91 @@
+-- Inlining keeps what it need not change, and ends where nothing can be inlined.
+use Rattle.std.proofs.Common.{◌≡◌, ◌∙◌, ℕ, zero, suc, ◌+◌, ◌≤◌, Option, None, Some, ap, length, refl, sym, arith}
+use Rattle.std.specs.List.{remove}
+use Rattle.std.specs.Option.{option_map_or}
+use Rattle.std.proofs.lemmas.List.{length-map}
+use Rattle.std.proofs.lemmas.List.Edits.{length-remove}
+use Rattle.std.proofs.lemmas.List.Quantifiers.{position-Some}
+use Rattle.rc_spec.specs.declared.spec.Spec.{Spec}
+use Rattle.rc_spec.specs.Decomposition.{edge_at, no_edge}
+use Rattle.rc_spec.specs.Names.{IsWellNamed}
+use Rattle.rc_inline.specs.Contraction.{contracted, first_inlinable, is_inlinable, rejoined}
+use Rattle.rc_inline.specs.Inlining.{HasItsSchema, inlined, inlined_in}
+use Rattle.rc_inline.specs.NamesLaws.{contracted_named}
+
+-- a contraction takes an edge
+pub contracted_shorter : (spec : Spec) (f : ℕ) → first_inlinable spec ≡ Some f → length (contracted spec f).edges + 1 ≡ length spec.edges
+contracted_shorter spec f found =
+    let within = (position-Some (is_inlinable spec) spec.edges f no_edge found).0 in
+    let same = length-map (remove spec.edges f) (rejoined (edge_at spec f)) in
+    let fewer = length-remove spec.edges f within in
+    omega (arith, same, fewer)
+
+-- the columns, the dependencies, the operations and the lock classes stay
+schema_in : (n : ℕ) (spec : Spec) → HasItsSchema spec (inlined_in n spec)
+schema_in zero spec = record { columns = refl; deps = refl; classes = refl; ops = refl }
+schema_in (suc n) spec = go (first_inlinable spec) (λ f. schema_in n (contracted spec f))
+  where
+    go : (found : Option ℕ) → ((f : ℕ) → HasItsSchema (contracted spec f) (inlined_in n (contracted spec f)))
+        → HasItsSchema spec (option_map_or (λ f. inlined_in n (contracted spec f)) found spec)
+    go None rest = record { columns = refl; deps = refl; classes = refl; ops = refl }
+    go (Some f) rest = let same = rest f in record { columns = same.columns; deps = same.deps; classes = same.classes; ops = same.ops }
+
+pub inlined_schema : (spec : Spec) → HasItsSchema spec (inlined spec)
+unfolding inlined
+inlined_schema spec = schema_in (length spec.edges) spec
+
+-- names stay apart
+named_in : (n : ℕ) (spec : Spec) → IsWellNamed spec → IsWellNamed (inlined_in n spec)
+named_in zero spec named = named
+named_in (suc n) spec named = go (first_inlinable spec) (λ f. named_in n (contracted spec f) (contracted_named spec f named))
+  where
+    go : (found : Option ℕ) → ((f : ℕ) → IsWellNamed (inlined_in n (contracted spec f)))
+        → IsWellNamed (option_map_or (λ f. inlined_in n (contracted spec f)) found spec)
+    go None rest = named
+    go (Some f) rest = rest f
+
+pub inlined_named : (spec : Spec) → IsWellNamed spec → IsWellNamed (inlined spec)
+unfolding inlined
+inlined_named spec named = named_in (length spec.edges) spec named
+
+-- nothing can be inlined in what is left
+done_in : (n : ℕ) (spec : Spec) → length spec.edges ≤ n → first_inlinable (inlined_in n spec) ≡ None
+done_in zero spec few = none (first_inlinable spec) refl
+  where
+    none : (found : Option ℕ) → first_inlinable spec ≡ found → first_inlinable spec ≡ None
+    none None is = is
+    none (Some f) is = let fewer = contracted_shorter spec f is in absurd (omega (arith, fewer, few))
+done_in (suc n) spec few = go (first_inlinable spec) refl (λ f. done_in n (contracted spec f))
+  where
+    go : (found : Option ℕ) → first_inlinable spec ≡ found
+        → ((f : ℕ) → length (contracted spec f).edges ≤ n → first_inlinable (inlined_in n (contracted spec f)) ≡ None)
+        → first_inlinable (option_map_or (λ f. inlined_in n (contracted spec f)) found spec) ≡ None
+    go None is rest = is
+    go (Some f) is rest = let fewer = contracted_shorter spec f is in rest f (omega (arith, fewer, few))
+
+pub inlined_done : (spec : Spec) → first_inlinable (inlined spec) ≡ None
+unfolding inlined
+inlined_done spec = done_in (length spec.edges) spec (omega arith)
+
+-- ---- one contraction more
+
+pub inlined_more : (spec : Spec) (f : ℕ) → first_inlinable spec ≡ Some f → inlined (contracted spec f) ≡ inlined spec
+unfolding inlined
+inlined_more spec f found =
+    let shorter = contracted_shorter spec f found in
+    go (length spec.edges) refl (omega (arith, shorter))
+  where
+    go : (n : ℕ) → length spec.edges ≡ n → length (contracted spec f).edges + 1 ≡ n → inlined_in (length (contracted spec f).edges) (contracted spec f) ≡ inlined_in n spec
+    go zero is more = absurd (omega (arith, more))
+    go (suc n) is more =
+        let same : length (contracted spec f).edges ≡ n = omega (arith, more) in
+        ap (λ m. inlined_in m (contracted spec f)) same
+        ∙ sym (ap (λ found. option_map_or (λ f. inlined_in n (contracted spec f)) found spec) found)
+
+pub inlined_rest : (spec : Spec) → first_inlinable spec ≡ None → inlined spec ≡ spec
+unfolding inlined
+inlined_rest spec none = go (length spec.edges)
+  where
+    go : (n : ℕ) → inlined_in n spec ≡ spec
+    go zero = refl
+    go (suc n) = ap (λ found. option_map_or (λ f. inlined_in n (contracted spec f)) found spec) none

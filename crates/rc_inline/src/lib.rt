@@ -1,0 +1,9 @@
+//! Singletons that are kept in the rows above them: decompositions without the edges that do no more than add columns to
+//! a node to which one edge leads.
+#![tactic(auto)]
+
+mod contraction;
+mod copying;
+mod inlining;
+
+pub use inlining::inline;
