@@ -5,6 +5,7 @@ pub mod Frames
 pub mod OpenFrames
 pub mod Opened
 pub mod OpenedInside
+pub mod OpenedLaws
 pub mod Refused
 pub mod Replies
 pub mod Session

@@ -4,7 +4,8 @@ use Rattle.rc_spec.specs.declared.spec.Spec.{Spec}
 use Rattle.rc_spec.specs.declared.refusal.Refusal.{Refusal}
 use Rattle.rc_spec.specs.Acceptance.{IsAccepted, IsFirstBroken, IsItemOf}
 use Rattle.rc_spec.specs.Placement.{op_at}
-use Rattle.rc_plan.specs.Compiled.{plan_at}
+use Rattle.rc_inline.specs.Inlining.{inlined}
+use Rattle.rc_plan.specs.Compiled.{SpecWithPlans, plan_at}
 use Rattle.rc_query.specs.Planned.{IsPlanned}
 use Rattle.rc_reader.specs.Grammar.{spec_of}
 use Rattle.rc_row.specs.declared.keeping.Keeping.TheVariants.{Counts}
@@ -30,12 +31,17 @@ pub record AreInBounds (options : asked.Options) : Type 0 where
   pub limited : 1 ≤ options.limit
   pub limit : options.limit ≤ 2 ^ 48
 
--- A new store of the specification, whose operations have their planned plans, with all of its
--- passes, by number. None of them has made a call, and none keeps its entries.
+-- each operation has its planned plan
+abbrev pub ArePlannedOf : SpecWithPlans → Type 0
+ArePlannedOf compiled = (op : ℕ) → op < length compiled.spec.ops
+    → IsPlanned compiled.spec (op_at compiled.spec op) (plan_at compiled.plans op)
+
+-- A new store of the specification with its singletons inlined, whose operations have their
+-- planned plans, with all of its passes, by number. None of them has made a call, and none keeps
+-- its entries.
 pub record IsStoreOf (spec : Spec) (options : asked.Options) (opened : OpenSeen) : Type 0 where
-  pub of_spec : rows.spec_of opened.store.row ≡ spec
-  pub planned : (op : ℕ) → op < length spec.ops
-      → IsPlanned spec (op_at spec op) (plan_at (compiled_of opened.store.row).plans op)
+  pub of_spec : rows.spec_of opened.store.row ≡ inlined spec
+  pub planned : ArePlannedOf (compiled_of opened.store.row)
   pub counts : opened.store.row.keeping ≡ Counts
   pub number : opened.store.row.key.passes ≡ options.passes
   pub limit : opened.store.limit ≡ options.limit

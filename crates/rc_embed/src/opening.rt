@@ -17,6 +17,7 @@ ghost use Rattle.rc_embed.specs.declared.fault.SessionFault.TheVariants as sessi
 use crate::fault::{OpenFault, SessionFault};
 use crate::session::{Session, State};
 use crate::shared::Shared;
+use rc_inline::inline;
 use rc_maps::Seed;
 use rc_mutate::compile;
 use rc_place::{AcceptFault, accept};
@@ -77,8 +78,9 @@ impl Model for OpenStore {
     ghost invariant = { IsWholeOpen };
 }
 
-/// Opens a store with no tuple by the text of its specification, for so many sessions. Costs what
-/// reading and planning cost, and for each session room for a fragment of each stripe.
+/// Opens a store with no tuple by the text of its specification, with its singletons inlined, for so
+/// many sessions. Costs what reading, inlining and planning cost, and for each session room for a
+/// fragment of each stripe.
 pub fn open(alloc: Global, text: &[u8], options: Options) -> Result<OpenStore, OpenFault>
     ensures opened { IfOk result (IsOpened text.now options) }
     ensures refused { IfErr result (IsRefusedFor text.now options) }
@@ -111,7 +113,7 @@ fn read_accepted(alloc: Global, text: &[u8]) -> Result<Accepted, OpenFault>
     }
 }
 
-/// Plans the operations of an accepted specification, and opens a store of it.
+/// Inlines an accepted specification's singletons, plans its operations, and opens a store of it.
 fn open_accepted(
     alloc: Global,
     accepted: Accepted,
@@ -122,8 +124,9 @@ fn open_accepted(
     ensures store { IfOk result (IsStoreOf accepted options) }
     ensures memory { IfErr result (λ fault. fault ≡ faults.Memory) }
 {
-    let columns = all_columns(alloc, accepted.spec())?;
-    let compiled = compile(alloc, accepted)?;
+    let inlined = inline(alloc, accepted)?;
+    let columns = all_columns(alloc, inlined.spec())?;
+    let compiled = compile(alloc, inlined)?;
     let Options {
         passes,
         limit,
@@ -167,7 +170,8 @@ fn all_columns(alloc: Global, spec: &Spec) -> Result<Vec<Cols>, Memory>
 }
 
 impl OpenStore {
-    /// The specification.
+    /// The store's specification: that of its text with its singletons inlined, some of whose nodes and
+    /// edges have other numbers.
     pub fn spec(&self) -> &Spec
         ensures value { result.now ≡ spec_of self.now.store.row }
         ensures range { IsInRange (spec_of self.now.store.row) }

@@ -1,8 +1,12 @@
 use Rattle.std.proofs.Common.{◌≡◌, List, All, length, sym, subst, ap, ◌∙◌, arith}
 use Rattle.std.proofs.lemmas.List.FromFn.{length-map-range_with_len}
-use Rattle.rc_row.specs.Passes.{PassSeen, new_pass}
+use Rattle.rc_row.specs.Passes.{PassSeen, compiled_of, new_pass, new_passes}
 use Rattle.rc_store.specs.Store.{IsFree, StoreSeen}
 use Rattle.rc_store.specs.FreeLaws.{new_are_free}
+use Rattle.rc_plan.specs.Compiled.{SpecWithPlans}
+use Rattle.rc_spec.specs.declared.spec.Spec.{Spec}
+use Rattle.std.specs.Arc.{arc_value}
+use Rattle.rc_embed.specs.Opened.{ArePlannedOf}
 use Rattle.rc_embed.proofs.opening.open_accepted.Goals as goal
 
 pub invariant_of-result : goal.invariant_of-result
@@ -26,4 +30,25 @@ invariant_of-result c =
           sym built.row.0
           ∙ ap (λ (store : StoreSeen). store.row.key.passes) (sym shared);
       room = omega arith;
+    }
+
+pub returns-in-Ok-clause-store : goal.returns-in-Ok-clause-store
+returns-in-Ok-clause-store c =
+    let built = c.in_ok-store.ensures in
+    let shared = c.in-Ok.ensures.ok in
+    let compiled = c.in_ok-compiled.compiled in
+    let same = c.in_ok-compiled.ensures.same in
+    let whole : compiled_of (arc_value c.in-Ok.shared).row ≡ compiled =
+    ap (λ (store : StoreSeen). compiled_of store.row) shared ∙ built.compiled in
+    let of = ap (λ (z : SpecWithPlans). z.spec) whole ∙ same in
+    record {
+      of_spec = of ∙ c.in_ok-inlined.ensures.value;
+      planned =
+          subst ArePlannedOf (sym whole)
+          (subst (λ (spec : Spec). ArePlannedOf (record { spec = spec; plans = compiled.plans })) (sym same)
+          c.in_ok-compiled.ensures.planned);
+      counts = ap (λ (store : StoreSeen). store.row.keeping) shared ∙ built.row.1;
+      number = ap (λ (store : StoreSeen). store.row.key.passes) shared ∙ built.row.0;
+      limit = ap (λ (store : StoreSeen). store.limit) shared ∙ built.limit;
+      passes = built.passes ∙ ap (λ (store : StoreSeen). new_passes store.row) (sym shared);
     }
