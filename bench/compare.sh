@@ -95,8 +95,6 @@ for kept, said in KEPT.items():
     print(f"{'MIX':40} THREADS {'RELC_' + unit:>17} {'HAND_' + unit:>17} {'RATIO':>6}")
     for (mix, threads, how, keeps), by_hand in theirs.items():
         if keeps == kept:
-            # The graph with singletons, and the short one, which keeps a weight in the row of its edge, as the store written by hand does.
-            for relc_mix in (mix, f"short {mix}"):
-                by_relc = ours[relc_mix, threads, "trying", kept]
-                print(f"{relc_mix:40} {threads:7} {by_relc:17.0f} {by_hand:17.0f} {by_relc / by_hand:6.1f}")
+            by_relc = ours[mix, threads, "trying", kept]
+            print(f"{mix:40} {threads:7} {by_relc:17.0f} {by_hand:17.0f} {by_relc / by_hand:6.1f}")
 END_OF_PYTHON

@@ -1,7 +1,6 @@
 #!/bin/sh
-# What one call costs through relc.h, on one thread and a store of examples/graph.relc, and on one of bench/short.relc, which keeps
-# the weight in the row of its edge: nanoseconds, allocations, bytes of a tuple, and instructions by valgrind, with a thousand tuples
-# and with a million. Build first: bindings/build.sh
+# What one call costs through relc.h, on one thread and a store of examples/graph.relc: nanoseconds, allocations, bytes of a tuple, and
+# instructions by valgrind, with a thousand tuples and with a million. Build first: bindings/build.sh
 #
 #     sh bench/figures.sh
 #
@@ -23,18 +22,14 @@ sed '/^end$/q' "$here/../examples/graph.relc" > "$folder/graph"
 ${CC:-cc} -std=c11 -D_GNU_SOURCE -O2 -Wall -Wextra -I"$here/../bindings/c" -Wl,--wrap=malloc,--wrap=realloc \
     -o "$folder/figures" "$here/peers/figures.c" "$library/librelc.a" -lpthread || exit 1
 calls=900
-for graph in graph short; do
-    [ $graph = graph ] || cp "$here/$graph.relc" "$folder/$graph"
-    for tuples in 1000 1000000; do
-        for kind in insert find remove few many; do
-            for _ in $(seq "${RUNS:-5}"); do
-                "$folder/figures" "$folder/$graph" $tuples $kind $calls || exit 1
-            done > "$folder/runs" || exit 1
-            printf '%s ' $graph
-            sort -k4 -n "$folder/runs" | head -n 1
-            valgrind --tool=callgrind --collect-atstart=no --callgrind-out-file=/dev/null \
-                "$folder/figures" "$folder/$graph" $tuples $kind $calls > "$folder/log" 2>&1 || exit 1
-            awk -v calls=$calls '/Collected/ { printf "    %.0f instructions\n", $NF / calls }' "$folder/log"
-        done
+for tuples in 1000 1000000; do
+    for kind in insert find remove few many; do
+        for _ in $(seq "${RUNS:-5}"); do
+            "$folder/figures" "$folder/graph" $tuples $kind $calls || exit 1
+        done > "$folder/runs" || exit 1
+        sort -k4 -n "$folder/runs" | head -n 1
+        valgrind --tool=callgrind --collect-atstart=no --callgrind-out-file=/dev/null \
+            "$folder/figures" "$folder/graph" $tuples $kind $calls > "$folder/log" 2>&1 || exit 1
+        awk -v calls=$calls '/Collected/ { printf "    %.0f instructions\n", $NF / calls }' "$folder/log"
     done
 done

@@ -5,7 +5,6 @@ ghost use Rattle.rc_store.specs.Store.{IsFree};
 use crate::fault::Fault;
 use crate::mix::Mix;
 use crate::session::{How, make_all};
-use crate::subject::Subject;
 use rc_maps::Seed;
 use rc_row::{Keeping, Pass};
 use rc_spec::Call;
@@ -21,13 +20,12 @@ const MOST_CALLS: u64 = 1 << 48;
 pub fn endure<R: Wait>(
     rt: &R,
     alloc: Global,
-    subject: Subject,
     mix: &Mix,
     nodes: u64,
     each: u32,
     times: u32,
 ) -> Result<usize, Fault> {
-    let compiled = subject.compiled(alloc)?;
+    let compiled = mix.subject.compiled(alloc)?;
     let calls = mix.calls(alloc, compiled.accepted().spec(), nodes, 1, each)?;
     let (store, mut passes) = Store::build(
         alloc,

@@ -14,9 +14,8 @@ mod subject;
 use crate::endurance::endure;
 use crate::fault::Fault;
 use crate::measure::{Crew, Figure, measure};
-use crate::mix::{MIXES, Mix};
+use crate::mix::MIXES;
 use crate::session::How;
-use crate::subject::Subject;
 use rc_row::Keeping;
 use std::alloc::Global;
 use std::io::Print;
@@ -99,7 +98,7 @@ fn perform<R: Threads + Wait + Clock + Print + Sync>(
             calls,
             times,
         } => {
-            let answered = endure(rt, alloc, Subject::Split, &MIXES[1], nodes, calls, times)?;
+            let answered = endure(rt, alloc, &MIXES[1], nodes, calls, times)?;
             println!(rt; "{answered} answered")?;
             Ok(())
         }
@@ -113,32 +112,17 @@ fn measure_all<R: Threads + Wait + Clock + Print + Sync>(
     size: Size,
 ) -> Result<(), Fault> {
     for mix in &MIXES {
-        for subject in mix.subjects {
-            measure_mix(rt, alloc, *subject, mix, size)?;
-        }
-    }
-    Ok(())
-}
-
-/// Measures a mix on a graph, with each number of threads.
-fn measure_mix<R: Threads + Wait + Clock + Print + Sync>(
-    rt: &R,
-    alloc: Global,
-    subject: Subject,
-    mix: &Mix,
-    size: Size,
-) -> Result<(), Fault> {
-    for crew in [Crew::One, Crew::Two, Crew::Four] {
-        for how in [How::Trying, How::Waiting] {
-            for keeping in [Keeping::Entries, Keeping::Counts] {
-                let figure = Figure {
-                    subject,
-                    mix,
-                    crew,
-                    how,
-                    keeping,
-                };
-                print_figure(rt, alloc, figure, size)?;
+        for crew in [Crew::One, Crew::Two, Crew::Four] {
+            for how in [How::Trying, How::Waiting] {
+                for keeping in [Keeping::Entries, Keeping::Counts] {
+                    let figure = Figure {
+                        mix,
+                        crew,
+                        how,
+                        keeping,
+                    };
+                    print_figure(rt, alloc, figure, size)?;
+                }
             }
         }
     }
@@ -157,7 +141,7 @@ fn print_figure<R: Threads + Wait + Clock + Print + Sync>(
     let (how, keeping) = (figure.how.name(), name_of(figure.keeping));
     print!(rt;
         "{} {}, {threads}, {how}, {keeping}: ",
-        figure.subject.name(),
+        mix.subject.name(),
         mix.name
     )?;
     if size.is_timed {

@@ -8,7 +8,6 @@ ghost use Rattle.std.specs.Thread.{IsSync};
 use crate::fault::Fault;
 use crate::mix::Mix;
 use crate::session::{How, make_all};
-use crate::subject::Subject;
 use rc_maps::Seed;
 use rc_plan::Compiled;
 use rc_row::{Keeping, Pass};
@@ -50,7 +49,6 @@ impl Crew {
 /// What is measured.
 #[derive(Clone, Copy, Debug)]
 pub struct Figure<'a> {
-    pub subject: Subject,
     pub mix: &'a Mix,
     pub crew: Crew,
     pub how: How,
@@ -81,13 +79,12 @@ pub fn measure<R: Threads + Wait + Clock + Sync>(
     each: u32,
 ) -> Result<Outcome, Fault> {
     let Figure {
-        subject,
         mix,
         crew,
         how,
         keeping,
     } = figure;
-    let compiled = subject.compiled(alloc)?;
+    let compiled = mix.subject.compiled(alloc)?;
     let calls = mix.calls(
         alloc,
         compiled.accepted().spec(),

@@ -49,23 +49,16 @@ impl Operation {
 /// A mix of calls on a graph.
 #[derive(Debug)]
 pub struct Mix {
-    /// The specifications of the graph on which its calls are made.
-    pub subjects: &'static [Subject],
+    pub subject: Subject,
     /// How many of a hundred calls are of each of its operations.
     pub name: &'static str,
     shares: &'static [(Operation, u64)],
 }
 
-/// Graphs with a path for each direction.
-const SPLITS: [Subject; 2] = [Subject::Split, Subject::ShortSplit];
-
-/// Graphs whose edges are found by their sources.
-const BY_SOURCES: [Subject; 2] = [Subject::BySource, Subject::ShortBySource];
-
-/// The mixes that are measured. Those on split graphs have successors, predecessors, inserts and removes. (PLDI 2012.)
+/// The mixes that are measured. Those on the split graph have successors, predecessors, inserts and removes. (PLDI 2012.)
 pub const MIXES: [Mix; 5] = [
     Mix {
-        subjects: &SPLITS,
+        subject: Subject::Split,
         name: "70-0-20-10",
         shares: &[
             (Operation::Successors, 70),
@@ -74,7 +67,7 @@ pub const MIXES: [Mix; 5] = [
         ],
     },
     Mix {
-        subjects: &SPLITS,
+        subject: Subject::Split,
         name: "35-35-20-10",
         shares: &[
             (Operation::Successors, 35),
@@ -84,12 +77,12 @@ pub const MIXES: [Mix; 5] = [
         ],
     },
     Mix {
-        subjects: &SPLITS,
+        subject: Subject::Split,
         name: "0-0-50-50",
         shares: &[(Operation::Insert, 50), (Operation::Remove, 50)],
     },
     Mix {
-        subjects: &SPLITS,
+        subject: Subject::Split,
         name: "45-45-9-1",
         shares: &[
             (Operation::Successors, 45),
@@ -99,7 +92,7 @@ pub const MIXES: [Mix; 5] = [
         ],
     },
     Mix {
-        subjects: &BY_SOURCES,
+        subject: Subject::BySource,
         name: "finds and inserts 50-50",
         shares: &[(Operation::Find, 50), (Operation::Insert, 50)],
     },
