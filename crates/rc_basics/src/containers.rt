@@ -87,13 +87,17 @@ fn act<M: Kind>(map: &mut M, line: &str, out: &mut Vec<u8>) -> Result<(), Fault>
         "len" => push_u64(out, map.len())?,
         "gone" => push_bool(out, map.is_gone())?,
         "scan" => push_scanned(map, rest, out)?,
-        "add" | "twice" => {
+        "add" | "twice" | "put" | "undo" => {
             let (key, extra) = halves(rest)?;
             let alloc = *out.allocator();
             let key = numbers(alloc, key)?;
             let extra = numbers(alloc, extra)?;
-            let added = add(map, key.list(), extra.list(), verb == "twice")?;
-            push_bytes(out, added)?;
+            let done = match verb {
+                "put" => put(map, key.list(), extra.list(), false),
+                "undo" => put(map, key.list(), extra.list(), true),
+                _ => add(map, key.list(), extra.list(), verb == "twice")?,
+            };
+            push_bytes(out, done)?;
         }
         _ => {
             let key = numbers(*out.allocator(), rest)?;
@@ -136,17 +140,29 @@ fn add<M: Kind>(
     Ok(b"added twice")
 }
 
+/// Takes the row at the key out once and puts one with these extra values in its place, with the count
+/// before, or with none, as where an add is undone. It does so where there is a row with as many, and
+/// says what was done.
+#[tactic(auto, using(crate::proofs::KindLemmas::kept_as_many))]
+fn put<M: Kind>(map: &mut M, key: &[u64], extra: &[u64], undo: bool) -> &'static [u8] {
+    let Some(own) = map.get(key) else {
+        return b"no row";
+    };
+    if own.len() != extra.len() {
+        return b"not as many";
+    }
+    let before = map.sub(key);
+    map.put_back(key, extra, if undo { 0 } else { before });
+    b"put back"
+}
+
 fn act_at<M: Kind>(map: &mut M, verb: &str, key: &[u64], out: &mut Vec<u8>) -> Result<(), Fault> {
     match verb {
         "get" => push_row(map.get(key), out)?,
         "sub" => push_bytes(out, take_out(map, key))?,
-        "settle" => {
-            map.settle(key);
-            push_bytes(out, b"settled")?;
-        }
-        "revert" => {
-            map.revert(key);
-            push_bytes(out, b"reverted")?;
+        "sweep" => {
+            map.sweep(key);
+            push_bytes(out, b"swept")?;
         }
         _ => return Err(Fault::NoForm),
     }

@@ -1,8 +1,7 @@
 //! What the kinds of containers ask before they take a row.
 
 ghost use Rattle.std.specs.Prelude.{◌≡◌, ◌+◌, ◌<◌, ◌≤◌, ◌^◌, true, OnOk};
-ghost use Rattle.std.specs.FinMap as fin;
-ghost use Rattle.rc_edges.specs.EdgeMap.{HasExtra, HasWidth, count_at};
+ghost use Rattle.rc_edges.specs.EdgeMap.{HasExtra, HasWidth, count_at, found};
 
 use rc_edges::{EdgeMap, ListMap, OneMap};
 use rc_maps::{HashEdge, OrderedEdge};
@@ -17,10 +16,10 @@ pub(crate) trait Kind: EdgeMap {
     /// Adds the row, which can then be added at the key again.
     fn add_row(&mut self, key: &[u64], extra: &[u64]) -> Result<(), Memory>
         requires room { count_at (Self.rows self.old) key.now < 2 ^ 63 }
-        requires same { HasExtra (fin.get (Self.rows self.old) key.now) extra.now }
+        requires same { HasExtra (found (Self.rows self.old) key.now) extra.now }
         requires single { Self.may_take self.old key.now }
         ensures grown { OnOk result (count_at (Self.rows self.new) key.now ≤ count_at (Self.rows self.old) key.now + 1) }
-        ensures row { OnOk result (HasExtra (fin.get (Self.rows self.new) key.now) extra.now) }
+        ensures row { OnOk result (HasExtra (found (Self.rows self.new) key.now) extra.now) }
         ensures again { OnOk result (Self.may_take self.new key.now) };
 }
 

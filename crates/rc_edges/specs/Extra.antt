@@ -7,4 +7,4 @@ use Rattle.rc_edges.specs.declared.extra.Form.TheVariants.{None, One, Many}
 abbrev pub values_of : Form → Values
 values_of None = []
 values_of (One value) = value ∷ []
-values_of (Many values) = values.value
+values_of (Many values) = values.value.items

@@ -1,97 +1,81 @@
 -- Laws of a singleton whose entry stands in place: i is its key and its entry, and m what its rows are.
-use Rattle.std.specs.Prelude.{◌≡◌, ℕ, zero, suc, ◌<◌, Bool, true, false, cond, nat_eq, Option, None, Some, IsSome, [], ◌∷◌, Result, Ok, Err, OnOk}
+use Rattle.std.specs.Prelude.{◌≡◌, Bool, true, false, cond, nat_eq, Option, None, Some, IsSome, [], ◌∷◌, Result, Ok, Err, IfOk, OnOk}
 use Rattle.std.specs.Cmp.Lexicographic.{pointwise}
-use Rattle.std.specs.List.{slice_get}
 use Rattle.std.specs.Option.{option_and_then}
 use Rattle.std.specs.FinMap as fin
-use Rattle.std.proofs.Common.{refl, inl, inr, sym, ap, subst, ◌∙◌, arith}
+use Rattle.std.proofs.Common.{refl, sym, ap, subst, ◌∙◌}
 use Rattle.std.proofs.lemmas.Bool.{false≢true}
 use Rattle.rc_edges.specs.Values.{Values, values_eq}
 use Rattle.rc_edges.specs.ValuesLaws.{same_from_test, pointwise_same, test_symmetric}
-use Rattle.rc_edges.specs.EdgeMap.{Kept, count_of, nothing, written}
-use Rattle.rc_edges.specs.Entry.{now_of, taken_of, is_gone}
-use Rattle.rc_edges.specs.ListMap.{Items, IsListed, SameRows, kept_in}
-use Rattle.rc_edges.specs.ListMapLaws.{whole, get-whole, kept-none, now_at, taken_at, set_now, set_taken, stays_now, stays_taken, same_without, count_there}
-use Rattle.rc_edges.specs.RowsLaws.{get-keep}
-use Rattle.rc_edges.specs.OneMap.{IsHeld, kept_at}
-use Rattle.rc_edges.specs.declared.entry.Entry.{Entry}
+use Rattle.rc_edges.specs.EdgeMap.{Counted, HasAsMany, Rows, found, present, swept}
+use Rattle.rc_edges.specs.Entry.{is_tombstone}
+use Rattle.rc_edges.specs.ListMap.{Items, rows_in}
+use Rattle.rc_edges.specs.ListMapLaws.{get-whole, get_at, found_at, set_at, swept_out, rows-none}
+use Rattle.rc_edges.specs.OneMap.{rows_at}
 use Rattle.rc_edges.specs.declared.one_map.Place.{Place}
-use Rattle.rc_edges.specs.declared.one_map.Place.TheVariants.{One}
+use Rattle.rc_edges.specs.declared.one_map.Place.TheVariants.{One, Several}
 
-abbrev pub alone : Values × Entry → Items
+abbrev pub alone : Values × Counted → Items
 alone i = i ∷ []
 
-pub in_place : (m : Kept) (place : Place) (one : Option (Values × Entry)) (i : Values × Entry) → kept_at place ≡ m → place ≡ One one → one ≡ Some i → kept_in (alone i) ≡ m
-in_place m place one i is e f = ap kept_at (sym (e ∙ ap One f)) ∙ is
+pub in_place : (m : Rows) (place : Place) (one : Option (Values × Counted)) (i : Values × Counted) → rows_at place ≡ m → place ≡ One one
+    → one ≡ Some i
+    → rows_in (alone i) ≡ m
+in_place m place one i is e f = ap rows_at (sym (e ∙ ap One f)) ∙ is
 
-pub no_place : (m : Kept) (place : Place) (one : Option (Values × Entry)) → kept_at place ≡ m → place ≡ One one → one ≡ None → kept_in [] ≡ m
-no_place m place one is e f = kept-none ∙ ap kept_at (sym (e ∙ ap One f)) ∙ is
+pub no_place : (m : Rows) (place : Place) (one : Option (Values × Counted)) → rows_at place ≡ m → place ≡ One one → one ≡ None
+    → rows_in [] ≡ m
+no_place m place one is e f = rows-none ∙ ap rows_at (sym (e ∙ ap One f)) ∙ is
 
--- where `==` finds the keys' values the same
-pub is_own : (own key : Values) (b : Bool) → b ≡ pointwise nat_eq own key → b ≡ true → key ≡ own
-is_own own key b e h = sym (same_from_test own key (sym (pointwise_same own key) ∙ sym e ∙ h))
+pub in_list : (m : Rows) (place : Place) (list : Rows) → rows_at place ≡ m → place ≡ Several list → list ≡ m
+in_list m place list is e = ap rows_at (sym e) ∙ is
 
-pub is_other : (own key : Values) (b : Bool) → b ≡ pointwise nat_eq own key → b ≡ false → values_eq key own ≡ false
-is_other own key b e h = test_symmetric key own ∙ sym (pointwise_same own key) ∙ sym e ∙ h
+-- where `==` finds the values seen of the entry's key the same as these
+pub is_own : (own key seen : Values) (b : Bool) → seen ≡ own → b ≡ pointwise nat_eq seen key → b ≡ true → key ≡ own
+is_own own key seen b s e h =
+    sym (same_from_test own key (sym (pointwise_same own key) ∙ ap (λ z. pointwise nat_eq z key) (sym s) ∙ sym e ∙ h))
 
-module _ (m : Kept) (i : Values × Entry) (is : kept_in (alone i) ≡ m) where
-  -- at another key nothing is found
-  found_other : (key : Values) → values_eq key i.0 ≡ false → fin.get (whole (alone i)) key ≡ None
-  found_other key n = get-whole (alone i) key ∙ ap (λ b. cond b (Some i.1) None) n
+pub is_other : (own key seen : Values) (b : Bool) → seen ≡ own → b ≡ pointwise nat_eq seen key → b ≡ false → values_eq key own ≡ false
+is_other own key seen b s e h = test_symmetric key own ∙ sym (pointwise_same own key) ∙ ap (λ z. pointwise nat_eq z key) (sym s) ∙ sym e ∙ h
 
-  pub other_now : (key : Values) → values_eq key i.0 ≡ false → fin.get m.now key ≡ None
-  other_now key n = ap (λ (z : Kept). fin.get z.now key) (sym is) ∙ get-keep now_of (whole (alone i)) key ∙ ap (option_and_then now_of) (found_other key n)
+module _ (m : Rows) (i : Values × Counted) (is : rows_in (alone i) ≡ m) where
+  -- at another key nothing is kept
+  pub other_none : (key : Values) → values_eq key i.0 ≡ false → fin.get m key ≡ None
+  other_none key n = ap (λ z. fin.get z key) (sym is) ∙ get-whole (alone i) key ∙ ap (λ b. cond b (Some i.1) None) n
 
-  pub other_taken : (key : Values) → values_eq key i.0 ≡ false → fin.get m.taken key ≡ None
-  other_taken key n = ap (λ (z : Kept). fin.get z.taken key) (sym is) ∙ get-keep taken_of (whole (alone i)) key ∙ ap (option_and_then taken_of) (found_other key n)
-
-  -- a key with a row is the entry's
-  pub own_key : (key : Values) → IsSome (fin.get m.now key) → key ≡ i.0
+  -- a key at which something is kept is the entry's
+  own_key : (key : Values) → (fin.get m key ≡ None → ⊥) → key ≡ i.0
   own_key key there = go (values_eq key i.0) refl
     where
       go : (b : Bool) → values_eq key i.0 ≡ b → key ≡ i.0
       go true t = same_from_test key i.0 t
-      go false t = absurd (false≢true (subst IsSome (other_now key t) there))
+      go false t = absurd (there (other_none key t))
 
-  pub own_now : (key : Values) → key ≡ i.0 → fin.get m.now key ≡ now_of i.1
-  own_now key h = now_at m key (alone i) 0 i is h refl
+  pub own_there : (key : Values) → IsSome (found m key) → key ≡ i.0
+  own_there key h = own_key key (λ e. false≢true (subst (λ o. IsSome (option_and_then present o)) e h))
 
-  pub own_taken : (key : Values) → key ≡ i.0 → fin.get m.taken key ≡ taken_of i.1
-  own_taken key h = taken_at m key (alone i) 0 i is h refl
+  pub own_kept : (key extra : Values) → HasAsMany (fin.get m key) extra → key ≡ i.0
+  own_kept key extra h = own_key key (λ e. subst (λ o. HasAsMany o extra) e h)
 
-  pub own_count : (key : Values) → key ≡ i.0 → IsSome (fin.get m.now key) → 0 < count_of (now_of i.1)
-  own_count key h there = count_there m (alone i) key (now_of i.1) is (own_now key h) (subst IsSome (own_now key h) there)
+  pub own_get : (key : Values) → key ≡ i.0 → fin.get m key ≡ Some i.1
+  own_get key h = get_at m key (alone i) 0 i is h refl
 
-  pub set_own_now : (key : Values) (w : Entry) → key ≡ i.0 → (kept_in (alone (i.0, w))).now ≡ written m.now key (now_of w)
-  set_own_now key w h = set_now m key (alone i) 0 i w is tt h refl
+  pub own_found : (key : Values) → key ≡ i.0 → found m key ≡ present i.1
+  own_found key h = found_at m key (alone i) 0 i is h refl
 
-  pub set_own_taken : (key : Values) (w : Entry) → key ≡ i.0 → (kept_in (alone (i.0, w))).taken ≡ written m.taken key (taken_of w)
-  set_own_taken key w h = set_taken m key (alone i) 0 i w is tt h refl
+  pub set_own : (key : Values) (w : Counted) → key ≡ i.0 → rows_in (alone (i.0, w)) ≡ fin.insert m key w
+  set_own key w h = set_at m key (alone i) 0 i w is tt h refl
 
-  pub own_now_stays : (w : Entry) → now_of w ≡ now_of i.1 → (kept_in (alone (i.0, w))).now ≡ m.now
-  own_now_stays w s = stays_now m i.0 (alone i) 0 i w is tt refl refl s
-
-  pub own_taken_stays : (w : Entry) → taken_of w ≡ taken_of i.1 → (kept_in (alone (i.0, w))).taken ≡ m.taken
-  own_taken_stays w s = stays_taken m i.0 (alone i) 0 i w is tt refl refl s
-
--- an entry that is gone is no loss
-pub gone_alone : (i : Values × Entry) → is_gone i.1 ≡ true → nothing ≡ kept_in (alone i)
-gone_alone i g =
-    let same : SameRows (alone i) [] = same_without (alone i) 0 i tt but (let l : 0 < 1 = omega arith in l) refl g in
-    sym kept-none ∙ (λ j. record { now = same.now j; taken = same.taken j })
-  where
-    but : (k : ℕ) (x : Values × Entry) → slice_get (alone i) k ≡ Some x → (k ≡ 0 → ⊥) → is_gone x.1 ≡ false
-    but zero x h n = absurd (n refl)
-    but (suc k) x h n = absurd (cc)
-
-pub gone_place : (place : Place) (one : Option (Values × Entry)) (i : Values × Entry) → place ≡ One one → one ≡ Some i → is_gone i.1 ≡ true → nothing ≡ kept_at place
-gone_place place one i e f g = gone_alone i g ∙ ap kept_at (sym (e ∙ ap One f))
-
--- the list of the entry in place
-pub listed_alone : (place : Place) (one : Option (Values × Entry)) (i : Values × Entry) → IsHeld place → place ≡ One one → one ≡ Some i → IsListed (alone i)
-listed_alone place one i h e f = record { keyed = tt; kept = λ x m. elim m [ inl s ↦ ap (λ (z : Values × Entry). is_gone z.1) s ∙ subst IsHeld (e ∙ ap One f) h | inr n ↦ absurd n ] }
+  -- the entry alone, where its row was taken out, is swept
+  pub swept_own : (key : Values) → key ≡ i.0 → is_tombstone i.1 ≡ true → fin.empty ≡ swept m key
+  swept_own key h v = sym rows-none ∙ swept_out m key (alone i) 0 i is tt h refl v
 
 -- what follows from what holds at `Ok` holds at `Ok`
 pub on_ok : {X Y : Type 0} {P Q : Type 0} (r : Result X Y) → (P → Q) → OnOk r P → OnOk r Q
 on_ok (Ok x) f h = f h
 on_ok (Err y) f h = h
+
+-- and what follows from what holds of its value holds of its value
+pub if_ok : {X Y : Type 0} {P Q : X → Type 0} (r : Result X Y) → ((x : X) → P x → Q x) → IfOk r P → IfOk r Q
+if_ok (Ok x) f h = f x h
+if_ok (Err y) f h = h

@@ -3,7 +3,7 @@
 ghost use Rattle.std.specs.Prelude.{◌≡◌, ◌<◌, ◌^◌, ◌++◌, ◌↔◌, Bool, IsTrue, OnOk, OnErr, IfOk, IsSome, option_copied};
 ghost use Rattle.std.specs.FinMap as fin;
 ghost use Rattle.rc_edges.specs.Values.{Values};
-ghost use Rattle.rc_edges.specs.EdgeMap.{Rows, AreCounted, HasExtra, count_at, extra_of, once_more, once_less, with_key_of, listed};
+ghost use Rattle.rc_edges.specs.EdgeMap.{Rows, HasAsMany, HasExtra, count_at, current, extra_of, found, listed, once_less, once_more, swept};
 
 use rc_tuple::Memory;
 
@@ -11,18 +11,15 @@ use rc_tuple::Memory;
 ///
 /// A container knows no columns: they are the edge's. A key is the values of the edge's key columns,
 /// in their order. A row is kept by its extra values, those of the target's columns that neither the
-/// source nor the key has; mostly there are none. A count, from 1 on, is how many tuples of the
-/// relation have that row. Without the counts this is the map of a decomposition (PLDI 2011,
-/// section 3).
+/// source nor the key has; mostly there are none. A count is how many tuples of the relation have
+/// that row. Without the counts this is the map of a decomposition (PLDI 2011, section 3).
 ///
-/// A container also keeps its rows as they were taken. Changes are made in place, and at each
-/// changed key `settle` or `revert` ends them; neither takes memory.
+/// Changes are made in place. A row whose count falls to 0 isn't there any more, but a tombstone of
+/// it is kept until it is swept, so that whoever noted the row and its count before a change can put
+/// it back without memory.
 pub trait EdgeMap: Sized {
-    /// The triples (key, extra values, count), rising by the keys.
+    /// The triples (key, extra values, count), rising by the keys, with tombstones, whose count is 0.
     ghost rows: { Self → Rows };
-
-    /// The triples as they were taken.
-    ghost rows_taken: { Self → Rows };
 
     /// Whether the container takes only keys of one column.
     ghost one_column: { Self → Bool };
@@ -30,58 +27,58 @@ pub trait EdgeMap: Sized {
     /// Whether the container takes a row at the key.
     ghost may_take: { Self → Values → Type 0 };
 
-    /// Adds the row at the key with the count 1, or raises its count by 1. Where memory is wanted
-    /// nothing changes.
-    fn add(&mut self, key: &[u64], extra: &[u64]) -> Result<(), Memory>
+    /// Adds the row at the key with the count 1, or raises its count by 1, and answers the count
+    /// before. Where memory is wanted nothing changes.
+    fn add(&mut self, key: &[u64], extra: &[u64]) -> Result<u64, Memory>
         requires room { count_at (rows self.old) key.now < 2 ^ 63 }
-        requires same { HasExtra (fin.get (rows self.old) key.now) extra.now }
+        requires same { HasExtra (found (rows self.old) key.now) extra.now }
         requires single { may_take self.old key.now }
         ensures ok { OnOk result (rows self.new ≡ once_more (rows self.old) key.now extra.now) }
+        ensures before { IfOk result (λ before. before ≡ count_at (rows self.old) key.now) }
         ensures err { OnErr result (rows self.new ≡ rows self.old) }
-        ensures taken { rows_taken self.new ≡ rows_taken self.old }
         ensures width { one_column self.new ≡ one_column self.old };
 
-    /// Lowers the count at the key by 1, and takes the row out at 0. Takes no memory.
-    fn sub(&mut self, key: &[u64])
-        requires { IsSome (fin.get (rows self.old) key.now) }
+    /// Lowers the count of the row that is there at the key by 1, and answers the count before. Takes
+    /// no memory.
+    fn sub(&mut self, key: &[u64]) -> u64
+        requires { IsSome (found (rows self.old) key.now) }
         ensures now { rows self.new ≡ once_less (rows self.old) key.now }
-        ensures taken { rows_taken self.new ≡ rows_taken self.old }
+        ensures before { result ≡ count_at (rows self.old) key.now }
         ensures width { one_column self.new ≡ one_column self.old };
 
-    /// Makes the row and the count at the key what they were as taken. Takes no memory.
-    fn revert(&mut self, key: &[u64])
-        ensures now { rows self.new ≡ with_key_of (rows self.old) key.now (rows_taken self.old) }
-        ensures taken { rows_taken self.new ≡ rows_taken self.old }
+    /// Makes the row or tombstone at the key the row with these extra values, as many as it has, and
+    /// this count. A singleton takes it too: the caller sees to it that one row is there. Takes no
+    /// memory.
+    fn put_back(&mut self, key: &[u64], extra: &[u64], count: u64)
+        requires { HasAsMany (fin.get (rows self.old) key.now) extra.now }
+        ensures now { rows self.new ≡ fin.insert (rows self.old) key.now (extra.now, count) }
         ensures width { one_column self.new ≡ one_column self.old };
 
-    /// Makes the row and the count at the key count as taken. Takes no memory.
-    fn settle(&mut self, key: &[u64])
-        ensures now { rows self.new ≡ rows self.old }
-        ensures taken { rows_taken self.new ≡ with_key_of (rows_taken self.old) key.now (rows self.old) }
+    /// Lets a tombstone at the key go. Takes no memory.
+    fn sweep(&mut self, key: &[u64])
+        ensures now { rows self.new ≡ swept (rows self.old) key.now }
         ensures width { one_column self.new ≡ one_column self.old };
 
-    /// The extra values of the row at the key; `None` exactly where the key isn't there.
+    /// The extra values of the row at the key; `None` exactly where it isn't there.
     fn get(&self, key: &[u64]) -> Option<&[u64]>
-        ensures row { option_copied result ≡ extra_of (fin.get (rows self.now) key.now) }
-        ensures counted { AreCounted (rows self.now) × AreCounted (rows_taken self.now) };
+        ensures { option_copied result ≡ extra_of (found (rows self.now) key.now) };
 
-    /// Adds for each row its key and then its extra values at the end of the list, rising by the
-    /// keys. Where memory is wanted the list stays as it was.
+    /// Adds for each row that is there its key and then its extra values at the end of the list,
+    /// rising by the keys. Where memory is wanted the list stays as it was.
     fn scan(&self, out: &mut Vec<u64>) -> Result<(), Memory>
         ensures ok { OnOk result (out.new.items ≡ out.old.items ++ listed (rows self.now)) }
         ensures err { OnErr result (out.new.items ≡ out.old.items) };
 
-    /// How many keys are there.
+    /// How many rows are there.
     fn len(&self) -> u64
-        ensures { result ≡ fin.len (rows self.now) };
+        ensures { result ≡ fin.len (current (rows self.now)) };
 
-    /// Whether nothing is kept: there is no row, neither now nor as taken.
+    /// Whether nothing is kept, not even a tombstone.
     fn is_gone(&self) -> bool
-        ensures { IsTrue result ↔ (rows self.now ≡ fin.empty) × (rows_taken self.now ≡ fin.empty) };
+        ensures { IsTrue result ↔ (rows self.now ≡ fin.empty) };
 
-    /// Another container with the same rows, now and as taken.
+    /// Another container that keeps the same rows and tombstones.
     fn copy(&self) -> Result<Self, Memory>
-        ensures now { IfOk result (λ map. rows map ≡ rows self.now) }
-        ensures taken { IfOk result (λ map. rows_taken map ≡ rows_taken self.now) }
+        ensures rows { IfOk result (λ map. rows map ≡ rows self.now) }
         ensures width { IfOk result (λ map. one_column map ≡ one_column self.now) };
 }

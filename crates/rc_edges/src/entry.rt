@@ -1,98 +1,85 @@
 //! What a container keeps at a key.
 
-ghost use Rattle.std.specs.Prelude.{◌≡◌, ◌+◌, ◌<◌, ◌≤◌, ◌^◌, ◌++◌, ◌∷◌, [], length, OnOk, OnErr, IfOk, Some, None, option_copied};
+ghost use Rattle.std.specs.Prelude.{◌≡◌, ◌+◌, ◌-◌, ◌<◌, ◌≤◌, ◌^◌, ◌++◌, ◌∷◌, [], length, OnOk, OnErr, IfOk, option_copied};
 ghost use Rattle.std.specs.Vec.{vec_len, vec_capacity};
-ghost use Rattle.rc_edges.specs.EdgeMap.{HasExtra, count_of, extra_of, lowered};
-ghost use Rattle.rc_edges.specs.Entry.{now_of, taken_of, is_gone};
-ghost use Rattle.rc_edges.specs.ListMap.{rows_of};
+ghost use Rattle.rc_edges.specs.EdgeMap.{HasExtra, extra_of, present};
+ghost use Rattle.rc_edges.specs.Entry.{is_tombstone};
+ghost use Rattle.rc_edges.specs.ListMap.{values_in};
 
 use crate::extra::Extra;
 use rc_tuple::Memory;
 use std::alloc::Global;
-use std::mem;
+use std::marker::Model;
 
-/// A row's extra values and its count now, and the two as they were taken. A count of 0 says that
-/// there is no row. The values as taken stand in `extra` until another row's take their place, so
-/// that neither `settle` nor `revert` copies them. A row with at most one extra value takes no
-/// memory.
+/// A row's extra values and its count. A count of 0 says that the row isn't there any more: the entry
+/// is a tombstone, which stays until it is swept, so that a row can be put back in its place without
+/// memory. A row with at most one extra value takes no memory.
 #[derive(Drop, Debug)]
 pub struct Entry {
     extra: Extra,
     count: u64,
-    count_taken: u64,
-    extra_taken: Option<Extra>,
-    alloc: Global,
+}
+
+impl Model for Entry {
+    ghost use Rattle.rc_edges.specs.EdgeMap.{Counted};
+
+    ghost Value = { Counted };
+
+    ghost view = { λ e. (e.extra, e.count) };
 }
 
 impl Entry {
-    /// The row with the count 1, where none was taken.
+    /// The row with the count 1.
     pub fn new(alloc: Global, extra: &[u64]) -> Result<Entry, Memory>
-        ensures now { IfOk result (λ entry. now_of entry ≡ Some (extra.now, 1)) }
-        ensures taken { IfOk result (λ entry. taken_of entry ≡ None) }
+        ensures { IfOk result (λ entry. entry ≡ (extra.now, 1)) }
     {
         Ok(Entry {
             extra: Extra::from_slice(alloc, extra)?,
             count: 1,
-            count_taken: 0,
-            extra_taken: None,
-            alloc,
         })
     }
 
-    /// Raises the count by 1; from 0 on it is that of the row with these extra values.
-    pub fn raise(&mut self, extra: &[u64]) -> Result<(), Memory>
-        requires room { count_of (now_of self.old) < 2 ^ 63 }
-        requires same { HasExtra (now_of self.old) extra.now }
-        ensures ok { OnOk result (now_of self.new ≡ Some (extra.now, count_of (now_of self.old) + 1)) }
-        ensures taken { taken_of self.new ≡ taken_of self.old }
+    /// Raises the count by 1, and answers what it was; from 0 on it is that of the row with these
+    /// extra values.
+    pub fn raise(&mut self, alloc: Global, extra: &[u64]) -> Result<u64, Memory>
+        requires room { self.old.1 < 2 ^ 63 }
+        requires same { HasExtra (present self.old) extra.now }
+        ensures ok { OnOk result (self.new ≡ (extra.now, self.old.1 + 1)) }
+        ensures before { IfOk result (λ before. before ≡ self.old.1) }
         ensures err { OnErr result (self.new ≡ self.old) }
     {
-        if self.count > 0 {
-            self.count += 1;
-            return Ok(());
+        let before = self.count;
+        if before == 0 {
+            self.extra.replace(alloc, extra)?;
         }
-        let next = Extra::from_slice(self.alloc, extra)?;
-        let last = mem::replace(&mut self.extra, next);
-        self.count = 1;
-        if self.extra_taken.is_none() {
-            self.extra_taken = Some(last);
-        }
-        Ok(())
+        self.count = before + 1;
+        Ok(before)
     }
 
-    /// Lowers the count by 1.
-    pub fn lower(&mut self)
-        requires { 0 < count_of (now_of self.old) }
-        ensures now { now_of self.new ≡ lowered (now_of self.old) }
-        ensures taken { taken_of self.new ≡ taken_of self.old }
+    /// Lowers the count by 1, and answers what it was.
+    pub fn lower(&mut self) -> u64
+        requires { 0 < self.old.1 }
+        ensures now { self.new ≡ (self.old.0, self.old.1 - 1) }
+        ensures before { result ≡ self.old.1 }
     {
-        self.count -= 1;
+        let before = self.count;
+        self.count = before - 1;
+        before
     }
 
-    /// Makes the row and its count what they were as taken.
-    pub fn revert(&mut self)
-        ensures now { now_of self.new ≡ taken_of self.old }
-        ensures taken { taken_of self.new ≡ taken_of self.old }
+    /// Makes the entry that of the row with these extra values, as many as there are, and this count.
+    /// Takes no memory.
+    pub fn put_back(&mut self, extra: &[u64], count: u64)
+        requires { length self.old.0 ≡ length extra.now }
+        ensures { self.new ≡ (extra.now, count) }
     {
-        self.count = self.count_taken;
-        let Some(extra) = self.extra_taken.take() else {
-            return;
-        };
-        self.extra = extra;
+        self.extra.set(extra);
+        self.count = count;
     }
 
-    /// Makes the row and its count count as taken.
-    pub fn settle(&mut self)
-        ensures now { now_of self.new ≡ now_of self.old }
-        ensures taken { taken_of self.new ≡ now_of self.old }
-    {
-        self.count_taken = self.count;
-        self.extra_taken = None;
-    }
-
-    /// The extra values of the row now, if there is one.
+    /// The extra values of the row, if it is there.
     pub fn extra(&self) -> Option<&[u64]>
-        ensures { option_copied result ≡ extra_of (now_of self.now) }
+        ensures { option_copied result ≡ extra_of (present self.now) }
     {
         if self.count > 0 {
             Some(self.extra.as_slice())
@@ -101,10 +88,10 @@ impl Entry {
         }
     }
 
-    /// Adds the key and then the row's extra values at the end of the list, if there is a row now.
+    /// Adds the key and then the row's extra values at the end of the list, if the row is there.
     /// Room is made once for both, so that where memory is wanted the list stays as it was.
     pub fn push_row(&self, key: &[u64], out: &mut Vec<u64>) -> Result<(), Memory>
-        ensures ok { OnOk result (out.new.items ≡ out.old.items ++ rows_of ((key.now, self.now) ∷ [])) }
+        ensures ok { OnOk result (out.new.items ≡ out.old.items ++ values_in ((key.now, self.now) ∷ [])) }
         ensures err { OnErr result (out.new.items ≡ out.old.items) }
     {
         let Some(extra) = self.extra() else {
@@ -116,36 +103,21 @@ impl Entry {
         Ok(())
     }
 
-    /// Whether there is no row, neither now nor as taken.
-    pub fn is_gone(&self) -> bool
-        ensures { result ≡ is_gone self.now }
+    /// Whether the row isn't there any more.
+    pub fn is_tombstone(&self) -> bool
+        ensures { result ≡ is_tombstone self.now }
     {
-        self.count == 0 && self.count_taken == 0
+        self.count == 0
     }
 
-    /// Another entry with the same extra values and counts.
+    /// Another entry with the same extra values and count.
     pub fn copy(&self) -> Result<Entry, Memory>
         ensures { IfOk result (λ entry. entry ≡ self.now) }
     {
-        let extra = self.extra.copy()?;
-        let extra_taken = copy_of(&self.extra_taken)?;
         Ok(Entry {
-            extra,
+            extra: self.extra.copy()?,
             count: self.count,
-            count_taken: self.count_taken,
-            extra_taken,
-            alloc: self.alloc,
         })
-    }
-}
-
-/// A copy of the values, if there are some.
-fn copy_of(values: &Option<Extra>) -> Result<Option<Extra>, Memory>
-    ensures { IfOk result (λ copy. copy ≡ values.now) }
-{
-    match values {
-        Some(values) => Ok(Some(values.copy()?)),
-        None => Ok(None),
     }
 }
 

@@ -1,8 +1,8 @@
 //! The extra values of a row.
 
-ghost use Rattle.std.specs.Prelude.{◌≡◌, IfOk};
+ghost use Rattle.std.specs.Prelude.{◌≡◌, length, IfOk, OnOk, OnErr};
 
-use rc_tuple::{Memory, Vals};
+use rc_tuple::Memory;
 use std::alloc::Global;
 use std::marker::Model;
 use std::slice;
@@ -18,7 +18,7 @@ enum Form {
     None,
     One(u64),
     /// Two or more. They stand behind a pointer, so that an entry stays small.
-    Many(Box<Vals>),
+    Many(Box<Vec<u64>>),
 }
 
 impl Model for Extra {
@@ -38,9 +38,35 @@ impl Extra {
         let form = match values {
             [] => Form::None,
             [value] => Form::One(*value),
-            _ => Form::Many(Box::new(alloc, Vals::from_slice(alloc, values)?)?),
+            _ => Form::Many(Box::new(alloc, Vec::from_slice(alloc, values)?)?),
         };
         Ok(Extra { form })
+    }
+
+    /// Makes the values these, as many as there are. Takes no memory.
+    pub(crate) fn set(&mut self, values: &[u64])
+        requires { length self.old ≡ length values.now }
+        ensures { self.new ≡ values.now }
+    {
+        match &mut self.form {
+            Form::None => {}
+            Form::One(value) => *value = values[0],
+            Form::Many(own) => own.copy_from_slice(values),
+        }
+    }
+
+    /// Makes the values these. Takes no memory where they are as many; where memory is wanted nothing
+    /// changes.
+    pub(crate) fn replace(&mut self, alloc: Global, values: &[u64]) -> Result<(), Memory>
+        ensures ok { OnOk result (self.new ≡ values.now) }
+        ensures err { OnErr result (self.new ≡ self.old) }
+    {
+        if self.as_slice().len() == values.len() {
+            self.set(values);
+        } else {
+            *self = Extra::from_slice(alloc, values)?;
+        }
+        Ok(())
     }
 
     /// The values, in the order of their columns.
@@ -50,7 +76,7 @@ impl Extra {
         match &self.form {
             Form::None => &[],
             Form::One(value) => slice::from_ref(value),
-            Form::Many(values) => values.list(),
+            Form::Many(values) => values.as_slice(),
         }
     }
 
@@ -61,7 +87,10 @@ impl Extra {
         let form = match &self.form {
             Form::None => Form::None,
             Form::One(value) => Form::One(*value),
-            Form::Many(values) => Form::Many(Box::new(values.alloc(), values.copy()?)?),
+            Form::Many(values) => {
+                let alloc = *values.allocator();
+                Form::Many(Box::new(alloc, Vec::from_slice(alloc, values.as_slice())?)?)
+            }
         };
         Ok(Extra { form })
     }

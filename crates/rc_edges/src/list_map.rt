@@ -1,10 +1,9 @@
 //! The container of kind list.
 
 ghost use Rattle.std.specs.Prelude.{◌≡◌, ◌<◌, ◌≤◌, ◌++◌, false, length, take, IfOk, IfErr, IfSome, IfNone, OnOk, OnErr, [], ◌∷◌};
+ghost use Rattle.std.specs.FinMap as fin;
 ghost use Rattle.rc_edges.specs.Values.{values_cmp};
-ghost use Rattle.rc_edges.specs.EdgeMap.{nothing};
-ghost use Rattle.rc_edges.specs.Entry.{is_gone};
-ghost use Rattle.rc_edges.specs.ListMap.{AreKeptBut, IsKeyed, IsAt, IsGap, SameRows, count_in, kept_in, rows_of};
+ghost use Rattle.rc_edges.specs.ListMap.{IsAt, IsGap, count_in, rows_in, values_in};
 
 use crate::{EdgeMap, Entry, Key};
 use rc_tuple::Memory;
@@ -20,23 +19,23 @@ pub struct ListMap {
 }
 
 impl Model for ListMap {
-    ghost use Rattle.rc_edges.specs.EdgeMap.{Kept, kept_code};
+    ghost use Rattle.rc_edges.specs.EdgeMap.{Rows, rows_code};
 
-    ghost Value = { Kept };
+    ghost Value = { Rows };
 
-    ghost coded = { kept_code };
+    ghost coded = { rows_code };
 
-    ghost use Rattle.rc_edges.specs.ListMap.{IsListed, kept_in};
+    ghost use Rattle.rc_edges.specs.ListMap.{IsKeyed, rows_in};
 
-    ghost view = { λ a. kept_in a.items.items };
+    ghost view = { λ a. rows_in a.items.items };
 
-    ghost invariant = { λ a. IsListed a.items.items };
+    ghost invariant = { λ a. IsKeyed a.items.items };
 }
 
 impl ListMap {
     /// The container with no row, which takes no memory.
     pub fn new(alloc: Global) -> Self
-        ensures { result ≡ nothing }
+        ensures { result ≡ fin.empty }
     {
         ListMap {
             items: Vec::new(alloc),
@@ -45,8 +44,7 @@ impl ListMap {
 
     /// A container with a copy of this entry alone.
     pub(crate) fn alone(alloc: Global, key: &Key, entry: &Entry) -> Result<Self, Memory>
-        requires { is_gone entry.now ≡ false }
-        ensures { IfOk result (λ list. list ≡ kept_in ((key.now, entry.now) ∷ [])) }
+        ensures { IfOk result (λ list. list ≡ rows_in ((key.now, entry.now) ∷ [])) }
     {
         let mut items = Vec::with_capacity(alloc, 2)?;
         items.push((key.copy()?, entry.copy()?))?;
@@ -55,8 +53,7 @@ impl ListMap {
 
     /// Takes out the only entry, if there is just one.
     pub(crate) fn take_only(&mut self) -> Option<(Key, Entry)>
-        ensures only { IfSome result (λ i. kept_in (i ∷ []) ≡ self.old) }
-        ensures held { IfSome result (λ i. is_gone i.1 ≡ false) }
+        ensures only { IfSome result (λ i. rows_in (i ∷ []) ≡ self.old) }
         ensures none { IfNone result (self.new ≡ self.old) }
     {
         if self.items.len() == 1 {
@@ -68,56 +65,52 @@ impl ListMap {
 }
 
 impl EdgeMap for ListMap {
-    ghost rows = { λ map. map.now };
-
-    ghost rows_taken = { λ map. map.taken };
+    ghost rows = { λ map. map };
 
     ghost one_column = { λ _. false };
 
     ghost may_take = { λ _ _. Unit {0} };
 
-    fn add(&mut self, key: &[u64], extra: &[u64]) -> Result<(), Memory> {
+    fn add(&mut self, key: &[u64], extra: &[u64]) -> Result<u64, Memory> {
+        let alloc = *self.items.allocator();
         match place(&self.items, key) {
             Ok(at) => {
                 let item = &mut self.items[at];
-                item.1.raise(extra)?;
-                Ok(())
+                item.1.raise(alloc, extra)
             }
             Err(at) => {
-                let alloc = *self.items.allocator();
                 let entry = Entry::new(alloc, extra)?;
                 let key = Key::new(alloc, key)?;
                 self.items.insert(at, (key, entry))?;
-                Ok(())
+                Ok(0)
             }
         }
     }
 
-    fn sub(&mut self, key: &[u64]) {
+    fn sub(&mut self, key: &[u64]) -> u64 {
         let Ok(at) = place(&self.items, key) else {
             unreachable!();
         };
         let item = &mut self.items[at];
-        item.1.lower();
-        sweep(&mut self.items, at);
+        item.1.lower()
     }
 
-    fn revert(&mut self, key: &[u64]) {
+    fn put_back(&mut self, key: &[u64], extra: &[u64], count: u64) {
+        let Ok(at) = place(&self.items, key) else {
+            unreachable!();
+        };
+        let item = &mut self.items[at];
+        item.1.put_back(extra, count);
+    }
+
+    fn sweep(&mut self, key: &[u64]) {
         let Ok(at) = place(&self.items, key) else {
             return;
         };
-        let item = &mut self.items[at];
-        item.1.revert();
-        sweep(&mut self.items, at);
-    }
-
-    fn settle(&mut self, key: &[u64]) {
-        let Ok(at) = place(&self.items, key) else {
-            return;
-        };
-        let item = &mut self.items[at];
-        item.1.settle();
-        sweep(&mut self.items, at);
+        let item = &self.items[at];
+        if item.1.is_tombstone() {
+            self.items.remove(at);
+        }
     }
 
     fn get(&self, key: &[u64]) -> Option<&[u64]> {
@@ -179,22 +172,9 @@ fn place(items: &[(Key, Entry)], key: &[u64]) -> Result<usize, usize>
     Err(items.len())
 }
 
-/// Takes the item out where its entry is gone.
-fn sweep(items: &mut Vec<(Key, Entry)>, at: usize)
-    requires within { at < length items.old.items }
-    requires keyed { IsKeyed items.old.items }
-    requires kept { AreKeptBut at items.old.items }
-    ensures { SameRows items.old.items items.new.items }
-{
-    let item = &items[at];
-    if item.1.is_gone() {
-        items.remove(at);
-    }
-}
-
 /// Adds each row's key and extra values at the end; where memory is wanted some may have been added.
 pub(crate) fn push_rows(items: &[(Key, Entry)], out: &mut Vec<u64>) -> Result<(), Memory>
-    ensures ok { OnOk result (out.new.items ≡ out.old.items ++ rows_of items.now) }
+    ensures ok { OnOk result (out.new.items ≡ out.old.items ++ values_in items.now) }
     ensures err { OnErr result (take (length out.old.items) out.new.items ≡ out.old.items) }
 {
     for item in items {
@@ -203,7 +183,7 @@ pub(crate) fn push_rows(items: &[(Key, Entry)], out: &mut Vec<u64>) -> Result<()
     Ok(())
 }
 
-/// How many of the items have a row now.
+/// How many of the items' rows are there.
 fn count_rows(items: &[(Key, Entry)]) -> u64
     ensures { result ≡ count_in items.now }
 {

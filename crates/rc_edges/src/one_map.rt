@@ -1,18 +1,19 @@
 //! The container of a singleton.
 
 ghost use Rattle.std.specs.Prelude.{◌≡◌, false};
-ghost use Rattle.rc_edges.specs.EdgeMap.{HasNoOther, nothing};
-ghost use Rattle.rc_edges.specs.OneMap.{IsHeld, kept_at};
+ghost use Rattle.std.specs.FinMap as fin;
+ghost use Rattle.rc_edges.specs.EdgeMap.{HasNoOther};
+ghost use Rattle.rc_edges.specs.OneMap.{rows_at};
 
 use crate::{EdgeMap, Entry, Key, ListMap};
 use rc_tuple::Memory;
 use std::alloc::Global;
 use std::marker::Model;
 
-/// At most one key, whose entry stands in place: it takes no second one.
+/// At most one row that is there, whose entry stands in place: it takes no second one.
 ///
-/// Where another key comes before that of the entry is settled or reverted, the two stand in a list
-/// until one of them is left.
+/// Where another key comes while a tombstone isn't swept yet, they stand in a list until one entry is
+/// left.
 #[derive(Drop, Debug)]
 pub struct OneMap {
     place: Place,
@@ -27,23 +28,21 @@ enum Place {
 }
 
 impl Model for OneMap {
-    ghost use Rattle.rc_edges.specs.EdgeMap.{Kept, kept_code};
+    ghost use Rattle.rc_edges.specs.EdgeMap.{Rows, rows_code};
 
-    ghost Value = { Kept };
+    ghost Value = { Rows };
 
-    ghost coded = { kept_code };
+    ghost coded = { rows_code };
 
-    ghost use Rattle.rc_edges.specs.OneMap.{IsHeld, kept_at};
+    ghost use Rattle.rc_edges.specs.OneMap.{rows_at};
 
-    ghost view = { λ a. kept_at a.place };
-
-    ghost invariant = { λ a. IsHeld a.place };
+    ghost view = { λ a. rows_at a.place };
 }
 
 impl OneMap {
     /// The container with no row, which takes no memory.
     pub fn new(alloc: Global) -> Self
-        ensures { result ≡ nothing }
+        ensures { result ≡ fin.empty }
     {
         OneMap {
             place: Place::One(None),
@@ -53,81 +52,70 @@ impl OneMap {
 }
 
 impl EdgeMap for OneMap {
-    ghost rows = { λ map. map.now };
-
-    ghost rows_taken = { λ map. map.taken };
+    ghost rows = { λ map. map };
 
     ghost one_column = { λ _. false };
 
-    ghost may_take = { λ map key. HasNoOther map.now key };
+    ghost may_take = { λ map key. HasNoOther map key };
 
-    fn add(&mut self, key: &[u64], extra: &[u64]) -> Result<(), Memory> {
+    fn add(&mut self, key: &[u64], extra: &[u64]) -> Result<u64, Memory> {
         match &mut self.place {
             Place::Several(list) => list.add(key, extra),
             Place::One(one) => {
                 let Some((own, entry)) = one else {
                     let entry = Entry::new(self.alloc, extra)?;
                     *one = Some((Key::new(self.alloc, key)?, entry));
-                    return Ok(());
+                    return Ok(0);
                 };
                 if own.values() == key {
-                    return entry.raise(extra);
+                    return entry.raise(self.alloc, extra);
                 }
                 let mut list = ListMap::alone(self.alloc, own, entry)?;
-                list.add(key, extra)?;
+                let before = list.add(key, extra)?;
                 self.place = Place::Several(list);
-                Ok(())
+                Ok(before)
             }
         }
     }
 
-    fn sub(&mut self, key: &[u64]) {
+    fn sub(&mut self, key: &[u64]) -> u64 {
         match &mut self.place {
-            Place::Several(list) => {
-                list.sub(key);
-                tidy(&mut self.place);
-            }
+            Place::Several(list) => list.sub(key),
             Place::One(one) => {
                 let Some((_, entry)) = one else {
                     unreachable!();
                 };
-                entry.lower();
-                tidy(&mut self.place);
+                entry.lower()
             }
         }
     }
 
-    fn revert(&mut self, key: &[u64]) {
+    fn put_back(&mut self, key: &[u64], extra: &[u64], count: u64) {
+        match &mut self.place {
+            Place::Several(list) => list.put_back(key, extra, count),
+            Place::One(one) => {
+                let Some((_, entry)) = one else {
+                    unreachable!();
+                };
+                entry.put_back(extra, count);
+            }
+        }
+    }
+
+    fn sweep(&mut self, key: &[u64]) {
         match &mut self.place {
             Place::Several(list) => {
-                list.revert(key);
-                tidy(&mut self.place);
-            }
-            Place::One(one) => {
-                let Some((own, entry)) = one else {
-                    return;
-                };
-                if own.values() == key {
-                    entry.revert();
-                    tidy(&mut self.place);
+                list.sweep(key);
+                if let Some(item) = list.take_only() {
+                    self.place = Place::One(Some(item));
                 }
             }
-        }
-    }
-
-    fn settle(&mut self, key: &[u64]) {
-        match &mut self.place {
-            Place::Several(list) => {
-                list.settle(key);
-                tidy(&mut self.place);
-            }
             Place::One(one) => {
                 let Some((own, entry)) = one else {
                     return;
                 };
-                if own.values() == key {
-                    entry.settle();
-                    tidy(&mut self.place);
+                if own.values() == key && entry.is_tombstone() {
+                    *one = None;
                 }
             }
         }
@@ -198,27 +186,5 @@ impl EdgeMap for OneMap {
             place,
             alloc: self.alloc,
         })
-    }
-}
-
-/// Lets an entry go that is gone, and takes the only one that is left out of a list.
-fn tidy(place: &mut Place)
-    ensures held { IsHeld place.new }
-    ensures same { kept_at place.new ≡ kept_at place.old }
-{
-    match place {
-        Place::Several(list) => {
-            if let Some(item) = list.take_only() {
-                *place = Place::One(Some(item));
-            }
-        }
-        Place::One(one) => {
-            let Some((_, entry)) = one else {
-                return;
-            };
-            if entry.is_gone() {
-                *one = None;
-            }
-        }
     }
 }

@@ -1,26 +1,27 @@
 -- What a change at one edge, source and key is to the rows of all edges.
-use Rattle.std.specs.Prelude.{◌≡◌, ℕ, zero, suc, ◌+◌, ◌-◌, ◌<◌, Bool, true, false, cond, ◌==◌, ◌&&◌, Option, None, Some, List, [], ◌∷◌, ◌⊎◌, map, length, slice_set, nat_lt}
+use Rattle.std.specs.Prelude.{◌≡◌, ℕ, zero, suc, ◌-◌, ◌<◌, Bool, true, false, cond, ◌==◌, ◌&&◌, Option, None, Some, IsSome, List, [], ◌∷◌, ◌⊎◌, map, length, slice_set}
 use Rattle.std.specs.List.{slice_get}
-use Rattle.std.proofs.Common.{refl, sym, ap, subst, ◌∙◌, inl, inr, arith, get_or}
-use Rattle.std.proofs.lemmas.Bool.{false≢true, and_parts, and_from, eqb-true, eq-eqb, ltb-true}
+use Rattle.std.proofs.Common.{refl, sym, ap, subst, ◌∙◌, inl, inr, get_or}
+use Rattle.std.proofs.lemmas.Bool.{false≢true, and_parts, and_from, eqb-true, eq-eqb}
 use Rattle.std.proofs.lemmas.Option.{slice_get-get_or}
 use Rattle.rc_tuple.specs.RisingSet.{In}
 use Rattle.rc_tuple.specs.RisingSetLaws.{slice_get_in}
 use Rattle.rc_tuple.specs.Tuple.{Pairs, tuple_eq}
 use Rattle.rc_tuple.specs.TupleLaws.{same_from_test, test_from_same}
 use Rattle.rc_edges.specs.Values.{Values, values_eq}
-use Rattle.rc_edges.specs.EdgeMap.{Counted, HasExtra, Rows, count_of, lowered}
+use Rattle.rc_edges.specs.EdgeMap.{Counted, HasAsMany, HasExtra, Rows, count_of, one_less}
 use Rattle.rc_spec.specs.CountedRows.{count_at, is_row_at, with_count}
 use Rattle.rc_spec.specs.CountedRowsLaws.{same_counts, AreCountedRows-with_count, count-with_count}
-use Rattle.rc_fragment.specs.Container.{now_in, taken_in}
+use Rattle.rc_fragment.specs.Container.{kept_in, now_in}
 use Rattle.rc_fragment.specs.Notes.{IsEmptiedAt, PlaceBecomes}
-use Rattle.rc_fragment.specs.RowValues.{HasValues, IsParted, row_from}
-use Rattle.rc_fragment.specs.RowValuesLaws.{length_values}
-use Rattle.rc_fragment.specs.Sources.{AreOfWidth, found_at, sources_of, IsEmptied, IsSetAt, Becomes}
+use Rattle.rc_fragment.specs.RowValues.{HasValues, IsParted, extra_columns, row_from}
+use Rattle.rc_fragment.specs.RowValuesLaws.{extra_set, extra_within, length_values}
+use Rattle.rc_fragment.specs.Sources.{AreOfWidth, found_at, kept_at, sources_of, IsEmptied, IsSetAt, Becomes}
 use Rattle.rc_fragment.specs.Listing.{listing, shapes, found_of, found_by, IsFiled, IsStored, AreStored}
 use Rattle.rc_fragment.specs.declared.container.Container.{Container}
 use Rattle.rc_fragment.specs.declared.edge_rows.EdgeRows.{EdgeRows}
 use Rattle.rc_fragment.specs.declared.shape.EdgeShape.{EdgeShape}
+use Rattle.rc_fragment.proofs.KeptLemmas.{set_there, there, there_is}
 use Rattle.rc_fragment.proofs.ListingLemmas.{count_of_row, count_of_edge, extra_in, found_for, key_in, row_with, source_in, AreCountedRows-listing, count_listed}
 use Rattle.rc_edges.specs.ValuesLaws.{same_from_test as values_same, test_from_same as values_test}
 
@@ -100,74 +101,57 @@ module _ (edges new : List EdgeRows) (e : ℕ) (x y : EdgeRows) (number : slice_
       go true h = is s k ∙ ap (cond (values_eq s source && values_eq k key) w) (sym (ap (λ o. found_of part o s k) (ap (slice_get edges) (eqb-true d e h) ∙ number)))
       go false h = refl
 
-  -- no other source's container is left with no row
-  pub emptied_set : (source : Values) → ((s : Values) → IsEmptied (sources_of y) s → (s ≡ source) ⊎ IsEmptied (sources_of x) s)
-      → (d : ℕ) (s : Values) → IsEmptiedAt new d s → ((d ≡ e) × (s ≡ source)) ⊎ IsEmptiedAt edges d s
-  emptied_set source f d s m = go (d == e) refl (sym (get_new d) ∙ m.1)
-    where
-      go : (b : Bool) → (d == e) ≡ b → cond b (Some y) (slice_get edges d) ≡ Some m.0 → ((d ≡ e) × (s ≡ source)) ⊎ IsEmptiedAt edges d s
-      go true h p =
-          let q : y ≡ m.0 = cc in
-          let r : d ≡ e = eqb-true d e h in
-          elim (f s (subst (λ (z : EdgeRows). IsEmptied (sources_of z) s) (sym q) m.2)) [ inl a ↦ inl (r, a) | inr i ↦ inr (x, ap (slice_get edges) r ∙ number, i) ]
-      go false h p = inr (m.0, p, m.2)
-
-  pub emptied_kept : ((s : Values) → IsEmptied (sources_of y) s → IsEmptied (sources_of x) s) → (d : ℕ) (s : Values) → IsEmptiedAt new d s → IsEmptiedAt edges d s
-  emptied_kept f d s m = go (d == e) refl (sym (get_new d) ∙ m.1)
+  -- no more containers are left with no row
+  pub emptied_set : ((s : Values) → IsEmptied (sources_of y) s → IsEmptied (sources_of x) s) → (d : ℕ) (s : Values) → IsEmptiedAt new d s → IsEmptiedAt edges d s
+  emptied_set f d s m = go (d == e) refl (sym (get_new d) ∙ m.1)
     where
       go : (b : Bool) → (d == e) ≡ b → cond b (Some y) (slice_get edges d) ≡ Some m.0 → IsEmptiedAt edges d s
       go true h p = let q : y ≡ m.0 = cc in (x, ap (slice_get edges) (eqb-true d e h) ∙ number, f s (subst (λ (z : EdgeRows). IsEmptied (sources_of z) s) (sym q) m.2))
       go false h p = (m.0, p, m.2)
 
-  pub freed_set : (source : Values) → (IsEmptied (sources_of y) source → ⊥) → IsEmptiedAt new e source → ⊥
-  freed_set source f m =
-      let g : Some y ≡ Some m.0 = sym (ap (λ b. cond b (Some y) (slice_get edges e)) (eq-eqb e e refl)) ∙ sym (get_new e) ∙ m.1 in
-      let q : y ≡ m.0 = cc in
-      f (subst (λ (z : EdgeRows). IsEmptied (sources_of z) source) (sym q) m.2)
-
 -- what is kept at a source and a key, if anything, are the extra values of a row of them
-pub record IsOfPlace (x : EdgeRows) (source key : Values) (w : Option Counted) : Type 0 where
-  pub values : (c : Counted) → w ≡ Some c → HasValues x.shape (row_from x.shape source key c.0) source key c.0
-  pub count : (c : Counted) → w ≡ Some c → 0 < c.1
+abbrev pub IsOfPlace : EdgeRows → Values → Values → Option Counted → Type 0
+IsOfPlace x source key w = (c : Counted) → w ≡ Some c → HasValues x.shape (row_from x.shape source key c.0) source key c.0
 
-pub place_of_filed : (part : Container → Rows) (x : EdgeRows) → IsFiled part x → (source key : Values) → IsOfPlace x source key (found_at part (sources_of x) source key)
-place_of_filed part x f source key = record { values = f.values source key; count = f.counts source key }
-
-pub filed_set : (part : Container → Rows) (x y : EdgeRows) → y.shape ≡ x.shape → IsFiled part x → (source key : Values) (w : Option Counted) → IsOfPlace x source key w
-    → IsSetAt (found_at part (sources_of x)) (found_at part (sources_of y)) source key w → IsFiled part y
-filed_set part x y shape f source key w p is = record {
-  values = λ s k c h. subst (λ (z : EdgeShape). HasValues z (row_from z s k c.0) s k c.0) (sym shape)
-      (go (λ s k. HasValues x.shape (row_from x.shape s k c.0) s k c.0) s k c h (p.values c) (f.values s k c));
-  counts = λ s k c h. go (λ s k. 0 < c.1) s k c h (p.count c) (f.counts s k c);
-}
+pub values_set : (x y : EdgeRows) → y.shape ≡ x.shape → IsStored x → (source key : Values) (w : Option Counted) → IsOfPlace x source key w → IsSetAt (kept_at x) (kept_at y) source key w
+    → (s k : Values) (c : Counted) → kept_at y s k ≡ Some c → HasValues y.shape (row_from y.shape s k c.0) s k c.0
+values_set x y shape f source key w p is s k c h =
+    subst (λ (z : EdgeShape). HasValues z (row_from z s k c.0) s k c.0) (sym shape) (cases (values_eq s source && values_eq k key) refl (sym (is s k) ∙ h))
   where
-    cases : (P : Values → Values → Type 0) (s k : Values) (c : Counted) (b : Bool) → (values_eq s source && values_eq k key) ≡ b → cond b w (found_at part (sources_of x) s k) ≡ Some c
-        → (w ≡ Some c → P source key) → (found_at part (sources_of x) s k ≡ Some c → P s k) → P s k
-    cases P s k c true t h here there =
+    cases : (b : Bool) → (values_eq s source && values_eq k key) ≡ b → cond b w (kept_at x s k) ≡ Some c → HasValues x.shape (row_from x.shape s k c.0) s k c.0
+    cases true t here =
         let q : (values_eq s source ≡ true) × (values_eq k key ≡ true) = and_parts (values_eq s source) (values_eq k key) t in
-        subst (λ z. P z k) (sym (values_same s source q.0)) (subst (P source) (sym (values_same k key q.1)) (here h))
-    cases P s k c false t h here there = there h
-
-    go : (P : Values → Values → Type 0) (s k : Values) (c : Counted) → found_at part (sources_of y) s k ≡ Some c → (w ≡ Some c → P source key) → (found_at part (sources_of x) s k ≡ Some c → P s k) → P s k
-    go P s k c h here there = cases P s k c (values_eq s source && values_eq k key) refl (sym (is s k) ∙ h) here there
+        subst (λ z. HasValues x.shape (row_from x.shape z k c.0) z k c.0) (sym (values_same s source q.0))
+        (subst (λ z. HasValues x.shape (row_from x.shape source z c.0) source z c.0) (sym (values_same k key q.1)) (p c here))
+    cases false t there = f.values s k c there
 
 -- a change of one edge's rows at a source and a key is one at a place of all edges
 pub place_becomes : (edges new : List EdgeRows) (e : ℕ) (x y : EdgeRows) → slice_get edges e ≡ Some x → new ≡ slice_set edges e y → AreStored edges
-    → (source key : Values) (v w : Option Counted) → Becomes x y source key v w → IsOfPlace x source key v → IsOfPlace x source key w → PlaceBecomes edges new (e, source, key) v w
-place_becomes edges new e x y number set all source key v w b p q =
+    → (source key : Values) (w : Option Counted) → Becomes x y source key w → IsOfPlace x source key w → PlaceBecomes edges new (e, source, key) w
+place_becomes edges new e x y number set all source key w b p =
     let s : IsStored x = all x (slice_get_in edges e x number) in
     record {
-      now = found_set edges new e x y number set now_in source key v b.now;
-      taken = found_set edges new e x y number set taken_in source key w b.taken;
-      emptied = emptied_set edges new e x y number set source b.emptied;
+      kept = found_set edges new e x y number set kept_in source key w b.kept;
+      now = found_set edges new e x y number set now_in source key (there w) (set_there x y source key w b.kept);
+      emptied = emptied_set edges new e x y number set b.emptied;
       stored = stored_set edges new e x y number set all record {
-        now = filed_set now_in x y b.shape s.now source key v p b.now;
-        taken = filed_set taken_in x y b.shape s.taken source key w q b.taken;
+        values = values_set x y b.shape s source key w p b.kept;
         forms = b.forms;
         parted = subst IsParted (sym b.shape) s.parted;
       };
       shapes = shapes_set edges new e x y number set b.shape;
     }
+
+-- where the edge becomes so, by what was kept at the source and the key, the edges do at the place
+pub place_changed : (edges : List EdgeRows) (e : ℕ) (x y : EdgeRows) (number : slice_get edges e ≡ Some x) → AreStored edges → (source key : Values) (change : Option Counted → Option Counted)
+    → Becomes x y source key (change (kept_at x source key)) → IsOfPlace x source key (change (kept_at x source key)) → PlaceBecomes edges (slice_set edges e y) (e, source, key) (change (found_by kept_in edges e source key))
+place_changed edges e x y number all source key change b p =
+    subst (λ z. PlaceBecomes edges (slice_set edges e y) (e, source, key) (change z)) (sym (ap (λ o. found_of kept_in o source key) number))
+    (place_becomes edges (slice_set edges e y) e x y number refl all source key (change (kept_at x source key)) b p)
+
+-- what is kept at a source and a key is of the place
+pub place_of_kept : (x : EdgeRows) → IsStored x → (source key : Values) → IsOfPlace x source key (kept_at x source key)
+place_of_kept x h source key c there = h.values source key c there
 
 -- an edge that was found by its number
 pub found_edge : (edges : List EdgeRows) (e : ℕ) (x : EdgeRows) → e < length edges → x ≡ get_or edges e x → slice_get edges e ≡ Some x
@@ -177,11 +161,8 @@ found_edge edges e x l is = slice_get-get_or edges e x l ∙ ap Some (sym is)
 pub found_there : (part : Container → Rows) (edges : List EdgeRows) (e : ℕ) (x : EdgeRows) → slice_get edges e ≡ Some x → (source key : Values) → found_at part (sources_of x) source key ≡ found_by part edges e source key
 found_there part edges e x number source key = sym (ap (λ o. found_of part o source key) number)
 
-pub place_of_row : (x : EdgeRows) (source key extra : Values) (n : ℕ) → HasValues x.shape (row_from x.shape source key extra) source key extra → IsOfPlace x source key (Some (extra, n + 1))
-place_of_row x source key extra n v = record {
-  values = λ c h. let q : (extra, n + 1) ≡ c = cc in subst (λ (z : Counted). HasValues x.shape (row_from x.shape source key z.0) source key z.0) q v;
-  count = λ c h. let q : (extra, n + 1) ≡ c = cc in subst (λ (z : Counted). 0 < z.1) q (omega arith);
-}
+pub place_of_row : (x : EdgeRows) (source key extra : Values) (n : ℕ) → HasValues x.shape (row_from x.shape source key extra) source key extra → IsOfPlace x source key (Some (extra, n))
+place_of_row x source key extra n v c h = let q : (extra, n) ≡ c = cc in subst (λ (z : Counted). HasValues x.shape (row_from x.shape source key z.0) source key z.0) q v
 
 -- source and key of a row have the edge's width
 pub width_of_row : (shape : EdgeShape) → IsParted shape → (row : Pairs) (source key extra : Values) → HasValues shape row source key extra → AreOfWidth shape source key
@@ -190,16 +171,24 @@ width_of_row shape parted row source key extra v = record {
   key_width = ap length (sym v.key_is) ∙ length_values shape.target shape.key row parted.target.rising parted.key.rising parted.key_within v.columns;
 }
 
-pub place_of_lowered : (x : EdgeRows) (source key : Values) (o : Option Counted) → IsOfPlace x source key o → IsOfPlace x source key (lowered o)
-place_of_lowered x source key None p = p
-place_of_lowered x source key (Some d) p = record {
-  values = λ c h. go (λ c. HasValues x.shape (row_from x.shape source key c.0) source key c.0) (nat_lt 1 d.1) refl c h (λ n. p.values d refl);
-  count = λ c h. go (λ c. 0 < c.1) (nat_lt 1 d.1) refl c h (λ (n : 1 < d.1). omega arith);
-}
+-- a row of the source and the key has as many extra values as what is kept there
+pub as_many : (x : EdgeRows) → IsStored x → (source key extra : Values) → HasValues x.shape (row_from x.shape source key extra) source key extra → IsSome (kept_at x source key) → HasAsMany (kept_at x source key) extra
+as_many x h source key extra v some = go (kept_at x source key) refl some
   where
-    go : (P : Counted → Type 0) (b : Bool) → nat_lt 1 d.1 ≡ b → (c : Counted) → cond b (Some (d.0, d.1 - 1)) None ≡ Some c → (1 < d.1 → P (d.0, d.1 - 1)) → P c
-    go P true t c h f = let q : (d.0, d.1 - 1) ≡ c = cc in subst P q (f (ltb-true 1 d.1 t))
-    go P false t c h f = absurd (cc)
+    wide : (other : Values) → HasValues x.shape (row_from x.shape source key other) source key other → length other ≡ length (extra_columns x.shape)
+    wide other w =
+        ap length (sym w.extra_is) ∙ length_values x.shape.target (extra_columns x.shape) (row_from x.shape source key other) h.parted.target.rising (extra_set x.shape h.parted).rising (extra_within x.shape h.parted) w.columns
+
+    go : (o : Option Counted) → kept_at x source key ≡ o → IsSome o → HasAsMany o extra
+    go None e s = absurd (false≢true s)
+    go (Some c) e s = wide c.0 (h.values source key c e) ∙ sym (wide extra v)
+
+pub place_of_less : (x : EdgeRows) (source key : Values) (o : Option Counted) → IsOfPlace x source key o → IsOfPlace x source key (one_less o)
+place_of_less x source key None p c h = p c h
+place_of_less x source key (Some d) p c h = let q : (d.0, d.1 - 1) ≡ c = cc in subst (λ (z : Counted). HasValues x.shape (row_from x.shape source key z.0) source key z.0) q (p d refl)
+
+pub place_of_there : (x : EdgeRows) (source key : Values) (o : Option Counted) → IsOfPlace x source key o → IsOfPlace x source key (there o)
+place_of_there x source key o p c h = p c (there_is o c h).0
 
 -- ---- a row's count set
 

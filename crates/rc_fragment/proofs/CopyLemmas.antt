@@ -1,5 +1,5 @@
 -- What a copy of the containers keeps of them.
-use Rattle.std.specs.Prelude.{◌≡◌, ℕ, zero, suc, Bool, true, false, cond, Option, None, Some, List, [], ◌∷◌, ◌++◌, length}
+use Rattle.std.specs.Prelude.{◌≡◌, ℕ, zero, suc, Bool, true, false, ◌<◌, cond, Option, None, Some, IsSome, List, [], ◌∷◌, ◌++◌, length}
 use Rattle.std.specs.Option.{option_map}
 use Rattle.std.specs.FinMap as fin
 use Rattle.std.specs.FinMap.{find, get-empty, get-from_entries}
@@ -8,16 +8,20 @@ use Rattle.std.proofs.lemmas.List.{length-map}
 use Rattle.rc_edges.specs.Values.{Values, values_cmp, values_eq}
 use Rattle.rc_edges.specs.EdgeMap.{Counted, Rows}
 use Rattle.rc_maps.specs.Keyed.{AreApart}
-use Rattle.rc_fragment.specs.Container.{Form, form_in, now_in, taken_in}
+use Rattle.rc_fragment.specs.Container.{Form, form_in, kept_in, now_in}
 use Rattle.rc_fragment.specs.Sources.{AreSame, AreSeenAlike, IsEmptied, SeenContainer, HaveForm, Sources, seen_container, sources_of, found_at, found_in}
-use Rattle.rc_fragment.specs.Listing.{AreStored, IsFiled, IsStored, found_by, shapes}
-use Rattle.rc_fragment.specs.Notes.{AreWithin, IsEmptiedAt, IsFragment}
+use Rattle.rc_fragment.specs.Fragment.{AreAlone, IsFragment, IsNoted}
+use Rattle.rc_fragment.specs.Listing.{AreStored, IsStored, found_by, listing, shapes}
+use Rattle.rc_fragment.specs.Notes.{HasRowValues, IsEmptiedAt, changes_of, key_of, noted_extra, source_of}
 use Rattle.rc_fragment.specs.RowValues.{HasValues, IsParted, row_from}
 use Rattle.rc_fragment.specs.declared.container.Container.{Container}
 use Rattle.rc_fragment.specs.declared.edge_rows.EdgeRows.{EdgeRows}
 use Rattle.rc_fragment.specs.declared.note.Note.{Note}
 use Rattle.rc_fragment.specs.declared.shape.EdgeShape.{EdgeShape}
+use Rattle.rc_fragment.proofs.ChangeLemmas.{same_listing}
+use Rattle.rc_fragment.proofs.KeptLemmas.{there, there_by}
 use Rattle.rc_fragment.proofs.ListingLemmas.{find_later}
+use Rattle.rc_fragment.proofs.RowLemmas.{filed_now}
 use Rattle.rc_edges.specs.RowsLaws.{get-written}
 use Rattle.rc_edges.specs.ValuesLaws.{values_order}
 
@@ -81,7 +85,7 @@ module _ (old new : Sources) (h : AreSeenAlike old new) where
       go None f p = absurd (cc)
       go (Some d) f p =
           let q : seen_container c ≡ seen_container d = cc in
-          ap (λ (z : SeenContainer). z.2) q ∙ all s d f
+          ap (λ (z : SeenContainer). z.1) q ∙ all s d f
 
   pub emptied_seen : (s : Values) → IsEmptied new s → IsEmptied old s
   emptied_seen s e = go (fin.get old s) refl (sym (ap (option_map seen_container) e.1) ∙ h s)
@@ -90,7 +94,7 @@ module _ (old new : Sources) (h : AreSeenAlike old new) where
       go None f p = absurd (cc)
       go (Some d) f p =
           let q : seen_container e.0 ≡ seen_container d = cc in
-          (d, f, sym (ap (λ (z : SeenContainer). z.0) q) ∙ e.2, sym (ap (λ (z : SeenContainer). z.1) q) ∙ e.3)
+          (d, f, sym (ap (λ (z : SeenContainer). z.0) q) ∙ e.2)
 
 -- ---- copied edges
 
@@ -113,19 +117,12 @@ same_shapes [] (y ∷ ys) h = absurd h
 same_shapes (x ∷ xs) [] h = absurd h
 same_shapes (x ∷ xs) (y ∷ ys) h = λ i. h.0.shape i ∷ same_shapes xs ys h.1 i
 
-pub same_found_now : (xs ys : List EdgeRows) → AreSameEdges xs ys → (e : ℕ) (s k : Values) → found_by now_in ys e s k ≡ found_by now_in xs e s k
-same_found_now [] [] h e s k = refl
-same_found_now [] (y ∷ ys) h e s k = absurd h
-same_found_now (x ∷ xs) [] h e s k = absurd h
-same_found_now (x ∷ xs) (y ∷ ys) h zero s k = h.0.now s k
-same_found_now (x ∷ xs) (y ∷ ys) h (suc e) s k = same_found_now xs ys h.1 e s k
-
-pub same_found_taken : (xs ys : List EdgeRows) → AreSameEdges xs ys → (e : ℕ) (s k : Values) → found_by taken_in ys e s k ≡ found_by taken_in xs e s k
-same_found_taken [] [] h e s k = refl
-same_found_taken [] (y ∷ ys) h e s k = absurd h
-same_found_taken (x ∷ xs) [] h e s k = absurd h
-same_found_taken (x ∷ xs) (y ∷ ys) h zero s k = h.0.taken s k
-same_found_taken (x ∷ xs) (y ∷ ys) h (suc e) s k = same_found_taken xs ys h.1 e s k
+pub same_found_kept : (xs ys : List EdgeRows) → AreSameEdges xs ys → (e : ℕ) (s k : Values) → found_by kept_in ys e s k ≡ found_by kept_in xs e s k
+same_found_kept [] [] h e s k = refl
+same_found_kept [] (y ∷ ys) h e s k = absurd h
+same_found_kept (x ∷ xs) [] h e s k = absurd h
+same_found_kept (x ∷ xs) (y ∷ ys) h zero s k = h.0.kept s k
+same_found_kept (x ∷ xs) (y ∷ ys) h (suc e) s k = same_found_kept xs ys h.1 e s k
 
 pub same_emptied : (xs ys : List EdgeRows) → AreSameEdges xs ys → (e : ℕ) (s : Values) → IsEmptiedAt ys e s → IsEmptiedAt xs e s
 same_emptied [] [] h e s m = m
@@ -137,16 +134,9 @@ same_emptied (x ∷ xs) (y ∷ ys) h zero s m =
     (x, refl, h.0.emptied s (subst (λ (z : EdgeRows). IsEmptied (sources_of z) s) (sym p) m.2))
 same_emptied (x ∷ xs) (y ∷ ys) h (suc e) s m = same_emptied xs ys h.1 e s m
 
-filed_same : (part : Container → Rows) (x y : EdgeRows) → ((s k : Values) → found_at part (sources_of y) s k ≡ found_at part (sources_of x) s k) → y.shape ≡ x.shape → IsFiled part x → IsFiled part y
-filed_same part x y same shape f = record {
-  values = λ s k c h. subst (λ (z : EdgeShape). HasValues z (row_from z s k c.0) s k c.0) (sym shape) (f.values s k c (sym (same s k) ∙ h));
-  counts = λ s k c h. f.counts s k c (sym (same s k) ∙ h);
-}
-
 stored_same : (x y : EdgeRows) → AreSame x y → IsStored x → IsStored y
 stored_same x y h all = record {
-  now = filed_same now_in x y h.now h.shape all.now;
-  taken = filed_same taken_in x y h.taken h.shape all.taken;
+  values = λ s k c there. subst (λ (z : EdgeShape). HasValues z (row_from z s k c.0) s k c.0) (sym h.shape) (all.values s k c (sym (h.kept s k) ∙ there));
   forms = h.forms;
   parted = subst IsParted (sym h.shape) all.parted;
 }
@@ -158,15 +148,31 @@ same_stored (a ∷ xs) [] h all y m = absurd h
 same_stored (a ∷ xs) (b ∷ ys) h all y (inl p) = subst IsStored (sym p) (stored_same a b h.0 (all a (inl refl)))
 same_stored (a ∷ xs) (b ∷ ys) h all y (inr m) = same_stored xs ys h.1 (λ x n. all x (inr n)) y m
 
+-- edges that keep the same have the same rows there
+pub same_found_now : (edges new : List EdgeRows) → ((e : ℕ) (s k : Values) → found_by kept_in new e s k ≡ found_by kept_in edges e s k) → (e : ℕ) (s k : Values) → found_by now_in new e s k ≡ found_by now_in edges e s k
+same_found_now edges new kept e s k = there_by new e s k ∙ ap there (kept e s k) ∙ sym (there_by edges e s k)
+
+pub same_rows_now : (edges new : List EdgeRows) → AreStored edges → AreStored new → shapes new ≡ shapes edges → ((e : ℕ) (s k : Values) → found_by kept_in new e s k ≡ found_by kept_in edges e s k)
+    → listing now_in new ≡ listing now_in edges
+same_rows_now edges new all stored same kept = same_listing now_in now_in new edges (filed_now new stored) (filed_now edges all) same (same_found_now edges new kept)
+
 -- a fragment with the same edges and notes is one
 pub same_fragment : (edges new : List EdgeRows) (notes : List Note) (values : Values) → IsFragment edges notes values → shapes new ≡ shapes edges → AreStored new
-    → ((e : ℕ) (s k : Values) → found_by now_in new e s k ≡ found_by now_in edges e s k) → ((e : ℕ) (s k : Values) → found_by taken_in new e s k ≡ found_by taken_in edges e s k)
-    → ((e : ℕ) (s : Values) → IsEmptiedAt new e s → IsEmptiedAt edges e s) → IsFragment new notes values
-same_fragment edges new notes values all same stored now taken emptied = record {
+    → ((e : ℕ) (s k : Values) → found_by kept_in new e s k ≡ found_by kept_in edges e s k) → ((e : ℕ) (s : Values) → IsEmptiedAt new e s → IsEmptiedAt edges e s) → IsFragment new notes values
+same_fragment edges new notes values all same stored kept emptied = record {
   stored = stored;
-  noted = λ e s k. elim (all.noted e s k) [ inl h ↦ inl (now e s k ∙ h ∙ sym (taken e s k)) | inr m ↦ inr m ];
+  noted = λ n m.
+      let o : IsNoted edges values n.row = all.noted n m in
+      record {
+        edge = subst (λ z. n.row.edge < z) len o.edge;
+        within = o.within;
+        row = subst (λ z. HasRowValues z n.row.edge (source_of values n.row) (key_of values n.row) (noted_extra values n.row)) (sym same) o.row;
+        kept = subst IsSome (sym (kept n.row.edge (source_of values n.row) (key_of values n.row))) o.kept;
+      };
+  alone = subst (λ z. AreAlone (shapes new) (changes_of (shapes new) values notes) z) (sym (same_rows_now edges new all.stored stored same kept))
+      (subst (λ z. AreAlone z (changes_of z values notes) (listing now_in edges)) (sym same) all.alone);
+  tombstones = λ place c there zero. all.tombstones place c (sym (kept place.0 place.1 place.2) ∙ there) zero;
   emptied = λ e s m. all.emptied e s (emptied e s m);
-  within = subst (λ n. AreWithin n (length values) notes) len all.within;
 }
   where
     len : length edges ≡ length new

@@ -1,11 +1,15 @@
 mod SourceTableLemmas
 mod SourcesLemmas
+mod KeptLemmas
+mod UndoLemmas
 mod ListingLemmas
 mod BesideLemmas
 mod ChangeLemmas
 mod NoteLemmas
 mod PlaceLemmas
 mod RowLemmas
+mod RevertLemmas
+mod NotedLemmas
 mod LookupLemmas
 mod CopyLemmas
 mod WalkLemmas

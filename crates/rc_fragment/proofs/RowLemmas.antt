@@ -1,20 +1,21 @@
 -- A row of the list of all rows and the place at which it is kept.
-use Rattle.std.specs.Prelude.{◌≡◌, ℕ, zero, suc, pred, ◌-◌, ◌<◌, ◌≤◌, Bool, true, false, cond, Option, None, Some, IsSome, List, [], ◌∷◌, length, map, nat_lt}
+use Rattle.std.specs.Prelude.{◌≡◌, ℕ, zero, suc, pred, ◌-◌, ◌<◌, Option, None, Some, IsSome, List, [], ◌∷◌, length, map}
 use Rattle.std.specs.List.{slice_get}
 use Rattle.std.specs.FinMap as fin
 use Rattle.std.specs.FinMap.{FinMap, get-empty}
 use Rattle.std.proofs.Common.{refl, sym, ap, subst, ◌∙◌, inl, arith}
-use Rattle.std.proofs.lemmas.Bool.{ltb-false, false≢true}
+use Rattle.std.proofs.lemmas.Bool.{false≢true}
 use Rattle.rc_tuple.specs.RisingSet.{In}
 use Rattle.rc_tuple.specs.RisingSetLaws.{slice_get_in, in_slice_get}
 use Rattle.rc_tuple.specs.Tuple.{Pairs, cols_of}
 use Rattle.rc_edges.specs.Values.{Values, values_cmp}
-use Rattle.rc_edges.specs.EdgeMap.{Counted, HasExtra, Rows, count_of, lowered}
+use Rattle.rc_edges.specs.EdgeMap.{Counted, HasExtra, Rows, count_of, one_less, present}
+use Rattle.rc_edges.specs.RowsLaws.{present_is}
 use Rattle.rc_spec.specs.CountedRows.{count_at, with_count}
-use Rattle.rc_fragment.specs.Container.{now_in, taken_in}
-use Rattle.rc_fragment.specs.Fragment.{AreRowsOf, HasAlone, HasSingle, IsThere}
+use Rattle.rc_fragment.specs.Container.{kept_in, now_in}
+use Rattle.rc_fragment.specs.Fragment.{AreRowsOf, HasAlone, HasSingle, IsFragment, IsThere}
 use Rattle.rc_fragment.specs.Listing.{listing, shapes, found_of, found_by, AreStored, AreEmpty}
-use Rattle.rc_fragment.specs.Notes.{IsFragment, Place, PlaceBecomes, now_at_place}
+use Rattle.rc_fragment.specs.Notes.{Place, PlaceBecomes, kept_at_place}
 use Rattle.rc_fragment.specs.RowValues.{HasValues, IsParted, row_from}
 use Rattle.rc_fragment.specs.RowValuesLaws.{row_from_values, same_key, same_source}
 use Rattle.rc_fragment.specs.Sources.{found_in, found_at, sources_of, now_at, IsSingle}
@@ -22,14 +23,12 @@ use Rattle.rc_fragment.specs.declared.container.Container.{Container}
 use Rattle.rc_fragment.specs.declared.edge_rows.EdgeRows.{EdgeRows}
 use Rattle.rc_fragment.specs.declared.shape.EdgeShape.{EdgeShape}
 use Rattle.rc_fragment.proofs.ChangeLemmas.{AreFiled, IsWholeRow, found_there, same_listing, listing_set, row_count_at}
+use Rattle.rc_fragment.proofs.KeptLemmas.{count_there, filed_there, there, there_by}
 use Rattle.rc_fragment.proofs.ListingLemmas.{AreCountedRows-listing, IsFoundRow, extra_in, found_for, key_in, listed_row, own_place, own_row, own_values, row_listed, source_in}
 use Rattle.rc_fragment.proofs.PlaceLemmas.{set_as_it_was}
 
 pub filed_now : (edges : List EdgeRows) → AreStored edges → AreFiled now_in edges
-filed_now edges h n x g = (h x (slice_get_in edges n x g)).now
-
-pub filed_taken : (edges : List EdgeRows) → AreStored edges → AreFiled taken_in edges
-filed_taken edges h n x g = (h x (slice_get_in edges n x g)).taken
+filed_now edges h n x g = filed_there x (h x (slice_get_in edges n x g))
 
 pub shape_there : (edges : List EdgeRows) (e : ℕ) (x : EdgeRows) → slice_get edges e ≡ Some x → slice_get (shapes edges) e ≡ Some x.shape
 shape_there [] e x g = absurd (cc)
@@ -78,6 +77,27 @@ module _ (edges : List EdgeRows) (all : AreStored edges) (e : ℕ) (x : EdgeRows
           (same_source x.shape parted_here u row v.columns over v.source_is) (same_key x.shape parted_here u row v.columns over v.key_is) in
           sym v.extra_is ∙ ap (extra_in x.shape) is
 
+  same_extra : (v w : Values) (m n : ℕ) → ◌≡◌ {A = Option Counted} (Some (v, m)) (Some (w, n)) → v ≡ w
+  same_extra v w m n h = ap (λ (o : Option Counted). go o) h
+    where
+      go : Option Counted → Values
+      go None = v
+      go (Some c) = c.0
+
+  -- a row that is there has the edge's columns, and is the only one with its source and key
+  pub there_over : (row : Pairs) → IsThere (listing now_in edges) e row → cols_of row ≡ x.shape.target
+  there_over row there =
+      ap cols_of (sym (there_whole row there)) ∙ (found_values (source_in x.shape row) (key_in x.shape row) (extra_in x.shape row, there.0) (there_found row there)).columns
+
+  pub there_alone : (row : Pairs) → IsThere (listing now_in edges) e row → HasAlone (shapes edges) (listing now_in edges) e row
+  there_alone row there shape at u other source key =
+      let same : Some x.shape ≡ Some shape = sym (shape_there edges e x number) ∙ at in
+      let p : x.shape ≡ shape = cc in
+      let s : source_in x.shape u ≡ source_in x.shape row = ap (λ (z : EdgeShape). source_in z u) p ∙ ap (map (λ (q : ℕ × ℕ). q.1)) source ∙ ap (λ (z : EdgeShape). source_in z row) (sym p) in
+      let k : key_in x.shape u ≡ key_in x.shape row = ap (λ (z : EdgeShape). key_in z u) p ∙ ap (map (λ (q : ℕ × ℕ). q.1)) key ∙ ap (λ (z : EdgeShape). key_in z row) (sym p) in
+      let one : Some (extra_in x.shape u, other.0) ≡ Some (extra_in x.shape row, there.0) = sym (there_found u other) ∙ (λ i. found_by now_in edges e (s i) (k i)) ∙ there_found row there in
+      sym (there_whole u other) ∙ (λ i. row_from x.shape (s i) (k i) (same_extra (extra_in x.shape u) (extra_in x.shape row) other.0 there.0 one i)) ∙ there_whole row there
+
   pub single_found : (row : Pairs) → cols_of row ≡ x.shape.target → HasSingle (shapes edges) (listing now_in edges) e row → IsSingle x (source_in x.shape row) (key_in x.shape row)
   single_found row over single kind k there = go (now_at x (source_in x.shape row) k) refl there
     where
@@ -98,48 +118,43 @@ module _ (edges : List EdgeRows) (all : AreStored edges) (e : ℕ) (x : EdgeRows
 
   -- ---- a change at the row's place
 
-  module _ (new : List EdgeRows) (row : Pairs) (whole : IsWholeRow x.shape row) (v w : Option Counted) (b : PlaceBecomes edges new (e, source_in x.shape row, key_in x.shape row) v w)
-      (mine : HasExtra v (extra_in x.shape row)) (was : HasExtra (found_of_row row) (extra_in x.shape row)) where
-    pub listing_becomes : listing now_in new ≡ with_count e row (count_of v) (listing now_in edges)
+  module _ (new : List EdgeRows) (row : Pairs) (whole : IsWholeRow x.shape row) (w : Option Counted) (b : PlaceBecomes edges new (e, source_in x.shape row, key_in x.shape row) w)
+      (mine : HasExtra (there w) (extra_in x.shape row)) (was : HasExtra (found_of_row row) (extra_in x.shape row)) where
+    pub listing_becomes : listing now_in new ≡ with_count e row (count_of w) (listing now_in edges)
     listing_becomes =
-        listing_set now_in edges new e x number (filed_now edges all) (filed_now new b.stored) b.shapes row whole v mine
+        listing_set now_in edges new e x number (filed_now edges all) (filed_now new b.stored) b.shapes row whole (there w) mine
         (subst (λ z. HasExtra z (extra_in x.shape row)) (sym (found_there now_in edges e x number (source_in x.shape row) (key_in x.shape row))) was) b.now
+        ∙ ap (λ n. with_count e row n (listing now_in edges)) (count_there w)
 
 -- ---- rows that stay
 
-pub listing_stays_now : (edges new : List EdgeRows) → AreStored edges → (place : Place) (w : Option Counted) → PlaceBecomes edges new place (now_at_place edges place) w → listing now_in new ≡ listing now_in edges
-listing_stays_now edges new all place w b =
-    same_listing now_in now_in new edges (filed_now new b.stored) (filed_now edges all) b.shapes (set_as_it_was (found_by now_in edges) (found_by now_in new) place b.now)
-
-pub listing_stays_taken : (edges new : List EdgeRows) → AreStored edges → (place : Place) (v : Option Counted) → PlaceBecomes edges new place v (found_by taken_in edges place.0 place.1 place.2) → listing taken_in new ≡ listing taken_in edges
-listing_stays_taken edges new all place v b =
-    same_listing taken_in taken_in new edges (filed_taken new b.stored) (filed_taken edges all) b.shapes (set_as_it_was (found_by taken_in edges) (found_by taken_in new) place b.taken)
+-- where what is kept at a place is as it was
+pub listing_stays : (edges new : List EdgeRows) → AreStored edges → (place : Place) → PlaceBecomes edges new place (kept_at_place edges place) → listing now_in new ≡ listing now_in edges
+listing_stays edges new all place b =
+    same_listing now_in now_in new edges (filed_now new b.stored) (filed_now edges all) b.shapes (λ e s k. there_by new e s k
+    ∙ ap there (set_as_it_was (found_by kept_in edges) (found_by kept_in new) place b.kept e s k) ∙ sym (there_by edges e s k))
 
 -- ---- one less
 
-pub lowered_extra : (o : Option Counted) (extra : Values) → HasExtra o extra → HasExtra (lowered o) extra
-lowered_extra None extra h = tt
-lowered_extra (Some c) extra h = go (nat_lt 1 c.1)
+pub there_less : (o : Option Counted) (extra : Values) → HasExtra (there o) extra → IsSome (there o) → HasExtra (there (one_less o)) extra
+there_less None extra h some = tt
+there_less (Some c) extra h some = go (present c) refl h some
   where
-    go : (b : Bool) → HasExtra (cond b (Some (c.0, c.1 - 1)) None) extra
-    go true = h
-    go false = tt
+    less : (d : Option Counted) → present (c.0, c.1 - 1) ≡ d → c.0 ≡ extra → HasExtra d extra
+    less None e h = tt
+    less (Some d) e h = ap (λ (z : Counted). z.0) (present_is (c.0, c.1 - 1) d e).0 ∙ h
+
+    go : (o : Option Counted) → present c ≡ o → HasExtra o extra → IsSome o → HasExtra (present (c.0, c.1 - 1)) extra
+    go None e h some = absurd (false≢true some)
+    go (Some d) e h some = less (present (c.0, c.1 - 1)) refl (sym (ap (λ (z : Counted). z.0) (present_is c d e).0) ∙ h)
 
 pred_of : (n : ℕ) → n - 1 ≡ pred n
 pred_of zero = refl
 pred_of (suc n) = omega arith
 
-pub count_lowered : (o : Option Counted) → count_of (lowered o) ≡ pred (count_of o)
-count_lowered None = refl
-count_lowered (Some c) = go (nat_lt 1 c.1) refl
-  where
-    few : (n : ℕ) → n ≤ 1 → 0 ≡ pred n
-    few zero l = refl
-    few (suc n) l = let z : n ≡ 0 = omega arith in sym z
-
-    go : (b : Bool) → nat_lt 1 c.1 ≡ b → count_of (cond b (Some (c.0, c.1 - 1)) None) ≡ pred c.1
-    go true t = pred_of c.1
-    go false t = few c.1 (ltb-false 1 c.1 t)
+pub count_less : (o : Option Counted) → count_of (one_less o) ≡ pred (count_of o)
+count_less None = refl
+count_less (Some c) = pred_of c.1
 
 -- ---- edges with no row
 
@@ -169,16 +184,15 @@ pub empty_fragment : (edges : List EdgeRows) → AreEmpty edges → IsFragment e
 empty_fragment edges h = record {
   stored = λ x m.
       let g : (n : ℕ) × (slice_get edges n ≡ Some x) = in_slice_get x edges m in
-      let none : (part : Container → Rows) (s k : Values) (c : Counted) → found_at part (sources_of x) s k ≡ Some c → ⊥ = λ part s k c f. let z : None ≡ Some c = sym (none_at part edges h g.0 x g.1 s k) ∙ f in absurd (cc) in
       record {
-        now = record { values = λ s k c f. absurd (none now_in s k c f); counts = λ s k c f. absurd (none now_in s k c f) };
-        taken = record { values = λ s k c f. absurd (none taken_in s k c f); counts = λ s k c f. absurd (none taken_in s k c f) };
+        values = λ s k c f. let z : None ≡ Some c = sym (none_at kept_in edges h g.0 x g.1 s k) ∙ f in absurd (cc);
         forms = (h x m).1;
         parted = (h x m).2;
       };
-  noted = λ e s k. inl (none_found now_in edges h e s k ∙ sym (none_found taken_in edges h e s k));
+  noted = λ n m. absurd m;
+  alone = tt;
+  tombstones = λ place c there zero. let z : None ≡ Some c = sym (none_found kept_in edges h place.0 place.1 place.2) ∙ there in absurd (cc);
   emptied = λ e s m. let z : None ≡ Some m.2.0 = sym (ap (λ (n : FinMap values_cmp Container). fin.get n s) (h m.0 (slice_get_in edges e m.0 m.1)).0 ∙ get-empty values_cmp s) ∙ m.2.1 in absurd (cc);
-  within = λ n m. absurd m;
 }
 
 -- ---- what is so of every fragment's rows

@@ -12,7 +12,7 @@ use Rattle.rc_edges.specs.Values.{Values, values_cmp, values_eq}
 use Rattle.rc_edges.specs.EdgeMap.{written}
 use Rattle.rc_edges.specs.RowsLaws.{get-written, written_again}
 use Rattle.rc_edges.specs.ValuesLaws.{same_from_test, test_from_same}
-use Rattle.rc_maps.specs.EntryLaws.{written_twice}
+use Rattle.rc_maps.specs.TableLaws.{written_twice}
 use Rattle.rc_maps.specs.Keyed.{AreApart, pair_of}
 use Rattle.rc_maps.specs.declared.keyed.Keyed.{Keyed}
 use Rattle.rc_fragment.specs.declared.container.Container.{Container}

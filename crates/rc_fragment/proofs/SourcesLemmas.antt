@@ -6,17 +6,19 @@ use Rattle.std.specs.FinMap.{FinMap, get-empty}
 use Rattle.std.proofs.Common.{refl, sym, ap, subst, ◌∙◌, inl, inr}
 use Rattle.std.proofs.lemmas.Bool.{false≢true, eqb-true}
 use Rattle.rc_edges.specs.Values.{Values, values_cmp, values_eq}
-use Rattle.rc_edges.specs.EdgeMap.{Counted, HasWidth, Rows, written}
+use Rattle.std.specs.Option.{option_and_then}
+use Rattle.rc_edges.specs.EdgeMap.{Counted, HasWidth, Rows, present, written}
 use Rattle.rc_spec.specs.declared.items.EdgeKind.{EdgeKind}
 use Rattle.rc_spec.specs.declared.items.EdgeKind.TheVariants as kind
-use Rattle.rc_fragment.specs.Container.{Form, form_in, now_in, taken_in, takes, takes_one}
+use Rattle.rc_fragment.specs.Container.{Form, form_in, kept_in, now_in, takes, takes_one}
 use Rattle.rc_fragment.specs.declared.container.Container.TheVariants as container
-use Rattle.rc_fragment.specs.SourceTable.{width_for, width_of}
-use Rattle.rc_fragment.specs.Sources.{AreOfShape, AreSame, Sources, form_of, sources_of, found_in, found_at, IsEmptied, IsSetAt, HaveForm}
+use Rattle.rc_fragment.specs.SourceTable.{IsSet, containers_of, width_for, width_of}
+use Rattle.rc_fragment.specs.Sources.{AreOfShape, AreSame, Becomes, Sources, form_of, sources_of, found_in, found_at, IsEmptied, IsSetAt, HaveForm}
 use Rattle.rc_fragment.specs.declared.container.Container.{Container}
 use Rattle.rc_fragment.specs.declared.edge_rows.EdgeRows.{EdgeRows}
 use Rattle.rc_fragment.specs.declared.shape.EdgeShape.{EdgeShape}
-use Rattle.rc_edges.specs.RowsLaws.{get-written, written_again}
+use Rattle.rc_fragment.specs.declared.source_table.SourceTable.{SourceTable}
+use Rattle.rc_edges.specs.RowsLaws.{get-current, get-written, written_again}
 use Rattle.rc_edges.specs.ValuesLaws.{same_from_test as values_same, test_from_same as values_test}
 
 -- ---- a container in the place of what the source had
@@ -81,42 +83,53 @@ emptied_written old new source w e s h = go (values_eq s source) refl (sym (get-
   where
     go : (b : Bool) → values_eq s source ≡ b → cond b w (fin.get old s) ≡ Some h.0 → (s ≡ source) ⊎ IsEmptied old s
     go true t p = inl (values_same s source t)
-    go false t p = inr (h.0, p, h.2, h.3)
+    go false t p = inr (h.0, p, h.2)
 
 get_here : (old new : Sources) (source : Values) (w : Option Container) → new ≡ written old source w → fin.get new source ≡ w
 get_here old new source w e =
     ap (λ (z : FinMap values_cmp Container). fin.get z source) e ∙ get-written old source w source ∙ ap (λ b. cond b w (fin.get old source)) (values_test source source refl)
 
 -- where a container that keeps a row is written
-pub not_emptied : (old new : Sources) (source : Values) (w : Container) → new ≡ written old source (Some w) → ((now_in w ≡ fin.empty) × (taken_in w ≡ fin.empty) → ⊥) → IsEmptied new source → ⊥
+not_emptied : (old new : Sources) (source : Values) (w : Container) → new ≡ written old source (Some w) → (kept_in w ≡ fin.empty → ⊥) → IsEmptied new source → ⊥
 not_emptied old new source w e keeps h =
     let q : Some w ≡ Some h.0 = sym (get_here old new source (Some w) e) ∙ h.1 in
     let p : w ≡ h.0 = cc in
-    keeps (ap now_in p ∙ h.2, ap taken_in p ∙ h.3)
+    keeps (ap kept_in p ∙ h.2)
+
+pub emptied_before : (old new : Sources) (source : Values) (w : Container) → new ≡ written old source (Some w) → (kept_in w ≡ fin.empty → ⊥) → (s : Values) → IsEmptied new s → IsEmptied old s
+emptied_before old new source w e keeps s h = elim (emptied_written old new source (Some w) e s h) [
+  | inl p ↦ absurd (not_emptied old new source w e keeps (subst (IsEmptied new) p h))
+  | inr i ↦ i
+]
 
 -- where there is no container
 pub none_emptied : (es : Sources) (source : Values) → fin.get es source ≡ None → IsEmptied es source → ⊥
 none_emptied es source n h = let q : None ≡ Some h.0 = sym n ∙ h.1 in absurd (cc)
 
--- where the source is taken out
-pub out_emptied : (set new : Sources) (source : Values) → new ≡ written set source None → IsEmptied new source → ⊥
-out_emptied set new source e = none_emptied new source (get_here set new source None e)
+-- where the source is taken out, once a container was written
+pub emptied_out : (old set new : Sources) (source : Values) (w : Container) → set ≡ written old source (Some w) → new ≡ written set source None → (s : Values) → IsEmptied new s → IsEmptied old s
+emptied_out old set new source w e out s h = elim (emptied_written set new source None out s h) [
+  | inl p ↦ absurd (none_emptied new source (get_here set new source None out) (subst (IsEmptied new) p h))
+  | inr i ↦ elim (emptied_written old set source (Some w) e s i) [
+    | inl p ↦ absurd (none_emptied new source (get_here set new source None out) (subst (IsEmptied new) p h))
+    | inr j ↦ j
+  ]
+]
 
 -- where the container that is written keeps the rows that the source had
 pub emptied_same : (old new : Sources) (source : Values) (v w : Container) → fin.get old source ≡ Some v → new ≡ written old source (Some w)
-    → now_in w ≡ now_in v → taken_in w ≡ taken_in v → (s : Values) → IsEmptied new s → IsEmptied old s
-emptied_same old new source v w f e now taken s h = go (values_eq s source) refl (sym (get-written old source (Some w) s) ∙ ap (λ (z : FinMap values_cmp Container). fin.get z s) (sym e) ∙ h.1)
+    → kept_in w ≡ kept_in v → (s : Values) → IsEmptied new s → IsEmptied old s
+emptied_same old new source v w f e kept s h = go (values_eq s source) refl (sym (get-written old source (Some w) s) ∙ ap (λ (z : FinMap values_cmp Container). fin.get z s) (sym e) ∙ h.1)
   where
     go : (b : Bool) → values_eq s source ≡ b → cond b (Some w) (fin.get old s) ≡ Some h.0 → IsEmptied old s
-    go true t p = let q : w ≡ h.0 = cc in (v, ap (fin.get old) (values_same s source t) ∙ f, sym now ∙ ap now_in q ∙ h.2, sym taken ∙ ap taken_in q ∙ h.3)
-    go false t p = (h.0, p, h.2, h.3)
+    go true t p = let q : w ≡ h.0 = cc in (v, ap (fin.get old) (values_same s source t) ∙ f, sym kept ∙ ap kept_in q ∙ h.2)
+    go false t p = (h.0, p, h.2)
 
 -- ---- the same containers
 
 pub same_entries : (x y : EdgeRows) → sources_of y ≡ sources_of x → width_of y.sources ≡ width_of x.sources → y.shape ≡ x.shape → AreOfShape x → AreSame x y
 same_entries x y e width shape forms = record {
-  now = λ s k. ap (λ (z : Sources). found_at now_in z s k) e;
-  taken = λ s k. ap (λ (z : Sources). found_at taken_in z s k) e;
+  kept = λ s k. ap (λ (z : Sources). found_at kept_in z s k) e;
   emptied = λ s h. subst (λ (z : Sources). IsEmptied z s) e h;
   forms = record {
     forms = subst (λ (z : EdgeShape). HaveForm (form_of z) (sources_of y)) (sym shape) (subst (HaveForm (form_of x.shape)) (sym e) forms.forms);
@@ -124,6 +137,58 @@ same_entries x y e width shape forms = record {
   };
   shape = shape;
 }
+
+-- ---- a source whose container changes
+
+-- what was written at a key is kept
+pub not_empty : (m n : Rows) (key : Values) (o : Option Counted) → m ≡ written n key o → IsSome o → m ≡ fin.empty → ⊥
+not_empty m n key o is some none =
+    let a : fin.get m key ≡ o = ap (λ (z : Rows). fin.get z key) is ∙ get-written n key o key ∙ ap (λ b. cond b o (fin.get n key)) (values_test key key refl) in
+    let b : None ≡ o = sym (get-empty values_cmp key) ∙ ap (λ (z : Rows). fin.get z key) (sym none) ∙ a in
+    false≢true (subst IsSome (sym b) some)
+
+-- x is the edge, whose source has the container v, and table its containers once w is in the place of v
+module _ (x : EdgeRows) (source key : Values) (v w : Container) (table : SourceTable) (here : fin.get (sources_of x) source ≡ Some v) (set : IsSet x.sources table source w)
+    (shaped : AreOfShape x) (form : form_in w ≡ form_in v) where
+  pub forms_changed : AreOfShape (record x { sources = table })
+  forms_changed = record {
+    forms = set_form (sources_of x) (containers_of table) source (Some v) w here set.containers (form_of x.shape) shaped.forms (form ∙ shaped.forms source v here);
+    width = set.width ∙ shaped.width;
+  }
+
+  kept_changed : (o : Option Counted) → kept_in w ≡ written (kept_in v) key o → IsSetAt (found_at kept_in (sources_of x)) (found_at kept_in (containers_of table)) source key o
+  kept_changed o is = set_by (sources_of x) (containers_of table) source (Some v) w here set.containers kept_in (kept_in v) key o is (λ k. refl)
+
+  -- where the container still keeps a row
+  pub becomes_changed : (o : Option Counted) → kept_in w ≡ written (kept_in v) key o → (kept_in w ≡ fin.empty → ⊥) → Becomes x (record x { sources = table }) source key o
+  becomes_changed o is keeps = record {
+    kept = kept_changed o is;
+    emptied = emptied_before (sources_of x) (containers_of table) source w set.containers keeps;
+    forms = forms_changed;
+    shape = refl;
+  }
+
+  -- where it keeps none, and is taken out
+  pub becomes_out : (out : SourceTable) (o : Option Counted) → kept_in w ≡ written (kept_in v) key o → kept_in w ≡ fin.empty → containers_of out ≡ written (containers_of table) source None
+      → width_of out ≡ width_of table → Becomes x (record x { sources = out }) source key o
+  becomes_out out o is gone removed width = record {
+    kept = λ s k. out_at (sources_of x) (containers_of table) (containers_of out) source w set.containers removed kept_in gone s k ∙ kept_changed o is s k;
+    emptied = emptied_out (sources_of x) (containers_of table) (containers_of out) source w set.containers removed;
+    forms = record {
+      forms = out_form (sources_of x) (containers_of table) (containers_of out) source w set.containers removed (form_of x.shape) forms_changed.forms;
+      width = width ∙ forms_changed.width;
+    };
+    shape = refl;
+  }
+
+  -- where it keeps the same
+  pub same_changed : kept_in w ≡ kept_in v → AreSame x (record x { sources = table })
+  same_changed is = record {
+    kept = set_same (sources_of x) (containers_of table) source (Some v) w here set.containers kept_in v refl is;
+    emptied = emptied_same (sources_of x) (containers_of table) source v w here set.containers is;
+    forms = forms_changed;
+    shape = refl;
+  }
 
 -- ---- a source that has no container
 
@@ -158,14 +223,14 @@ pub takes_alone : (v : Container) (of : EdgeKind) (one : Bool) (key : Values) �
 takes_alone (container.Hash map) of one key e w h = table_width (container.Hash map) of one map.value.one_column key (inl (ap (λ (f : Form). f.0) e)) (ap (λ (f : Form). f.1) e) w
 takes_alone (container.Ordered map) of one key e w h = table_width (container.Ordered map) of one map.one_column key (inr (ap (λ (f : Form). f.0) e)) (ap (λ (f : Form). f.1) e) w
 takes_alone (container.List map) of one key e w h = tt
-takes_alone (container.Singleton map) of one key e w h = h (sym (ap (λ (f : Form). f.0) e))
+takes_alone (container.Singleton map) of one key e w h = λ k there. h (sym (ap (λ (f : Form). f.0) e)) k (subst IsSome (sym (get-current map k)) there)
 
 -- where there is no row, any key may come
 pub none_there : (m : Rows) → m ≡ fin.empty → (k : Values) → fin.get m k ≡ None
 none_there m is k = ap (λ (z : Rows). fin.get z k) is ∙ get-empty values_cmp k
 
-pub takes_first : (v : Container) (of : EdgeKind) (one : Bool) (key : Values) → IsOfForm v of one → HasWidth one key → now_in v ≡ fin.empty → takes v key
-takes_first v of one key e w is = takes_alone v of one key e w (λ z k there. absurd (false≢true (subst IsSome (none_there (now_in v) is k) there)))
+pub takes_first : (v : Container) (of : EdgeKind) (one : Bool) (key : Values) → IsOfForm v of one → HasWidth one key → kept_in v ≡ fin.empty → takes v key
+takes_first v of one key e w is = takes_alone v of one key e w (λ z k there. absurd (false≢true (subst IsSome (get-current (kept_in v) k ∙ ap (option_and_then present) (none_there (kept_in v) is k)) there)))
 
 -- ---- results
 

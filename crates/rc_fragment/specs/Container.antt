@@ -1,25 +1,22 @@
 -- What a container of one of the four kinds keeps.
 use Rattle.std.specs.Prelude.{Bool, false}
 use Rattle.rc_edges.specs.Values.{Values}
-use Rattle.rc_edges.specs.EdgeMap.{Rows, HasNoOther, HasWidth}
+use Rattle.rc_edges.specs.EdgeMap.{Rows, HasNoOther, HasWidth, current}
 use Rattle.rc_spec.specs.declared.items.EdgeKind.{EdgeKind}
 use Rattle.rc_spec.specs.declared.items.EdgeKind.TheVariants as kind
 use Rattle.rc_fragment.specs.declared.container.Container.{Container}
 use Rattle.rc_fragment.specs.declared.container.Container.TheVariants as container
 
--- the rows now, by their keys
-abbrev pub now_in : Container → Rows
-now_in (container.Hash map) = map.value.now
-now_in (container.Ordered map) = map.now
-now_in (container.List map) = map.now
-now_in (container.Singleton map) = map.now
+-- the rows that are kept, by their keys, with the tombstones
+abbrev pub kept_in : Container → Rows
+kept_in (container.Hash map) = map.value.rows
+kept_in (container.Ordered map) = map.rows
+kept_in (container.List map) = map
+kept_in (container.Singleton map) = map
 
--- the rows as they were taken
-abbrev pub taken_in : Container → Rows
-taken_in (container.Hash map) = map.value.taken
-taken_in (container.Ordered map) = map.taken
-taken_in (container.List map) = map.taken
-taken_in (container.Singleton map) = map.taken
+-- the rows that are there
+abbrev pub now_in : Container → Rows
+now_in c = current (kept_in c)
 
 -- the kind of a container, and whether it takes only keys of one column
 abbrev pub Form : Type 0
@@ -43,4 +40,4 @@ abbrev pub takes : Container → Values → Type 0
 takes (container.Hash map) key = HasWidth map.value.one_column key
 takes (container.Ordered map) key = HasWidth map.one_column key
 takes (container.List map) key = Unit {0}
-takes (container.Singleton map) key = HasNoOther map.now key
+takes (container.Singleton map) key = HasNoOther map key

@@ -1,47 +1,29 @@
 -- What a fragment's calls promise.
-use Rattle.std.specs.Prelude.{◌≡◌, ℕ, ◌<◌, ◌≤◌, ◌++◌, List, [], Option, None, Some, length, map}
+use Rattle.std.specs.Prelude.{◌≡◌, ℕ, ◌<◌, ◌≤◌, ◌++◌, true, List, [], ◌∷◌, Option, None, Some, IsSome, length, map}
 use Rattle.std.specs.List.{flat_map, slice_get}
 use Rattle.rc_tuple.specs.RisingSet.{In, IsRising}
 use Rattle.rc_tuple.specs.Tuple.{Pairs, cols_of, project}
 use Rattle.rc_edges.specs.Values.{Values, values_cmp}
+use Rattle.rc_edges.specs.EdgeMap.{Counted}
 use Rattle.rc_spec.specs.CountedRowsLaws.{AreCountedRows}
 use Rattle.rc_spec.specs.Decomposition.{bound}
 use Rattle.rc_spec.specs.Fragments.{EdgeRow}
 use Rattle.rc_spec.specs.declared.items.Edge.{Edge}
 use Rattle.rc_spec.specs.declared.items.EdgeKind.TheVariants.{Singleton}
 use Rattle.rc_spec.specs.declared.spec.Spec.{Spec}
-use Rattle.rc_fragment.specs.Container.{now_in, taken_in}
+use Rattle.rc_fragment.specs.Container.{now_in}
 use Rattle.rc_fragment.specs.FragmentRows.{FragmentRows}
-use Rattle.rc_fragment.specs.Listing.{listing}
-use Rattle.rc_fragment.specs.Notes.{IsFragment, room_in}
+use Rattle.rc_fragment.specs.Listing.{AreStored, listing, shapes}
+use Rattle.rc_fragment.specs.Notes.{HasRowValues, IsEmptiedAt, IsWithin, Place, changes_of, is_swept, kept_at_place, key_of, noted_extra, place_of, room_in, source_of, taken_rows, undone}
 use Rattle.rc_fragment.specs.RowValues.{extra_columns, values_at}
 use Rattle.rc_fragment.specs.declared.edge_rows.EdgeRows.{EdgeRows}
 use Rattle.rc_fragment.specs.declared.fragment.Fragment.TheInside.{Inside}
 use Rattle.rc_fragment.specs.declared.fragment.Parts.{Parts}
+use Rattle.rc_fragment.specs.declared.note.Note.{Note}
+use Rattle.rc_fragment.specs.declared.note.NotedRow.{NotedRow}
+use Rattle.rc_fragment.specs.declared.note.Sweep.{Sweep}
+use Rattle.rc_fragment.specs.declared.note.Sweep.TheVariants.{Committed}
 use Rattle.rc_fragment.specs.declared.shape.EdgeShape.{EdgeShape}
-
--- what is seen of a fragment with these parts
-abbrev pub seen_parts : Parts → FragmentRows
-seen_parts p = record {
-  table = map (λ (edge : EdgeRows). edge.shape) p.edges.items;
-  now = listing now_in p.edges.items;
-  taken = listing taken_in p.edges.items;
-  room = p.room;
-  changes = length p.notes.items;
-}
-
--- what is seen of a fragment
-abbrev pub seen : Inside → FragmentRows
-seen a = seen_parts a.parts.value
-
--- what a fragment keeps: each row in its own place, every changed place noted, no value where there is no note, and room for what is promised
-pub record AreWhole (p : Parts) : Type 0 where
-  pub fragment : IsFragment p.edges.items p.notes.items p.noted.items
-  pub unnoted : p.notes.items ≡ [] → p.noted.items ≡ []
-  pub room : p.room ≤ room_in p.notes p.noted
-
-abbrev pub IsWhole : Inside → Type 0
-IsWhole a = AreWhole a.parts.value
 
 -- the shape of an edge
 abbrev pub shape_of : Spec → Edge → EdgeShape
@@ -78,6 +60,70 @@ HasAlone table rows e t = (shape : EdgeShape) → HasShape table e shape → (u 
 abbrev pub HasSingle : List EdgeShape → List EdgeRow → ℕ → Pairs → Type 0
 HasSingle table rows e t = (shape : EdgeShape) → HasShape table e shape → shape.kind ≡ Singleton → (u : Pairs) → IsThere rows e u
     → project shape.source u ≡ project shape.source t → project shape.key u ≡ project shape.key t
+
+-- ---- changes that can be undone
+
+-- each changed row, when its change is undone, is the only one with its source and key
+abbrev pub AreAlone : List EdgeShape → List EdgeRow → List EdgeRow → Type 0
+AreAlone table [] rows = Unit {0}
+AreAlone table (w ∷ changes) rows = HasAlone table (undone changes rows) w.0 w.1 × AreAlone table changes rows
+
+-- ---- a fragment's parts
+
+-- the noted row is of one of the edges, its values are among those of the list and are those of a row, and a row or a tombstone is kept at its place
+pub record IsNoted (edges : List EdgeRows) (values : Values) (n : NotedRow) : Type 0 where
+  pub edge : n.edge < length edges
+  pub within : IsWithin (length values) n
+  pub row : HasRowValues (shapes edges) n.edge (source_of values n) (key_of values n) (noted_extra values n)
+  pub kept : IsSome (kept_at_place edges (place_of values n))
+
+abbrev pub AreNoted : List EdgeRows → Values → List Note → Type 0
+AreNoted edges values notes = (n : Note) → In n notes → IsNoted edges values n.row
+
+-- one of the notes is of the place, and one of those of which a tombstone may be left
+abbrev pub IsSweptBy : Sweep → Values → List Note → Place → Type 0
+IsSweptBy after values notes place = (n : Note) × In n notes × (is_swept after n ≡ true) × (place_of values n.row ≡ place)
+
+-- each tombstone is noted so
+abbrev pub AreTombstonesNoted : Sweep → List EdgeRows → Values → List Note → Type 0
+AreTombstonesNoted after edges values notes = (place : Place) (c : Counted) → kept_at_place edges place ≡ Some c → c.1 ≡ 0 → IsSweptBy after values notes place
+
+-- no container is without an entry
+abbrev pub NoneIsEmptied : List EdgeRows → Type 0
+NoneIsEmptied edges = (e : ℕ) (s : Values) → IsEmptiedAt edges e s → ⊥
+
+-- what a fragment's parts keep: each row in its own place, changes noted that can be undone, each tombstone noted, and no container without an entry
+pub record IsFragment (edges : List EdgeRows) (notes : List Note) (values : Values) : Type 0 where
+  pub stored : AreStored edges
+  pub noted : AreNoted edges values notes
+  pub alone : AreAlone (shapes edges) (changes_of (shapes edges) values notes) (listing now_in edges)
+  pub tombstones : AreTombstonesNoted Committed edges values notes
+  pub emptied : NoneIsEmptied edges
+
+-- what is seen of a fragment with these parts
+abbrev pub seen_parts : Parts → FragmentRows
+seen_parts p = record {
+  table = shapes p.edges.items;
+  now = listing now_in p.edges.items;
+  taken = taken_rows p.edges.items p.notes.items p.noted.items;
+  room = p.room;
+  changes = length p.notes.items;
+}
+
+-- what is seen of a fragment
+abbrev pub seen : Inside → FragmentRows
+seen a = seen_parts a.parts.value
+
+-- what a fragment keeps: its parts, no value where there is no note, and room for what is promised
+pub record AreWhole (p : Parts) : Type 0 where
+  pub fragment : IsFragment p.edges.items p.notes.items p.noted.items
+  pub unnoted : p.notes.items ≡ [] → p.noted.items ≡ []
+  pub room : p.room ≤ room_in p.notes p.noted
+
+abbrev pub IsWhole : Inside → Type 0
+IsWhole a = AreWhole a.parts.value
+
+-- ---- what is asked of a fragment
 
 -- these are the rows of the edge, each at least once
 pub record AreAllRows (rows : List EdgeRow) (e : ℕ) (ts : List Pairs) : Type 0 where

@@ -8,9 +8,9 @@ use Rattle.rc_tuple.specs.Tuple.{Pairs}
 use Rattle.rc_edges.specs.Values.{Values}
 use Rattle.rc_edges.specs.EdgeMap.{Counted, Rows}
 use Rattle.rc_spec.specs.Fragments.{EdgeRow, edge_row_cmp}
-use Rattle.rc_fragment.specs.Container.{now_in, taken_in}
+use Rattle.rc_fragment.specs.Container.{now_in}
 use Rattle.rc_fragment.specs.RowValues.{HasValues, IsParted, row_from}
-use Rattle.rc_fragment.specs.Sources.{sources_of, found_at, AreOfShape}
+use Rattle.rc_fragment.specs.Sources.{sources_of, found_at, kept_at, AreOfShape}
 use Rattle.rc_fragment.specs.declared.container.Container.{Container}
 use Rattle.rc_fragment.specs.declared.edge_rows.EdgeRows.{EdgeRows}
 use Rattle.rc_fragment.specs.declared.shape.EdgeShape.{EdgeShape}
@@ -62,9 +62,9 @@ pub record IsFiled (part : Container → Rows) (edge : EdgeRows) : Type 0 where
   pub values : (s k : Values) (c : Counted) → found_at part (sources_of edge) s k ≡ Some c → HasValues edge.shape (row_from edge.shape s k c.0) s k c.0
   pub counts : (s k : Values) (c : Counted) → found_at part (sources_of edge) s k ≡ Some c → 0 < c.1
 
+-- each row that is kept has the values at which it is kept and the edge's columns
 pub record IsStored (edge : EdgeRows) : Type 0 where
-  pub now : IsFiled now_in edge
-  pub taken : IsFiled taken_in edge
+  pub values : (s k : Values) (c : Counted) → kept_at edge s k ≡ Some c → HasValues edge.shape (row_from edge.shape s k c.0) s k c.0
   pub forms : AreOfShape edge
   pub parted : IsParted edge.shape
 

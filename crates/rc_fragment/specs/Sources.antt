@@ -1,5 +1,5 @@
 -- The rows of one edge, kept by the values of their source and then by those of their key.
-use Rattle.std.specs.Prelude.{◌≡◌, cond, ◌&&◌, ◌⊎◌, ◌==◌, [], Option, None, Some, IsSome, length}
+use Rattle.std.specs.Prelude.{◌≡◌, cond, ◌&&◌, ◌==◌, [], Option, None, Some, IsSome, length}
 use Rattle.std.specs.Option.{option_map}
 use Rattle.std.specs.FinMap as fin
 use Rattle.std.specs.FinMap.{FinMap}
@@ -7,7 +7,7 @@ use Rattle.rc_tuple.specs.Tuple.{Pairs}
 use Rattle.rc_edges.specs.Values.{Values, values_cmp, values_eq}
 use Rattle.rc_edges.specs.EdgeMap.{Counted, Rows, listed}
 use Rattle.rc_spec.specs.declared.items.EdgeKind.TheVariants.{Singleton}
-use Rattle.rc_fragment.specs.Container.{Form, now_in, taken_in, form_in, takes_one}
+use Rattle.rc_fragment.specs.Container.{Form, kept_in, now_in, form_in, takes_one}
 use Rattle.rc_fragment.specs.RowValues.{row_from}
 use Rattle.rc_fragment.specs.SourceTable.{containers_of, width_for, width_of}
 use Rattle.rc_fragment.specs.declared.container.Container.{Container}
@@ -26,15 +26,15 @@ abbrev pub found_in : (Container → Rows) → Option Container → Values → O
 found_in part None key = None
 found_in part (Some c) key = fin.get (part c) key
 
--- the extra values and the count at a source and a key, of the rows now or of those as taken
+-- the extra values and the count at a source and a key, of the rows that are kept or of those that are there
 abbrev pub found_at : (Container → Rows) → Sources → Values → Values → Option Counted
 found_at part sources source key = found_in part (fin.get sources source) key
 
 abbrev pub now_at : EdgeRows → Values → Values → Option Counted
 now_at rows source key = found_at now_in (sources_of rows) source key
 
-abbrev pub taken_at : EdgeRows → Values → Values → Option Counted
-taken_at rows source key = found_at taken_in (sources_of rows) source key
+abbrev pub kept_at : EdgeRows → Values → Values → Option Counted
+kept_at rows source key = found_at kept_in (sources_of rows) source key
 
 -- the form of an edge's containers
 abbrev pub form_of : EdgeShape → Form
@@ -49,29 +49,20 @@ pub record AreOfShape (rows : EdgeRows) : Type 0 where
   pub forms : HaveForm (form_of rows.shape) (sources_of rows)
   pub width : width_of rows.sources ≡ width_for (length rows.shape.source)
 
--- the source has a container that keeps no row, neither now nor as taken
+-- the source has a container that keeps no row
 abbrev pub IsEmptied : Sources → Values → Type 0
-IsEmptied sources source = (c : Container) × (fin.get sources source ≡ Some c) × (now_in c ≡ fin.empty) × (taken_in c ≡ fin.empty)
+IsEmptied sources source = (c : Container) × (fin.get sources source ≡ Some c) × (kept_in c ≡ fin.empty)
 
 -- what is found at each source and key is what was, except at this one
 abbrev pub IsSetAt : (Values → Values → Option Counted) → (Values → Values → Option Counted) → Values → Values → Option Counted → Type 0
 IsSetAt old new source key w = (s k : Values) → new s k ≡ cond (values_eq s source && values_eq k key) w (old s k)
 
--- the edge's rows with this at the source and the key, now and as taken, where no other source's container is left with no row
-pub record Becomes (old new : EdgeRows) (source key : Values) (v w : Option Counted) : Type 0 where
-  pub now : IsSetAt (now_at old) (now_at new) source key v
-  pub taken : IsSetAt (taken_at old) (taken_at new) source key w
-  pub emptied : (s : Values) → IsEmptied (sources_of new) s → (s ≡ source) ⊎ IsEmptied (sources_of old) s
+-- the edge's rows with this kept at the source and the key, where no more containers keep no row
+pub record Becomes (old new : EdgeRows) (source key : Values) (w : Option Counted) : Type 0 where
+  pub kept : IsSetAt (kept_at old) (kept_at new) source key w
+  pub emptied : (s : Values) → IsEmptied (sources_of new) s → IsEmptied (sources_of old) s
   pub forms : AreOfShape new
   pub shape : new.shape ≡ old.shape
-
--- what is at the source and the key is, now and as taken, what it was as taken
-abbrev pub Reverts : EdgeRows → EdgeRows → Values → Values → Type 0
-Reverts old new source key = Becomes old new source key (taken_at old source key) (taken_at old source key)
-
--- and what it was now
-abbrev pub Settles : EdgeRows → EdgeRows → Values → Values → Type 0
-Settles old new source key = Becomes old new source key (now_at old source key) (now_at old source key)
 
 -- in a singleton no other key of the source has a row
 abbrev pub IsSingle : EdgeRows → Values → Values → Type 0
@@ -80,7 +71,7 @@ IsSingle rows source key = rows.shape.kind ≡ Singleton → (k : Values) → Is
 -- the keys and extra values of a source's rows, rising by the keys
 abbrev pub listed_in : Option Container → Values
 listed_in None = []
-listed_in (Some c) = listed (now_in c)
+listed_in (Some c) = listed (kept_in c)
 
 -- the row is kept, by its values, at some source and key
 abbrev pub IsStoredRow : EdgeRows → Pairs → Type 0
@@ -93,18 +84,17 @@ pub record AreOfWidth (shape : EdgeShape) (source key : Values) : Type 0 where
 
 -- two edges' rows that are the same, where no more containers keep no row
 pub record AreSame (old new : EdgeRows) : Type 0 where
-  pub now : (s k : Values) → now_at new s k ≡ now_at old s k
-  pub taken : (s k : Values) → taken_at new s k ≡ taken_at old s k
+  pub kept : (s k : Values) → kept_at new s k ≡ kept_at old s k
   pub emptied : (s : Values) → IsEmptied (sources_of new) s → IsEmptied (sources_of old) s
   pub forms : AreOfShape new
   pub shape : new.shape ≡ old.shape
 
 -- all that is seen of a container
 abbrev pub SeenContainer : Type 0
-SeenContainer = Rows × Rows × Form
+SeenContainer = Rows × Form
 
 abbrev pub seen_container : Container → SeenContainer
-seen_container c = (now_in c, taken_in c, form_in c)
+seen_container c = (kept_in c, form_in c)
 
 -- two maps of containers that answer alike, by what is seen of them
 abbrev pub AreSeenAlike : Sources → Sources → Type 0

@@ -2,8 +2,8 @@
 
 ghost use Rattle.std.specs.Prelude.{◌≡◌, ◌<◌, ◌^◌, ◌++◌, ◌↔◌, IsTrue, OnOk, OnErr, IfOk, IsSome, option_copied};
 ghost use Rattle.std.specs.FinMap as fin;
-ghost use Rattle.rc_edges.specs.EdgeMap.{HasExtra, count_at, extra_of, listed, once_less, once_more, with_key_of};
-ghost use Rattle.rc_fragment.specs.Container.{form_in, now_in, takes, takes_one, taken_in};
+ghost use Rattle.rc_edges.specs.EdgeMap.{HasAsMany, HasExtra, count_at, extra_of, found, listed, once_less, once_more, swept};
+ghost use Rattle.rc_fragment.specs.Container.{form_in, kept_in, now_in, takes, takes_one};
 
 use rc_edges::{EdgeMap, ListMap, OneMap};
 use rc_maps::{HashEdge, OrderedEdge, Seed};
@@ -26,8 +26,7 @@ impl Container {
     /// The container of the kind with no row; only a hash container takes memory. Where a table is to
     /// have keys of one column alone, they are plain numbers in it.
     pub fn new(alloc: Global, seed: Seed, kind: EdgeKind, one_column: bool) -> Result<Self, Memory>
-        ensures now { IfOk result (λ container. now_in container ≡ fin.empty) }
-        ensures taken { IfOk result (λ container. taken_in container ≡ fin.empty) }
+        ensures empty { IfOk result (λ container. kept_in container ≡ fin.empty) }
         ensures form { IfOk result (λ container. form_in container ≡ (kind, takes_one kind one_column)) }
     {
         match kind {
@@ -41,14 +40,14 @@ impl Container {
         }
     }
 
-    /// Adds the row at the key with the count 1, or raises its count by 1.
-    pub fn add(&mut self, key: &[u64], extra: &[u64]) -> Result<(), Memory>
-        requires room { count_at (now_in self.old) key.now < 2 ^ 63 }
-        requires same { HasExtra (fin.get (now_in self.old) key.now) extra.now }
+    /// Adds the row at the key with the count 1, or raises its count by 1, and answers the count before.
+    pub fn add(&mut self, key: &[u64], extra: &[u64]) -> Result<u64, Memory>
+        requires room { count_at (kept_in self.old) key.now < 2 ^ 63 }
+        requires same { HasExtra (found (kept_in self.old) key.now) extra.now }
         requires single { takes self.old key.now }
-        ensures ok { OnOk result (now_in self.new ≡ once_more (now_in self.old) key.now extra.now) }
-        ensures err { OnErr result (now_in self.new ≡ now_in self.old) }
-        ensures taken { taken_in self.new ≡ taken_in self.old }
+        ensures ok { OnOk result (kept_in self.new ≡ once_more (kept_in self.old) key.now extra.now) }
+        ensures before { IfOk result (λ before. before ≡ count_at (kept_in self.old) key.now) }
+        ensures err { OnErr result (kept_in self.new ≡ kept_in self.old) }
         ensures form { form_in self.new ≡ form_in self.old }
     {
         match self {
@@ -59,11 +58,11 @@ impl Container {
         }
     }
 
-    /// Lowers the count at the key by 1, and takes the row out at 0.
-    pub fn sub(&mut self, key: &[u64])
-        requires { IsSome (fin.get (now_in self.old) key.now) }
-        ensures now { now_in self.new ≡ once_less (now_in self.old) key.now }
-        ensures taken { taken_in self.new ≡ taken_in self.old }
+    /// Lowers the count at the key by 1, and answers the count before.
+    pub fn sub(&mut self, key: &[u64]) -> u64
+        requires { IsSome (found (kept_in self.old) key.now) }
+        ensures now { kept_in self.new ≡ once_less (kept_in self.old) key.now }
+        ensures before { result ≡ count_at (kept_in self.old) key.now }
         ensures form { form_in self.new ≡ form_in self.old }
     {
         match self {
@@ -74,37 +73,36 @@ impl Container {
         }
     }
 
-    /// Makes the row and the count at the key what they were as taken.
-    pub fn revert(&mut self, key: &[u64])
-        ensures now { now_in self.new ≡ with_key_of (now_in self.old) key.now (taken_in self.old) }
-        ensures taken { taken_in self.new ≡ taken_in self.old }
+    /// Makes the row or tombstone at the key the row with these extra values and this count.
+    pub fn put_back(&mut self, key: &[u64], extra: &[u64], count: u64)
+        requires { HasAsMany (fin.get (kept_in self.old) key.now) extra.now }
+        ensures now { kept_in self.new ≡ fin.insert (kept_in self.old) key.now (extra.now, count) }
         ensures form { form_in self.new ≡ form_in self.old }
     {
         match self {
-            Container::Hash(map) => map.revert(key),
-            Container::Ordered(map) => map.revert(key),
-            Container::List(map) => map.revert(key),
-            Container::Singleton(map) => map.revert(key),
+            Container::Hash(map) => map.put_back(key, extra, count),
+            Container::Ordered(map) => map.put_back(key, extra, count),
+            Container::List(map) => map.put_back(key, extra, count),
+            Container::Singleton(map) => map.put_back(key, extra, count),
         }
     }
 
-    /// Makes the row and the count at the key count as taken.
-    pub fn settle(&mut self, key: &[u64])
-        ensures now { now_in self.new ≡ now_in self.old }
-        ensures taken { taken_in self.new ≡ with_key_of (taken_in self.old) key.now (now_in self.old) }
+    /// Lets a tombstone at the key go.
+    pub fn sweep(&mut self, key: &[u64])
+        ensures now { kept_in self.new ≡ swept (kept_in self.old) key.now }
         ensures form { form_in self.new ≡ form_in self.old }
     {
         match self {
-            Container::Hash(map) => map.settle(key),
-            Container::Ordered(map) => map.settle(key),
-            Container::List(map) => map.settle(key),
-            Container::Singleton(map) => map.settle(key),
+            Container::Hash(map) => map.sweep(key),
+            Container::Ordered(map) => map.sweep(key),
+            Container::List(map) => map.sweep(key),
+            Container::Singleton(map) => map.sweep(key),
         }
     }
 
-    /// The extra values of the row at the key, if there is one.
+    /// The extra values of the row at the key, if it is there.
     pub fn get(&self, key: &[u64]) -> Option<&[u64]>
-        ensures { option_copied result ≡ extra_of (fin.get (now_in self.now) key.now) }
+        ensures { option_copied result ≡ extra_of (found (kept_in self.now) key.now) }
     {
         match self {
             Container::Hash(map) => map.get(key),
@@ -114,9 +112,9 @@ impl Container {
         }
     }
 
-    /// Adds of each row its key and then its extra values at the end of the list, rising by the keys.
+    /// Adds of each row that is there its key and then its extra values at the end of the list, rising by the keys.
     pub fn scan(&self, out: &mut Vec<u64>) -> Result<(), Memory>
-        ensures ok { OnOk result (out.new.items ≡ out.old.items ++ listed (now_in self.now)) }
+        ensures ok { OnOk result (out.new.items ≡ out.old.items ++ listed (kept_in self.now)) }
         ensures err { OnErr result (out.new.items ≡ out.old.items) }
     {
         match self {
@@ -139,9 +137,9 @@ impl Container {
         }
     }
 
-    /// Whether nothing is kept: there is no row, neither now nor as taken.
+    /// Whether nothing is kept, not even a tombstone.
     pub fn is_gone(&self) -> bool
-        ensures { IsTrue result ↔ (now_in self.now ≡ fin.empty) × (taken_in self.now ≡ fin.empty) }
+        ensures { IsTrue result ↔ (kept_in self.now ≡ fin.empty) }
     {
         match self {
             Container::Hash(map) => map.is_gone(),
@@ -151,10 +149,9 @@ impl Container {
         }
     }
 
-    /// Another container with the same rows, now and as taken.
+    /// Another container that keeps the same rows and tombstones.
     pub fn copy(&self) -> Result<Self, Memory>
-        ensures now { IfOk result (λ copy. now_in copy ≡ now_in self.now) }
-        ensures taken { IfOk result (λ copy. taken_in copy ≡ taken_in self.now) }
+        ensures rows { IfOk result (λ copy. kept_in copy ≡ kept_in self.now) }
         ensures form { IfOk result (λ copy. form_in copy ≡ form_in self.now) }
     {
         match self {

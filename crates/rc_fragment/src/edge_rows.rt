@@ -4,11 +4,11 @@ ghost use Rattle.std.specs.Prelude.{◌≡◌, ◌+◌, ◌<◌, ◌^◌, ◌++�
 ghost use Rattle.std.specs.FinMap as fin;
 ghost use Rattle.rc_tuple.specs.RisingSet.{In};
 ghost use Rattle.rc_tuple.specs.Tuple.{Pairs};
-ghost use Rattle.rc_edges.specs.EdgeMap.{HasExtra, count_of, extra_of, lowered};
+ghost use Rattle.rc_edges.specs.EdgeMap.{HasAsMany, HasExtra, count_of, extra_of, one_less};
 ghost use Rattle.rc_fragment.specs.Container.{now_in};
 ghost use Rattle.rc_fragment.specs.Listing.{IsFiled, row_found, source_rows};
 ghost use Rattle.rc_fragment.specs.RowValues.{IsParted};
-ghost use Rattle.rc_fragment.specs.Sources.{AreOfShape, AreOfWidth, AreSame, Becomes, IsEmptied, IsStoredRow, IsSingle, Reverts, Settles, sources_of, listed_in, now_at, taken_at};
+ghost use Rattle.rc_fragment.specs.Sources.{AreOfShape, AreOfWidth, AreSame, Becomes, IsStoredRow, IsSingle, kept_at, sources_of, listed_in, now_at};
 
 use crate::EdgeShape;
 use crate::container::Container;
@@ -44,70 +44,67 @@ impl EdgeRows {
         }
     }
 
-    /// Adds the row with the count 1, or raises its count by 1.
-    pub fn add(&mut self, source: &[u64], key: &[u64], extra: &[u64]) -> Result<(), Memory>
+    /// Adds the row with the count 1, or raises its count by 1, and answers the count before.
+    pub fn add(&mut self, source: &[u64], key: &[u64], extra: &[u64]) -> Result<u64, Memory>
         requires forms { AreOfShape self.old }
         requires width { AreOfWidth self.old.shape source.now key.now }
-        requires room { count_of (now_at self.old source.now key.now) < 2 ^ 63 }
+        requires room { count_of (kept_at self.old source.now key.now) < 2 ^ 63 }
         requires same { HasExtra (now_at self.old source.now key.now) extra.now }
         requires single { IsSingle self.old source.now key.now }
-        ensures ok { OnOk result (Becomes self.old self.new source.now key.now (Some (extra.now, count_of (now_at self.old source.now key.now) + 1)) (taken_at self.old source.now key.now)) }
+        ensures ok { OnOk result (Becomes self.old self.new source.now key.now (Some (extra.now, count_of (kept_at self.old source.now key.now) + 1))) }
+        ensures before { IfOk result (λ before. before ≡ count_of (kept_at self.old source.now key.now)) }
         ensures err { OnErr result (AreSame self.old self.new) }
     {
         if let Some(container) = self.sources.get_mut(source) {
-            container.add(key, extra)?;
-            return Ok(());
+            return container.add(key, extra);
         }
         let mut container = Container::new(self.alloc, self.seed, self.shape.kind, key.len() == 1)?;
-        container.add(key, extra)?;
-        self.sources.insert(source, container)
+        let before = container.add(key, extra)?;
+        self.sources.insert(source, container)?;
+        Ok(before)
     }
 
-    /// Lowers the count at the source and the key by 1, and takes the row out at 0.
-    pub fn sub(&mut self, source: &[u64], key: &[u64])
+    /// Lowers the count at the source and the key by 1, and answers the count before.
+    pub fn sub(&mut self, source: &[u64], key: &[u64]) -> u64
         requires forms { AreOfShape self.old }
         requires there { IsSome (now_at self.old source.now key.now) }
-        ensures { Becomes self.old self.new source.now key.now (lowered (now_at self.old source.now key.now)) (taken_at self.old source.now key.now) }
+        ensures becomes { Becomes self.old self.new source.now key.now (one_less (kept_at self.old source.now key.now)) }
+        ensures before { result ≡ count_of (kept_at self.old source.now key.now) }
     {
         let Some(container) = self.sources.get_mut(source) else {
             unreachable!();
         };
-        container.sub(key);
+        container.sub(key)
     }
 
-    /// Makes what is at the source and the key what it was as taken. A container that keeps no row then
-    /// is freed.
-    pub fn revert(&mut self, source: &[u64], key: &[u64])
+    /// Makes the row or tombstone at the source and the key the row with these extra values and this
+    /// count.
+    pub fn put_back(&mut self, source: &[u64], key: &[u64], extra: &[u64], count: u64)
         requires forms { AreOfShape self.old }
-        ensures becomes { Reverts self.old self.new source.now key.now }
-        ensures freed { IsEmptied (sources_of self.new) source.now → ⊥ }
+        requires kept { HasAsMany (kept_at self.old source.now key.now) extra.now }
+        ensures { Becomes self.old self.new source.now key.now (Some (extra.now, count)) }
+    {
+        let Some(container) = self.sources.get_mut(source) else {
+            unreachable!();
+        };
+        container.put_back(key, extra, count);
+    }
+
+    /// Lets a tombstone at the source and the key go. A container that keeps nothing then is freed.
+    pub fn sweep(&mut self, source: &[u64], key: &[u64])
+        requires forms { AreOfShape self.old }
+        ensures { Becomes self.old self.new source.now key.now (now_at self.old source.now key.now) }
     {
         let Some(container) = self.sources.get_mut(source) else {
             return;
         };
-        container.revert(key);
+        container.sweep(key);
         if container.is_gone() {
             self.sources.remove(source);
         }
     }
 
-    /// Makes what is at the source and the key count as taken. A container that keeps no row then is
-    /// freed.
-    pub fn settle(&mut self, source: &[u64], key: &[u64])
-        requires forms { AreOfShape self.old }
-        ensures becomes { Settles self.old self.new source.now key.now }
-        ensures freed { IsEmptied (sources_of self.new) source.now → ⊥ }
-    {
-        let Some(container) = self.sources.get_mut(source) else {
-            return;
-        };
-        container.settle(key);
-        if container.is_gone() {
-            self.sources.remove(source);
-        }
-    }
-
-    /// The extra values of the row at the source and the key, if there is one.
+    /// The extra values of the row at the source and the key, if it is there.
     pub fn get(&self, source: &[u64], key: &[u64]) -> Option<&[u64]>
         ensures { option_copied result ≡ extra_of (now_at self.now source.now key.now) }
     {
@@ -117,7 +114,7 @@ impl EdgeRows {
         }
     }
 
-    /// Adds of each row at the source its key and then its extra values at the end of the list, rising
+    /// Adds of each row that is there at the source its key and then its extra values at the end of the list, rising
     /// by the keys. Where memory is wanted the list stays as it was.
     pub fn scan(&self, source: &[u64], out: &mut Vec<u64>) -> Result<(), Memory>
         ensures ok { OnOk result (out.new.items ≡ out.old.items ++ listed_in (fin.get (sources_of self.now) source.now)) }
@@ -178,7 +175,7 @@ impl EdgeRows {
         Ok(rows)
     }
 
-    /// The same rows once more, now and as taken. Costs all rows.
+    /// The same rows once more, with their tombstones. Costs all rows.
     pub fn copy(&self) -> Result<Self, Memory>
         requires { AreOfShape self.now }
         ensures { IfOk result (λ copy. AreSame self.now copy) }

@@ -5,7 +5,7 @@ ghost use Rattle.rc_spec.specs.CountedRows.{count_at, lowered, raised};
 ghost use Rattle.rc_fragment.specs.Fragment.{AreAllRows, AreRowsOf, AreWhole, HasAlone, HasColumns, HasScanned, HasShape, HasSingle, IsFoundAt, IsLookedUp, IsScan, IsThere, edge_table, seen_parts, shape_of};
 ghost use Rattle.rc_fragment.specs.FragmentRows.{changed, no_rows, rolled_back, settled, with_promise, without_promise};
 ghost use Rattle.rc_fragment.specs.Listing.{AreEmpty, AreStored, found_by, shapes};
-ghost use Rattle.rc_fragment.specs.Container.{now_in, taken_in};
+ghost use Rattle.rc_fragment.specs.Container.{kept_in};
 ghost use Rattle.rc_fragment.specs.Notes.{IsEmptiedAt};
 ghost use Rattle.rc_fragment.specs.declared.shape.EdgeShape.{EdgeShape};
 
@@ -22,9 +22,10 @@ use std::marker::Model;
 /// The rows of all edges that fall on one lock stripe (PLDI 2012, lock striping): each edge and source
 /// has its rows in a container of the edge's kind.
 ///
-/// A fragment also keeps its rows as they were taken. Changes are made in place, where `own` promised
-/// room for them, and noted; `revert` takes them back and `settle` makes them count as taken. Both cost
-/// the changes, whatever the fragment's size, take no memory and leave no note.
+/// A fragment also tells its rows as they were taken. Changes are made in place, where `own` promised
+/// room for them, and noted with the count before, as in an undo log; `revert` takes them back, from
+/// the last on, and `settle` makes them count as taken. Both cost the changes, whatever the fragment's
+/// size, take no memory and leave no note.
 ///
 /// Its parts are in a block of their own, so that a stripe that is taken or given back moves a pointer.
 #[derive(Drop, Debug)]
@@ -33,7 +34,7 @@ pub struct Fragment {
 }
 
 /// What a fragment keeps: the rows of each edge, the changes since they were taken with the values of
-/// their places, and for how many further changes room is promised.
+/// the changed rows, and for how many further changes room is promised.
 #[derive(Drop, Debug)]
 pub struct Parts {
     pub edges: Vec<EdgeRows>,
@@ -243,13 +244,12 @@ fn boxed(alloc: Global, parts: Parts) -> Result<Fragment, Memory>
     })
 }
 
-/// A copy of the edges, with their rows now and as taken.
+/// A copy of the edges, with all rows that are kept.
 fn copy_edges(alloc: Global, edges: &Vec<EdgeRows>) -> Result<Vec<EdgeRows>, Memory>
     requires { AreStored edges.now.items }
     ensures shapes { IfOk result (λ copy. shapes copy.items ≡ shapes edges.now.items) }
     ensures stored { IfOk result (λ copy. AreStored copy.items) }
-    ensures now { IfOk result (λ copy. (e : _) (s k : _) → found_by now_in copy.items e s k ≡ found_by now_in edges.now.items e s k) }
-    ensures taken { IfOk result (λ copy. (e : _) (s k : _) → found_by taken_in copy.items e s k ≡ found_by taken_in edges.now.items e s k) }
+    ensures kept { IfOk result (λ copy. (e : _) (s k : _) → found_by kept_in copy.items e s k ≡ found_by kept_in edges.now.items e s k) }
     ensures emptied { IfOk result (λ copy. (e : _) (s : _) → IsEmptiedAt copy.items e s → IsEmptiedAt edges.now.items e s) }
 {
     let mut copy = Vec::new(alloc);

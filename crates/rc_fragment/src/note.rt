@@ -1,48 +1,78 @@
-//! Notes of the places that changed since a fragment was taken.
+//! Notes of the changes since a fragment was taken.
 
-ghost use Rattle.std.specs.Prelude.{◌≡◌, ◌+◌, ◌≤◌, ◌<◌, ◌-◌, ◌++◌, [], ◌∷◌, drop, length, take, vec_len, vec_capacity};
-ghost use Rattle.rc_fragment.specs.Notes.{IsNoteWithin, key_of, place_of, room_in, source_of};
+ghost use Rattle.std.specs.Prelude.{◌≡◌, ◌+◌, ◌≤◌, ◌-◌, ◌++◌, drop, length, take, vec_len, vec_capacity};
+ghost use Rattle.rc_fragment.specs.Notes.{IsWithin, is_swept, key_of, noted_extra, place_of, source_of};
 ghost use Rattle.rc_fragment.specs.RowValues.{IsParted, extra_columns, values_at};
 
 use crate::EdgeShape;
 use rc_tuple::{ColSet, Tuple};
 
-/// How many values a note may take while its change is made: those of a row, with at most 32 columns.
+/// How many values a note may take: those of a row, with at most 32 columns.
 pub const VALUES_OF_NOTE: usize = 32;
 
-/// A changed place: the edge, and where the values of the source and of the key stand in the list of
-/// the noted values, one behind the other.
+/// A row in the list of the noted values: its edge, and where its values at the columns of the source
+/// and of the key and its extra ones begin, one behind the other, and the last of them end.
 #[derive(Clone, Copy, Debug)]
-pub struct Note {
+pub struct NotedRow {
     pub edge: u8,
     pub start: usize,
-    pub middle: usize,
+    pub key_start: usize,
+    pub extra_start: usize,
     pub end: usize,
 }
 
+/// A change of a row's count: the row, whether the change took it out, and its count before.
+#[derive(Clone, Copy, Debug)]
+pub struct Note {
+    pub row: NotedRow,
+    pub took_out: bool,
+    pub count: u64,
+}
+
+/// After what tombstones are swept.
+#[derive(Clone, Copy, Debug)]
+pub enum Sweep {
+    /// A commit: they are of rows that a change took out.
+    Committed,
+    /// A rollback: they are of rows that weren't there before their first change.
+    RolledBack,
+}
+
 impl Note {
+    /// Whether a tombstone may be left of the noted row.
+    pub fn is_swept(&self, after: Sweep) -> bool
+        ensures { result ≡ is_swept after self.now }
+    {
+        match after {
+            Sweep::Committed => self.took_out,
+            Sweep::RolledBack => self.count == 0,
+        }
+    }
+}
+
+impl NotedRow {
     /// The values of the source.
     pub fn source<'a>(&self, values: &'a [u64]) -> &'a [u64]
-        requires { IsNoteWithin (length values.now) self.now }
+        requires { IsWithin (length values.now) self.now }
         ensures { result.now ≡ source_of values.now self.now }
     {
-        part(values, self.start, self.middle)
+        part(values, self.start, self.key_start)
     }
 
     /// The values of the key.
     pub fn key<'a>(&self, values: &'a [u64]) -> &'a [u64]
-        requires { IsNoteWithin (length values.now) self.now }
+        requires { IsWithin (length values.now) self.now }
         ensures { result.now ≡ key_of values.now self.now }
     {
-        part(values, self.middle, self.end)
+        part(values, self.key_start, self.extra_start)
     }
 
-    /// The values behind the note's.
-    pub fn behind<'a>(&self, values: &'a [u64]) -> &'a [u64]
-        requires { IsNoteWithin (length values.now) self.now }
-        ensures { result.now ≡ drop self.now.end values.now }
+    /// The extra values.
+    pub fn extra<'a>(&self, values: &'a [u64]) -> &'a [u64]
+        requires { IsWithin (length values.now) self.now }
+        ensures { result.now ≡ noted_extra values.now self.now }
     {
-        &values[self.end..]
+        part(values, self.extra_start, self.end)
     }
 }
 
@@ -55,40 +85,31 @@ fn part(values: &[u64], start: usize, end: usize) -> &[u64]
     &values[start..end]
 }
 
-/// Notes the row's source and key. There is room for its extra values behind them then. Takes no
-/// memory.
-pub fn note_row(
-    notes: &mut Vec<Note>,
-    values: &mut Vec<u64>,
-    edge: u8,
-    row: &Tuple,
-    shape: &EdgeShape,
-) -> Note
-    requires room { 0 < room_in notes.old values.old }
+/// The row in the list, whose values are put behind those that are there. Takes no memory.
+pub fn note_row(values: &mut Vec<u64>, edge: u8, row: &Tuple, shape: &EdgeShape) -> NotedRow
+    requires room { vec_len values.old + 32 ≤ vec_capacity values.old }
     requires parted { IsParted shape.now }
     ensures place { place_of values.new.items result ≡ (edge, values_at shape.now.source row.now, values_at shape.now.key row.now) }
-    ensures within { IsNoteWithin (length values.new.items) result }
+    ensures extra { noted_extra values.new.items result ≡ values_at (extra_columns shape.now) row.now }
+    ensures within { IsWithin (length values.new.items) result }
     ensures start { result.start ≡ length values.old.items }
-    ensures end { result.end ≡ length values.new.items }
-    ensures notes { notes.new.items ≡ notes.old.items ++ result ∷ [] }
-    ensures values { values.new.items ≡ values.old.items ++ (values_at shape.now.source row.now ++ values_at shape.now.key row.now) }
-    ensures room { room_in notes.old values.old ≤ room_in notes.new values.new + 1 }
-    ensures notes_capacity { vec_capacity notes.new ≡ vec_capacity notes.old }
-    ensures values_capacity { vec_capacity values.new ≡ vec_capacity values.old }
-    ensures spare { vec_len values.new + length (values_at (extra_columns shape.now) row.now) ≤ vec_capacity values.new }
+    ensures values { values.new.items ≡ values.old.items ++ (values_at shape.now.source row.now ++ (values_at shape.now.key row.now ++ values_at (extra_columns shape.now) row.now)) }
+    ensures room { vec_len values.new ≤ vec_len values.old + 32 }
+    ensures capacity { vec_capacity values.new ≡ vec_capacity values.old }
 {
     let start = values.len();
     push_values(values, row.pairs(), shape.source);
-    let middle = values.len();
+    let key_start = values.len();
     push_values(values, row.pairs(), shape.key);
-    let note = Note {
+    let extra_start = values.len();
+    push_values(values, row.pairs(), shape.extra());
+    NotedRow {
         edge,
         start,
-        middle,
+        key_start,
+        extra_start,
         end: values.len(),
-    };
-    notes.push_reserved(note);
-    note
+    }
 }
 
 /// Adds the values at those of the row's columns that the set has at the end. Takes no memory.

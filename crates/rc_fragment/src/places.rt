@@ -1,106 +1,107 @@
-//! Changes of the rows of all edges at one place, and at all noted places.
+//! Changes of the rows of all edges at one noted place, and at all of them.
 
-ghost use Rattle.std.specs.Prelude.{◌≡◌, ◌+◌, ◌<◌, ◌^◌, [], Some, IsSome, length, OnOk, OnErr};
+ghost use Rattle.std.specs.Prelude.{◌≡◌, ◌+◌, ◌<◌, ◌^◌, Some, IsSome, IfOk, length, OnOk, OnErr};
 ghost use Rattle.std.specs.List.{slice_get};
-ghost use Rattle.rc_edges.specs.EdgeMap.{count_of, lowered};
-ghost use Rattle.rc_fragment.specs.Container.{now_in, taken_in};
-ghost use Rattle.rc_fragment.specs.Listing.{AreStored, found_by, shapes};
+ghost use Rattle.rc_edges.specs.EdgeMap.{count_of, one_less};
+ghost use Rattle.rc_fragment.specs.Container.{kept_in, now_in};
+ghost use Rattle.rc_fragment.specs.Fragment.{AreNoted, AreTombstonesNoted, IsFragment, IsNoted, NoneIsEmptied};
+ghost use Rattle.rc_fragment.specs.Listing.{AreStored, found_by, listing, shapes};
 ghost use Rattle.rc_fragment.specs.Sources.{IsSingle};
 ghost use Rattle.rc_fragment.specs.declared.edge_rows.EdgeRows.{EdgeRows};
-ghost use Rattle.rc_fragment.specs.Notes.{AreEmptiedNoted, AreNoted, AreWithin, IsEmptiedAt, IsNoteWithin, IsRowAt, PlaceBecomes, RevertsPlace, SettlesPlace, now_at_place, place_of, places_of, source_of, taken_at_place};
+ghost use Rattle.rc_fragment.specs.declared.note.Sweep.TheVariants.{RolledBack};
+ghost use Rattle.rc_fragment.specs.Notes.{IsWithin, IsRowAt, PlaceBecomes, kept_at_place, key_of, noted_extra, now_at_place, place_of, source_of, taken_rows};
 
 use crate::edge_rows::EdgeRows;
-use crate::note::Note;
+use crate::note::{Note, NotedRow, Sweep};
 use rc_tuple::Memory;
 
-/// Adds the row with these values at the place of its edge, source and key with the count 1, or raises
-/// its count by 1.
-pub fn add_place(
-    edges: &mut Vec<EdgeRows>,
-    edge: u8,
-    source: &[u64],
-    key: &[u64],
-    extra: &[u64],
-) -> Result<(), Memory>
+/// Adds the noted row with the count 1, or raises its count by 1, and answers the count before.
+pub fn add_place(edges: &mut Vec<EdgeRows>, row: &NotedRow, values: &[u64]) -> Result<u64, Memory>
     requires stored { AreStored edges.old.items }
-    requires edge { edge < length edges.old.items }
-    requires row { IsRowAt edges.old.items edge source.now key.now extra.now }
-    requires room { count_of (now_at_place edges.old.items (edge, source.now, key.now)) < 2 ^ 63 }
-    requires single { (x : EdgeRows) → slice_get edges.old.items edge ≡ Some x → IsSingle x source.now key.now }
-    ensures ok { OnOk result (PlaceBecomes edges.old.items edges.new.items (edge, source.now, key.now) (Some (extra.now, count_of (now_at_place edges.old.items (edge, source.now, key.now)) + 1)) (taken_at_place edges.old.items (edge, source.now, key.now))) }
-    ensures err { OnErr result (PlaceBecomes edges.old.items edges.new.items (edge, source.now, key.now) (now_at_place edges.old.items (edge, source.now, key.now)) (taken_at_place edges.old.items (edge, source.now, key.now))) }
-    ensures kept { OnErr result ((e : _) (s : _) → IsEmptiedAt edges.new.items e s → IsEmptiedAt edges.old.items e s) }
+    requires edge { row.now.edge < length edges.old.items }
+    requires within { IsWithin (length values.now) row.now }
+    requires row { IsRowAt edges.old.items row.now.edge (source_of values.now row.now) (key_of values.now row.now) (noted_extra values.now row.now) }
+    requires room { count_of (kept_at_place edges.old.items (place_of values.now row.now)) < 2 ^ 63 }
+    requires single { (x : EdgeRows) → slice_get edges.old.items row.now.edge ≡ Some x → IsSingle x (source_of values.now row.now) (key_of values.now row.now) }
+    ensures ok { OnOk result (PlaceBecomes edges.old.items edges.new.items (place_of values.now row.now) (Some (noted_extra values.now row.now, count_of (kept_at_place edges.old.items (place_of values.now row.now)) + 1))) }
+    ensures before { IfOk result (λ before. before ≡ count_of (kept_at_place edges.old.items (place_of values.now row.now))) }
+    ensures err { OnErr result (PlaceBecomes edges.old.items edges.new.items (place_of values.now row.now) (kept_at_place edges.old.items (place_of values.now row.now))) }
 {
-    let edge = &mut edges[edge as usize];
-    edge.add(source, key, extra)
+    let edge = &mut edges[row.edge as usize];
+    edge.add(row.source(values), row.key(values), row.extra(values))
 }
 
-/// Lowers the count of the row at the noted place by 1, and takes it out at 0.
-pub fn sub_place(edges: &mut Vec<EdgeRows>, note: &Note, values: &[u64])
+/// Lowers the count of the row at the noted place by 1, and answers the count before.
+pub fn sub_place(edges: &mut Vec<EdgeRows>, row: &NotedRow, values: &[u64]) -> u64
     requires stored { AreStored edges.old.items }
-    requires edge { note.now.edge < length edges.old.items }
-    requires within { IsNoteWithin (length values.now) note.now }
-    requires there { IsSome (now_at_place edges.old.items (place_of values.now note.now)) }
-    ensures { PlaceBecomes edges.old.items edges.new.items (place_of values.now note.now) (lowered (now_at_place edges.old.items (place_of values.now note.now))) (taken_at_place edges.old.items (place_of values.now note.now)) }
+    requires edge { row.now.edge < length edges.old.items }
+    requires within { IsWithin (length values.now) row.now }
+    requires there { IsSome (now_at_place edges.old.items (place_of values.now row.now)) }
+    ensures becomes { PlaceBecomes edges.old.items edges.new.items (place_of values.now row.now) (one_less (kept_at_place edges.old.items (place_of values.now row.now))) }
+    ensures before { result ≡ count_of (kept_at_place edges.old.items (place_of values.now row.now)) }
 {
-    let edge = &mut edges[note.edge as usize];
-    edge.sub(note.source(values), note.key(values));
+    let edge = &mut edges[row.edge as usize];
+    edge.sub(row.source(values), row.key(values))
 }
 
-/// Makes the row at the noted place what it was as taken. A container that keeps no row then is freed.
-pub fn revert_place(edges: &mut Vec<EdgeRows>, note: &Note, values: &[u64])
+/// Makes the row or tombstone at the noted place the noted row, with this count.
+pub fn put_back_place(edges: &mut Vec<EdgeRows>, row: &NotedRow, values: &[u64], count: u64)
     requires stored { AreStored edges.old.items }
-    requires edge { note.now.edge < length edges.old.items }
-    requires within { IsNoteWithin (length values.now) note.now }
-    ensures becomes { RevertsPlace edges.old.items edges.new.items (place_of values.now note.now) }
-    ensures freed { IsEmptiedAt edges.new.items note.now.edge (source_of values.now note.now) → ⊥ }
+    requires noted { IsNoted edges.old.items values.now row.now }
+    ensures { PlaceBecomes edges.old.items edges.new.items (place_of values.now row.now) (Some (noted_extra values.now row.now, count)) }
 {
-    let edge = &mut edges[note.edge as usize];
-    edge.revert(note.source(values), note.key(values));
+    let edge = &mut edges[row.edge as usize];
+    edge.put_back(
+        row.source(values),
+        row.key(values),
+        row.extra(values),
+        count,
+    );
 }
 
-/// Makes the row at the noted place count as taken. A container that keeps no row then is freed.
-pub fn settle_place(edges: &mut Vec<EdgeRows>, note: &Note, values: &[u64])
+/// Lets a tombstone at the noted place go.
+pub fn sweep_place(edges: &mut Vec<EdgeRows>, row: &NotedRow, values: &[u64])
     requires stored { AreStored edges.old.items }
-    requires edge { note.now.edge < length edges.old.items }
-    requires within { IsNoteWithin (length values.now) note.now }
-    ensures becomes { SettlesPlace edges.old.items edges.new.items (place_of values.now note.now) }
-    ensures freed { IsEmptiedAt edges.new.items note.now.edge (source_of values.now note.now) → ⊥ }
+    requires edge { row.now.edge < length edges.old.items }
+    requires within { IsWithin (length values.now) row.now }
+    ensures { PlaceBecomes edges.old.items edges.new.items (place_of values.now row.now) (now_at_place edges.old.items (place_of values.now row.now)) }
 {
-    let edge = &mut edges[note.edge as usize];
-    edge.settle(note.source(values), note.key(values));
+    let edge = &mut edges[row.edge as usize];
+    edge.sweep(row.source(values), row.key(values));
 }
 
-/// Makes the rows at the noted places what they were as taken.
-pub fn revert_places(edges: &mut Vec<EdgeRows>, notes: &[Note], values: &[u64])
-    requires stored { AreStored edges.old.items }
-    requires noted { AreNoted edges.old.items (places_of values.now notes.now) }
-    requires emptied { AreEmptiedNoted edges.old.items (places_of values.now notes.now) }
-    requires within { AreWithin (length edges.old.items) (length values.now) notes.now }
+/// Undoes the noted changes, from the last on: makes the rows what they were as taken. Of those that
+/// weren't there then tombstones are left.
+pub fn put_back_places(edges: &mut Vec<EdgeRows>, notes: &[Note], values: &[u64])
+    requires { IsFragment edges.old.items notes.now values.now }
     ensures stored { AreStored edges.new.items }
     ensures shapes { shapes edges.new.items ≡ shapes edges.old.items }
-    ensures now { (e : _) (s k : _) → found_by now_in edges.new.items e s k ≡ found_by taken_in edges.old.items e s k }
-    ensures taken { (e : _) (s k : _) → found_by taken_in edges.new.items e s k ≡ found_by taken_in edges.old.items e s k }
-    ensures freed { AreEmptiedNoted edges.new.items [] }
+    ensures now { listing now_in edges.new.items ≡ taken_rows edges.old.items notes.now values.now }
+    ensures noted { AreNoted edges.new.items values.now notes.now }
+    ensures tombstones { AreTombstonesNoted RolledBack edges.new.items values.now notes.now }
+    ensures emptied { NoneIsEmptied edges.new.items }
 {
-    for note in notes {
-        revert_place(edges, note, values);
+    for at in (0..notes.len()).rev() {
+        let note = &notes[at];
+        put_back_place(edges, &note.row, values, note.count);
     }
 }
 
-/// Makes the rows at the noted places count as taken.
-pub fn settle_places(edges: &mut Vec<EdgeRows>, notes: &[Note], values: &[u64])
+/// Lets the tombstones go that are left at noted places.
+pub fn sweep_places(edges: &mut Vec<EdgeRows>, notes: &[Note], values: &[u64], after: Sweep)
     requires stored { AreStored edges.old.items }
-    requires noted { AreNoted edges.old.items (places_of values.now notes.now) }
-    requires emptied { AreEmptiedNoted edges.old.items (places_of values.now notes.now) }
-    requires within { AreWithin (length edges.old.items) (length values.now) notes.now }
+    requires noted { AreNoted edges.old.items values.now notes.now }
+    requires tombstones { AreTombstonesNoted after edges.old.items values.now notes.now }
+    requires emptied { NoneIsEmptied edges.old.items }
     ensures stored { AreStored edges.new.items }
     ensures shapes { shapes edges.new.items ≡ shapes edges.old.items }
     ensures now { (e : _) (s k : _) → found_by now_in edges.new.items e s k ≡ found_by now_in edges.old.items e s k }
-    ensures taken { (e : _) (s k : _) → found_by taken_in edges.new.items e s k ≡ found_by now_in edges.old.items e s k }
-    ensures freed { AreEmptiedNoted edges.new.items [] }
+    ensures swept { (e : _) (s k : _) → found_by kept_in edges.new.items e s k ≡ found_by now_in edges.new.items e s k }
+    ensures emptied { NoneIsEmptied edges.new.items }
 {
     for note in notes {
-        settle_place(edges, note, values);
+        if note.is_swept(after) {
+            sweep_place(edges, &note.row, values);
+        }
     }
 }

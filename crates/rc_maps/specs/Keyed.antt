@@ -1,19 +1,22 @@
 -- Entries of tables, by their keys' values.
 use Rattle.std.specs.Prelude.{ℕ, Bool, List, [], ◌∷◌, T, map, is_some}
-use Rattle.std.specs.FinMap.{is_sorted}
+use Rattle.std.specs.FinMap as fin
+use Rattle.std.specs.FinMap.{FinMap, is_sorted}
 use Rattle.std.specs.List.{IsDistinct}
 use Rattle.std.specs.Map.{keys_of}
 use Rattle.std.proofs.Common.{Vec, Global}
 use Rattle.rc_edges.specs.Values.{Values, values_cmp, values_eq}
-use Rattle.rc_edges.specs.EdgeMap.{extra_of}
-use Rattle.rc_edges.specs.Entry.{now_of}
-use Rattle.rc_edges.specs.ListMap.{rows_of as rows_in_order}
-use Rattle.rc_edges.specs.declared.entry.Entry.{Entry}
+use Rattle.rc_edges.specs.EdgeMap.{Counted, present}
+use Rattle.rc_edges.specs.ListMap.{values_in}
 use Rattle.rc_maps.specs.declared.keyed.Keyed.{Keyed}
 
 -- entries by plain numbers, as those by lists of one value
 abbrev pub by_one : {X : Type 0} → List (ℕ × X) → List (Values × X)
 by_one es = map (λ e. (e.0 ∷ [], e.1)) es
+
+-- the map of entries by plain numbers
+abbrev pub entries_one : {X : Type 0} → List (ℕ × X) → FinMap values_cmp X
+entries_one es = fin.from_entries (by_one es)
 
 -- entries by arrays of two numbers, which are the lists of their values already, in the form of the others
 abbrev pub by_two : {X : Type 0} → List (List ℕ × X) → List (Values × X)
@@ -35,9 +38,10 @@ pair_of k = (k.key.now, k.value.now)
 abbrev pub IsKeyed : {X : Type 0} → List (Values × X) → Type 0
 IsKeyed es = T (is_sorted values_cmp es)
 
-abbrev pub has_row : Entry → Bool
-has_row e = is_some (extra_of (now_of e))
+-- the row is there
+abbrev pub has_row : Counted → Bool
+has_row c = is_some (present c)
 
--- of each row now its key and its extra values, in the walk's order
-abbrev pub rows_of : List (Keyed Entry) → Values
-rows_of all = rows_in_order (map pair_of all)
+-- of each row that is there its key and its extra values, in the walk's order
+abbrev pub values_of_walk : List (Keyed Counted) → Values
+values_of_walk all = values_in (map pair_of all)

@@ -1,4 +1,3 @@
-pub mod EntryLaws
 pub mod HashLaws
 pub mod HashTable
 pub mod KeyLengths
@@ -8,8 +7,6 @@ pub mod OrderedTable
 pub mod OtherKeys
 pub mod PairKeys
 pub mod PushLaws
-pub mod Raised
-pub mod RaisedLaws
 pub mod Seed
 pub mod SplitLaws
 pub mod TableEdge

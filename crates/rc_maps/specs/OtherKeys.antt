@@ -19,8 +19,13 @@ others_of others = fin.from_entries (by_many others.map.entries)
 
 -- the value at the key ends as the last one written through r, and at `None` the map stays
 abbrev pub lends_other : (X : RattleType) → MutBor (OtherKeys X.Denot) → Values → Option (MutBor X.Denot) → Fml
-lends_other X others key r = LendsSo (the_row X) X others r (λ new x. OnSome r (others_of new ≡ fin.insert (others_of others.now) key x)) (λ new. new.map ≡ others.now.map)
+lends_other X others key r =
+    LendsSo (the_row X) X others r (λ new x. OnSome r (others_of new ≡ fin.insert (others_of others.now) key x)) (λ new. new.map ≡ others.now.map)
 
 -- the map is all that there is
 pub same_others : {X : Type 0} (x y : OtherKeys X) → x.map ≡ y.map → x ≡ y
-same_others x y e i = record { map = e i; none_has_two = is_prop→PathP (λ j. IsTrue (none_has_two (keys_of (e j).entries))) (λ j. Bool-set _ _) x.none_has_two y.none_has_two i }
+same_others x y e i =
+    record {
+      map = e i;
+      none_has_two = is_prop→PathP (λ j. IsTrue (none_has_two (keys_of (e j).entries))) (λ j. Bool-set _ _) x.none_has_two y.none_has_two i;
+    }

@@ -19,8 +19,13 @@ pairs_of pairs = fin.from_entries (by_two pairs.map.entries)
 
 -- the value at the key ends as the last one written through r, and at `None` the map stays
 abbrev pub lends_paired : (X : RattleType) → MutBor (PairKeys X.Denot) → Values → Option (MutBor X.Denot) → Fml
-lends_paired X pairs key r = LendsSo (the_row X) X pairs r (λ new x. OnSome r (pairs_of new ≡ fin.insert (pairs_of pairs.now) key x)) (λ new. new.map ≡ pairs.now.map)
+lends_paired X pairs key r =
+    LendsSo (the_row X) X pairs r (λ new x. OnSome r (pairs_of new ≡ fin.insert (pairs_of pairs.now) key x)) (λ new. new.map ≡ pairs.now.map)
 
 -- the map is all that there is
 pub same_pairs : {X : Type 0} (x y : PairKeys X) → x.map ≡ y.map → x ≡ y
-same_pairs x y e i = record { map = e i; all_have_two = is_prop→PathP (λ j. IsTrue (all_have_two (keys_of (e j).entries))) (λ j. Bool-set _ _) x.all_have_two y.all_have_two i }
+same_pairs x y e i =
+    record {
+      map = e i;
+      all_have_two = is_prop→PathP (λ j. IsTrue (all_have_two (keys_of (e j).entries))) (λ j. Bool-set _ _) x.all_have_two y.all_have_two i;
+    }

@@ -5,13 +5,8 @@ ghost use Rattle.std.specs.Borrow.{sem};
 ghost use Rattle.std.specs.List.{All};
 ghost use Rattle.std.specs.Option.{option_copied_mut};
 ghost use Rattle.std.specs.FinMap as fin;
-ghost use Rattle.std.specs.FinMap.{FinMap};
-ghost use Rattle.rc_edges.specs.Values.{Values, values_cmp};
-ghost use Rattle.rc_edges.specs.EdgeMap.{HasExtra, HasWidth, count_of, listed};
-ghost use Rattle.rc_edges.specs.Entry.{rows_in};
-ghost use Rattle.rc_edges.specs.declared.entry.Entry as entry;
+ghost use Rattle.rc_edges.specs.EdgeMap.{Rows, HasExtra, HasWidth, count_at, current, found, listed, once_more};
 ghost use Rattle.rc_maps.specs.Keyed.{AreApart, pair_of};
-ghost use Rattle.rc_maps.specs.Raised.{IsRaised, row_at};
 ghost use Rattle.rc_maps.specs.TableEdge.{lends_entry};
 
 use crate::Keyed;
@@ -22,7 +17,7 @@ use std::alloc::Global;
 /// A table of entries by their keys.
 pub trait EntryTable: Sized {
     /// The entries by their keys.
-    ghost entries: { Self → FinMap values_cmp entry.Entry };
+    ghost entries: { Self → Rows };
 
     /// Whether only keys of one column are taken.
     ghost one_column: { Self → Bool };
@@ -41,13 +36,14 @@ pub trait EntryTable: Sized {
         ensures value { option_copied_mut result ≡ fin.get (entries self.old) key.now };
 
     /// Raises the count of the entry's row at the key by 1, or puts a new entry with the row's count 1
-    /// there. Where memory is wanted nothing changes. Costs one search, and a second one for a new key
-    /// in a block of its own.
-    fn raise(&mut self, alloc: Global, key: &[u64], extra: &[u64]) -> Result<(), Memory>
+    /// there, and answers the count before. Where memory is wanted nothing changes. Costs one search,
+    /// and a second one for a new key in a block of its own.
+    fn raise(&mut self, alloc: Global, key: &[u64], extra: &[u64]) -> Result<u64, Memory>
         requires width { HasWidth (one_column self.old) key.now }
-        requires room { count_of (row_at (entries self.old) key.now) < 2 ^ 63 }
-        requires same { HasExtra (row_at (entries self.old) key.now) extra.now }
-        ensures ok { OnOk result (IsRaised (entries self.old) (entries self.new) key.now extra.now) }
+        requires room { count_at (entries self.old) key.now < 2 ^ 63 }
+        requires same { HasExtra (found (entries self.old) key.now) extra.now }
+        ensures ok { OnOk result (entries self.new ≡ once_more (entries self.old) key.now extra.now) }
+        ensures before { IfOk result (λ before. before ≡ count_at (entries self.old) key.now) }
         ensures err { OnErr result (entries self.new ≡ entries self.old) }
         ensures width { one_column self.new ≡ one_column self.old };
 
@@ -60,19 +56,21 @@ pub trait EntryTable: Sized {
 
     /// The same in two searches for a key that isn't there, since one that is there is not to cost a
     /// block: a table's `raise` for keys in blocks of their own.
-    fn raise_any(&mut self, alloc: Global, key: &[u64], extra: &[u64]) -> Result<(), Memory>
+    fn raise_any(&mut self, alloc: Global, key: &[u64], extra: &[u64]) -> Result<u64, Memory>
         requires width { HasWidth (one_column self.old) key.now }
-        requires room { count_of (row_at (entries self.old) key.now) < 2 ^ 63 }
-        requires same { HasExtra (row_at (entries self.old) key.now) extra.now }
-        ensures ok { OnOk result (IsRaised (entries self.old) (entries self.new) key.now extra.now) }
+        requires room { count_at (entries self.old) key.now < 2 ^ 63 }
+        requires same { HasExtra (found (entries self.old) key.now) extra.now }
+        ensures ok { OnOk result (entries self.new ≡ once_more (entries self.old) key.now extra.now) }
+        ensures before { IfOk result (λ before. before ≡ count_at (entries self.old) key.now) }
         ensures err { OnErr result (entries self.new ≡ entries self.old) }
         ensures width { one_column self.new ≡ one_column self.old }
     {
         if let Some(entry) = self.entry_mut(key) {
-            return entry.raise(extra);
+            return entry.raise(alloc, extra);
         }
         let entry = Entry::new(alloc, extra)?;
-        self.put(key, entry)
+        self.put(key, entry)?;
+        Ok(0)
     }
 
     /// Takes out the entry at the key, if there is one.
@@ -86,16 +84,16 @@ pub trait EntryTable: Sized {
         ensures entries { IfOk result (λ all. fin.from_entries (map pair_of all.items) ≡ entries self.now) }
         ensures widths { IfOk result (λ all. All (λ k. HasWidth (one_column self.now) k.key.now) all.items) };
 
-    /// Adds for each row now its key and then its extra values at the end of the list, rising by the
-    /// keys. Where memory is wanted the list stays as it was. The allocator is for the list that a
-    /// hash table sorts; a table in the order of its keys takes nothing from it.
+    /// Adds for each row that is there its key and then its extra values at the end of the list,
+    /// rising by the keys. Where memory is wanted the list stays as it was. The allocator is for the
+    /// list that a hash table sorts; a table in the order of its keys takes nothing from it.
     fn push_rising(&self, alloc: Global, out: &mut Vec<u64>) -> Result<(), Memory>
-        ensures ok { OnOk result (out.new.items ≡ out.old.items ++ listed (rows_in (entries self.now)).now) }
+        ensures ok { OnOk result (out.new.items ≡ out.old.items ++ listed (entries self.now)) }
         ensures err { OnErr result (out.new.items ≡ out.old.items) };
 
-    /// How many entries have a row now.
+    /// How many entries' rows are there.
     fn count(&self) -> u64
-        ensures { result ≡ fin.len (rows_in (entries self.now)).now };
+        ensures { result ≡ fin.len (current (entries self.now)) };
 
     /// Whether there is no entry.
     fn has_none(&self) -> bool

@@ -5,10 +5,9 @@ ghost use Rattle.std.specs.List.{All};
 ghost use Rattle.std.specs.Borrow.{sem};
 ghost use Rattle.std.specs.Option.{option_copied_mut};
 ghost use Rattle.std.specs.FinMap as fin;
-ghost use Rattle.rc_edges.specs.EdgeMap.{HasExtra, HasWidth, count_of};
+ghost use Rattle.rc_edges.specs.EdgeMap.{HasExtra, HasWidth, count_at, found, once_more};
 ghost use Rattle.rc_maps.specs.HashTable.{entries_of, has_one_column, lends_value};
-ghost use Rattle.rc_maps.specs.Keyed.{AreApart, pair_of};
-ghost use Rattle.rc_maps.specs.Raised.{IsRaised, entries_one, row_at};
+ghost use Rattle.rc_maps.specs.Keyed.{AreApart, entries_one, pair_of};
 
 use crate::keyed::{add_rows, has_row, only};
 use crate::other_keys::OtherKeys;
@@ -204,7 +203,7 @@ impl EntryTable for HashTable<Entry> {
         self.get_mut(key)
     }
 
-    fn raise(&mut self, alloc: Global, key: &[u64], extra: &[u64]) -> Result<(), Memory> {
+    fn raise(&mut self, alloc: Global, key: &[u64], extra: &[u64]) -> Result<u64, Memory> {
         match self {
             HashTable::One(map) => {
                 let Some(only) = only(key) else {
@@ -266,18 +265,19 @@ fn raise_one(
     alloc: Global,
     key: u64,
     extra: &[u64],
-) -> Result<(), Memory>
-    requires room { count_of (row_at (entries_one map.old.entries) (key ∷ [])) < 2 ^ 63 }
-    requires same { HasExtra (row_at (entries_one map.old.entries) (key ∷ [])) extra.now }
-    ensures ok { OnOk result (IsRaised (entries_one map.old.entries) (entries_one map.new.entries) (key ∷ []) extra.now) }
+) -> Result<u64, Memory>
+    requires room { count_at (entries_one map.old.entries) (key ∷ []) < 2 ^ 63 }
+    requires same { HasExtra (found (entries_one map.old.entries) (key ∷ [])) extra.now }
+    ensures ok { OnOk result (entries_one map.new.entries ≡ once_more (entries_one map.old.entries) (key ∷ []) extra.now) }
+    ensures before { IfOk result (λ before. before ≡ count_at (entries_one map.old.entries) (key ∷ [])) }
     ensures err { OnErr result (entries_one map.new.entries ≡ entries_one map.old.entries) }
 {
     match map.entry(key)? {
-        hash_map::Entry::Occupied(found) => found.into_mut().raise(extra),
+        hash_map::Entry::Occupied(own) => own.into_mut().raise(alloc, extra),
         hash_map::Entry::Vacant(place) => {
             let entry = Entry::new(alloc, extra)?;
             place.insert(entry);
-            Ok(())
+            Ok(0)
         }
     }
 }

@@ -1,7 +1,7 @@
 //! Values with their keys, as a walk over a table gathers them.
 
 ghost use Rattle.std.specs.Prelude.{◌≡◌, [], ◌∷◌, ◌++◌, length, take, IfSome, IfNone, OnOk, OnErr};
-ghost use Rattle.rc_maps.specs.Keyed.{has_row, rows_of};
+ghost use Rattle.rc_maps.specs.Keyed.{has_row, values_of_walk};
 
 use rc_edges::Entry;
 use rc_tuple::Memory;
@@ -13,17 +13,17 @@ pub struct Keyed<'a, V> {
     pub value: &'a V,
 }
 
-/// Whether the entry has a row now.
+/// Whether the entry's row is there.
 pub(crate) fn has_row(entry: &Entry) -> bool
     ensures { result ≡ has_row entry.now }
 {
-    entry.extra().is_some()
+    !entry.is_tombstone()
 }
 
-/// Adds for each row now its key and then its extra values at the end of the list, in their order.
-/// Where memory is wanted the list stays as it was.
+/// Adds for each row that is there its key and then its extra values at the end of the list, in
+/// their order. Where memory is wanted the list stays as it was.
 pub(crate) fn add_rows(all: &[Keyed<'_, Entry>], out: &mut Vec<u64>) -> Result<(), Memory>
-    ensures ok { OnOk result (out.new.items ≡ out.old.items ++ rows_of all.now) }
+    ensures ok { OnOk result (out.new.items ≡ out.old.items ++ values_of_walk all.now) }
     ensures err { OnErr result (out.new.items ≡ out.old.items) }
 {
     let len = out.len();
@@ -38,7 +38,7 @@ pub(crate) fn add_rows(all: &[Keyed<'_, Entry>], out: &mut Vec<u64>) -> Result<(
 
 /// Adds each row's key and extra values at the end; where memory is wanted some may have been added.
 fn push_rows(all: &[Keyed<'_, Entry>], out: &mut Vec<u64>) -> Result<(), Memory>
-    ensures ok { OnOk result (out.new.items ≡ out.old.items ++ rows_of all.now) }
+    ensures ok { OnOk result (out.new.items ≡ out.old.items ++ values_of_walk all.now) }
     ensures err { OnErr result (take (length out.old.items) out.new.items ≡ out.old.items) }
 {
     // An entry with a row adds its key, which has a value at least, but for the only one of an edge

@@ -5,11 +5,9 @@ ghost use Rattle.std.specs.List.{All};
 ghost use Rattle.std.specs.Borrow.{sem};
 ghost use Rattle.std.specs.Option.{option_copied_mut};
 ghost use Rattle.std.specs.FinMap as fin;
-ghost use Rattle.rc_edges.specs.EdgeMap.{HasExtra, HasWidth, count_of, listed};
-ghost use Rattle.rc_edges.specs.Entry.{rows_in};
+ghost use Rattle.rc_edges.specs.EdgeMap.{HasExtra, HasWidth, count_at, found, listed, once_more};
 ghost use Rattle.rc_maps.specs.OrderedTable.{entries_of, has_one_column, lends_value};
-ghost use Rattle.rc_maps.specs.Keyed.{IsKeyed, pair_of};
-ghost use Rattle.rc_maps.specs.Raised.{IsRaised, entries_one, row_at};
+ghost use Rattle.rc_maps.specs.Keyed.{IsKeyed, entries_one, pair_of};
 
 use crate::keyed::{has_row, only};
 use crate::{EntryTable, Keyed};
@@ -152,7 +150,7 @@ impl OrderedTable<Entry> {
     /// Adds each row's key and extra values at the end, rising by the keys; where memory is wanted
     /// some may have been added. Takes no memory but the list's.
     fn push_rows(&self, out: &mut Vec<u64>) -> Result<(), Memory>
-        ensures ok { OnOk result (out.new.items ≡ out.old.items ++ listed (rows_in (entries_of self.now)).now) }
+        ensures ok { OnOk result (out.new.items ≡ out.old.items ++ listed (entries_of self.now)) }
         ensures err { OnErr result (take (length out.old.items) out.new.items ≡ out.old.items) }
     {
         match self {
@@ -194,7 +192,7 @@ impl EntryTable for OrderedTable<Entry> {
         self.get_mut(key)
     }
 
-    fn raise(&mut self, alloc: Global, key: &[u64], extra: &[u64]) -> Result<(), Memory> {
+    fn raise(&mut self, alloc: Global, key: &[u64], extra: &[u64]) -> Result<u64, Memory> {
         match self {
             OrderedTable::One(map) => {
                 let Some(only) = only(key) else {
@@ -254,18 +252,19 @@ fn raise_one(
     alloc: Global,
     key: u64,
     extra: &[u64],
-) -> Result<(), Memory>
-    requires room { count_of (row_at (entries_one map.old.entries) (key ∷ [])) < 2 ^ 63 }
-    requires same { HasExtra (row_at (entries_one map.old.entries) (key ∷ [])) extra.now }
-    ensures ok { OnOk result (IsRaised (entries_one map.old.entries) (entries_one map.new.entries) (key ∷ []) extra.now) }
+) -> Result<u64, Memory>
+    requires room { count_at (entries_one map.old.entries) (key ∷ []) < 2 ^ 63 }
+    requires same { HasExtra (found (entries_one map.old.entries) (key ∷ [])) extra.now }
+    ensures ok { OnOk result (entries_one map.new.entries ≡ once_more (entries_one map.old.entries) (key ∷ []) extra.now) }
+    ensures before { IfOk result (λ before. before ≡ count_at (entries_one map.old.entries) (key ∷ [])) }
     ensures err { OnErr result (entries_one map.new.entries ≡ entries_one map.old.entries) }
 {
     match map.entry(key)? {
-        btree_map::Entry::Occupied(found) => found.into_mut().raise(extra),
+        btree_map::Entry::Occupied(own) => own.into_mut().raise(alloc, extra),
         btree_map::Entry::Vacant(place) => {
             let entry = Entry::new(alloc, extra)?;
             place.insert(entry);
-            Ok(())
+            Ok(0)
         }
     }
 }

@@ -64,10 +64,9 @@ impl<V> PairKeys<V> {
 }
 
 impl PairKeys<Entry> {
-    ghost use Rattle.std.specs.Prelude.{◌<◌, ◌^◌, OnOk, OnErr};
-    ghost use Rattle.rc_edges.specs.EdgeMap.{HasExtra, count_of};
+    ghost use Rattle.std.specs.Prelude.{◌<◌, ◌^◌, IfOk, OnOk, OnErr};
+    ghost use Rattle.rc_edges.specs.EdgeMap.{HasExtra, count_at, found, once_more};
     ghost use Rattle.rc_maps.specs.PairKeys.{pairs_of};
-    ghost use Rattle.rc_maps.specs.Raised.{IsRaised, row_at};
 
     /// Raises the entry at the key, or puts a new one there, in one search.
     pub(crate) fn raise(
@@ -75,19 +74,20 @@ impl PairKeys<Entry> {
         alloc: Global,
         key: &[u64; 2],
         extra: &[u64],
-    ) -> Result<(), Memory>
+    ) -> Result<u64, Memory>
         requires two { length key.now ≡ 2 }
-        requires room { count_of (row_at (pairs_of self.old) key.now) < 2 ^ 63 }
-        requires same { HasExtra (row_at (pairs_of self.old) key.now) extra.now }
-        ensures ok { OnOk result (IsRaised (pairs_of self.old) (pairs_of self.new) key.now extra.now) }
+        requires room { count_at (pairs_of self.old) key.now < 2 ^ 63 }
+        requires same { HasExtra (found (pairs_of self.old) key.now) extra.now }
+        ensures ok { OnOk result (pairs_of self.new ≡ once_more (pairs_of self.old) key.now extra.now) }
+        ensures before { IfOk result (λ before. before ≡ count_at (pairs_of self.old) key.now) }
         ensures err { OnErr result (pairs_of self.new ≡ pairs_of self.old) }
     {
         match self.map.entry(*key)? {
-            hash_map::Entry::Occupied(found) => found.into_mut().raise(extra),
+            hash_map::Entry::Occupied(own) => own.into_mut().raise(alloc, extra),
             hash_map::Entry::Vacant(place) => {
                 let entry = Entry::new(alloc, extra)?;
                 place.insert(entry);
-                Ok(())
+                Ok(0)
             }
         }
     }

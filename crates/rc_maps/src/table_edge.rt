@@ -12,9 +12,9 @@ use std::marker::Model;
 
 /// Entries in a table by their keys.
 ///
-/// `get` looks up once; `add`, `sub`, `revert` and `settle` do once, and a second time where an
-/// entry goes, or one comes with a key in a block of its own. `scan`, `len` and `copy` walk all
-/// entries.
+/// `get`, `add`, `sub` and `put_back` look up once, and `add` a second time where an entry comes with
+/// a key in a block of its own; `sweep` does once, and a second time where an entry goes. `scan`, `len`
+/// and `copy` walk all entries.
 #[derive(Drop, Debug)]
 pub struct TableEdge<T: EntryTable> {
     table: T,
@@ -37,11 +37,7 @@ impl<T: EntryTable> Model for TableEdge<T> {
 
     ghost coded = { table_rows_code };
 
-    ghost use Rattle.rc_maps.specs.TableEdge.{NoneIsGone, rows_by};
-
-    ghost view = { λ a. rows_by (T.one_column a.table) (T.entries a.table) };
-
-    ghost invariant = { λ a. NoneIsGone (T.entries a.table) };
+    ghost view = { λ a. record { one_column = T.one_column a.table; rows = T.entries a.table } };
 }
 
 impl<T: EntryTable> TableEdge<T> {
@@ -78,44 +74,35 @@ impl TableEdge<OrderedTable<Entry>> {
 }
 
 impl<T: EntryTable + Drop> EdgeMap for TableEdge<T> {
-    ghost rows = { λ map. map.now };
-
-    ghost rows_taken = { λ map. map.taken };
+    ghost rows = { λ map. map.rows };
 
     ghost one_column = { λ map. map.one_column };
 
     ghost may_take = { λ map key. HasWidth map.one_column key };
 
-    fn add(&mut self, key: &[u64], extra: &[u64]) -> Result<(), Memory> {
+    fn add(&mut self, key: &[u64], extra: &[u64]) -> Result<u64, Memory> {
         self.table.raise(self.alloc, key, extra)
     }
 
-    fn sub(&mut self, key: &[u64]) {
+    fn sub(&mut self, key: &[u64]) -> u64 {
         let Some(entry) = self.table.entry_mut(key) else {
             unreachable!();
         };
-        entry.lower();
-        if entry.is_gone() {
-            self.table.take_out(key);
-        }
+        entry.lower()
     }
 
-    fn revert(&mut self, key: &[u64]) {
+    fn put_back(&mut self, key: &[u64], extra: &[u64], count: u64) {
         let Some(entry) = self.table.entry_mut(key) else {
-            return;
+            unreachable!();
         };
-        entry.revert();
-        if entry.is_gone() {
-            self.table.take_out(key);
-        }
+        entry.put_back(extra, count);
     }
 
-    fn settle(&mut self, key: &[u64]) {
-        let Some(entry) = self.table.entry_mut(key) else {
+    fn sweep(&mut self, key: &[u64]) {
+        let Some(entry) = self.table.entry(key) else {
             return;
         };
-        entry.settle();
-        if entry.is_gone() {
+        if entry.is_tombstone() {
             self.table.take_out(key);
         }
     }

@@ -15,6 +15,7 @@ pub loop-item-preserved : goal.loop-item-preserved
 loop-item-preserved c =
     let so_far = count_in (take c.loop-item.item-index c.args.items.now) in
     let e : count_in (take (c.loop-item.item-index + 1) c.args.items.now) ≡ so_far + 1 =
-    count_next c.args.items.now c.loop-item.item-index c.item-item.result (Some c.in-Some.field-0.now) c.loop-item-test.true c.item-item.is c.in-Some.ensures in
+    count_next c.args.items.now c.loop-item.item-index c.item-item.result (Some c.in-Some.field-0.now) c.loop-item-test.true
+    c.item-item.is c.in-Some.ensures in
     let h : c.loop-item.count ≡ so_far = c.loop-item.invariant.0 in
     (omega arith, omega arith)

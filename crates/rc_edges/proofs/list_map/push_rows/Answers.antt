@@ -1,11 +1,13 @@
 use Rattle.std.proofs.Common.{◌∷◌, [], ◌++◌, ap, ◌∙◌}
 use Rattle.rc_edges.specs.Values.{Values}
-use Rattle.rc_edges.specs.ListMap.{rows_of}
+use Rattle.rc_edges.specs.ListMap.{values_in}
 use Rattle.rc_edges.specs.ListMapLaws.{rows_pushed}
 use Rattle.rc_edges.proofs.list_map.push_rows.Goals as goal
 
 pub loop-item-preserved : goal.loop-item-preserved
 loop-item-preserved c =
-    rows_pushed c.args.out.now.items c.loop-item.out.items c.push_row.new.out.items c.args.items.now c.loop-item.item-index c.item-item.result c.loop-item.invariant
-    (c.in_ok-push_row.ensures.ok ∙ ap (λ (z : Values). c.loop-item.out.items ++ rows_of ((z, c.item-item.result.1) ∷ [])) c.values.ensures)
+    rows_pushed c.args.out.now.items c.loop-item.out.items c.push_row.new.out.items c.args.items.now c.loop-item.item-index
+    c.item-item.result c.loop-item.invariant
+    (c.in_ok-push_row.ensures.ok
+    ∙ ap (λ (z : Values). c.loop-item.out.items ++ values_in ((z, c.item-item.result.1) ∷ [])) c.values.ensures)
     c.loop-item-test.true c.item-item.is

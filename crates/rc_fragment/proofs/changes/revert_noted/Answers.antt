@@ -1,40 +1,28 @@
-use Rattle.std.proofs.Common.{◌<◌, [], length, sym, subst, ◌∙◌}
+use Rattle.std.proofs.Common.{[], sym, subst, ◌∙◌}
 use Rattle.std.specs.Prelude.{List}
-use Rattle.rc_tuple.specs.RisingSet.{In}
-use Rattle.rc_fragment.specs.Container.{now_in, taken_in}
-use Rattle.rc_fragment.specs.Notes.{AreEmptiedNoted, IsFragment, IsNoteWithin, places_of}
+use Rattle.rc_fragment.specs.Container.{now_in}
+use Rattle.rc_fragment.specs.Fragment.{AreNoted, IsFragment}
+use Rattle.rc_fragment.specs.Notes.{taken_rows}
 use Rattle.rc_fragment.specs.declared.edge_rows.EdgeRows.{EdgeRows}
 use Rattle.rc_fragment.proofs.ChangeLemmas.{same_listing}
 use Rattle.rc_fragment.proofs.PlaceLemmas.{fragment_clear}
-use Rattle.rc_fragment.proofs.RowLemmas.{filed_now, filed_taken}
+use Rattle.rc_fragment.proofs.RowLemmas.{filed_now}
 use Rattle.rc_fragment.proofs.changes.revert_noted.Goals as goal
 
-pub revert_places-requires-clause-within : goal.revert_places-requires-clause-within
-revert_places-requires-clause-within c = λ m h.
-    let a : In m c.args.notes.now.items = subst (In m) c.deref.ensures.value h in
-    let w : (m.edge < length c.args.edges.now.items) × IsNoteWithin (length c.args.values.now.items) m = c.requires.within m a in
-    (w.0, subst (λ z. IsNoteWithin (length z) m) (sym c.deref-2.ensures.value) w.1)
-
-pub revert_places-requires-clause-emptied : goal.revert_places-requires-clause-emptied
-revert_places-requires-clause-emptied c =
-    let edges : List EdgeRows = c.args.edges.now.items in
-    subst (λ z. AreEmptiedNoted edges (places_of z c.deref.result.now)) (sym c.deref-2.ensures.value)
-    (subst (λ z. AreEmptiedNoted edges (places_of c.args.values.now.items z)) (sym c.deref.ensures.value) c.requires.emptied)
+pub sweep_places-requires-clause-noted : goal.sweep_places-requires-clause-noted
+sweep_places-requires-clause-noted c =
+    let mid : List EdgeRows = c.put_back_places.new.edges.items in
+    subst (λ z. AreNoted mid z c.deref-3.result.now) (c.deref-2.ensures.value ∙ sym c.deref-4.ensures.value) (subst (AreNoted mid c.deref-2.result.now) (c.deref.ensures.value ∙ sym c.deref-3.ensures.value) c.put_back_places.ensures.noted)
 
 pub returns-clause-fragment : goal.returns-clause-fragment
 returns-clause-fragment c =
-    let new : List EdgeRows = c.revert_places.new.edges.items in
+    let new : List EdgeRows = c.sweep_places.new.edges.items in
     subst (λ z. IsFragment new z c.forget.new.values.items) (sym c.forget.ensures.notes) (subst (IsFragment new []) (sym c.forget.ensures.values)
-    (fragment_clear new c.revert_places.ensures.stored (λ e s k. c.revert_places.ensures.now e s k ∙ sym (c.revert_places.ensures.taken e s k)) c.revert_places.ensures.freed))
+    (fragment_clear new c.sweep_places.ensures.stored c.sweep_places.ensures.swept c.sweep_places.ensures.emptied))
 
 pub returns-clause-now : goal.returns-clause-now
 returns-clause-now c =
-    let edges : List EdgeRows = c.args.edges.now.items in
-    let new : List EdgeRows = c.revert_places.new.edges.items in
-    same_listing now_in taken_in new edges (filed_now new c.revert_places.ensures.stored) (filed_taken edges c.requires.stored) c.revert_places.ensures.shapes c.revert_places.ensures.now
-
-pub returns-clause-taken : goal.returns-clause-taken
-returns-clause-taken c =
-    let edges : List EdgeRows = c.args.edges.now.items in
-    let new : List EdgeRows = c.revert_places.new.edges.items in
-    same_listing taken_in taken_in new edges (filed_taken new c.revert_places.ensures.stored) (filed_taken edges c.requires.stored) c.revert_places.ensures.shapes c.revert_places.ensures.taken
+    let mid : List EdgeRows = c.put_back_places.new.edges.items in
+    let new : List EdgeRows = c.sweep_places.new.edges.items in
+    same_listing now_in now_in new mid (filed_now new c.sweep_places.ensures.stored) (filed_now mid c.put_back_places.ensures.stored) c.sweep_places.ensures.shapes c.sweep_places.ensures.now
+    ∙ c.put_back_places.ensures.now ∙ (λ i. taken_rows c.args.edges.now.items (c.deref.ensures.value i) (c.deref-2.ensures.value i))

@@ -1,114 +1,90 @@
-use Rattle.std.proofs.Common.{◌≡◌, ◌++◌, ◌∷◌, [], ℕ, pred, length, Option, Some, refl, sym, ap, subst, ◌∙◌}
+use Rattle.std.proofs.Common.{◌≡◌, ◌-◌, ◌<◌, ◌≤◌, Some, refl, sym, ap, subst, ◌∙◌, arith}
 use Rattle.std.specs.Prelude.{IsSome, List}
 use Rattle.std.specs.List.{slice_get}
+use Rattle.std.specs.Vec.{vec_len, vec_capacity}
 use Rattle.rc_tuple.specs.RisingSetLaws.{slice_get_in}
-use Rattle.rc_tuple.specs.Tuple.{Pairs}
-use Rattle.rc_edges.specs.Values.{Values}
-use Rattle.rc_edges.specs.EdgeMap.{Counted, HasExtra, count_of, lowered}
-use Rattle.rc_spec.specs.CountedRows.{count_at, with_count}
+use Rattle.rc_tuple.specs.Tuple.{cols_of}
+use Rattle.rc_edges.specs.EdgeMap.{HasExtra}
 use Rattle.rc_fragment.specs.Container.{now_in}
-use Rattle.rc_fragment.specs.Listing.{AreStored, listing, found_by}
-use Rattle.rc_fragment.specs.Notes.{IsFragment, IsNoteWithin, Place, PlaceBecomes, now_at_place, taken_at_place, place_of}
+use Rattle.rc_fragment.specs.Fragment.{HasAlone, IsFragment}
+use Rattle.rc_fragment.specs.Listing.{found_by, listing, shapes}
+use Rattle.rc_fragment.specs.Notes.{now_at_place, taken_rows}
 use Rattle.rc_fragment.specs.declared.edge_rows.EdgeRows.{EdgeRows}
-use Rattle.rc_fragment.specs.declared.note.Note.{Note}
-use Rattle.rc_fragment.proofs.ChangeLemmas.{IsWholeRow, found_edge}
+use Rattle.rc_fragment.proofs.ChangeLemmas.{found_edge}
 use Rattle.rc_fragment.proofs.ListingLemmas.{extra_in, key_in, source_in}
-use Rattle.rc_fragment.proofs.PlaceLemmas.{fragment_noted}
-use Rattle.rc_fragment.proofs.RowLemmas.{there_found, there_whole, count_found_row, listing_becomes, listing_stays_taken, lowered_extra, count_lowered}
+use Rattle.rc_fragment.proofs.NotedLemmas.{IsNoteOf, at_row, out_fragment, out_taken, place_lowered, rows_lowered}
+use Rattle.rc_fragment.proofs.NoteLemmas.{room_some}
+use Rattle.rc_fragment.proofs.RowLemmas.{there_alone, there_found, there_over}
 use Rattle.rc_fragment.proofs.changes.sub_noted.Goals as goal
+use Rattle.rc_fragment.proofs.changes.sub_noted.Goals.{After-index, After-note_row-noted}
 
-pub note_row-note-requires-clause-parted : goal.note_row-note-requires-clause-parted
-note_row-note-requires-clause-parted c =
-    let edges : List EdgeRows = c.args.edges.now.items in
-    let e : ℕ = c.args.edge in
-    let row : Pairs = c.args.row.now in
-    let x : EdgeRows = c.index.result.now in
-    let n : slice_get edges e ≡ Some x = found_edge edges e x c.requires.known c.index.ensures in
-    let stored : AreStored edges = c.requires.fragment.stored in
-    (stored x (slice_get_in edges e x n)).parted
+-- ---- the edge, the row and its note
 
-pub sub_place-requires-clause-there : goal.sub_place-requires-clause-there
-sub_place-requires-clause-there c =
+number : (c : After-index) → slice_get c.args.edges.now.items c.args.edge ≡ Some c.index.result.now
+number c = found_edge c.args.edges.now.items c.args.edge c.index.result.now c.requires.known c.index.ensures
+
+covers : (c : After-index) → cols_of c.args.row.now ≡ c.index.result.now.shape.target
+covers c = there_over c.args.edges.now.items c.requires.fragment.stored c.args.edge c.index.result.now (number c) c.args.row.now c.requires.there
+
+-- what is found at the row's place is the row
+found : (c : After-index) → found_by now_in c.args.edges.now.items c.args.edge (source_in c.index.result.now.shape c.args.row.now) (key_in c.index.result.now.shape c.args.row.now) ≡ Some (extra_in c.index.result.now.shape c.args.row.now, c.requires.there.0)
+found c = there_found c.args.edges.now.items c.requires.fragment.stored c.args.edge c.index.result.now (number c) c.args.row.now c.requires.there
+
+own_row : (c : After-index) → HasExtra (found_by now_in c.args.edges.now.items c.args.edge (source_in c.index.result.now.shape c.args.row.now) (key_in c.index.result.now.shape c.args.row.now)) (extra_in c.index.result.now.shape c.args.row.now)
+own_row c = subst (λ z. HasExtra z (extra_in c.index.result.now.shape c.args.row.now)) (sym (found c)) refl
+
+own_some : (c : After-index) → IsSome (found_by now_in c.args.edges.now.items c.args.edge (source_in c.index.result.now.shape c.args.row.now) (key_in c.index.result.now.shape c.args.row.now))
+own_some c = subst IsSome (sym (found c)) refl
+
+alone : (c : After-index) → HasAlone (shapes c.args.edges.now.items) (listing now_in c.args.edges.now.items) c.args.edge c.args.row.now
+alone c = there_alone c.args.edges.now.items c.requires.fragment.stored c.args.edge c.index.result.now (number c) c.args.row.now c.requires.there
+
+note_of : (c : After-note_row-noted) → IsNoteOf c.args.edge c.index.result.now c.args.row.now c.note_row-noted.new.values.items c.note_row-noted.result
+note_of c = record { place = c.note_row-noted.ensures.place; extra = c.note_row-noted.ensures.extra; within = c.note_row-noted.ensures.within }
+
+pub note_row-noted-requires-clause-room : goal.note_row-noted-requires-clause-room
+note_row-noted-requires-clause-room c =
+    let n = c.args.notes.now in
+    let v = c.args.values.now in
+    let r : (0 < vec_capacity n - vec_len n) × (32 ≤ vec_capacity v - vec_len v) = room_some (vec_capacity n - vec_len n) (vec_capacity v - vec_len v) c.requires.owned in
+    omega (arith, r.1)
+
+pub note_row-noted-requires-clause-parted : goal.note_row-noted-requires-clause-parted
+note_row-noted-requires-clause-parted c =
     let edges : List EdgeRows = c.args.edges.now.items in
-    let e : ℕ = c.args.edge in
-    let row : Pairs = c.args.row.now in
+    (c.requires.fragment.stored c.index.result.now (slice_get_in edges c.args.edge c.index.result.now (number (goal.at.note_row-noted-requires-clause-parted c).After-index))).parted
+
+pub sub_place-before-requires-clause-there : goal.sub_place-before-requires-clause-there
+sub_place-before-requires-clause-there c =
+    let edges : List EdgeRows = c.args.edges.now.items in
     let x : EdgeRows = c.index.result.now in
-    let n : slice_get edges e ≡ Some x = found_edge edges e x c.requires.known c.index.ensures in
-    let stored : AreStored edges = c.requires.fragment.stored in
-    let s : Values = source_in x.shape row in
-    let k : Values = key_in x.shape row in
-    let extra : Values = extra_in x.shape row in
-    let there : found_by now_in edges e s k ≡ Some (extra, c.requires.there.0) = there_found edges stored e x n row c.requires.there in
-    let mine : Place = (e, s, k) in
-    let note : Note = c.note_row-note.result in
-    let same : place_of c.deref.result.now note ≡ mine = ap (λ z. place_of z note) c.deref.ensures.value ∙ c.note_row-note.ensures.place in
-    subst (λ z. IsSome (now_at_place edges z)) (sym same) (subst IsSome (sym there) refl)
+    let of : IsNoteOf c.args.edge x c.args.row.now c.note_row-noted.new.values.items c.note_row-noted.result = note_of (goal.at.sub_place-before-requires-clause-there c).After-note_row-noted in
+    subst (λ z. IsSome (now_at_place edges z)) (sym (at_row edges edges c.args.edge x c.args.row.now c.note_row-noted.new.values.items c.deref.result.now c.deref.ensures.value c.note_row-noted.result of))
+    (own_some (goal.at.sub_place-before-requires-clause-there c).After-index)
+
+-- ---- the row is taken out once
 
 pub returns-clause-fragment : goal.returns-clause-fragment
 returns-clause-fragment c =
-    let edges : List EdgeRows = c.args.edges.now.items in
-    let e : ℕ = c.args.edge in
-    let row : Pairs = c.args.row.now in
-    let x : EdgeRows = c.index.result.now in
-    let n : slice_get edges e ≡ Some x = found_edge edges e x c.requires.known c.index.ensures in
-    let stored : AreStored edges = c.requires.fragment.stored in
-    let s : Values = source_in x.shape row in
-    let k : Values = key_in x.shape row in
-    let extra : Values = extra_in x.shape row in
-    let there : found_by now_in edges e s k ≡ Some (extra, c.requires.there.0) = there_found edges stored e x n row c.requires.there in
-    let mine : Place = (e, s, k) in
-    let note : Note = c.note_row-note.result in
-    let same : place_of c.deref.result.now note ≡ mine = ap (λ z. place_of z note) c.deref.ensures.value ∙ c.note_row-note.ensures.place in
-    let new : List EdgeRows = c.sub_place.new.edges.items in
-    let v : Place → Option Counted = λ z. lowered (now_at_place edges z) in
-    let b : PlaceBecomes edges new mine (v mine) (taken_at_place edges mine) = subst (λ z. PlaceBecomes edges new z (v z) (taken_at_place edges z)) same c.sub_place.ensures in
-    let values : Values = c.args.values.now.items in
-    let more : Values = s ++ k in
-    let grown : c.note_row-note.new.values.items ≡ values ++ more = c.note_row-note.ensures.values in
-    subst (λ z. IsFragment new z c.note_row-note.new.values.items) (sym c.note_row-note.ensures.notes) (subst (IsFragment new (c.args.notes.now.items ++ note ∷ [])) (sym grown)
-    (fragment_noted edges new c.args.notes.now.items values more note mine (v mine) (taken_at_place edges mine) c.requires.fragment b
-    (ap (λ z. place_of z note) (sym grown) ∙ c.note_row-note.ensures.place) c.requires.known (subst (λ z. IsNoteWithin (length z) note) grown c.note_row-note.ensures.within)))
+    let at : After-index = (goal.at.returns-clause-fragment c).After-index in
+    subst (λ z. IsFragment c.sub_place-before.new.edges.items z c.note_row-noted.new.values.items) (sym c.push_reserved.ensures.items)
+    (out_fragment c.args.edges.now.items c.sub_place-before.new.edges.items c.args.notes.now.items c.args.values.now.items c.note_row-noted.new.values.items _ c.deref.result.now c.note_row-noted.ensures.values c.deref.ensures.value c.requires.fragment
+    c.args.edge c.index.result.now (number at) c.requires.known c.args.row.now (covers at) c.note_row-noted.result (note_of (goal.at.returns-clause-fragment c).After-note_row-noted) (own_row at) (alone at)
+    c.sub_place-before.result c.sub_place-before.ensures.before (own_some at) c.sub_place-before.ensures.becomes)
 
 pub returns-clause-now : goal.returns-clause-now
 returns-clause-now c =
     let edges : List EdgeRows = c.args.edges.now.items in
-    let e : ℕ = c.args.edge in
-    let row : Pairs = c.args.row.now in
     let x : EdgeRows = c.index.result.now in
-    let n : slice_get edges e ≡ Some x = found_edge edges e x c.requires.known c.index.ensures in
-    let stored : AreStored edges = c.requires.fragment.stored in
-    let s : Values = source_in x.shape row in
-    let k : Values = key_in x.shape row in
-    let extra : Values = extra_in x.shape row in
-    let there : found_by now_in edges e s k ≡ Some (extra, c.requires.there.0) = there_found edges stored e x n row c.requires.there in
-    let mine : Place = (e, s, k) in
-    let note : Note = c.note_row-note.result in
-    let same : place_of c.deref.result.now note ≡ mine = ap (λ z. place_of z note) c.deref.ensures.value ∙ c.note_row-note.ensures.place in
-    let new : List EdgeRows = c.sub_place.new.edges.items in
-    let v : Place → Option Counted = λ z. lowered (now_at_place edges z) in
-    let b : PlaceBecomes edges new mine (v mine) (taken_at_place edges mine) = subst (λ z. PlaceBecomes edges new z (v z) (taken_at_place edges z)) same c.sub_place.ensures in
-    let whole : IsWholeRow x.shape row = there_whole edges stored e x n row c.requires.there in
-    let was : HasExtra (now_at_place edges mine) extra = subst (λ z. HasExtra z extra) (sym there) refl in
-    let m : count_at e row (listing now_in edges) ≡ count_of (now_at_place edges mine) = count_found_row edges stored e x n row whole was in
-    listing_becomes edges stored e x n new row whole (v mine) (taken_at_place edges mine) b (lowered_extra (now_at_place edges mine) extra was) was
-    ∙ ap (λ z. with_count e row z (listing now_in edges)) (count_lowered (now_at_place edges mine) ∙ ap pred (sym m))
+    let at : After-index = (goal.at.returns-clause-now c).After-index in
+    let of : IsNoteOf c.args.edge x c.args.row.now c.note_row-noted.new.values.items c.note_row-noted.result = note_of (goal.at.returns-clause-now c).After-note_row-noted in
+    rows_lowered edges c.sub_place-before.new.edges.items c.requires.fragment.stored c.args.edge x (number at) c.args.row.now (covers at) (own_row at) (own_some at)
+    (place_lowered edges c.sub_place-before.new.edges.items c.args.edge x c.args.row.now c.note_row-noted.new.values.items c.deref.result.now c.deref.ensures.value c.note_row-noted.result of c.sub_place-before.ensures.becomes)
 
 pub returns-clause-taken : goal.returns-clause-taken
 returns-clause-taken c =
-    let edges : List EdgeRows = c.args.edges.now.items in
-    let e : ℕ = c.args.edge in
-    let row : Pairs = c.args.row.now in
-    let x : EdgeRows = c.index.result.now in
-    let n : slice_get edges e ≡ Some x = found_edge edges e x c.requires.known c.index.ensures in
-    let stored : AreStored edges = c.requires.fragment.stored in
-    let s : Values = source_in x.shape row in
-    let k : Values = key_in x.shape row in
-    let extra : Values = extra_in x.shape row in
-    let there : found_by now_in edges e s k ≡ Some (extra, c.requires.there.0) = there_found edges stored e x n row c.requires.there in
-    let mine : Place = (e, s, k) in
-    let note : Note = c.note_row-note.result in
-    let same : place_of c.deref.result.now note ≡ mine = ap (λ z. place_of z note) c.deref.ensures.value ∙ c.note_row-note.ensures.place in
-    let new : List EdgeRows = c.sub_place.new.edges.items in
-    let v : Place → Option Counted = λ z. lowered (now_at_place edges z) in
-    let b : PlaceBecomes edges new mine (v mine) (taken_at_place edges mine) = subst (λ z. PlaceBecomes edges new z (v z) (taken_at_place edges z)) same c.sub_place.ensures in
-    listing_stays_taken edges new stored mine (v mine) b
+    let at : After-index = (goal.at.returns-clause-taken c).After-index in
+    ap (λ z. taken_rows c.sub_place-before.new.edges.items z c.note_row-noted.new.values.items) c.push_reserved.ensures.items
+    ∙ out_taken c.args.edges.now.items c.sub_place-before.new.edges.items c.args.notes.now.items c.args.values.now.items c.note_row-noted.new.values.items _ c.deref.result.now c.note_row-noted.ensures.values c.deref.ensures.value c.requires.fragment
+    c.args.edge c.index.result.now (number at) c.requires.known c.args.row.now (covers at) c.note_row-noted.result (note_of (goal.at.returns-clause-taken c).After-note_row-noted) (own_row at) (alone at)
+    c.sub_place-before.result c.sub_place-before.ensures.before (own_some at) c.sub_place-before.ensures.becomes

@@ -4,7 +4,7 @@ use Rattle.std.proofs.lemmas.List.{take_more, take_all}
 use Rattle.rc_tuple.specs.RisingSet.{In}
 use Rattle.rc_tuple.specs.RisingSetLaws.{get_or_in}
 use Rattle.rc_fragment.specs.declared.edge_rows.EdgeRows.{EdgeRows}
-use Rattle.rc_fragment.proofs.CopyLemmas.{AreSameEdges, same_push, same_emptied, same_shapes, same_found_now, same_found_taken, same_stored}
+use Rattle.rc_fragment.proofs.CopyLemmas.{AreSameEdges, same_push, same_emptied, same_shapes, same_found_kept, same_stored}
 use Rattle.rc_fragment.proofs.fragment.copy_edges.Goals as goal
 
 pub copy-requires : goal.copy-requires
@@ -38,19 +38,12 @@ returns-clause-stored c =
     subst (λ z. AreSameEdges z c.loop-edge.copy.items) c.deref-edge-items.ensures.value (subst (λ z. AreSameEdges z c.loop-edge.copy.items) (take_all c.loop-edge.edge-index items c.loop-edge-test.false) c.loop-edge.invariant) in
     same_stored c.args.edges.now.items c.loop-edge.copy.items h c.requires
 
-pub returns-clause-now : goal.returns-clause-now
-returns-clause-now c =
+pub returns-clause-kept : goal.returns-clause-kept
+returns-clause-kept c =
     let items : List EdgeRows = c.deref-edge-items.result.now in
     let h : AreSameEdges c.args.edges.now.items c.loop-edge.copy.items =
     subst (λ z. AreSameEdges z c.loop-edge.copy.items) c.deref-edge-items.ensures.value (subst (λ z. AreSameEdges z c.loop-edge.copy.items) (take_all c.loop-edge.edge-index items c.loop-edge-test.false) c.loop-edge.invariant) in
-    same_found_now c.args.edges.now.items c.loop-edge.copy.items h
-
-pub returns-clause-taken : goal.returns-clause-taken
-returns-clause-taken c =
-    let items : List EdgeRows = c.deref-edge-items.result.now in
-    let h : AreSameEdges c.args.edges.now.items c.loop-edge.copy.items =
-    subst (λ z. AreSameEdges z c.loop-edge.copy.items) c.deref-edge-items.ensures.value (subst (λ z. AreSameEdges z c.loop-edge.copy.items) (take_all c.loop-edge.edge-index items c.loop-edge-test.false) c.loop-edge.invariant) in
-    same_found_taken c.args.edges.now.items c.loop-edge.copy.items h
+    same_found_kept c.args.edges.now.items c.loop-edge.copy.items h
 
 pub returns-clause-emptied : goal.returns-clause-emptied
 returns-clause-emptied c =

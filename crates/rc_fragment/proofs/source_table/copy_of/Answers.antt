@@ -44,7 +44,7 @@ loop-source-preserved c =
     let apart : AreApart (pair_of item ∷ left) =
     subst (λ (z : List (Keyed Container)). AreApart (map pair_of z)) next
     (apart_from i items (subst (λ (z : List (Keyed Container)). AreApart (map pair_of z)) (sym c.deref-source-items.ensures.value) c.in_ok-keyed.ensures.apart)) in
-    let same : seen_container c.in_ok-copy.field-0 ≡ seen_container item.value.now = λ j. (c.in_ok-copy.ensures.now j, c.in_ok-copy.ensures.taken j, c.in_ok-copy.ensures.form j) in
+    let same : seen_container c.in_ok-copy.field-0 ≡ seen_container item.value.now = λ j. (c.in_ok-copy.ensures.rows j, c.in_ok-copy.ensures.form j) in
     record {
       copied = IsCopied-more (entries_of c.args.sources.now) (pair_of item) left (entries_of c.loop-source.copy) (entries_of c.insert.new.self) c.in_ok-copy.field-0 apart
           (subst (λ (z : List (Keyed Container)). IsCopied (entries_of c.args.sources.now) (map pair_of z) (entries_of c.loop-source.copy)) next c.loop-source.invariant.copied) c.in_ok-insert.ensures.ok same;

@@ -1,52 +1,70 @@
-use Rattle.std.proofs.Common.{rules, ◌<◌, ◌^◌, [], ◌∷◌, Some, None, refl, sym, ap, subst, ◌∙◌}
+use Rattle.std.proofs.Common.{rules, ◌≡◌, ◌<◌, ◌^◌, [], ◌∷◌, Some, None, IfOk, refl, sym, ap, subst, ◌∙◌}
+use Rattle.std.specs.FinMap as fin
 use Rattle.std.specs.Option.{option_and_then}
 use Rattle.std.specs.HashMap.Entry.{entry_value}
-use Rattle.rc_edges.specs.EdgeMap.{HasExtra, count_of}
-use Rattle.rc_edges.specs.Entry.{now_of}
-use Rattle.rc_edges.specs.OneMapLaws.{on_ok}
+use Rattle.std.proofs.lemmas.Result.{on_err_weaker, on_ok_weaker}
+use Rattle.rc_edges.specs.EdgeMap.{HasExtra, count_of, present}
+use Rattle.rc_maps.specs.Keyed.{entries_one}
+use Rattle.rc_maps.specs.TableLaws.{raised, stays}
 use Rattle.rc_maps.specs.HashLaws.{changed_one, found_one}
-use Rattle.rc_maps.specs.Raised.{entries_one}
-use Rattle.rc_maps.specs.RaisedLaws.{on_err_too, raised, stays}
 use Rattle.rc_maps.proofs.hash_table.raise_one.Goals as goal
+use Rattle.rc_maps.proofs.hash_table.raise_one.Goals.{After-into_mut, In-Vacant}
+
+-- the entry that is there is the map's at the key
+kept : (c : After-into_mut) → fin.get (entries_one c.args.map.now.entries) (c.args.key ∷ []) ≡ Some c.into_mut.result.now
+kept c =
+    found_one (c.args.key ∷ []) c.args.key (Some c.into_mut.result.now) c.args.map.now.entries refl
+    (sym c.into_mut.ensures.value ∙ ap entry_value (sym c.in-Occupied.is) ∙ c.in_ok-own.ensures.value)
+
+-- where there is none the map has none at the key
+none : (c : In-Vacant) → fin.get (entries_one c.args.map.now.entries) (c.args.key ∷ []) ≡ None
+none c = found_one (c.args.key ∷ []) c.args.key None c.args.map.now.entries refl (sym (rw c.in-Vacant.is at c.in_ok-own.ensures.found))
 
 pub raise-requires-clause-room : goal.raise-requires-clause-room
 raise-requires-clause-room c =
-    let v = c.into_mut.result.now in
-    let found = sym c.into_mut.ensures.value ∙ ap entry_value (sym c.in-Occupied.is) ∙ c.in_ok-found.ensures.value in
-    let at = found_one (c.args.key ∷ []) c.args.key (Some v) c.args.map.now.entries refl found in
-    subst (λ z. count_of (option_and_then now_of z) < 2 ^ 63) at c.requires.room
+    subst (λ z. count_of z < 2 ^ 63) (kept (goal.at.raise-requires-clause-room c).After-into_mut) c.requires.room
 
 pub raise-requires-clause-same : goal.raise-requires-clause-same
 raise-requires-clause-same c =
-    let v = c.into_mut.result.now in
-    let found = sym c.into_mut.ensures.value ∙ ap entry_value (sym c.in-Occupied.is) ∙ c.in_ok-found.ensures.value in
-    let at = found_one (c.args.key ∷ []) c.args.key (Some v) c.args.map.now.entries refl found in
-    subst (λ z. HasExtra (option_and_then now_of z) c.args.extra.now) at c.requires.same
+    let at = kept (goal.at.raise-requires-clause-same c).After-into_mut in
+    subst (λ z. HasExtra (option_and_then present z) c.args.extra.now) at c.requires.same
 
 pub returns-in-Occupied-clause-ok : goal.returns-in-Occupied-clause-ok
 returns-in-Occupied-clause-ok c =
-    let v = c.into_mut.result.now in
-    let found = sym c.into_mut.ensures.value ∙ ap entry_value (sym c.in-Occupied.is) ∙ c.in_ok-found.ensures.value in
-    let at = found_one (c.args.key ∷ []) c.args.key (Some v) c.args.map.now.entries refl found in
+    let key = c.args.key ∷ [] in
+    let old = c.args.map.now.entries in
+    let at = kept (goal.at.returns-in-Occupied-clause-ok c).After-into_mut in
     let w = c.raise.new.self in
-    let u = c.in_ok-found.ensures.update.0 w in
-    on_ok c.raise.result (λ now. raised (entries_one c.args.map.now.entries) _ (c.args.key ∷ []) w (Some v) at
-    (changed_one (c.args.key ∷ []) c.args.key (Some w) c.args.map.now.entries _ refl (search rules) (search rules)) c.args.extra.now now c.raise.ensures.taken) c.raise.ensures.ok
+    let u = c.in_ok-own.ensures.update.0 w in
+    on_ok_weaker c.raise.result
+    (raised (entries_one old) _ key w (Some c.into_mut.result.now) at
+    (changed_one key c.args.key (Some w) old _ refl (search rules) (search rules)) c.args.extra.now) c.raise.ensures.ok
+
+pub returns-in-Occupied-clause-before : goal.returns-in-Occupied-clause-before
+returns-in-Occupied-clause-before c =
+    let at = kept (goal.at.returns-in-Occupied-clause-before c).After-into_mut in
+    subst (λ z. IfOk c.raise.result (λ before. before ≡ count_of z)) (sym at) c.raise.ensures.before
 
 pub returns-in-Occupied-clause-err : goal.returns-in-Occupied-clause-err
 returns-in-Occupied-clause-err c =
-    let v = c.into_mut.result.now in
-    let found = sym c.into_mut.ensures.value ∙ ap entry_value (sym c.in-Occupied.is) ∙ c.in_ok-found.ensures.value in
-    let at = found_one (c.args.key ∷ []) c.args.key (Some v) c.args.map.now.entries refl found in
+    let key = c.args.key ∷ [] in
+    let old = c.args.map.now.entries in
+    let at = kept (goal.at.returns-in-Occupied-clause-err c).After-into_mut in
     let w = c.raise.new.self in
-    let u = c.in_ok-found.ensures.update.0 w in
-    on_err_too c.raise.result (λ e. stays (entries_one c.args.map.now.entries) _ (c.args.key ∷ []) w (Some v) at
-    (changed_one (c.args.key ∷ []) c.args.key (Some w) c.args.map.now.entries _ refl (search rules) (search rules)) (ap Some e)) c.raise.ensures.err
+    let u = c.in_ok-own.ensures.update.0 w in
+    on_err_weaker c.raise.result
+    (λ e. stays (entries_one old) _ key w (Some c.into_mut.result.now) at
+    (changed_one key c.args.key (Some w) old _ refl (search rules) (search rules)) (ap Some e)) c.raise.ensures.err
 
 pub returns-in_ok-entry-in-Vacant-clause-ok : goal.returns-in_ok-entry-in-Vacant-clause-ok
 returns-in_ok-entry-in-Vacant-clause-ok c =
+    let key = c.args.key ∷ [] in
+    let old = c.args.map.now.entries in
+    let at = none (goal.at.returns-in_ok-entry-in-Vacant-clause-ok c).In-Vacant in
     let w = c.in_ok-entry-in-Vacant.entry in
-    let u = c.in_ok-found.ensures.update.0 w in
-    let found = sym (rw c.in-Vacant.is at c.in_ok-found.ensures.found) in
-    raised (entries_one c.args.map.now.entries) _ (c.args.key ∷ []) w None (found_one (c.args.key ∷ []) c.args.key None c.args.map.now.entries refl found)
-    (changed_one (c.args.key ∷ []) c.args.key (Some w) c.args.map.now.entries _ refl (search rules) (search rules)) c.args.extra.now c.in_ok-entry-in-Vacant.ensures.now c.in_ok-entry-in-Vacant.ensures.taken
+    let u = c.in_ok-own.ensures.update.0 w in
+    raised (entries_one old) _ key w None at
+    (changed_one key c.args.key (Some w) old _ refl (search rules) (search rules)) c.args.extra.now c.in_ok-entry-in-Vacant.ensures
+
+pub returns-in_ok-entry-in-Vacant-clause-before : goal.returns-in_ok-entry-in-Vacant-clause-before
+returns-in_ok-entry-in-Vacant-clause-before c = ap count_of (sym (none (goal.at.returns-in_ok-entry-in-Vacant-clause-before c).In-Vacant))

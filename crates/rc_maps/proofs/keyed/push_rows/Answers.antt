@@ -1,5 +1,5 @@
 use Rattle.std.proofs.Common.{length, take, ap, ◌∙◌}
-use Rattle.rc_maps.specs.Keyed.{rows_of}
+use Rattle.rc_maps.specs.Keyed.{values_of_walk}
 use Rattle.rc_maps.specs.PushLaws.{kept_before, on_err, walked_next}
 use Rattle.rc_maps.proofs.keyed.push_rows.Goals as goal
 
@@ -7,7 +7,8 @@ pub returns-in_err-push_row-clause-err : goal.returns-in_err-push_row-clause-err
 returns-in_err-push_row-clause-err c =
     on_err c.from_residual-in_err-push_row.result
     (ap (take (length c.args.out.now.items)) c.in_err-push_row.ensures.err
-    ∙ kept_before c.args.out.now.items (rows_of (take c.loop-keyed.keyed-index c.args.all.now)) c.loop-keyed.out.items c.loop-keyed.invariant)
+    ∙ kept_before c.args.out.now.items (values_of_walk (take c.loop-keyed.keyed-index c.args.all.now))
+    c.loop-keyed.out.items c.loop-keyed.invariant)
 
 pub loop-keyed-preserved : goal.loop-keyed-preserved
 loop-keyed-preserved c =

@@ -3,8 +3,7 @@ use Rattle.std.specs.List.{All}
 use Rattle.std.specs.FinMap as fin
 use Rattle.std.proofs.lemmas.List.{drop_all, drop_more, get_or-map, length-map}
 use Rattle.rc_edges.specs.Values.{Values}
-use Rattle.rc_edges.specs.EdgeMap.{HasWidth}
-use Rattle.rc_edges.specs.declared.entry.Entry.{Entry}
+use Rattle.rc_edges.specs.EdgeMap.{Counted, HasWidth}
 use Rattle.rc_maps.specs.Keyed.{AreApart, pair_of}
 use Rattle.rc_maps.specs.WalkLaws.{IsCopied, IsCopied-none, IsCopied-more, IsCopied-all}
 use Rattle.rc_maps.proofs.table_edge.copy_of.Goals as goal
@@ -23,15 +22,17 @@ put-requires g c =
     let w : All (λ k. HasWidth (one c.args.table.now) k.key.now) c.deref-keyed-items.result.now =
     subst (λ z. All (λ k. HasWidth (one c.args.table.now) k.key.now) z) (sym c.deref-keyed-items.ensures.value) c.in_ok-all.ensures.widths in
     subst (λ z. HasWidth z c.keyed-item.result.key.now) (sym c.loop-keyed.invariant.1)
-    (subst (λ k. HasWidth (one c.args.table.now) k.key.now) (sym c.keyed-item.is) (w c.loop-keyed.keyed-index c.keyed-item.result c.loop-keyed-test.true))
+    (subst (λ k. HasWidth (one c.args.table.now) k.key.now) (sym c.keyed-item.is)
+    (w c.loop-keyed.keyed-index c.keyed-item.result c.loop-keyed-test.true))
 
 pub loop-keyed-preserved : goal.loop-keyed-preserved
 loop-keyed-preserved g c =
     let items = c.deref-keyed-items.result.now in
     let all = map pair_of items in
     let n = c.loop-keyed.keyed-index in
-    let e : Values × Entry = pair_of c.keyed-item.result in
-    let at : e ≡ slice_index_or all n e = ap pair_of c.keyed-item.is ∙ sym (get_or-map pair_of items n c.keyed-item.result e c.loop-keyed-test.true) in
+    let e : Values × Counted = pair_of c.keyed-item.result in
+    let at : e ≡ slice_index_or all n e =
+    ap pair_of c.keyed-item.is ∙ sym (get_or-map pair_of items n c.keyed-item.result e c.loop-keyed-test.true) in
     let l : n < length all = subst (λ z. n < z) (sym (length-map items pair_of)) c.loop-keyed-test.true in
     let left : drop n all ≡ e ∷ drop (n + 1) all = drop_more all n e l ∙ ap (λ z. z ∷ drop (n + 1) all) (sym at) in (
       IsCopied-more all (drop (n + 1) all) (g.T.EntryTable.entries c.loop-keyed.copy) (g.T.EntryTable.entries c.put.new.self) e

@@ -1,94 +1,80 @@
-use Rattle.std.proofs.Common.{◌≡◌, ◌+◌, ◌<◌, Some, sym, ap, subst, ◌∙◌}
-use Rattle.std.proofs.Common.{◌^◌, length}
-use Rattle.std.specs.List.{slice_get}
-use Rattle.std.proofs.lemmas.Option.{slice_get-get_or}
-use Rattle.rc_tuple.specs.RisingSetLaws.{slice_get_in}
+use Rattle.std.proofs.Common.{◌≡◌, ◌+◌, ◌<◌, ◌^◌, None, Some, sym, ap, subst, ◌∙◌}
 use Rattle.std.specs.Prelude.{insert}
+use Rattle.std.specs.Option.{option_and_then}
+use Rattle.std.specs.FinMap as fin
 use Rattle.rc_edges.specs.Values.{Values}
-use Rattle.rc_edges.specs.EdgeMap.{Kept, count_of, HasExtra, written}
-use Rattle.rc_edges.specs.Entry.{now_of}
-use Rattle.rc_edges.specs.ListMap.{Items, IsListed, IsAt, IsGap, kept_in}
-use Rattle.rc_edges.specs.ListMapLaws.{listed_set, listed_insert, kept_row, kept_raised, now_none, now_at, writes_at, writes_gap, set_now, stays_taken, put_now, put_taken}
+use Rattle.rc_edges.specs.EdgeMap.{Counted, HasExtra, count_of, present}
+use Rattle.rc_edges.specs.ListMap.{Items, IsAt, IsGap, IsKeyed, rows_in}
+use Rattle.rc_edges.specs.ListMapLaws.{get_at, get_none, put_in, set_at, writes_at, writes_gap}
+use Rattle.rc_edges.specs.OneMapLaws.{on_ok, if_ok}
 use Rattle.rc_edges.proofs.list_map.ListMapEdgeMap.add.Goals as goal
+use Rattle.rc_edges.proofs.list_map.ListMapEdgeMap.add.Goals.{In-Err, After-index_mut-item}
+
+-- the item found is the key's among the container's items
+is_at : (c : After-index_mut-item) → IsAt c.args.key.now c.self.inside.items.items c.in-Ok.at
+is_at c = subst (λ z. IsAt c.args.key.now z c.in-Ok.at) c.deref.ensures.value c.in-Ok.ensures.found
+
+-- its entry is what is kept at the key
+kept : (c : After-index_mut-item) → fin.get c.args.self.now c.args.key.now ≡ Some c.index_mut-item.result.now.1
+kept c =
+    get_at c.args.self.now c.args.key.now c.self.inside.items.items c.in-Ok.at c.index_mut-item.result.now c.self.view_is (is_at c)
+    c.index_mut-item.ensures.value
+
+-- or else the key goes in at the place found
+is_gap : (c : In-Err) → IsGap c.args.key.now c.self.inside.items.items c.in-Err.at
+is_gap c = subst (λ z. IsGap c.args.key.now z c.in-Err.at) c.deref.ensures.value c.in-Err.ensures.gap
+
+-- and nothing is kept at the key
+not_kept : (c : In-Err) → fin.get c.args.self.now c.args.key.now ≡ None
+not_kept c = get_none c.args.self.now c.args.key.now c.self.inside.items.items c.in-Err.at c.self.view_is c.self.invariant (is_gap c)
 
 pub raise-requires-clause-room : goal.raise-requires-clause-room
 raise-requires-clause-room c =
-    let m : Kept = c.args.self.now in
-    let key : Values = c.args.key.now in
-    let es = c.self.inside.items.items in
-    let i = c.index_mut-item.result.now in
-    let h : IsAt key es c.in-Ok.at = subst (λ z. IsAt key z c.in-Ok.at) c.deref.ensures.value c.in-Ok.ensures.found in
-    subst (λ z. count_of z < 2 ^ 63) (now_at m key es c.in-Ok.at i c.self.view_is h c.index_mut-item.ensures.value) c.requires.room
+    subst (λ o. count_of o < 2 ^ 63) (kept (goal.at.raise-requires-clause-room c).After-index_mut-item) c.requires.room
 
 pub raise-requires-clause-same : goal.raise-requires-clause-same
 raise-requires-clause-same c =
-    let m : Kept = c.args.self.now in
-    let key : Values = c.args.key.now in
-    let es = c.self.inside.items.items in
-    let i = c.index_mut-item.result.now in
-    let h : IsAt key es c.in-Ok.at = subst (λ z. IsAt key z c.in-Ok.at) c.deref.ensures.value c.in-Ok.ensures.found in
-    subst (λ z. HasExtra z c.args.extra.now) (now_at m key es c.in-Ok.at i c.self.view_is h c.index_mut-item.ensures.value) c.requires.same
+    subst (λ o. HasExtra (option_and_then present o) c.args.extra.now) (kept (goal.at.raise-requires-clause-same c).After-index_mut-item)
+    c.requires.same
 
-pub invariant_of-self-in-Ok : goal.invariant_of-self-in-Ok
-invariant_of-self-in-Ok c =
-    let m : Kept = c.args.self.now in
-    let key : Values = c.args.key.now in
-    let es = c.self.inside.items.items in
-    let i = c.index_mut-item.result.now in
-    let h : IsAt key es c.in-Ok.at = subst (λ z. IsAt key z c.in-Ok.at) c.deref.ensures.value c.in-Ok.ensures.found in
-    let there : slice_get es c.in-Ok.at ≡ Some i = slice_get-get_or es c.in-Ok.at i (subst (λ (z : Items). c.in-Ok.at < length z) c.deref.ensures.value c.in-Ok.ensures.within) ∙ ap Some (sym c.index_mut-item.ensures.value) in
-    listed_set es c.in-Ok.at (i.0, c.raise.new.self) c.self.invariant (writes_at key es c.in-Ok.at i c.raise.new.self c.self.invariant.keyed h c.index_mut-item.ensures.value).keyed
-    (kept_raised c.raise.result i.1 c.raise.new.self (c.args.extra.now, count_of (now_of i.1) + 1) c.raise.ensures.ok c.raise.ensures.err (c.self.invariant.kept i (slice_get_in es c.in-Ok.at i there)))
+pub invariant_of-self : goal.invariant_of-self
+invariant_of-self c =
+    (writes_at c.args.key.now c.self.inside.items.items c.in-Ok.at c.index_mut-item.result.now c.raise.new.self c.self.invariant
+    (is_at (goal.at.invariant_of-self c).After-index_mut-item) c.index_mut-item.ensures.value).keyed
 
 pub invariant_of-self-in-Err : goal.invariant_of-self-in-Err
 invariant_of-self-in-Err c =
-    let m : Kept = c.args.self.now in
-    let key : Values = c.args.key.now in
-    let es = c.self.inside.items.items in
-    let at = c.in-Err.at in
-    let w = c.in_ok-entry-in-Err.entry in
-    let h : IsGap key es at = subst (λ z. IsGap key z at) c.deref.ensures.value c.in-Err.ensures.gap in
-    let e : c.insert.new.self.items ≡ insert es at (key, w) = c.in_ok-insert-in-Err.ensures.items ∙ ap (λ (z : Values). insert es at (z, w)) c.in_ok-key-in-Err.ensures in
-    subst IsListed (sym e) (listed_insert es at (key, w) c.self.invariant (writes_gap key es at w c.self.invariant.keyed h).keyed (kept_row w (c.args.extra.now, 1) c.in_ok-entry-in-Err.ensures.now))
+    let es : Items = c.self.inside.items.items in
+    let w : Counted = c.in_ok-entry-in-Err.entry in
+    let e : c.insert.new.self.items ≡ insert es c.in-Err.at (c.args.key.now, w) =
+    c.in_ok-insert-in-Err.ensures.items ∙ ap (λ (z : Values). insert es c.in-Err.at (z, w)) c.in_ok-key-in-Err.ensures in
+    subst IsKeyed (sym e) (writes_gap c.args.key.now es c.in-Err.at w c.self.invariant
+    (is_gap (goal.at.invariant_of-self-in-Err c).In-Err)).keyed
 
-pub returns-in_ok-raise-in-Ok-clause-ok : goal.returns-in_ok-raise-in-Ok-clause-ok
-returns-in_ok-raise-in-Ok-clause-ok c =
-    let m : Kept = c.args.self.now in
+pub returns-in-Ok-clause-ok : goal.returns-in-Ok-clause-ok
+returns-in-Ok-clause-ok c =
+    let m = c.args.self.now in
     let key : Values = c.args.key.now in
-    let es = c.self.inside.items.items in
-    let i = c.index_mut-item.result.now in
-    let h : IsAt key es c.in-Ok.at = subst (λ z. IsAt key z c.in-Ok.at) c.deref.ensures.value c.in-Ok.ensures.found in
-    set_now m key es c.in-Ok.at i c.raise.new.self c.self.view_is c.self.invariant.keyed h c.index_mut-item.ensures.value
-    ∙ ap (written m.now key) (c.in_ok-raise-in-Ok.ensures.ok ∙ ap (λ z. Some (c.args.extra.now, count_of z + 1)) (sym (now_at m key es c.in-Ok.at i c.self.view_is h c.index_mut-item.ensures.value)))
+    let a = (goal.at.returns-in-Ok-clause-ok c).After-index_mut-item in
+    let set = set_at m key c.self.inside.items.items c.in-Ok.at c.index_mut-item.result.now c.raise.new.self c.self.view_is c.self.invariant
+    (is_at a) c.index_mut-item.ensures.value in
+    on_ok c.raise.result (λ e. set ∙ ap (fin.insert m key) (e ∙ ap (λ o. (c.args.extra.now, count_of o + 1)) (sym (kept a))))
+    c.raise.ensures.ok
 
-pub returns-in_ok-raise-in-Ok-clause-taken : goal.returns-in_ok-raise-in-Ok-clause-taken
-returns-in_ok-raise-in-Ok-clause-taken c =
-    let m : Kept = c.args.self.now in
-    let key : Values = c.args.key.now in
-    let es = c.self.inside.items.items in
-    let i = c.index_mut-item.result.now in
-    let h : IsAt key es c.in-Ok.at = subst (λ z. IsAt key z c.in-Ok.at) c.deref.ensures.value c.in-Ok.ensures.found in
-    stays_taken m key es c.in-Ok.at i c.raise.new.self c.self.view_is c.self.invariant.keyed h c.index_mut-item.ensures.value c.raise.ensures.taken
+pub returns-in-Ok-clause-before : goal.returns-in-Ok-clause-before
+returns-in-Ok-clause-before c =
+    if_ok c.raise.result (λ x e. e ∙ ap count_of (sym (kept (goal.at.returns-in-Ok-clause-before c).After-index_mut-item)))
+    c.raise.ensures.before
 
 pub returns-in_ok-insert-in-Err-clause-ok : goal.returns-in_ok-insert-in-Err-clause-ok
 returns-in_ok-insert-in-Err-clause-ok c =
-    let m : Kept = c.args.self.now in
+    let m = c.args.self.now in
     let key : Values = c.args.key.now in
-    let es = c.self.inside.items.items in
-    let at = c.in-Err.at in
-    let w = c.in_ok-entry-in-Err.entry in
-    let h : IsGap key es at = subst (λ z. IsGap key z at) c.deref.ensures.value c.in-Err.ensures.gap in
-    let e : c.insert.new.self.items ≡ insert es at (key, w) = c.in_ok-insert-in-Err.ensures.items ∙ ap (λ (z : Values). insert es at (z, w)) c.in_ok-key-in-Err.ensures in
-    ap (λ z. (kept_in z).now) e ∙ put_now m key es at w c.self.view_is c.self.invariant.keyed h
-    ∙ ap (written m.now key) (c.in_ok-entry-in-Err.ensures.now ∙ ap (λ z. Some (c.args.extra.now, count_of z + 1)) (sym (now_none m key es at c.self.view_is c.self.invariant.keyed h)))
+    let a = (goal.at.returns-in_ok-insert-in-Err-clause-ok c).In-Err in
+    ap rows_in c.in_ok-insert-in-Err.ensures.items
+    ∙ ap (λ (z : Values). rows_in (insert c.self.inside.items.items c.in-Err.at (z, c.in_ok-entry-in-Err.entry))) c.in_ok-key-in-Err.ensures
+    ∙ put_in m key c.self.inside.items.items c.in-Err.at c.in_ok-entry-in-Err.entry c.self.view_is c.self.invariant (is_gap a)
+    ∙ ap (fin.insert m key) (c.in_ok-entry-in-Err.ensures ∙ ap (λ o. (c.args.extra.now, count_of o + 1)) (sym (not_kept a)))
 
-pub returns-in_ok-insert-in-Err-clause-taken : goal.returns-in_ok-insert-in-Err-clause-taken
-returns-in_ok-insert-in-Err-clause-taken c =
-    let m : Kept = c.args.self.now in
-    let key : Values = c.args.key.now in
-    let es = c.self.inside.items.items in
-    let at = c.in-Err.at in
-    let w = c.in_ok-entry-in-Err.entry in
-    let h : IsGap key es at = subst (λ z. IsGap key z at) c.deref.ensures.value c.in-Err.ensures.gap in
-    let e : c.insert.new.self.items ≡ insert es at (key, w) = c.in_ok-insert-in-Err.ensures.items ∙ ap (λ (z : Values). insert es at (z, w)) c.in_ok-key-in-Err.ensures in
-    ap (λ z. (kept_in z).taken) e ∙ put_taken m key es at w c.self.view_is c.self.invariant.keyed h c.in_ok-entry-in-Err.ensures.taken
+pub returns-in_ok-insert-in-Err-clause-before : goal.returns-in_ok-insert-in-Err-clause-before
+returns-in_ok-insert-in-Err-clause-before c = ap count_of (sym (not_kept (goal.at.returns-in_ok-insert-in-Err-clause-before c).In-Err))

@@ -1,59 +1,50 @@
-use Rattle.std.proofs.Common.{◌≡◌, sym, ap, subst, ◌∙◌}
+use Rattle.std.proofs.Common.{◌≡◌, Some, sym, ap, subst, ◌∙◌}
 use Rattle.std.specs.FinMap as fin
 use Rattle.std.specs.Prelude.{IsSome}
+use Rattle.std.specs.Option.{option_and_then}
 use Rattle.std.proofs.lemmas.Bool.{false≢true}
-use Rattle.rc_edges.specs.Values.{Values}
-use Rattle.rc_edges.specs.EdgeMap.{Kept, lowered, written}
-use Rattle.rc_edges.specs.Entry.{now_of}
+use Rattle.rc_edges.specs.EdgeMap.{count_of, one_less, present, written}
 use Rattle.rc_edges.specs.ListMap.{IsAt, IsGap}
-use Rattle.rc_edges.specs.ListMapLaws.{kept_but, now_none, now_at, count_there, writes_at, set_now, stays_taken}
+use Rattle.rc_edges.specs.ListMapLaws.{found_none, get_at, set_at, writes_at}
+use Rattle.rc_edges.specs.RowsLaws.{counts}
 use Rattle.rc_edges.proofs.list_map.ListMapEdgeMap.sub.Goals as goal
+use Rattle.rc_edges.proofs.list_map.ListMapEdgeMap.sub.Goals.{After-index_mut-item}
 
 pub unreachable-requires : goal.unreachable-requires
 unreachable-requires c =
-    let m : Kept = c.args.self.now in
-    let key : Values = c.args.key.now in
-    let es = c.self.inside.items.items in
-    let h : IsGap key es c.in_default.field-0 = subst (λ z. IsGap key z c.in_default.field-0) c.deref.ensures.value c.in_default.ensures.gap in
-    absurd (false≢true (subst IsSome (now_none m key es c.in_default.field-0 c.self.view_is c.self.invariant.keyed h) c.requires))
+    let gap : IsGap c.args.key.now c.self.inside.items.items c.in_default.field-0 =
+    subst (λ z. IsGap c.args.key.now z c.in_default.field-0) c.deref.ensures.value c.in_default.ensures.gap in
+    absurd (false≢true (subst IsSome (found_none c.args.self.now c.args.key.now c.self.inside.items.items c.in_default.field-0
+    c.self.view_is c.self.invariant gap) c.requires))
+
+-- the item found is the key's among the container's items
+is_at : (c : After-index_mut-item) → IsAt c.args.key.now c.self.inside.items.items c.in-Ok.at
+is_at c = subst (λ z. IsAt c.args.key.now z c.in-Ok.at) c.deref.ensures.value c.in-Ok.ensures.found
+
+-- its entry is what is kept at the key
+kept : (c : After-index_mut-item) → fin.get c.args.self.now c.args.key.now ≡ Some c.index_mut-item.result.now.1
+kept c =
+    get_at c.args.self.now c.args.key.now c.self.inside.items.items c.in-Ok.at c.index_mut-item.result.now c.self.view_is (is_at c)
+    c.index_mut-item.ensures.value
 
 pub lower-requires : goal.lower-requires
 lower-requires c =
-    let m : Kept = c.args.self.now in
-    let key : Values = c.args.key.now in
-    let es = c.self.inside.items.items in
-    let i = c.index_mut-item.result.now in
-    let h : IsAt key es c.in-Ok.at = subst (λ z. IsAt key z c.in-Ok.at) c.deref.ensures.value c.in-Ok.ensures.found in
-    let e : fin.get m.now key ≡ now_of i.1 = now_at m key es c.in-Ok.at i c.self.view_is h c.index_mut-item.ensures.value in
-    count_there m es key (now_of i.1) c.self.view_is e (subst IsSome e c.requires)
+    let e = ap (option_and_then present) (kept (goal.at.lower-requires c).After-index_mut-item) in
+    counts c.index_mut-item.result.now.1 (subst IsSome e c.requires)
 
-pub sweep-requires-clause-keyed : goal.sweep-requires-clause-keyed
-sweep-requires-clause-keyed c =
-    let m : Kept = c.args.self.now in
-    let key : Values = c.args.key.now in
-    let es = c.self.inside.items.items in
-    let i = c.index_mut-item.result.now in
-    let h : IsAt key es c.in-Ok.at = subst (λ z. IsAt key z c.in-Ok.at) c.deref.ensures.value c.in-Ok.ensures.found in
-    (writes_at key es c.in-Ok.at i c.lower.new.self c.self.invariant.keyed h c.index_mut-item.ensures.value).keyed
+pub invariant_of-self : goal.invariant_of-self
+invariant_of-self c =
+    (writes_at c.args.key.now c.self.inside.items.items c.in-Ok.at c.index_mut-item.result.now c.lower.new.self c.self.invariant
+    (is_at (goal.at.invariant_of-self c).After-index_mut-item) c.index_mut-item.ensures.value).keyed
 
 pub returns-clause-now : goal.returns-clause-now
 returns-clause-now c =
-    let m : Kept = c.args.self.now in
-    let key : Values = c.args.key.now in
-    let es = c.self.inside.items.items in
-    let i = c.index_mut-item.result.now in
-    let h : IsAt key es c.in-Ok.at = subst (λ z. IsAt key z c.in-Ok.at) c.deref.ensures.value c.in-Ok.ensures.found in
-    c.sweep.ensures.now ∙ set_now m key es c.in-Ok.at i c.lower.new.self c.self.view_is c.self.invariant.keyed h c.index_mut-item.ensures.value
-    ∙ ap (written m.now key) (c.lower.ensures.now ∙ ap lowered (sym (now_at m key es c.in-Ok.at i c.self.view_is h c.index_mut-item.ensures.value)))
+    let a = (goal.at.returns-clause-now c).After-index_mut-item in
+    set_at c.args.self.now c.args.key.now c.self.inside.items.items c.in-Ok.at c.index_mut-item.result.now c.lower.new.self c.self.view_is
+    c.self.invariant
+    (is_at a) c.index_mut-item.ensures.value
+    ∙ ap (fin.insert c.args.self.now c.args.key.now) c.lower.ensures.now
+    ∙ ap (λ o. written c.args.self.now c.args.key.now (one_less o)) (sym (kept a))
 
-pub returns-clause-taken : goal.returns-clause-taken
-returns-clause-taken c =
-    let m : Kept = c.args.self.now in
-    let key : Values = c.args.key.now in
-    let es = c.self.inside.items.items in
-    let i = c.index_mut-item.result.now in
-    let h : IsAt key es c.in-Ok.at = subst (λ z. IsAt key z c.in-Ok.at) c.deref.ensures.value c.in-Ok.ensures.found in
-    c.sweep.ensures.taken ∙ stays_taken m key es c.in-Ok.at i c.lower.new.self c.self.view_is c.self.invariant.keyed h c.index_mut-item.ensures.value c.lower.ensures.taken
-
-pub sweep-requires-clause-kept : goal.sweep-requires-clause-kept
-sweep-requires-clause-kept c = kept_but c.self.inside.items.items c.in-Ok.at (c.index_mut-item.result.now.0, c.lower.new.self) c.self.invariant
+pub returns-clause-before : goal.returns-clause-before
+returns-clause-before c = c.lower.ensures.before ∙ ap count_of (sym (kept (goal.at.returns-clause-before c).After-index_mut-item))

@@ -1,44 +1,55 @@
-use Rattle.std.proofs.Common.{◌≡◌, [], sym, ap, ◌∙◌}
-use Rattle.rc_edges.specs.Values.{Values}
-use Rattle.rc_edges.specs.EdgeMap.{Kept, written}
-use Rattle.rc_edges.specs.ListMap.{kept_in}
-use Rattle.rc_edges.specs.ListMapLaws.{now_none}
-use Rattle.rc_edges.specs.OneMapLaws.{alone, in_place, no_place, own_now, set_own_now, own_taken_stays}
-use Rattle.rc_edges.specs.declared.entry.Entry.{Entry}
-use Rattle.std.proofs.Common.{subst, IsSome}
+use Rattle.std.proofs.Common.{◌≡◌, [], IsSome, sym, ap, subst, ◌∙◌}
 use Rattle.std.proofs.lemmas.Bool.{false≢true}
-use Rattle.rc_edges.specs.EdgeMap.{lowered}
-use Rattle.rc_edges.specs.OneMapLaws.{own_key, own_count}
+use Rattle.std.specs.FinMap as fin
+use Rattle.rc_edges.specs.Values.{Values}
+use Rattle.rc_edges.specs.EdgeMap.{Counted, count_at, count_of, once_less, one_less, written}
+use Rattle.rc_edges.specs.ListMap.{rows_in}
+use Rattle.rc_edges.specs.ListMapLaws.{found_none}
+use Rattle.rc_edges.specs.RowsLaws.{counts}
+use Rattle.rc_edges.specs.OneMap.{rows_at}
+use Rattle.rc_edges.specs.declared.one_map.OneMap.TheInside.{Inside}
+use Rattle.rc_edges.specs.OneMapLaws.{alone, in_list, in_place, no_place, own_there, own_found, own_get, set_own}
 use Rattle.rc_edges.proofs.one_map.OneMapEdgeMap.sub.Goals as goal
+use Rattle.rc_edges.proofs.one_map.OneMapEdgeMap.sub.Goals.{in-Several, in-One+in-Some}
 
 pub unreachable-requires : goal.unreachable-requires
 unreachable-requires c =
-    let m : Kept = c.args.self.now in
-    let key : Values = c.args.key.now in
-    let is : kept_in [] ≡ m = no_place m c.self.inside.place c.in-One.one c.self.view_is c.in-One.is c.in_default.is in
-    false≢true (subst IsSome (now_none m key [] 0 is tt tt) c.requires)
+    let none = no_place c.args.self.now c.self.inside.place c.in-One.one c.self.view_is c.in-One.is c.in_default.is in
+    false≢true (subst IsSome (found_none c.args.self.now c.args.key.now [] 0 none tt tt) c.requires)
 
 pub lower-requires : goal.lower-requires
 lower-requires c =
-    let m : Kept = c.args.self.now in
-    let key : Values = c.args.key.now in
-    let i : Values × Entry = (c.in-Some.field-0-0, c.in-Some.entry) in
-    let is : kept_in (alone i) ≡ m = in_place m c.self.inside.place c.in-One.one i c.self.view_is c.in-One.is c.in-Some.is in
-    own_count m i is key (own_key m i is key c.requires) c.requires
+    let m = c.args.self.now in
+    let i : Values × Counted = (c.in-Some.field-0-0, c.in-Some.entry) in
+    let all : rows_in (alone i) ≡ m = in_place m c.self.inside.place c.in-One.one i c.self.view_is c.in-One.is c.in-Some.is in
+    counts i.1 (subst IsSome (own_found m i all c.args.key.now (own_there m i all c.args.key.now c.requires)) c.requires)
 
-pub returns-in-Some-clause-now : goal.returns-in-Some-clause-now
-returns-in-Some-clause-now c =
-    let m : Kept = c.args.self.now in
+pub returns-clause-now : goal.returns-clause-now
+returns-clause-now c =
+    let m = c.args.self.now in
     let key : Values = c.args.key.now in
-    let i : Values × Entry = (c.in-Some.field-0-0, c.in-Some.entry) in
-    let is : kept_in (alone i) ≡ m = in_place m c.self.inside.place c.in-One.one i c.self.view_is c.in-One.is c.in-Some.is in
-    let h : key ≡ i.0 = own_key m i is key c.requires in
-    ap (λ (z : Kept). z.now) c.tidy-in-One.ensures.same ∙ set_own_now m i is key c.lower.new.self h
-    ∙ ap (written m.now key) (c.lower.ensures.now ∙ ap lowered (sym (own_now m i is key h)))
+    elim c.match-self.branch [
+      | in-Several w ↦
+          ap (λ (z : Inside). rows_at z.place) w.self-inside-is ∙ w.sub.ensures.now
+          ∙ ap (λ z. once_less z key) (in_list m c.self.inside.place w.in-Several.list c.self.view_is w.in-Several.is)
+      | in-One+in-Some w ↦
+          let i : Values × Counted = (w.in-Some.field-0-0, w.in-Some.entry) in
+          let all : rows_in (alone i) ≡ m = in_place m c.self.inside.place w.in-One.one i c.self.view_is w.in-One.is w.in-Some.is in
+          let h : key ≡ i.0 = own_there m i all key c.requires in
+          ap (λ (z : Inside). rows_at z.place) w.self-inside-is ∙ set_own m i all key w.lower.new.self h
+          ∙ ap (fin.insert m key) w.lower.ensures.now ∙ ap (λ o. written m key (one_less o)) (sym (own_get m i all key h))
+    ]
 
-pub returns-in-Some-clause-taken : goal.returns-in-Some-clause-taken
-returns-in-Some-clause-taken c =
-    let m : Kept = c.args.self.now in
-    let i : Values × Entry = (c.in-Some.field-0-0, c.in-Some.entry) in
-    ap (λ (z : Kept). z.taken) c.tidy-in-One.ensures.same
-    ∙ own_taken_stays m i (in_place m c.self.inside.place c.in-One.one i c.self.view_is c.in-One.is c.in-Some.is) c.lower.new.self c.lower.ensures.taken
+pub returns-clause-before : goal.returns-clause-before
+returns-clause-before c =
+    let m = c.args.self.now in
+    let key : Values = c.args.key.now in
+    elim c.match-self.branch [
+      | in-Several w ↦
+          w.result-is ∙ w.sub.ensures.before
+          ∙ ap (λ z. count_at z key) (in_list m c.self.inside.place w.in-Several.list c.self.view_is w.in-Several.is)
+      | in-One+in-Some w ↦
+          let i : Values × Counted = (w.in-Some.field-0-0, w.in-Some.entry) in
+          let all : rows_in (alone i) ≡ m = in_place m c.self.inside.place w.in-One.one i c.self.view_is w.in-One.is w.in-Some.is in
+          w.result-is ∙ w.lower.ensures.before ∙ ap count_of (sym (own_get m i all key (own_there m i all key c.requires)))
+    ]

@@ -1,6 +1,6 @@
 use Rattle.std.proofs.Common.{refl, sym, ap, ◌∙◌}
 use Rattle.rc_fragment.specs.SourceTable.{containers_of, width_for}
-use Rattle.rc_fragment.specs.Container.{now_in, taken_in}
+use Rattle.rc_fragment.specs.Container.{kept_in}
 use Rattle.rc_fragment.specs.Sources.{SeenContainer, Sources, form_of, sources_of}
 use Rattle.rc_fragment.proofs.CopyLemmas.{emptied_seen, forms_same, found_same}
 use Rattle.rc_fragment.proofs.edge_rows.EdgeRows.copy.Goals as goal
@@ -13,8 +13,7 @@ returns c =
     let old : Sources = sources_of c.args.self.now in
     let new : Sources = containers_of c.in_ok-copy.field-0 in
     record {
-      now = found_same old new c.in_ok-copy.ensures.seen now_in (λ (f : SeenContainer). f.0) (λ x. refl);
-      taken = found_same old new c.in_ok-copy.ensures.seen taken_in (λ (f : SeenContainer). f.1) (λ x. refl);
+      kept = found_same old new c.in_ok-copy.ensures.seen kept_in (λ (f : SeenContainer). f.0) (λ x. refl);
       emptied = emptied_seen old new c.in_ok-copy.ensures.seen;
       forms = record {
         forms = forms_same old new c.in_ok-copy.ensures.seen (form_of c.args.self.now.shape) c.requires.forms;

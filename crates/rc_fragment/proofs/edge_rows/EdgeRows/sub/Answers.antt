@@ -1,37 +1,38 @@
-use Rattle.std.proofs.Common.{◌≡◌, Some, refl, sym, ap, subst, ◌∙◌}
+use Rattle.std.proofs.Common.{◌≡◌, Option, Some, sym, ap, subst, ◌∙◌}
+use Rattle.std.specs.Prelude.{IsSome}
 use Rattle.std.specs.Option.{OnSome}
 use Rattle.std.specs.FinMap as fin
+use Rattle.rc_edges.specs.EdgeMap.{Counted, found, one_less, written}
+use Rattle.rc_edges.specs.RowsLaws.{get-current}
+use Rattle.rc_fragment.specs.SourceTable.{IsSet}
+use Rattle.rc_fragment.specs.Container.{kept_in, now_in}
 use Rattle.rc_edges.specs.Values.{Values}
-use Rattle.rc_edges.specs.EdgeMap.{lowered, written}
-use Rattle.rc_fragment.specs.SourceTable.{IsSet, containers_of}
-use Rattle.rc_fragment.specs.Container.{now_in, taken_in}
-use Rattle.rc_fragment.specs.Sources.{Sources, form_of, found_in, sources_of}
+use Rattle.rc_fragment.specs.Sources.{found_in, now_at, sources_of}
 use Rattle.rc_fragment.specs.declared.container.Container.{Container}
 use Rattle.rc_fragment.specs.declared.edge_rows.EdgeRows.{EdgeRows}
-use Rattle.rc_fragment.proofs.SourcesLemmas.{set_by, set_form, again, emptied_written}
+use Rattle.rc_fragment.proofs.KeptLemmas.{kept_some, less_some}
+use Rattle.rc_fragment.proofs.SourcesLemmas.{becomes_changed, not_empty}
 use Rattle.rc_fragment.proofs.edge_rows.EdgeRows.sub.Goals as goal
 
-pub returns : goal.returns
-returns c =
+-- the row is there in the source's container
+in_container : (x : EdgeRows) (source key : Values) (v : Container) → fin.get (sources_of x) source ≡ Some v → IsSome (now_at x source key) → IsSome (found (kept_in v) key)
+in_container x source key v here there = subst IsSome (get-current (kept_in v) key) (subst (λ z. IsSome (found_in now_in z key)) here there)
+
+pub sub-requires : goal.sub-requires
+sub-requires c = in_container c.args.self.now c.args.source.now c.args.key.now c.in-Some.container.now (sym c.in-Some.ensures.value) c.requires.there
+
+pub returns-clause-becomes : goal.returns-clause-becomes
+returns-clause-becomes c =
     let x : EdgeRows = c.args.self.now in
-    let source : Values = c.args.source.now in
-    let key : Values = c.args.key.now in
-    let es : Sources = sources_of x in
+    let source = c.args.source.now in
+    let key = c.args.key.now in
     let v : Container = c.in-Some.container.now in
     let w : Container = c.sub.new.self in
-    let f : fin.get es source ≡ Some v = sym c.in-Some.ensures.value in
-    let u : IsSet x.sources (c.get_mut.follows.lender w) source w = subst (λ r. OnSome r (IsSet x.sources (c.get_mut.follows.lender w) source w)) c.in-Some.is (c.get_mut.follows.holds w) in
-    let set : Sources = containers_of (c.get_mut.follows.lender w) in
-    let e : set ≡ written es source (Some w) = u.containers in
-    record {
-      now = set_by es set source (Some v) w f e now_in (now_in v) key (lowered (found_in now_in (fin.get es source) key))
-          (c.sub.ensures.now ∙ ap (λ z. written (now_in v) key (lowered (found_in now_in z key))) (sym f)) (λ k. refl);
-      taken = set_by es set source (Some v) w f e taken_in (taken_in v) key (found_in taken_in (fin.get es source) key)
-          (again (taken_in w) (taken_in v) key c.sub.ensures.taken ∙ ap (λ z. written (taken_in v) key (found_in taken_in z key)) (sym f)) (λ k. refl);
-      emptied = emptied_written es set source (Some w) e;
-      forms = record {
-        forms = set_form es set source (Some v) w f e (form_of x.shape) c.requires.forms.forms (c.sub.ensures.form ∙ c.requires.forms.forms source v f);
-        width = u.width ∙ c.requires.forms.width;
-      };
-      shape = refl;
-    }
+    let here : fin.get (sources_of x) source ≡ Some v = sym c.in-Some.ensures.value in
+    let table = c.get_mut.follows.lender w in
+    let set : IsSet x.sources table source w = subst (λ r. OnSome r (IsSet x.sources table source w)) c.in-Some.is (c.get_mut.follows.holds w) in
+    let o : Option Counted = one_less (found_in kept_in (fin.get (sources_of x) source) key) in
+    let is : kept_in w ≡ written (kept_in v) key o = c.sub.ensures.now ∙ ap (λ z. written (kept_in v) key (one_less (found_in kept_in z key))) (sym here) in
+    let some : IsSome (fin.get (kept_in v) key) = kept_some (fin.get (kept_in v) key) (in_container x source key v here c.requires.there) in
+    becomes_changed x source key v w table here set c.requires.forms c.sub.ensures.form o is
+    (not_empty (kept_in w) (kept_in v) key o is (less_some (found_in kept_in (fin.get (sources_of x) source) key) (subst (λ z. IsSome (found_in kept_in z key)) (sym here) some)))

@@ -1,7 +1,9 @@
 use Rattle.std.proofs.Common.{[], sym, subst, ap, ◌∙◌}
 use Rattle.std.specs.Prelude.{length}
-use Rattle.rc_fragment.specs.Container.{now_in, taken_in}
-use Rattle.rc_fragment.specs.Notes.{IsFragment}
+use Rattle.rc_fragment.specs.Container.{now_in}
+use Rattle.rc_fragment.specs.Fragment.{IsFragment}
+use Rattle.rc_fragment.specs.Listing.{shapes}
+use Rattle.rc_fragment.specs.Notes.{changes_of, undone}
 use Rattle.rc_fragment.proofs.NoteLemmas.{zero_least}
 use Rattle.rc_fragment.proofs.SourcesLemmas.{if_ok_from}
 use Rattle.rc_fragment.proofs.RowLemmas.{none_listed, empty_fragment}
@@ -19,7 +21,7 @@ pub returns : goal.returns
 returns c = if_ok_from c.boxed.result c.boxed.ensures (λ fragment is. is ∙ (λ i. record {
   table = c.in_ok-empty_edges.ensures.shapes i;
   now = none_listed now_in c.in_ok-empty_edges.field-0.items c.in_ok-empty_edges.ensures.empty i;
-  taken = none_listed taken_in c.in_ok-empty_edges.field-0.items c.in_ok-empty_edges.ensures.empty i;
+  taken = undone (changes_of (shapes c.in_ok-empty_edges.field-0.items) c.new-2.result.items (c.new.ensures.items i)) (none_listed now_in c.in_ok-empty_edges.field-0.items c.in_ok-empty_edges.ensures.empty i);
   room = 0;
   changes = ap length c.new.ensures.items i;
 }))

@@ -9,6 +9,7 @@ use Rattle.rc_fragment.specs.Listing.{IsStored, shapes}
 use Rattle.rc_fragment.specs.declared.edge_rows.EdgeRows.{EdgeRows}
 use Rattle.rc_fragment.specs.declared.fragment.Parts.{Parts}
 use Rattle.rc_fragment.proofs.ChangeLemmas.{found_edge}
+use Rattle.rc_fragment.proofs.KeptLemmas.{filed_there}
 use Rattle.rc_fragment.proofs.LookupLemmas.{all_rows}
 use Rattle.rc_fragment.proofs.SourcesLemmas.{if_ok_both}
 use Rattle.rc_fragment.proofs.fragment.Fragment.rows.Goals as goal
@@ -33,4 +34,4 @@ all-requires c =
     let m : length (shapes edges) ≡ length edges = length-map edges (λ (z : EdgeRows). z.shape) in
     let n : slice_get edges e ≡ Some x = found_edge edges e x (omega arith) (subst (λ (p : Parts). x ≡ get_or p.edges.items e x) c.deref.ensures c.index-rows.ensures) in
     let s : IsStored x = c.self.invariant.fragment.stored x (slice_get_in edges e x n) in
-    record { filed = s.now; parted = s.parted }
+    record { filed = filed_there x s; parted = s.parted }

@@ -13,7 +13,7 @@ alike c =
     elim c.match-place.branch [
       | in-Some+in_ok-copy-in-Some w ↦
           let same = w.in_ok-copy-in-Some.ensures in
-          ap (option_map seen_container) w.copy-is ∙ ap Some (λ j. (same.now j, same.taken j, same.form j)) ∙ sym (ap (option_map seen_container) w.in-Some.is)
+          ap (option_map seen_container) w.copy-is ∙ ap Some (λ j. (same.rows j, same.form j)) ∙ sym (ap (option_map seen_container) w.in-Some.is)
       | in-None w ↦ ap (option_map seen_container) (w.copy-is ∙ sym w.in-None.is)
     ]
 

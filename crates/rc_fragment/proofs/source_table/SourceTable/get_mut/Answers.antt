@@ -1,6 +1,6 @@
 use Rattle.std.proofs.Common.{◌≡◌, Some, length, refl, sym, ap, ◌∙◌}
 use Rattle.std.proofs.lemmas.Bool.{eq-eqb, eqb-true, false≢true}
-use Rattle.rc_maps.specs.EntryLaws.{on_some_too}
+use Rattle.std.proofs.lemmas.Option.{IfSome_then}
 use Rattle.rc_fragment.proofs.SourceTableLemmas.{on_some_any, root-changed, root-here, root-other}
 use Rattle.rc_fragment.specs.declared.source_table.SourceTable.TheVariants as table
 use Rattle.rc_fragment.proofs.source_table.SourceTable.get_mut.Goals as goal
@@ -28,7 +28,7 @@ returns-in-Keyed c =
     rw t.is (
       (
         refl,
-        (λ w. on_some_too c.get_mut.result (λ s. record { containers = s.entries; width = ap Some s.width }) (rw t.table-is at c.get_mut.follows.holds w)),
+        (λ w. IfSome_then c.get_mut.result (rw t.table-is at c.get_mut.follows.holds w) (λ x s. record { containers = s.entries; width = ap Some s.width })),
         ap table.Keyed (rw t.table-is at c.get_mut.follows.holds-at-none),
       ),
       record { writes_back = tt; value = rw t.table-is at c.get_mut.ensures.value },

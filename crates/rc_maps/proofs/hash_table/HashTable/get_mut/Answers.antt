@@ -1,6 +1,6 @@
 use Rattle.std.proofs.Common.{◌≡◌, Some, length, refl, sym, ap, ◌∙◌, arith}
 use Rattle.std.specs.FinMap as fin
-use Rattle.rc_maps.specs.EntryLaws.{on_some_too}
+use Rattle.std.proofs.lemmas.Option.{IfSome_then}
 use Rattle.rc_maps.specs.HashTable.{entries_of}
 use Rattle.rc_maps.specs.TableLaws.{no_one, on_found}
 use Rattle.rc_maps.specs.HashLaws.{changed_one, found_one}
@@ -12,8 +12,10 @@ use Rattle.rc_maps.proofs.hash_table.HashTable.get_mut.Goals as goal
 
 pub returns-in-One : goal.returns-in-One
 returns-in-One g c =
-    let other : length c.args.key.now ≡ 1 → ⊥ = λ h. absurd (let two : length c.args.key.now ≡ 2 = c.in-Some.ensures.two in omega (arith, h, two)) in
-    ((refl, (λ w. tt), refl), record { writes_back = tt; value = sym (no_one c.args.key.now c.in-One.field-0.entries other) ∙ ap (λ z. fin.get (entries_of z) c.args.key.now) (sym c.in-One.is) })
+    let other : length c.args.key.now ≡ 1 → ⊥ = λ h.
+    absurd (let two : length c.args.key.now ≡ 2 = c.in-Some.ensures.two in omega (arith, h, two)) in
+    let value = sym (no_one c.args.key.now c.in-One.field-0.entries other) ∙ ap (λ z. fin.get (entries_of z) c.args.key.now) (sym c.in-One.is) in
+    ((refl, (λ w. tt), refl), record { writes_back = tt; value = value })
 
 pub returns-in-Many : goal.returns-in-Many
 returns-in-Many g c =
@@ -26,9 +28,12 @@ returns-in-Many g c =
     rw t.is (
       (
         refl,
-        (λ w. on_some_too c.get_mut.result
-            (λ e. record { entries = pairs-changed key k es fs c.in-Some.ensures.same c.in-Some.ensures.two t.others.none_has_two (c.get_mut.follows.lender w).map.entries (Some w) e; width = refl })
-            (rw t.pairs-is at c.get_mut.follows.holds w)),
+        (λ w. IfSome_then c.get_mut.result (rw t.pairs-is at c.get_mut.follows.holds w) (λ r e. record {
+          entries =
+              pairs-changed key k es fs c.in-Some.ensures.same c.in-Some.ensures.two t.others.none_has_two
+              (c.get_mut.follows.lender w).map.entries (Some w) e;
+          width = refl;
+        })),
         ap (λ z. table.Many z t.others t.alloc) (same_pairs _ t.pairs (rw t.pairs-is at c.get_mut.follows.holds-at-none)),
       ),
       record { writes_back = tt; value = pairs-found key k es fs c.in-Some.ensures.same c.in-Some.ensures.two t.others.none_has_two _ value },
@@ -54,8 +59,10 @@ returns-in-Some-only g c =
 
 pub returns-in-None-only : goal.returns-in-None-only
 returns-in-None-only g c =
-    rw c.in-One-self.is
-    ((refl, (λ w. tt), refl), record { writes_back = tt; value = sym (no_one c.args.key.now c.in-One-self.map.entries c.in-None-only.ensures.other) })
+    rw c.in-One-self.is (
+      (refl, (λ w. tt), refl),
+      record { writes_back = tt; value = sym (no_one c.args.key.now c.in-One-self.map.entries c.in-None-only.ensures.other) },
+    )
 
 pub returns-in-Many-self : goal.returns-in-Many-self
 returns-in-Many-self g c =
@@ -67,9 +74,12 @@ returns-in-Many-self g c =
     rw t.is (
       (
         refl,
-        (λ w. on_some_too c.get_mut-in-Many-self.result
-            (λ e. record { entries = others-changed key es fs c.in-None.ensures.other t.pairs.all_have_two (c.get_mut-in-Many-self.follows.lender w).map.entries (Some w) e; width = refl })
-            (rw t.others-is at c.get_mut-in-Many-self.follows.holds w)),
+        (λ w. IfSome_then c.get_mut-in-Many-self.result (rw t.others-is at c.get_mut-in-Many-self.follows.holds w) (λ r e. record {
+          entries =
+              others-changed key es fs c.in-None.ensures.other t.pairs.all_have_two
+              (c.get_mut-in-Many-self.follows.lender w).map.entries (Some w) e;
+          width = refl;
+        })),
         ap (λ z. table.Many t.pairs z t.alloc) (same_others _ t.others (rw t.others-is at c.get_mut-in-Many-self.follows.holds-at-none)),
       ),
       record { writes_back = tt; value = others-found key es fs c.in-None.ensures.other t.pairs.all_have_two _ value },

@@ -16,7 +16,8 @@ returns-in_ok-insert-in-One-clause-ok g c =
 
 pub returns-in_err-insert-in-Some-both-clause-err : goal.returns-in_err-insert-in-Some-both-clause-err
 returns-in_err-insert-in-Some-both-clause-err g c =
-    on_err _ (first-kept (by_two c.in-Many.pairs.map.entries) (by_two c.insert-in-Some-both.new.self.map.entries) (by_many c.in-Many.others.map.entries) c.in_err-insert-in-Some-both.ensures.err
+    on_err _ (first-kept (by_two c.in-Many.pairs.map.entries) (by_two c.insert-in-Some-both.new.self.map.entries)
+    (by_many c.in-Many.others.map.entries) c.in_err-insert-in-Some-both.ensures.err
     ∙ ap entries_of (sym c.in-Many.is))
 
 pub returns-in_ok-insert-in-Some-both-clause-ok : goal.returns-in_ok-insert-in-Some-both-clause-ok
@@ -25,12 +26,14 @@ returns-in_ok-insert-in-Some-both-clause-ok g c =
     let es = c.in-Many.pairs.map.entries in
     let fs = c.in-Many.others.map.entries in
     let pair = c.in-Some-both in
-    pairs-changed key pair.pair.now es fs pair.ensures.same pair.ensures.two c.in-Many.others.none_has_two c.insert-in-Some-both.new.self.map.entries (Some c.args.value) c.in_ok-insert-in-Some-both.ensures.ok
+    pairs-changed key pair.pair.now es fs pair.ensures.same pair.ensures.two c.in-Many.others.none_has_two
+    c.insert-in-Some-both.new.self.map.entries (Some c.args.value) c.in_ok-insert-in-Some-both.ensures.ok
     ∙ ap (λ z. written (entries_of z) key (Some c.args.value)) (sym c.in-Many.is)
 
 pub returns-in_err-insert-in-None-clause-err : goal.returns-in_err-insert-in-None-clause-err
 returns-in_err-insert-in-None-clause-err g c =
-    on_err _ (second-kept (by_two c.in-Many.pairs.map.entries) (by_many c.in-Many.others.map.entries) (by_many c.insert-in-None.new.self.map.entries) c.in_err-insert-in-None.ensures.err
+    on_err _ (second-kept (by_two c.in-Many.pairs.map.entries) (by_many c.in-Many.others.map.entries)
+    (by_many c.insert-in-None.new.self.map.entries) c.in_err-insert-in-None.ensures.err
     ∙ ap entries_of (sym c.in-Many.is))
 
 pub returns-in_ok-insert-in-None-clause-ok : goal.returns-in_ok-insert-in-None-clause-ok
@@ -38,6 +41,7 @@ returns-in_ok-insert-in-None-clause-ok g c =
     let key = c.args.key.now in
     let es = c.in-Many.pairs.map.entries in
     let fs = c.in-Many.others.map.entries in
-    let put = c.in_ok-insert-in-None.ensures.ok ∙ ap (λ z. written (others_of c.in-Many.others) z (Some c.args.value)) c.in_ok-key-in-None.ensures.items in
+    let put = c.in_ok-insert-in-None.ensures.ok
+    ∙ ap (λ z. written (others_of c.in-Many.others) z (Some c.args.value)) c.in_ok-key-in-None.ensures.items in
     others-changed key es fs c.in-None.ensures.other c.in-Many.pairs.all_have_two c.insert-in-None.new.self.map.entries (Some c.args.value) put
     ∙ ap (λ z. written (entries_of z) key (Some c.args.value)) (sym c.in-Many.is)

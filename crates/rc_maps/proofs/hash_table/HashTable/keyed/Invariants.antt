@@ -9,4 +9,5 @@ abbrev pub invariant-loop-pair : goal.invariant-loop-pair
 invariant-loop-pair g l = map pair_of l.all.items ++ by_two l.pair-iterator ≡ by_two l.initial.pair-iterator
 
 abbrev pub invariant-loop-key-2 : goal.invariant-loop-key-2
-invariant-loop-key-2 g l = map pair_of l.all.items ++ by_many l.key-iterator ≡ map pair_of l.initial.all.items ++ by_many l.initial.key-iterator
+invariant-loop-key-2 g l =
+    map pair_of l.all.items ++ by_many l.key-iterator ≡ map pair_of l.initial.all.items ++ by_many l.initial.key-iterator

@@ -1,9 +1,7 @@
 use Rattle.std.proofs.Common.{◌≡◌, ◌∷◌, [], ◌++◌, length, take, sym, ap, subst, ◌∙◌}
 use Rattle.rc_edges.specs.Values.{Values}
-use Rattle.rc_edges.specs.EdgeMap.{listed}
-use Rattle.rc_edges.specs.Entry.{rows_in}
-use Rattle.rc_edges.specs.ListMap.{Items, rows_of}
-use Rattle.rc_edges.specs.declared.entry.Entry.{Entry}
+use Rattle.rc_edges.specs.EdgeMap.{Counted, listed}
+use Rattle.rc_edges.specs.ListMap.{Items, values_in}
 use Rattle.rc_maps.specs.Keyed.{by_many, by_one}
 use Rattle.rc_maps.specs.OrderedTable.{entries_of}
 use Rattle.rc_maps.specs.OrderedLaws.{rising_many, rising_one}
@@ -14,13 +12,13 @@ pub loop-key-preserved : goal.loop-key-preserved
 loop-key-preserved c =
     let all : Items = by_one c.into_iter-key-iterator.result in
     let left : Items = by_one c.next.new.self in
-    let e : Values × Entry = (c.in-Some.key.now ∷ [], c.in-Some.entry.now) in
+    let e : Values × Counted = (c.in-Some.key.now ∷ [], c.in-Some.entry.now) in
     let out : Values = c.loop-key.out.items in
     let step : by_one c.loop-key.key-iterator ≡ e ∷ left = ap by_one c.in-Some.ensures.steps in
     let key : c.from_ref.result.now ≡ c.in-Some.key.now ∷ [] = c.from_ref.ensures.value in
     IsPushed-next all left e c.args.out.now.items out c.push_row.new.out.items
     (subst (λ z. IsPushed all z c.args.out.now.items out) step c.loop-key.invariant)
-    (c.in_ok-push_row-in-One.ensures.ok ∙ ap (λ k. out ++ rows_of ((k, e.1) ∷ [])) key)
+    (c.in_ok-push_row-in-One.ensures.ok ∙ ap (λ k. out ++ values_in ((k, e.1) ∷ [])) key)
 
 pub returns-in_err-push_row-in-One-clause-err : goal.returns-in_err-push_row-in-One-clause-err
 returns-in_err-push_row-in-One-clause-err c =
@@ -33,20 +31,21 @@ pub loop-key-2-preserved : goal.loop-key-2-preserved
 loop-key-2-preserved c =
     let all : Items = by_many c.into_iter-key-iterator-in-Many.result in
     let left : Items = by_many c.next-in-loop-key-2.new.self in
-    let e : Values × Entry = (c.in-Some-2.key.now.items, c.in-Some-2.entry.now) in
+    let e : Values × Counted = (c.in-Some-2.key.now.items, c.in-Some-2.entry.now) in
     let out : Values = c.loop-key-2.out.items in
     let step : by_many c.loop-key-2.key-iterator ≡ e ∷ left = ap by_many c.in-Some-2.ensures.steps in
     let key : c.as_slice.result.now ≡ c.in-Some-2.key.now.items = c.as_slice.ensures.value in
     IsPushed-next all left e c.args.out.now.items out c.push_row-in-loop-key-2.new.out.items
     (subst (λ z. IsPushed all z c.args.out.now.items out) step c.loop-key-2.invariant)
-    (c.in_ok-push_row-in-Many.ensures.ok ∙ ap (λ k. out ++ rows_of ((k, e.1) ∷ [])) key)
+    (c.in_ok-push_row-in-Many.ensures.ok ∙ ap (λ k. out ++ values_in ((k, e.1) ∷ [])) key)
 
 pub returns-in_err-push_row-in-Many-clause-err : goal.returns-in_err-push_row-in-Many-clause-err
 returns-in_err-push_row-in-Many-clause-err c =
     let out : Values = c.loop-key-2.out.items in
     on_err c.from_residual-in_err-push_row-in-Many.result
     (ap (take (length c.args.out.now.items)) c.in_err-push_row-in-Many.ensures.err
-    ∙ IsPushed-kept (by_many c.into_iter-key-iterator-in-Many.result) (by_many c.loop-key-2.key-iterator) c.args.out.now.items out c.loop-key-2.invariant)
+    ∙ IsPushed-kept (by_many c.into_iter-key-iterator-in-Many.result) (by_many c.loop-key-2.key-iterator)
+    c.args.out.now.items out c.loop-key-2.invariant)
 
 pub returns-in-None-clause-ok : goal.returns-in-None-clause-ok
 returns-in-None-clause-ok c =
@@ -54,8 +53,9 @@ returns-in-None-clause-ok c =
     let old : Values = c.args.out.now.items in
     let out : Values = c.loop-key.out.items in
     let all : Items = by_one c.in-One.map.entries in
-    let h : IsPushed all [] old out = subst (λ (z : Items × Items). IsPushed z.0 z.1 old out) (λ i. (by_one (gives.0 i), by_one (c.in-None.ensures.steps.0 i))) c.loop-key.invariant in
-    IsPushed-all all old out h (rising_one c.in-One.map.entries gives.5) ∙ ap (λ z. old ++ listed (rows_in (entries_of z)).now) (sym c.in-One.is)
+    let h : IsPushed all [] old out =
+    subst (λ (z : Items × Items). IsPushed z.0 z.1 old out) (λ i. (by_one (gives.0 i), by_one (c.in-None.ensures.steps.0 i))) c.loop-key.invariant in
+    IsPushed-all all old out h (rising_one c.in-One.map.entries gives.5) ∙ ap (λ z. old ++ listed (entries_of z)) (sym c.in-One.is)
 
 pub returns-in-None-2-clause-ok : goal.returns-in-None-2-clause-ok
 returns-in-None-2-clause-ok c =
@@ -63,5 +63,7 @@ returns-in-None-2-clause-ok c =
     let old : Values = c.args.out.now.items in
     let out : Values = c.loop-key-2.out.items in
     let all : Items = by_many c.in-Many.map.entries in
-    let h : IsPushed all [] old out = subst (λ (z : Items × Items). IsPushed z.0 z.1 old out) (λ i. (by_many (gives.0 i), by_many (c.in-None-2.ensures.steps.0 i))) c.loop-key-2.invariant in
-    IsPushed-all all old out h (rising_many c.in-Many.map.entries gives.5) ∙ ap (λ z. old ++ listed (rows_in (entries_of z)).now) (sym c.in-Many.is)
+    let h : IsPushed all [] old out =
+    subst (λ (z : Items × Items). IsPushed z.0 z.1 old out) (λ i. (by_many (gives.0 i), by_many (c.in-None-2.ensures.steps.0 i)))
+    c.loop-key-2.invariant in
+    IsPushed-all all old out h (rising_many c.in-Many.map.entries gives.5) ∙ ap (λ z. old ++ listed (entries_of z)) (sym c.in-Many.is)

@@ -10,5 +10,7 @@ returns-in-One g c =
 
 pub returns-in-Many : goal.returns-in-Many
 returns-in-Many g c =
-    let n = none-whole many c.in-Many.map.entries in
-    (λ h. ap entries_of c.in-Many.is ∙ n.0 (c.is_empty-in-Many.ensures.0 h), λ h. c.is_empty-in-Many.ensures.1 (n.1 (ap entries_of (sym c.in-Many.is) ∙ h)))
+    let n = none-whole many c.in-Many.map.entries in (
+      λ h. ap entries_of c.in-Many.is ∙ n.0 (c.is_empty-in-Many.ensures.0 h),
+      λ h. c.is_empty-in-Many.ensures.1 (n.1 (ap entries_of (sym c.in-Many.is) ∙ h)),
+    )

@@ -2,7 +2,7 @@ use Rattle.std.proofs.Common.{◌≡◌, rules, sym, ap, ◌∙◌}
 use Rattle.std.specs.FinMap as fin
 use Rattle.std.specs.List.{count_by}
 use Rattle.std.specs.Map.{values_of}
-use Rattle.rc_edges.specs.Entry.{rows_in}
+use Rattle.rc_edges.specs.EdgeMap.{current}
 use Rattle.rc_maps.specs.Keyed.{by_many, by_one, has_row}
 use Rattle.rc_maps.specs.OrderedTable.{entries_of}
 use Rattle.rc_maps.specs.TableLaws.{many, one, values-by_values}
@@ -15,11 +15,12 @@ returns-in-One c =
     let es = c.in-One.map.entries in
     let e : c.count.result ≡ count_by has_row (values_of es) = search rules in
     e ∙ ap (count_by has_row) (sym (values-by_values one es)) ∙ sym (len-walk (by_one es) (apart_one es c.values.ensures.ordered))
-    ∙ ap (λ z. fin.len (rows_in (entries_of z)).now) (sym c.in-One.is)
+    ∙ ap (λ z. fin.len (current (entries_of z))) (sym c.in-One.is)
 
 pub returns-in-Many : goal.returns-in-Many
 returns-in-Many c =
     let es = c.in-Many.map.entries in
     let e : c.count-in-Many.result ≡ count_by has_row (values_of es) = search rules in
-    e ∙ ap (count_by has_row) (sym (values-by_values many es)) ∙ sym (len-walk (by_many es) (apart_many es c.values-in-Many.ensures.ordered))
-    ∙ ap (λ z. fin.len (rows_in (entries_of z)).now) (sym c.in-Many.is)
+    e ∙ ap (count_by has_row) (sym (values-by_values many es))
+    ∙ sym (len-walk (by_many es) (apart_many es c.values-in-Many.ensures.ordered))
+    ∙ ap (λ z. fin.len (current (entries_of z))) (sym c.in-Many.is)

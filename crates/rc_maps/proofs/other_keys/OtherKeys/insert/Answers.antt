@@ -10,7 +10,9 @@ invariant_of-self g c =
     let old = c.args.self.now.map.entries in
     let new = c.insert.new.self.entries in
     record {
-      none_has_two = passed-put many has_other c.insert.result old new c.args.key.items c.args.value c.args.self.now.none_has_two (ap not (other_from c.args.key.items c.requires))
+      none_has_two =
+          passed-put many has_other c.insert.result old new c.args.key.items c.args.value c.args.self.now.none_has_two
+          (ap not (other_from c.args.key.items c.requires))
           (λ u. changed_many c.args.key.items (Some c.args.value) old new u.3 u.1) c.insert.ensures.updates c.insert.ensures.err;
     }
 

@@ -11,7 +11,9 @@ invariant_of-self g c =
     let old = c.args.self.now.map.entries in
     let new = c.remove.new.self.entries in
     let u = c.remove.ensures.updates in
-    record { none_has_two = passed-changed many has_other old new key None c.args.self.now.none_has_two (λ n. refl) (changed_many key None old new u.3 u.1) }
+    record {
+      none_has_two = passed-changed many has_other old new key None c.args.self.now.none_has_two (λ n. refl) (changed_many key None old new u.3 u.1);
+    }
 
 pub returns-clause-value : goal.returns-clause-value
 returns-clause-value g c = sym (found_many c.args.key.now _ c.args.self.now.map.entries c.remove.ensures.value)

@@ -9,7 +9,9 @@ invariant_of-self g c =
     let old = c.args.self.now.map.entries in
     let new = c.remove.new.self.entries in
     let u = c.remove.ensures.updates in
-    record { all_have_two = passed-changed pair has_two old new key None c.args.self.now.all_have_two (λ n. refl) (changed_two key None old new u.3 u.1) }
+    record {
+      all_have_two = passed-changed pair has_two old new key None c.args.self.now.all_have_two (λ n. refl) (changed_two key None old new u.3 u.1);
+    }
 
 pub returns-clause-value : goal.returns-clause-value
 returns-clause-value g c = sym (found_two c.args.key.now _ c.args.self.now.map.entries c.remove.ensures.value)

@@ -1,132 +1,22 @@
-use Rattle.std.proofs.Common.{◌≡◌, IsSome, Some, sym, ap, subst, ◌∙◌}
+use Rattle.std.proofs.Common.{◌≡◌, Some, sym, ap, ◌∙◌}
 use Rattle.std.specs.FinMap as fin
-use Rattle.std.specs.FinMap.{FinMap}
-use Rattle.rc_edges.specs.Values.{Values, values_cmp}
-use Rattle.rc_edges.specs.EdgeMap.{Kept, lowered, written}
-use Rattle.rc_edges.specs.Entry.{now_of, rows_in}
-use Rattle.rc_edges.specs.declared.entry.Entry.{Entry}
-use Rattle.rc_maps.specs.TableEdge.{TableRows, kept_of}
-use Rattle.rc_maps.specs.EntryLaws.{HasRowsOf, HasRowsOf-set, HasRowsOf-out, NoneIsGone-set, NoneIsGone-out, count_there, got_now, not_there, on_some, set_now, stays_taken}
+use Rattle.rc_edges.specs.EdgeMap.{Rows, one_less, written}
+use Rattle.rc_edges.specs.Values.{Values}
+use Rattle.rc_maps.specs.TableEdge.{TableRows}
+use Rattle.rc_maps.specs.TableLaws.{on_some}
 use Rattle.rc_maps.proofs.table_edge.TableEdgeEdgeMap.sub.Goals as goal
 
-pub unreachable-requires : goal.unreachable-requires
-unreachable-requires g c =
-    let k : Kept = kept_of c.args.self.now in
+pub returns-clause-now : goal.returns-clause-now
+returns-clause-now g c =
+    let m : Rows = c.args.self.now.rows in
     let key : Values = c.args.key.now in
-    let old : FinMap values_cmp Entry = g.T.EntryTable.entries c.self.inside.table in
-    not_there k old (ap kept_of c.self.view_is) key (sym c.in_default.ensures.value) c.requires
+    let set = (on_some c.entry_mut.result c.in-Some.entry c.in-Some.is (c.entry_mut.follows.holds c.lower.new.self)).0 in
+    let kept : fin.get m key ≡ Some c.in-Some.entry.now =
+    ap (λ (z : TableRows). fin.get z.rows key) (sym c.self.view_is) ∙ sym c.in-Some.ensures.value in
+    set ∙ ap (λ (z : TableRows). fin.insert z.rows key c.lower.new.self) c.self.view_is ∙ ap (fin.insert m key) c.lower.ensures.now
+    ∙ ap (λ o. written m key (one_less o)) (sym kept)
 
-pub lower-requires : goal.lower-requires
-lower-requires g c =
-    let m : TableRows = c.args.self.now in
-    let k : Kept = kept_of m in
-    let key : Values = c.args.key.now in
-    let old : FinMap values_cmp Entry = g.T.EntryTable.entries c.self.inside.table in
-    let is : rows_in old ≡ k = ap kept_of c.self.view_is in
-    let v : Entry = c.in-Some.entry.now in
-    let f : fin.get old key ≡ Some v = sym c.in-Some.ensures.value in
-    count_there k old is key (now_of v) (got_now k old is key (Some v) f) (subst IsSome (got_now k old is key (Some v) f) c.requires)
-
-pub invariant_of-self : goal.invariant_of-self
-invariant_of-self g c =
-    let m : TableRows = c.args.self.now in
-    let k : Kept = kept_of m in
-    let key : Values = c.args.key.now in
-    let old : FinMap values_cmp Entry = g.T.EntryTable.entries c.self.inside.table in
-    let is : rows_in old ≡ k = ap kept_of c.self.view_is in
-    let v : Entry = c.in-Some.entry.now in
-    let f : fin.get old key ≡ Some v = sym c.in-Some.ensures.value in
-    let w : Entry = c.lower.new.self in
-    let set : FinMap values_cmp Entry = g.T.EntryTable.entries (c.entry_mut.follows.lender w) in
-    let s = on_some c.entry_mut.result c.in-Some.entry c.in-Some.is (c.entry_mut.follows.holds w) in
-    NoneIsGone-out old set (g.T.EntryTable.entries c.take_out.new.self) key w c.self.invariant s.0 c.take_out.ensures.entries
-
-pub invariant_of-self-else-is_gone : goal.invariant_of-self-else-is_gone
-invariant_of-self-else-is_gone g c =
-    let m : TableRows = c.args.self.now in
-    let k : Kept = kept_of m in
-    let key : Values = c.args.key.now in
-    let old : FinMap values_cmp Entry = g.T.EntryTable.entries c.self.inside.table in
-    let is : rows_in old ≡ k = ap kept_of c.self.view_is in
-    let v : Entry = c.in-Some.entry.now in
-    let f : fin.get old key ≡ Some v = sym c.in-Some.ensures.value in
-    let w : Entry = c.lower.new.self in
-    let set : FinMap values_cmp Entry = g.T.EntryTable.entries (c.entry_mut.follows.lender w) in
-    let s = on_some c.entry_mut.result c.in-Some.entry c.in-Some.is (c.entry_mut.follows.holds w) in
-    NoneIsGone-set old set key w c.self.invariant s.0 (sym c.is_gone.ensures ∙ c.if-is_gone.false)
-
-pub returns-then-is_gone-clause-now : goal.returns-then-is_gone-clause-now
-returns-then-is_gone-clause-now g c =
-    let m : TableRows = c.args.self.now in
-    let k : Kept = kept_of m in
-    let key : Values = c.args.key.now in
-    let old : FinMap values_cmp Entry = g.T.EntryTable.entries c.self.inside.table in
-    let is : rows_in old ≡ k = ap kept_of c.self.view_is in
-    let v : Entry = c.in-Some.entry.now in
-    let f : fin.get old key ≡ Some v = sym c.in-Some.ensures.value in
-    let w : Entry = c.lower.new.self in
-    let set : FinMap values_cmp Entry = g.T.EntryTable.entries (c.entry_mut.follows.lender w) in
-    let s = on_some c.entry_mut.result c.in-Some.entry c.in-Some.is (c.entry_mut.follows.holds w) in
-    let new : FinMap values_cmp Entry = g.T.EntryTable.entries c.take_out.new.self in
-    let h : HasRowsOf old new key w = HasRowsOf-out old set new key w s.0 (sym c.is_gone.ensures ∙ c.if-is_gone.true) c.take_out.ensures.entries in
-    set_now k old is new key w h ∙ ap (written k.now key) (c.lower.ensures.now ∙ ap lowered (sym (got_now k old is key (Some v) f)))
-
-pub returns-then-is_gone-clause-taken : goal.returns-then-is_gone-clause-taken
-returns-then-is_gone-clause-taken g c =
-    let m : TableRows = c.args.self.now in
-    let k : Kept = kept_of m in
-    let key : Values = c.args.key.now in
-    let old : FinMap values_cmp Entry = g.T.EntryTable.entries c.self.inside.table in
-    let is : rows_in old ≡ k = ap kept_of c.self.view_is in
-    let v : Entry = c.in-Some.entry.now in
-    let f : fin.get old key ≡ Some v = sym c.in-Some.ensures.value in
-    let w : Entry = c.lower.new.self in
-    let set : FinMap values_cmp Entry = g.T.EntryTable.entries (c.entry_mut.follows.lender w) in
-    let s = on_some c.entry_mut.result c.in-Some.entry c.in-Some.is (c.entry_mut.follows.holds w) in
-    let new : FinMap values_cmp Entry = g.T.EntryTable.entries c.take_out.new.self in
-    let h : HasRowsOf old new key w = HasRowsOf-out old set new key w s.0 (sym c.is_gone.ensures ∙ c.if-is_gone.true) c.take_out.ensures.entries in
-    stays_taken k old is new key (Some v) w h f c.lower.ensures.taken
-
-pub returns-then-is_gone-clause-width : goal.returns-then-is_gone-clause-width
-returns-then-is_gone-clause-width g c =
-    let w : Entry = c.lower.new.self in
-    let set : FinMap values_cmp Entry = g.T.EntryTable.entries (c.entry_mut.follows.lender w) in
-    let s = on_some c.entry_mut.result c.in-Some.entry c.in-Some.is (c.entry_mut.follows.holds w) in
-    c.take_out.ensures.width ∙ s.1 ∙ ap (λ (z : TableRows). z.one_column) c.self.view_is
-
-pub returns-else-is_gone-clause-now : goal.returns-else-is_gone-clause-now
-returns-else-is_gone-clause-now g c =
-    let m : TableRows = c.args.self.now in
-    let k : Kept = kept_of m in
-    let key : Values = c.args.key.now in
-    let old : FinMap values_cmp Entry = g.T.EntryTable.entries c.self.inside.table in
-    let is : rows_in old ≡ k = ap kept_of c.self.view_is in
-    let v : Entry = c.in-Some.entry.now in
-    let f : fin.get old key ≡ Some v = sym c.in-Some.ensures.value in
-    let w : Entry = c.lower.new.self in
-    let set : FinMap values_cmp Entry = g.T.EntryTable.entries (c.entry_mut.follows.lender w) in
-    let s = on_some c.entry_mut.result c.in-Some.entry c.in-Some.is (c.entry_mut.follows.holds w) in
-    let h : HasRowsOf old set key w = HasRowsOf-set old set key w s.0 in
-    set_now k old is set key w h ∙ ap (written k.now key) (c.lower.ensures.now ∙ ap lowered (sym (got_now k old is key (Some v) f)))
-
-pub returns-else-is_gone-clause-taken : goal.returns-else-is_gone-clause-taken
-returns-else-is_gone-clause-taken g c =
-    let m : TableRows = c.args.self.now in
-    let k : Kept = kept_of m in
-    let key : Values = c.args.key.now in
-    let old : FinMap values_cmp Entry = g.T.EntryTable.entries c.self.inside.table in
-    let is : rows_in old ≡ k = ap kept_of c.self.view_is in
-    let v : Entry = c.in-Some.entry.now in
-    let f : fin.get old key ≡ Some v = sym c.in-Some.ensures.value in
-    let w : Entry = c.lower.new.self in
-    let set : FinMap values_cmp Entry = g.T.EntryTable.entries (c.entry_mut.follows.lender w) in
-    let s = on_some c.entry_mut.result c.in-Some.entry c.in-Some.is (c.entry_mut.follows.holds w) in
-    let h : HasRowsOf old set key w = HasRowsOf-set old set key w s.0 in
-    stays_taken k old is set key (Some v) w h f c.lower.ensures.taken
-
-pub returns-else-is_gone-clause-width : goal.returns-else-is_gone-clause-width
-returns-else-is_gone-clause-width g c =
-    let w : Entry = c.lower.new.self in
-    let set : FinMap values_cmp Entry = g.T.EntryTable.entries (c.entry_mut.follows.lender w) in
-    let s = on_some c.entry_mut.result c.in-Some.entry c.in-Some.is (c.entry_mut.follows.holds w) in
-    s.1 ∙ ap (λ (z : TableRows). z.one_column) c.self.view_is
+pub returns-clause-width : goal.returns-clause-width
+returns-clause-width g c =
+    (on_some c.entry_mut.result c.in-Some.entry c.in-Some.is (c.entry_mut.follows.holds c.lower.new.self)).1
+    ∙ ap (λ (z : TableRows). z.one_column) c.self.view_is

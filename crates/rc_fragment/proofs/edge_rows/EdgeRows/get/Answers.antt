@@ -1,0 +1,10 @@
+use Rattle.std.proofs.Common.{sym, ap, ◌∙◌}
+use Rattle.rc_edges.specs.EdgeMap.{extra_of}
+use Rattle.rc_edges.specs.RowsLaws.{get-current}
+use Rattle.rc_fragment.specs.Container.{kept_in, now_in}
+use Rattle.rc_fragment.specs.Sources.{found_in}
+use Rattle.rc_fragment.proofs.edge_rows.EdgeRows.get.Goals as goal
+
+pub returns-in-Some : goal.returns-in-Some
+returns-in-Some c =
+    c.get-in-Some.ensures ∙ ap extra_of (sym (get-current (kept_in c.in-Some.container.now) c.args.key.now) ∙ ap (λ z. found_in now_in z c.args.key.now) c.in-Some.ensures)
