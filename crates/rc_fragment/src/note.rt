@@ -112,13 +112,17 @@ pub fn note_row(values: &mut Vec<u64>, edge: u8, row: &Tuple, shape: &EdgeShape)
     }
 }
 
-/// Adds the values at those of the row's columns that the set has at the end. Takes no memory.
+/// Adds the values at those of the row's columns that the set has at the end. Takes no memory, and no
+/// walk for a set without columns, as the extra ones mostly are.
 pub fn push_values(out: &mut Vec<u64>, row: &[(u8, u64)], cols: ColSet)
     requires { vec_len out.old + length (values_at cols row.now) ≤ vec_capacity out.old }
     ensures items { out.new.items ≡ out.old.items ++ values_at cols row.now }
     ensures len { vec_len out.new ≡ vec_len out.old + length (values_at cols row.now) }
     ensures capacity { vec_capacity out.new ≡ vec_capacity out.old }
 {
+    if cols.is_empty() {
+        return;
+    }
     for pair in row {
         if cols.has(pair.0) {
             out.push_reserved(pair.1);

@@ -99,7 +99,7 @@ impl<T: EntryTable + Drop> EdgeMap for TableEdge<T> {
     }
 
     fn sweep(&mut self, key: &[u64]) {
-        let Some(entry) = self.table.entry(key) else {
+        let Some(entry) = self.table.entry_mut(key) else {
             return;
         };
         if entry.is_tombstone() {
