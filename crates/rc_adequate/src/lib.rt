@@ -1,8 +1,6 @@
-//! Whether a decomposition is adequate: the rules of its edges, and whether it has every column.
+//! The tests of the rules of adequacy at edges and columns, A3 to A7. (PLDI 2011, adequacy.)
 #![tactic(auto)]
 
-mod adequate;
-mod edges;
 mod rules;
 
-pub use adequate::check_adequate;
+pub use rules::{keeps_a3, keeps_a4, keeps_a5, keeps_a6, keeps_a7};

@@ -9,19 +9,10 @@ ghost use Rattle.rc_plan.specs.PlanRules.{Progress, IsFindable, IsKnown, KeepsK5
 ghost use Rattle.rc_check.specs.Sets.{sets_of};
 
 use crate::progress::ProgressSets;
-use rc_fd::determines;
+use rc_fd::is_lossless;
 use rc_plan::{ReadMode, Statement};
 use rc_spec::{Edge, Spec};
 use rc_tuple::ColSet;
-
-/// Whether the common columns of both sets determine one of them.
-fn is_lossless(spec: &Spec, left: ColSet, right: ColSet) -> bool
-    ensures { IsTrue result ↔ IsLossless spec.now left right }
-{
-    let common = left.inter(right);
-    let deps = spec.deps.list();
-    determines(deps, common, left) || determines(deps, common, right)
-}
 
 /// Whether an edge begins at the root, or where an edge ends that was read in this search.
 fn is_reached(before: &ProgressSets, node: u8) -> bool
@@ -47,7 +38,7 @@ fn can_be_joined(spec: &Spec, before: &ProgressSets, edge: &Edge, mode: ReadMode
         → IsTrue result ↔ (IsFindable mode edge.now.key p.columns × IsLossless spec.now p.visited (bound spec.now edge.now.to)) }
 {
     is_findable(mode, edge.key, before.columns)
-        && is_lossless(spec, before.visited, spec.bound(edge.to))
+        && is_lossless(spec.deps.list(), before.visited, spec.bound(edge.to))
 }
 
 /// Whether the edge of a Read is reached, a look-up has its key, and the join loses no tuple (K5).

@@ -1,9 +1,9 @@
 -- Laws of implied dependencies, each shown of the relations that satisfy the dependencies.
-use Rattle.std.proofs.Common.{ℕ, List, [], ◌∷◌, sym, subst, inl, inr, refl}
+use Rattle.std.proofs.Common.{◌≡◌, ℕ, Bool, true, List, [], ◌∷◌, ◌⊎◌, sym, subst, inl, inr, refl}
 use Rattle.std.specs.Prelude.{◌↔◌}
 use Rattle.std.specs.Ordering.{nat_cmp}
 use Rattle.rc_tuple.specs.RisingSet.{In, IsRising}
-use Rattle.rc_tuple.specs.ColSet.{Within, union}
+use Rattle.rc_tuple.specs.ColSet.{Within, inter, union}
 use Rattle.rc_tuple.specs.ColSetLaws.{in_union, union_left, union_right}
 use Rattle.rc_tuple.specs.Tuple.{Pairs}
 use Rattle.rc_tuple.specs.TupleLaws.{project_less, project_by}
@@ -88,3 +88,13 @@ follows_augmented deps xs ys zs f =
     follows_union deps (union xs zs) ys zs
     (follows_weaker deps deps xs (union xs zs) ys ys (λ d m. m) (union_left xs zs) (λ c m. m) f)
     (follows_subset deps (union xs zs) zs (union_right xs zs))
+
+-- ---- joins that lose no tuple
+
+-- what was tested of the lists that a call was given, said of those that they equal
+pub lossless_at : (deps others : List Dep) (xs xs' ys ys' : List ℕ) (b : Bool) → deps ≡ others → xs ≡ xs' → ys ≡ ys'
+    → (b ≡ true) ↔ (Follows deps (inter xs ys) xs ⊎ Follows deps (inter xs ys) ys) → (b ≡ true) ↔ (Follows others (inter xs' ys') xs' ⊎ Follows others (inter xs' ys') ys')
+lossless_at deps others xs xs' ys ys' b d x y h =
+    subst (λ l. (b ≡ true) ↔ (Follows l (inter xs' ys') xs' ⊎ Follows l (inter xs' ys') ys')) d
+    (subst (λ l. (b ≡ true) ↔ (Follows deps (inter l ys') l ⊎ Follows deps (inter l ys') ys')) x
+    (subst (λ l. (b ≡ true) ↔ (Follows deps (inter xs l) xs ⊎ Follows deps (inter xs l) l)) y h))

@@ -1,6 +1,6 @@
-ghost use Rattle.std.specs.Prelude.{◌↔◌, ℕ, List, [], ◌∷◌, IsTrue};
+ghost use Rattle.std.specs.Prelude.{◌↔◌, ◌⊎◌, ℕ, List, [], ◌∷◌, IsTrue};
 ghost use Rattle.rc_tuple.specs.RisingSet.{In};
-ghost use Rattle.rc_tuple.specs.ColSet.{IsColSet, Within};
+ghost use Rattle.rc_tuple.specs.ColSet.{IsColSet, Within, inter};
 ghost use Rattle.rc_tuple.specs.Relation.{Follows};
 ghost use Rattle.rc_tuple.specs.declared.dep.Dep.{Dep};
 
@@ -62,4 +62,13 @@ pub fn is_key(deps: &[Dep], all: ColSet, x: ColSet) -> bool
     ensures { IsTrue result ↔ Follows deps.now x all }
 {
     determines(deps, x, all)
+}
+
+/// Whether the common columns of both sets determine one of them: so the join of the projections
+/// of a relation onto the two loses and adds no tuple (Heath's theorem).
+pub fn is_lossless(deps: &[Dep], left: ColSet, right: ColSet) -> bool
+    ensures { IsTrue result ↔ (Follows deps.now (inter left right) left ⊎ Follows deps.now (inter left right) right) }
+{
+    let common = left.inter(right);
+    determines(deps, common, left) || determines(deps, common, right)
 }

@@ -1,4 +1,3 @@
 pub mod CircleLemmas
 pub mod EdgeLemmas
 pub mod OrderLemmas
-pub mod RuleLemmas

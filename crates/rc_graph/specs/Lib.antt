@@ -1,4 +1,2 @@
-pub mod Fault
-pub mod FirstNumber
 pub mod Walks
 pub mod WalksLaws

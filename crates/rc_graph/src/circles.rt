@@ -1,10 +1,9 @@
-ghost use Rattle.std.specs.Prelude.{ℕ, ◌<◌, ◌↔◌, IsTrue, length};
+ghost use Rattle.std.specs.Prelude.{ℕ, ◌↔◌, IsTrue};
 ghost use Rattle.rc_tuple.specs.RisingSet.{In};
 ghost use Rattle.rc_tuple.specs.ColSet.{IsColSet};
 ghost use Rattle.rc_spec.specs.InRange.{IsInRange};
 ghost use Rattle.rc_spec.specs.Adequacy.{KeepsA2};
 ghost use Rattle.rc_spec.specs.Decomposition.{LiesOnCircle};
-ghost use Rattle.rc_graph.specs.FirstNumber.{IsFirstNumber};
 ghost use Rattle.rc_graph.specs.Walks.{IsTarget, Reaches};
 
 use rc_spec::Spec;
@@ -51,15 +50,10 @@ fn lies_on_circle(spec: &Spec, node: u8) -> bool
     reached_from(spec, node).has(node)
 }
 
-/// The first node that breaks rule A2.
-pub(crate) fn first_breaking_a2(spec: &Spec) -> Option<u8>
+/// Whether the node keeps rule A2.
+pub fn keeps_a2(spec: &Spec, node: u8) -> bool
     requires { IsInRange spec.now }
-    ensures { IsFirstNumber (KeepsA2 spec.now) (length spec.now.nodes) result }
+    ensures { IsTrue result ↔ KeepsA2 spec.now node }
 {
-    for node in 0..spec.nodes.list().len() as u8 {
-        if lies_on_circle(spec, node) {
-            return Some(node);
-        }
-    }
-    None
+    !lies_on_circle(spec, node)
 }

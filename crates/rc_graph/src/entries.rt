@@ -1,7 +1,6 @@
-ghost use Rattle.std.specs.Prelude.{◌<◌, ◌↔◌, IsTrue, length};
-ghost use Rattle.rc_spec.specs.InRange.{IsInRange, HasColumnAndNode};
+ghost use Rattle.std.specs.Prelude.{◌↔◌, IsTrue};
+ghost use Rattle.rc_spec.specs.InRange.{HasColumnAndNode};
 ghost use Rattle.rc_spec.specs.Adequacy.{HasEdgeInto, HasEdgeOutOf, IsRoot, KeepsA1};
-ghost use Rattle.rc_graph.specs.FirstNumber.{IsFirstNumber};
 
 use rc_spec::Spec;
 
@@ -38,7 +37,7 @@ fn begins_with_root(spec: &Spec) -> bool
 }
 
 /// Whether the node keeps rule A1.
-fn keeps_a1(spec: &Spec, node: u8) -> bool
+pub fn keeps_a1(spec: &Spec, node: u8) -> bool
     requires { HasColumnAndNode spec.now }
     ensures { IsTrue result ↔ KeepsA1 spec.now node }
 {
@@ -47,18 +46,4 @@ fn keeps_a1(spec: &Spec, node: u8) -> bool
     } else {
         has_edge_in(spec, node)
     }
-}
-
-/// The first node that breaks rule A1.
-pub(crate) fn first_breaking_a1(spec: &Spec) -> Option<u8>
-    requires range { IsInRange spec.now }
-    requires populated { HasColumnAndNode spec.now }
-    ensures { IsFirstNumber (KeepsA1 spec.now) (length spec.now.nodes) result }
-{
-    for node in 0..spec.nodes.list().len() as u8 {
-        if !keeps_a1(spec, node) {
-            return Some(node);
-        }
-    }
-    None
 }

@@ -5,8 +5,7 @@ ghost use Rattle.rc_spec.specs.Names.{IsWellNamed};
 ghost use Rattle.rc_inline.specs.Inlining.{inlined};
 
 use crate::contraction::{contracted, first_inlinable};
-use crate::copying::TryCopy;
-use rc_place::{AcceptFault, accept};
+use rc_graph::order_nodes;
 use rc_spec::Accepted;
 use rc_tuple::Memory;
 use std::alloc::Global;
@@ -15,21 +14,18 @@ use std::alloc::Global;
 /// edge leads to the singleton's target then, so that its rows have the singleton's columns, and a plan has one Read in
 /// place of two. Columns, dependencies, lock classes and operations stay. (Edge contraction; of objects, inlining.)
 ///
-/// `Err` only where memory is wanted; the specification is gone then. Costs, for each edge that goes, a copy of the
-/// specification and a test of all rules.
+/// `Err` only where memory is wanted; the specification is gone then. Costs, for each edge that goes, an
+/// order of the nodes.
 pub fn inline(alloc: Global, accepted: Accepted) -> Result<Accepted, Memory>
     ensures value { IfOk result (λ result. result ≡ inlined accepted) }
     ensures named { IfOk result (λ result. IsWellNamed accepted → IsWellNamed result) }
 {
     let mut inlined = accepted;
     while let Some(edge) = first_inlinable(inlined.spec()) {
-        let spec = contracted(inlined.spec().try_copy()?, edge);
-        match accept(alloc, spec) {
-            Ok(next) => inlined = next,
-            Err(AcceptFault::Memory) => return Err(Memory),
-            // A contraction keeps all rules.
-            Err(AcceptFault::Refused(_, _)) => unreachable!(),
-        }
+        let spec = contracted(inlined.into_spec(), edge);
+        // A contraction keeps all rules, so only the order of the nodes is found anew.
+        let order = order_nodes(alloc, &spec)?;
+        inlined = Accepted::seal(spec, order);
     }
     Ok(inlined)
 }

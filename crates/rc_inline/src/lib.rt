@@ -3,7 +3,6 @@
 #![tactic(auto)]
 
 mod contraction;
-mod copying;
 mod inlining;
 
 pub use inlining::inline;

@@ -1,2 +1,2 @@
-mod PlaceLemmas
-mod RuleLemmas
+mod JudgeLemmas
+mod PlacementLemmas

@@ -1,15 +1,12 @@
-ghost use Rattle.std.specs.Prelude.{◌≡◌, ◌++◌, IfOk, IfErr, IsOk};
-ghost use Rattle.rc_spec.specs.Acceptance.{IsAccepted, IsFirstBroken, IsItemOf, IsKept, adequacy_checks, placement_checks};
-ghost use Rattle.rc_spec.specs.First.{Judges};
+ghost use Rattle.std.specs.Prelude.{◌≡◌, IfOk, IfErr, IsOk};
+ghost use Rattle.rc_spec.specs.Acceptance.{IsAccepted, IsFirstBroken, IsItemOf};
 ghost use Rattle.rc_spec.specs.InRange.{IsInRange, HasColumnAndNode};
-ghost use Rattle.rc_spec.specs.Order.{IsTopologicalOrder};
-ghost use Rattle.rc_graph.specs.Fault.{IfRefused};
 ghost use Rattle.rc_place.specs.Fault.{IfHandedBack};
 
-use crate::check_place;
-use rc_adequate::check_adequate;
-use rc_graph::{CheckFault, check_graph};
-use rc_spec::{Accepted, NodeOrder, Refusal, Spec};
+use crate::judging::judge;
+use rc_graph::order_nodes;
+use rc_spec::{Accepted, Refusal, Spec};
+use rc_tuple::Memory;
 use std::alloc::Global;
 
 /// Why a specification was not accepted.
@@ -21,34 +18,10 @@ pub enum AcceptFault {
     Refused(Spec, Refusal),
 }
 
-/// Tests a specification by the rules of edges, columns, placement and operations.
-fn check_adequate_and_place(spec: &Spec) -> Result<(), Refusal>
-    requires range { IsInRange spec.now }
-    ensures { Judges (IsKept spec.now) (adequacy_checks spec.now ++ placement_checks spec.now) result }
-{
-    check_adequate(spec)?;
-    check_place(spec)
-}
-
-/// Tests a specification by all rules, and orders its nodes.
-fn check_all(alloc: Global, spec: &Spec) -> Result<NodeOrder, CheckFault>
-    requires range { IsInRange spec.now }
-    requires populated { HasColumnAndNode spec.now }
-    ensures accepted { IsOk result → IsAccepted spec.now }
-    ensures order { IfOk result (IsTopologicalOrder spec.now) }
-    ensures first { IfErr result (IfRefused (IsFirstBroken spec.now)) }
-{
-    let graph = check_graph(alloc, spec)?;
-    match check_adequate_and_place(spec) {
-        Ok(()) => Ok(graph.order),
-        Err(refusal) => Err(CheckFault::Refused(refusal)),
-    }
-}
-
-/// Tests a specification by all rules, and keeps it if it meets them. Rules A1 and A2 are tested first, then those of
-/// `check_adequate` and then those of `check_place`; the specification is refused for the first broken rule and the
-/// first item that breaks it, and handed back as it was. The specification is in range and has a column and a node.
-/// Memory is taken for the test of the graph alone. (PLDI 2011, adequacy; PLDI 2012, lock placement.)
+/// Tests a specification by all rules, and keeps it if it meets them: step by step of the table, each at all items of its
+/// kind. It is refused for the first broken rule and the first item that breaks it, and handed back as it was. The
+/// specification is in range and has a column and a node. Memory is taken for the order of the nodes alone. (PLDI 2011,
+/// adequacy; PLDI 2012, lock placement.)
 #[tactic(auto, using(rc_spec::specs::AcceptanceLaws::first_broken_item))]
 pub fn accept(alloc: Global, spec: Spec) -> Result<Accepted, AcceptFault>
     requires range { IsInRange spec }
@@ -59,9 +32,11 @@ pub fn accept(alloc: Global, spec: Spec) -> Result<Accepted, AcceptFault>
     ensures first { IfErr result (IfHandedBack (λ back refusal. IsFirstBroken spec refusal)) }
     ensures item { IfErr result (IfHandedBack (λ back refusal. IsItemOf spec refusal.item)) }
 {
-    match check_all(alloc, &spec) {
+    if let Err(refusal) = judge(&spec) {
+        return Err(AcceptFault::Refused(spec, refusal));
+    }
+    match order_nodes(alloc, &spec) {
         Ok(order) => Ok(Accepted::seal(spec, order)),
-        Err(CheckFault::Memory) => Err(AcceptFault::Memory),
-        Err(CheckFault::Refused(refusal)) => Err(AcceptFault::Refused(spec, refusal)),
+        Err(Memory) => Err(AcceptFault::Memory),
     }
 }

@@ -1,11 +1,11 @@
-//! Whether a decomposition is well placed on its lock classes and its operations keep their rules, and the
-//! acceptance of a specification by all rules.
+//! The tests of the rules of placement and of operations, and the acceptance of a specification: the rules as a table, and
+//! one judge that walks it.
 #![tactic(auto)]
 
 mod acceptance;
+mod judging;
 mod ops;
-mod place;
-mod rules;
+mod placement;
 
 pub use acceptance::{AcceptFault, accept};
-pub use place::check_place;
+pub use judging::judge;

@@ -11,9 +11,6 @@ use Rattle.rc_spec.specs.Decomposition.{bound, edge_at, target_columns}
 use Rattle.rc_route.specs.GoodRoutes.{IsStep, IsGoodFrom}
 use Rattle.rc_route.specs.GoodRoutesLaws.{good_reached}
 
-pub lossless_at : (spec : Spec) (xs ys zs : List ℕ) (b : Bool) → ys ≡ zs → (b ≡ true) ↔ IsLossless spec xs ys → (b ≡ true) ↔ IsLossless spec xs zs
-lossless_at spec xs ys zs b e h = subst (λ z. (b ≡ true) ↔ IsLossless spec xs z) e h
-
 -- the edge can be read, by what was found at its number
 pub step_found : (spec : Spec) (reached visited : List ℕ) (n : ℕ) (e : Edge) (b : Bool) → edge_at spec n ≡ e → n < length spec.edges
     → (b ≡ true) ↔ (((e.from ≡ 0) ⊎ In e.from reached) × IsLossless spec visited (bound spec e.to)) → (b ≡ true) ↔ IsStep spec reached visited n

@@ -7,7 +7,7 @@ ghost use Rattle.rc_spec.specs.Adequacy.{IsLossless};
 ghost use Rattle.rc_spec.specs.InRange.{IsInRange};
 ghost use Rattle.rc_route.specs.GoodRoutes.{IsStep, IsGoodFrom, IsGoodRoute};
 
-use rc_fd::determines;
+use rc_fd::is_lossless;
 use rc_spec::{Edge, Spec};
 use rc_tuple::ColSet;
 
@@ -21,22 +21,14 @@ struct Progress {
     visited: ColSet,
 }
 
-/// Whether the common columns of both sets determine one of them.
-fn is_lossless(spec: &Spec, left: ColSet, right: ColSet) -> bool
-    ensures { IsTrue result ↔ IsLossless spec.now left right }
-{
-    let common = left.inter(right);
-    let deps = spec.deps.list();
-    determines(deps, common, left) || determines(deps, common, right)
-}
-
 /// Whether an edge begins at the root or at a node that was reached, and its join with what was visited loses no tuple.
 fn can_be_read(spec: &Spec, reached: NodeSet, visited: ColSet, edge: &Edge) -> bool
     requires { edge.now.to < length spec.now.nodes }
     ensures { IsTrue result
         ↔ (((edge.now.from ≡ 0) ⊎ In edge.now.from reached) × IsLossless spec.now visited (bound spec.now edge.now.to)) }
 {
-    (edge.from == 0 || reached.has(edge.from)) && is_lossless(spec, visited, spec.bound(edge.to))
+    (edge.from == 0 || reached.has(edge.from))
+        && is_lossless(spec.deps.list(), visited, spec.bound(edge.to))
 }
 
 /// Whether the edge with this number can be read behind edges that did so. (A number that no edge has can't.)

@@ -1,10 +1,12 @@
 -- When a specification is accepted, and which rule it is refused for: the first broken one.
-use Rattle.std.specs.Prelude.{ℕ, ◌<◌, List, [], ◌∷◌, ◌++◌, length, map}
-use Rattle.std.specs.List.{flat_map, range_with_len}
+use Rattle.std.specs.Prelude.{◌≡◌, ℕ, ◌<◌, List, [], ◌∷◌, length, map}
+use Rattle.std.specs.List.{AllByRecursion, flat_map, range_with_len}
 use Rattle.rc_spec.specs.declared.refusal.Rule.{Rule}
 use Rattle.rc_spec.specs.declared.refusal.Rule.TheVariants.{A1, A2, A3, A4, A5, A6, A7, P1, P2, P3, P4, P5, P6, O1, O2, O3}
 use Rattle.rc_spec.specs.declared.refusal.Item.{Item}
 use Rattle.rc_spec.specs.declared.refusal.Item.TheVariants.{Node, Edge, Column, Lock, Operation}
+use Rattle.rc_spec.specs.declared.refusal.ItemKind.{ItemKind}
+use Rattle.rc_spec.specs.declared.refusal.ItemKind.TheVariants.{Node as NodeKind, Edge as EdgeKind, Column as ColumnKind, Lock as LockKind, Operation as OperationKind}
 use Rattle.rc_spec.specs.declared.refusal.Refusal.{Refusal}
 use Rattle.rc_spec.specs.declared.spec.Spec.{Spec}
 use Rattle.rc_spec.specs.Adequacy.{KeepsA1, KeepsA2, KeepsA3, KeepsA4, KeepsA5, KeepsA6, KeepsA7, IsAdequate}
@@ -47,50 +49,88 @@ IsItemOf spec (Column n) = n < length spec.columns
 IsItemOf spec (Lock n) = n < length spec.classes
 IsItemOf spec (Operation n) = n < length spec.ops
 
+-- of which items a rule speaks
+abbrev pub kind_of : Rule → ItemKind
+kind_of A1 = NodeKind
+kind_of A2 = NodeKind
+kind_of A3 = EdgeKind
+kind_of A4 = EdgeKind
+kind_of A5 = EdgeKind
+kind_of A6 = EdgeKind
+kind_of A7 = ColumnKind
+kind_of P1 = EdgeKind
+kind_of P2 = EdgeKind
+kind_of P3 = EdgeKind
+kind_of P4 = LockKind
+kind_of P5 = EdgeKind
+kind_of P6 = LockKind
+kind_of O1 = OperationKind
+kind_of O2 = OperationKind
+kind_of O3 = OperationKind
+
+abbrev pub item_of : ItemKind → ℕ → Item
+item_of NodeKind = Node
+item_of EdgeKind = Edge
+item_of ColumnKind = Column
+item_of LockKind = Lock
+item_of OperationKind = Operation
+
+-- how many items of the kind there are
+abbrev pub count_of : Spec → ItemKind → ℕ
+count_of spec NodeKind = length spec.nodes
+count_of spec EdgeKind = length spec.edges
+count_of spec ColumnKind = length spec.columns
+count_of spec LockKind = length spec.classes
+count_of spec OperationKind = length spec.ops
+
 -- A refusal speaks of a rule and an item: the item keeps the rule. A check is written as the refusal that its failure gives.
 abbrev pub IsKept : Spec → Refusal → Type 0
 IsKept spec check = Keeps spec check.rule (number_of check.item)
 
 -- ---- the checks, in the order in which they are made
 
-abbrev pub check_on : (ℕ → Item) → Rule → ℕ → Refusal
-check_on item rule n = record { rule = rule; item = item n }
+-- some rules of one kind of item, which are tested item by item
+pub record Step : Type 0 where
+  pub kind : ItemKind
+  pub rules : List Rule
 
--- a rule at each of the first items, in written order
-abbrev pub on_each : (ℕ → Item) → Rule → ℕ → List Refusal
-on_each item rule count = map (check_on item rule) (range_with_len 0 count)
+abbrev pub step : ItemKind → List Rule → Step
+step kind rules = record { kind = kind; rules = rules }
 
--- some rules at an item
-abbrev pub at_one : (ℕ → Item) → List Rule → ℕ → List Refusal
-at_one item rules n = map (λ rule. check_on item rule n) rules
+-- The table of acceptance: each rule in its place. A step is tested at all its items before the next one.
+abbrev pub steps : List Step
+steps =
+    step NodeKind (A1 ∷ [])
+    ∷ step NodeKind (A2 ∷ [])
+    ∷ step EdgeKind (A3 ∷ A4 ∷ A5 ∷ A6 ∷ [])
+    ∷ step ColumnKind (A7 ∷ [])
+    ∷ step EdgeKind (P1 ∷ [])
+    ∷ step EdgeKind (P2 ∷ [])
+    ∷ step EdgeKind (P3 ∷ [])
+    ∷ step LockKind (P4 ∷ [])
+    ∷ step EdgeKind (P5 ∷ [])
+    ∷ step LockKind (P6 ∷ [])
+    ∷ step OperationKind (O1 ∷ O2 ∷ O3 ∷ [])
+    ∷ []
 
--- some rules at the first items, item by item
-abbrev pub at_each : (ℕ → Item) → List Rule → ℕ → List Refusal
-at_each item rules count = flat_map (at_one item rules) (range_with_len 0 count)
+-- each rule of a step speaks of items of its kind
+abbrev pub AreOfKind : Step → Type 0
+AreOfKind step = AllByRecursion (λ rule. kind_of rule ≡ step.kind) step.rules
 
--- the rules of the graph, each at all nodes
-abbrev pub graph_checks : Spec → List Refusal
-graph_checks spec = on_each Node A1 (length spec.nodes) ++ on_each Node A2 (length spec.nodes)
+-- a rule at an item
+abbrev pub check_on : ItemKind → ℕ → Rule → Refusal
+check_on kind n rule = record { rule = rule; item = item_of kind n }
 
-abbrev pub edge_rules : List Rule
-edge_rules = A3 ∷ A4 ∷ A5 ∷ A6 ∷ []
+-- the rules of a step at one item
+abbrev pub item_checks : Step → ℕ → List Refusal
+item_checks step n = map (check_on step.kind n) step.rules
 
--- the edges, each by its rules, and then the columns
-abbrev pub adequacy_checks : Spec → List Refusal
-adequacy_checks spec = at_each Edge edge_rules (length spec.edges) ++ on_each Column A7 (length spec.columns)
-
-abbrev pub op_rules : List Rule
-op_rules = O1 ∷ O2 ∷ O3 ∷ []
-
--- the rules of placement, each at all its items, and then the operations, each by its rules
-abbrev pub placement_checks : Spec → List Refusal
-placement_checks spec =
-    on_each Edge P1 (length spec.edges) ++ on_each Edge P2 (length spec.edges) ++ on_each Edge P3 (length spec.edges)
-    ++ on_each Lock P4 (length spec.classes) ++ on_each Edge P5 (length spec.edges) ++ on_each Lock P6 (length spec.classes)
-    ++ at_each Operation op_rules (length spec.ops)
+-- the rules of a step at all items of its kind, item by item
+abbrev pub step_checks : Spec → Step → List Refusal
+step_checks spec step = flat_map (item_checks step) (range_with_len 0 (count_of spec step.kind))
 
 abbrev pub checks : Spec → List Refusal
-checks spec = graph_checks spec ++ adequacy_checks spec ++ placement_checks spec
+checks spec = flat_map (step_checks spec) steps
 
 -- ---- acceptance
 

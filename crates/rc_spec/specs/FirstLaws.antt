@@ -1,12 +1,13 @@
 -- Laws of the first of a list for which something does not hold.
-use Rattle.std.proofs.Common.{◌≡◌, ℕ, ◌+◌, ◌<◌, ◌≤◌, ◌↔◌, Bool, true, List, [], ◌∷◌, ◌++◌, map, Result, Ok, Err, refl, sym, ap, ◌∙◌, subst, inl, inr, arith}
+use Rattle.std.proofs.Common.{◌≡◌, ℕ, ◌+◌, ◌<◌, ◌≤◌, ◌↔◌, Bool, true, List, [], ◌∷◌, ◌++◌, map, take, drop, length, get_or, Result, Ok, Err, refl, sym, ap, ◌∙◌, subst, inl, inr, arith}
 use Rattle.std.specs.List.{flat_map, range_with_len}
 use Rattle.std.specs.Result.{IsOk, IfErr}
 use Rattle.std.proofs.lemmas.Bool.{false≢true}
-use Rattle.std.proofs.lemmas.List.{append_assoc, map-append}
+use Rattle.std.proofs.lemmas.List.{append_assoc, append-nil, map-append, take_more, take-append-drop}
+use Rattle.std.proofs.Math.Seq.{take-length}
 use Rattle.std.proofs.lemmas.Grind.{flat_map-append}
 use Rattle.rc_tuple.specs.RisingSet.{In}
-use Rattle.rc_tuple.specs.RisingSetLaws.{in_append, append_in_left, append_in_right, in_map, map_in, in_flat_map, flat_map_in}
+use Rattle.rc_tuple.specs.RisingSetLaws.{in_append, append_in_left, append_in_right, in_map, in_flat_map, flat_map_in}
 use Rattle.rc_tuple.specs.ColSetLaws.{in_range_bounds, range_at, in_range_below}
 use Rattle.rc_spec.specs.First.{EachHolds, IsFirstFailing, Judges}
 
@@ -24,25 +25,21 @@ pub each_cons : {A : Type 0} (P : A → Type 0) (x : A) (xs : List A) → P x �
 each_cons P x xs h f y (inl e) = subst P (sym e) h
 each_cons P x xs h f y (inr m) = f y m
 
-pub each_three : {A : Type 0} (P : A → Type 0) (x y z : A) → P x → P y → P z → EachHolds P (x ∷ y ∷ z ∷ [])
-each_three P x y z f g h = each_cons P x (y ∷ z ∷ []) f (each_cons P y (z ∷ []) g (each_one P z h))
+-- of each image, where it holds so of each element
+pub each_map : {A B : Type 0} (P : B → Type 0) (f : A → B) (xs : List A) → ((x : A) → In x xs → P (f x)) → EachHolds P (map f xs)
+each_map {A} P f xs h y m =
+    let w : (x : A) × In x xs × (y ≡ f x) = in_map f y xs m in
+    subst P (sym w.2) (h w.0 w.1)
 
-pub each_four : {A : Type 0} (P : A → Type 0) (w x y z : A) → P w → P x → P y → P z → EachHolds P (w ∷ x ∷ y ∷ z ∷ [])
-each_four P w x y z e f g h = each_cons P w (x ∷ y ∷ z ∷ []) e (each_three P x y z f g h)
+pub each_flat_map : {A B : Type 0} (P : B → Type 0) (f : A → List B) (xs : List A) → ((x : A) → In x xs → EachHolds P (f x)) → EachHolds P (flat_map f xs)
+each_flat_map {A} P f xs h y m =
+    let w : (x : A) × In x xs × In y (f x) = in_flat_map f y xs m in
+    h w.0 w.1 y w.2
 
 -- ---- the first that fails
 
 pub first_here : {A : Type 0} (P : A → Type 0) (x : A) (xs : List A) → (P x → ⊥) → IsFirstFailing P (x ∷ xs) x
 first_here P x xs n = record { before = []; after = xs; place = refl; earlier = each_none P; fails = n }
-
-pub first_later : {A : Type 0} (P : A → Type 0) (x y : A) (xs : List A) → P x → IsFirstFailing P xs y → IsFirstFailing P (x ∷ xs) y
-first_later P x y xs h f = record {
-  before = x ∷ f.before;
-  after = f.after;
-  place = ap (λ l. x ∷ l) f.place;
-  earlier = each_cons P x f.before h f.earlier;
-  fails = f.fails;
-}
 
 pub first_left : {A : Type 0} (P : A → Type 0) (xs ys : List A) (x : A) → IsFirstFailing P xs x → IsFirstFailing P (xs ++ ys) x
 first_left P xs ys x f = record {
@@ -61,11 +58,6 @@ first_right P xs ys x h f = record {
   earlier = each_append P xs f.before h f.earlier;
   fails = f.fails;
 }
-
--- the answer for what follows, where all before holds
-pub judged_cons : {A B : Type 0} (P : A → Type 0) (x : A) (xs : List A) (answer : Result B A) → P x → Judges P xs answer → Judges P (x ∷ xs) answer
-judged_cons P x xs (Ok value) h j = each_cons P x xs h j
-judged_cons P x xs (Err y) h j = first_later P x y xs h j
 
 pub judged_append : {A B : Type 0} (P : A → Type 0) (xs ys : List A) (answer : Result B A) → EachHolds P xs → Judges P ys answer → Judges P (xs ++ ys) answer
 judged_append P xs ys (Ok value) h j = each_append P xs ys h j
@@ -99,31 +91,12 @@ first_not_each P xs x f h = f.fails (h x (first_in P xs x f))
 
 -- ---- by number
 
--- what holds of each number below the count holds of each that stands for one
-pub each_numbered : {A : Type 0} (P : A → Type 0) (f : ℕ → A) (count : ℕ) → ((n : ℕ) → n < count → P (f n)) → EachHolds P (map f (range_with_len 0 count))
-each_numbered P f count h x m =
-    let w : (n : ℕ) × In n (range_with_len 0 count) × (x ≡ f n) = in_map f x (range_with_len 0 count) m in
-    let b : (0 ≤ w.0) × (w.0 < 0 + count) = in_range_bounds 0 count w.0 w.1 in
-    subst P (sym w.2) (h w.0 (omega (arith, b.1)))
+number_below : (count n : ℕ) → In n (range_with_len 0 count) → n < count
+number_below count n m = let b : (0 ≤ n) × (n < 0 + count) = in_range_bounds 0 count n m in omega (arith, b.1)
 
-pub first_numbered : {A : Type 0} (P : A → Type 0) (f : ℕ → A) (count k : ℕ) → k < count → ((n : ℕ) → n < k → P (f n)) → (P (f k) → ⊥)
-    → IsFirstFailing P (map f (range_with_len 0 count)) (f k)
-first_numbered P f count k l h n =
-    let s : (after : List ℕ) × (range_with_len 0 count ≡ range_with_len 0 k ++ k ∷ after) = range_at count k l in
-    record {
-      before = map f (range_with_len 0 k);
-      after = map f s.0;
-      place = ap (map f) s.1 ∙ map-append f (range_with_len 0 k) (k ∷ s.0);
-      earlier = each_numbered P f k h;
-      fails = n;
-    }
-
--- the same where a number stands for several
+-- what holds of those of each number below the count holds of all
 pub each_listed : {A : Type 0} (P : A → Type 0) (g : ℕ → List A) (count : ℕ) → ((n : ℕ) → n < count → EachHolds P (g n)) → EachHolds P (flat_map g (range_with_len 0 count))
-each_listed P g count h x m =
-    let w : (n : ℕ) × In n (range_with_len 0 count) × In x (g n) = in_flat_map g x (range_with_len 0 count) m in
-    let b : (0 ≤ w.0) × (w.0 < 0 + count) = in_range_bounds 0 count w.0 w.1 in
-    h w.0 (omega (arith, b.1)) x w.2
+each_listed P g count h = each_flat_map P g (range_with_len 0 count) (λ n m. h n (number_below count n m))
 
 pub first_listed : {A : Type 0} (P : A → Type 0) (g : ℕ → List A) (count k : ℕ) (x : A) → k < count → ((n : ℕ) → n < k → EachHolds P (g n)) → IsFirstFailing P (g k) x
     → IsFirstFailing P (flat_map g (range_with_len 0 count)) x
@@ -134,10 +107,50 @@ first_listed P g count k x l h f =
     subst (λ l. IsFirstFailing P l x) (sym e)
     (first_right P (flat_map g (range_with_len 0 k)) (g k ++ flat_map g s.0) x (each_listed P g k h) (first_left P (g k) (flat_map g s.0) x f))
 
--- ---- back to numbers
+-- ---- in a loop over a list, at the place i
 
-pub numbered_each : {A : Type 0} (P : A → Type 0) (f : ℕ → A) (count : ℕ) → EachHolds P (map f (range_with_len 0 count)) → (n : ℕ) → n < count → P (f n)
-numbered_each P f count h n l = h (f n) (map_in f n (range_with_len 0 count) (in_range_below count n l))
+module _ {A B : Type 0} (P : B → Type 0) (f : A → List B) (xs : List A) (i : ℕ) (d : A) (l : i < length xs) where
+  more : flat_map f (take (i + 1) xs) ≡ flat_map f (take i xs) ++ f (get_or xs i d)
+  more =
+      ap (flat_map f) (take_more xs i d l) ∙ flat_map-append f (take i xs) (get_or xs i d ∷ [])
+      ∙ ap (λ ys. flat_map f (take i xs) ++ ys) (append-nil (f (get_or xs i d)))
+
+  -- those of one more element hold too
+  pub all_more : EachHolds P (flat_map f (take i xs)) → EachHolds P (f (get_or xs i d)) → EachHolds P (flat_map f (take (i + 1) xs))
+  all_more before here = subst (EachHolds P) (sym more) (each_append P (flat_map f (take i xs)) (f (get_or xs i d)) before here)
+
+  -- one of those of this element fails first
+  pub first_among : (z : B) → EachHolds P (flat_map f (take i xs)) → IsFirstFailing P (f (get_or xs i d)) z → IsFirstFailing P (flat_map f xs) z
+  first_among z before fails =
+      let whole : flat_map f xs ≡ flat_map f (take (i + 1) xs) ++ flat_map f (drop (i + 1) xs) =
+      ap (flat_map f) (sym (take-append-drop (i + 1) xs)) ∙ flat_map-append f (take (i + 1) xs) (drop (i + 1) xs) in
+      subst (λ ys. IsFirstFailing P ys z) (sym whole)
+      (first_left P (flat_map f (take (i + 1) xs)) (flat_map f (drop (i + 1) xs)) z
+      (subst (λ ys. IsFirstFailing P ys z) (sym more) (first_right P (flat_map f (take i xs)) (f (get_or xs i d)) z before fails)))
+
+-- the same where an element stands for one
+module _ {A B : Type 0} (P : B → Type 0) (f : A → B) (xs : List A) (i : ℕ) (d : A) (l : i < length xs) where
+  one_more : map f (take (i + 1) xs) ≡ map f (take i xs) ++ f (get_or xs i d) ∷ []
+  one_more = ap (map f) (take_more xs i d l) ∙ map-append f (take i xs) (get_or xs i d ∷ [])
+
+  pub each_more : EachHolds P (map f (take i xs)) → P (f (get_or xs i d)) → EachHolds P (map f (take (i + 1) xs))
+  each_more before here =
+      subst (EachHolds P) (sym one_more) (each_append P (map f (take i xs)) (f (get_or xs i d) ∷ []) before (each_one P (f (get_or xs i d)) here))
+
+  pub first_at : EachHolds P (map f (take i xs)) → (P (f (get_or xs i d)) → ⊥) → IsFirstFailing P (map f xs) (f (get_or xs i d))
+  first_at before fails =
+      let x : B = f (get_or xs i d) in
+      let whole : map f xs ≡ map f (take (i + 1) xs) ++ map f (drop (i + 1) xs) =
+      ap (map f) (sym (take-append-drop (i + 1) xs)) ∙ map-append f (take (i + 1) xs) (drop (i + 1) xs) in
+      subst (λ ys. IsFirstFailing P ys x) (sym whole)
+      (first_left P (map f (take (i + 1) xs)) (map f (drop (i + 1) xs)) x
+      (subst (λ ys. IsFirstFailing P ys x) (sym one_more) (first_right P (map f (take i xs)) (x ∷ []) x before (first_here P x [] fails))))
+
+-- the elements up to the end are all
+pub taken_whole : {A : Type 0} (xs : List A) (n : ℕ) → n ≡ length xs → take n xs ≡ xs
+taken_whole xs n e = ap (λ k. take k xs) e ∙ take-length xs
+
+-- ---- back to the parts
 
 pub listed_each : {A : Type 0} (P : A → Type 0) (g : ℕ → List A) (count : ℕ) → EachHolds P (flat_map g (range_with_len 0 count)) → (n : ℕ) → n < count → EachHolds P (g n)
 listed_each P g count h n l x m = h x (flat_map_in g x n (range_with_len 0 count) (in_range_below count n l) m)

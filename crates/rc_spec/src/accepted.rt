@@ -49,6 +49,13 @@ impl Accepted {
         &self.spec
     }
 
+    /// The specification, given back.
+    pub fn into_spec(self) -> Spec
+        ensures { result ≡ self }
+    {
+        self.spec
+    }
+
     /// All nodes in topological order: at each place stands the first written node whose edges all come from nodes
     /// before it.
     pub fn order(&self) -> &[u8]

@@ -33,7 +33,7 @@ pub use lock::{Found, Mode};
 pub use named::Named;
 pub use names::is_name;
 pub use query_rows::QueryRows;
-pub use refusal::{Item, Refusal, Rule, print_refusal};
+pub use refusal::{Item, ItemKind, Refusal, Rule, print_refusal};
 pub use row_list::RowList;
 pub use spec::{Classes, Columns, Deps, Edges, Nodes, Ops, Places, Spec};
 pub use stripes::{band_start, mix, physical_stripe, stripe_of, stripe_total};

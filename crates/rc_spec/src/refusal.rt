@@ -1,5 +1,5 @@
-ghost use Rattle.std.specs.Prelude.{◌≡◌, ◌↔◌, Some, IfOk, IfErr, IsOk, IsTrue};
-ghost use Rattle.rc_spec.specs.Acceptance.{IsItemOf};
+ghost use Rattle.std.specs.Prelude.{◌≡◌, Some, IfOk};
+ghost use Rattle.rc_spec.specs.Acceptance.{IsItemOf, item_of};
 ghost use Rattle.rc_spec.specs.RefusalText.{item_name, refusal_text};
 
 use crate::{Named, Spec};
@@ -73,6 +73,21 @@ impl fmt::Display for Rule {
     }
 }
 
+/// A kind of item.
+#[derive(Clone, Copy, Debug, PartialEq, Eq)]
+pub enum ItemKind {
+    /// Nodes of the decomposition.
+    Node,
+    /// Edges of the decomposition.
+    Edge,
+    /// Columns of the relation.
+    Column,
+    /// Lock classes.
+    Lock,
+    /// Operations.
+    Operation,
+}
+
 /// An item of a specification, by its number among those of its kind.
 #[derive(Clone, Copy, Debug, PartialEq, Eq)]
 pub enum Item {
@@ -106,6 +121,19 @@ impl fmt::Display for Item {
 }
 
 impl Item {
+    /// The item of this kind with this number.
+    pub fn new(kind: ItemKind, number: u8) -> Item
+        ensures { result ≡ item_of kind number }
+    {
+        match kind {
+            ItemKind::Node => Item::Node(number),
+            ItemKind::Edge => Item::Edge(number),
+            ItemKind::Column => Item::Column(number),
+            ItemKind::Lock => Item::Lock(number),
+            ItemKind::Operation => Item::Operation(number),
+        }
+    }
+
     /// The item's name.
     fn name(self, spec: &Spec) -> &[u8]
         requires { IsItemOf spec.now self }
@@ -128,20 +156,6 @@ pub struct Refusal {
     pub rule: Rule,
     /// The first item that breaks it.
     pub item: Item,
-}
-
-impl Refusal {
-    /// Refuses the item for the rule, unless it keeps it.
-    pub fn unless(keeps: bool, rule: Rule, item: Item) -> Result<(), Refusal>
-        ensures ok { IsOk result ↔ IsTrue keeps }
-        ensures refusal { IfErr result (λ refusal. refusal ≡ record { rule = rule; item = item }) }
-    {
-        if keeps {
-            Ok(())
-        } else {
-            Err(Refusal { rule, item })
-        }
-    }
 }
 
 /// The line that refuses a specification, without a line feed: `refused`, the rule, and the item by its name.

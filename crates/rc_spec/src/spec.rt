@@ -1,11 +1,12 @@
 ghost use Rattle.std.specs.Prelude.{◌≡◌, ◌<◌, length};
+ghost use Rattle.rc_spec.specs.Acceptance.{count_of};
 ghost use Rattle.rc_spec.specs.Calls.{all_columns};
 ghost use Rattle.rc_spec.specs.Decomposition.{bound, edge_at, source_and_key};
 ghost use Rattle.rc_spec.specs.InRange.{IsEdgeAmong, IsInRange, IsOpAmong, IsSetBelow};
 ghost use Rattle.rc_spec.specs.Placement.{class_at, class_of, op_at};
 ghost use Rattle.rc_spec.specs.Spec.{empty};
 
-use crate::{Class, Column, Edge, Node, Op, Place};
+use crate::{Class, Column, Edge, ItemKind, Node, Op, Place};
 use rc_tuple::{ColSet, Dep, SmallList};
 use std::alloc::Global;
 
@@ -76,6 +77,20 @@ impl Spec {
             cols = cols.with(col);
         }
         cols
+    }
+
+    /// How many items of this kind there are.
+    pub fn count_of(&self, kind: ItemKind) -> u8
+        requires { IsInRange self.now }
+        ensures { result ≡ count_of self.now kind }
+    {
+        match kind {
+            ItemKind::Node => self.nodes.list().len() as u8,
+            ItemKind::Edge => self.edges.list().len() as u8,
+            ItemKind::Column => self.columns.list().len() as u8,
+            ItemKind::Lock => self.classes.list().len() as u8,
+            ItemKind::Operation => self.ops.list().len() as u8,
+        }
     }
 
     /// The edge with this number. In a specification in range its numbers are the specification's own.

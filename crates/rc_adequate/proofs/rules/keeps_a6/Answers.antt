@@ -1,9 +1,11 @@
-use Rattle.std.proofs.Common.{◌≡◌, ℕ, sym, ◌∙◌}
+use Rattle.std.proofs.Common.{◌≡◌, ℕ, ap, sym, ◌∙◌}
 use Rattle.std.proofs.lemmas.Bool.{false≢true}
 use Rattle.rc_spec.specs.declared.items.Edge.{Edge}
-use Rattle.rc_spec.specs.Decomposition.{edge_at}
+use Rattle.rc_spec.specs.Decomposition.{bound, edge_at}
 use Rattle.rc_spec.specs.DecompositionLaws.{edge_at_found}
-use Rattle.rc_adequate.proofs.RuleLemmas.{reached_at, reached_back, lossless_at}
+use Rattle.rc_spec.specs.Adequacy.{visited}
+use Rattle.rc_fd.specs.FollowsLaws.{lossless_at}
+use Rattle.rc_adequate.proofs.RuleLemmas.{reached_at, reached_back}
 use Rattle.rc_adequate.proofs.rules.keeps_a6.Goals as goal
 
 pub returns-then-is_reached : goal.returns-then-is_reached
@@ -12,7 +14,9 @@ returns-then-is_reached c =
     let n : ℕ = c.args.number in
     let e : Edge = c.index-edges-number.result in
     let same : edge_at spec n ≡ e = edge_at_found spec c.list-edges.result.now n e c.list-edges.ensures c.requires.known c.index-edges-number.is in
-    let lossless = lossless_at spec n e c.args.before c.bound.result c.is_lossless.result c.requires.before c.bound.ensures same c.is_lossless.ensures in (
+    let lossless =
+    lossless_at c.list.result.now spec.deps c.visited.result (visited spec n) c.bound.result (bound spec (edge_at spec n).to)
+    c.is_lossless.result c.list.ensures c.visited.ensures (c.bound.ensures ∙ ap (λ (x : Edge). bound spec x.to) (sym same)) c.is_lossless.ensures in (
       λ h. record { reached = reached_at spec c.list-edges.result.now n e c.list-edges.ensures same (c.is_reached.ensures.0 c.if-is_reached.true); lossless = lossless.0 h },
       λ k. lossless.1 k.lossless,
     )

@@ -1,5 +1,5 @@
 use Rattle.std.proofs.Common.{◌≡◌, ◌↔◌, true, List, ℕ, ap, subst}
-use Rattle.rc_spec.specs.Adequacy.{IsLossless}
+use Rattle.rc_fd.specs.FollowsLaws.{lossless_at}
 use Rattle.rc_spec.specs.Decomposition.{bound}
 use Rattle.rc_plan.specs.PlanRules.{IsFindable}
 use Rattle.rc_check.specs.declared.progress.ProgressSets.{ProgressSets}
@@ -10,6 +10,6 @@ returns-then-is_findable c = λ p e.
     let spec = c.args.spec.now in
     let findable = subst (λ (xs : List ℕ). (c.is_findable.result ≡ true) ↔ IsFindable c.args.mode c.args.edge.now.key xs) (ap (λ (s : ProgressSets). s.columns) e) c.is_findable.ensures in
     let lossless =
-    subst (λ (xs : List ℕ). (c.is_lossless.result ≡ true) ↔ IsLossless spec xs (bound spec c.args.edge.now.to)) (ap (λ (s : ProgressSets). s.visited) e)
-    (subst (λ (ys : List ℕ). (c.is_lossless.result ≡ true) ↔ IsLossless spec c.args.before.now.visited ys) c.bound.ensures c.is_lossless.ensures) in
+    lossless_at c.list.result.now spec.deps c.args.before.now.visited p.visited c.bound.result (bound spec c.args.edge.now.to)
+    c.is_lossless.result c.list.ensures (ap (λ (s : ProgressSets). s.visited) e) c.bound.ensures c.is_lossless.ensures in
     ((λ h. (findable.0 c.if-is_findable.true, lossless.0 h)), λ k. lossless.1 k.1)

@@ -1,51 +1,44 @@
-use Rattle.std.proofs.Common.{◌∙◌, ap, arith, length, subst, sym}
-use Rattle.rc_spec.specs.Acceptance.{IsAccepted, IsFirstBroken}
-use Rattle.rc_spec.specs.AcceptanceLaws.{refused_not_accepted}
-use Rattle.rc_spec.specs.InRange.{HasColumnAndNode, IsInRange}
+use Rattle.std.proofs.Common.{◌≡◌, ◌∙◌, Some, ap, arith, length, subst, sym}
+use Rattle.rc_spec.specs.Acceptance.{IsSealed}
 use Rattle.rc_spec.specs.Names.{IsWellNamed}
-use Rattle.rc_place.specs.Fault.{IfHandedBack}
 use Rattle.rc_inline.specs.Contraction.{contracted, first_inlinable}
 use Rattle.rc_inline.specs.Inlining.{inlined}
 use Rattle.rc_inline.specs.InliningLaws.{contracted_shorter, inlined_more, inlined_named, inlined_rest}
 use Rattle.rc_inline.proofs.AcceptedLemmas.{contracted_sealed}
+use Rattle.rc_inline.proofs.inlining.inline.Goals.{After-contracted-spec}
 use Rattle.rc_inline.proofs.inlining.inline.Goals as goal
 
-pub accept-requires-clause-range : goal.accept-requires-clause-range
-accept-requires-clause-range c =
-    let found = ap first_inlinable (sym c.spec.ensures.value) ∙ sym c.first_inlinable.ensures ∙ c.in-Some.is in
-    let is = c.contracted-spec.ensures ∙ ap (λ s. contracted s c.in-Some.edge) (c.in_ok-try_copy.ensures ∙ c.spec-in-Some.ensures.value) in
-    let sealed = contracted_sealed c.loop-edge.inlined c.in-Some.edge c.spec.ensures.sealed found in
-    subst IsInRange (sym is) sealed.in_range
+-- the edge at hand is the first that can go
+found : (c : After-contracted-spec) → first_inlinable c.loop-edge.inlined ≡ Some c.in-Some.edge
+found c = ap first_inlinable (sym c.spec.ensures.value) ∙ sym c.first_inlinable.ensures ∙ c.in-Some.is
 
-pub accept-requires-clause-populated : goal.accept-requires-clause-populated
-accept-requires-clause-populated c =
-    let found = ap first_inlinable (sym c.spec.ensures.value) ∙ sym c.first_inlinable.ensures ∙ c.in-Some.is in
-    let is = c.contracted-spec.ensures ∙ ap (λ s. contracted s c.in-Some.edge) (c.in_ok-try_copy.ensures ∙ c.spec-in-Some.ensures.value) in
-    let sealed = contracted_sealed c.loop-edge.inlined c.in-Some.edge c.spec.ensures.sealed found in
-    subst HasColumnAndNode (sym is) sealed.populated
+is_contracted : (c : After-contracted-spec) → c.contracted-spec.result ≡ contracted c.loop-edge.inlined c.in-Some.edge
+is_contracted c = c.contracted-spec.ensures ∙ ap (λ s. contracted s c.in-Some.edge) c.into_spec.ensures
+
+-- what is left meets all rules
+sealed : (c : After-contracted-spec) → IsSealed c.contracted-spec.result
+sealed c = subst IsSealed (sym (is_contracted c)) (contracted_sealed c.loop-edge.inlined c.in-Some.edge c.spec.ensures.sealed (found c))
+
+pub order_nodes-requires-clause-range : goal.order_nodes-requires-clause-range
+order_nodes-requires-clause-range c = (sealed (goal.at.order_nodes-requires-clause-range c).After-contracted-spec).in_range
+
+pub order_nodes-requires-clause-no_circle : goal.order_nodes-requires-clause-no_circle
+order_nodes-requires-clause-no_circle c = (sealed (goal.at.order_nodes-requires-clause-no_circle c).After-contracted-spec).accepted.adequate.a2
+
+pub seal-inlined-requires-clause-sealed : goal.seal-inlined-requires-clause-sealed
+seal-inlined-requires-clause-sealed c = sealed (goal.at.seal-inlined-requires-clause-sealed c).After-contracted-spec
 
 pub loop-edge-smaller : goal.loop-edge-smaller
 loop-edge-smaller c =
-    let found = ap first_inlinable (sym c.spec.ensures.value) ∙ sym c.first_inlinable.ensures ∙ c.in-Some.is in
-    let is = c.contracted-spec.ensures ∙ ap (λ s. contracted s c.in-Some.edge) (c.in_ok-try_copy.ensures ∙ c.spec-in-Some.ensures.value) in
-    let same = ap (λ s. length s.edges) (c.in-Ok.ensures.value ∙ is) in
-    let shorter = contracted_shorter c.loop-edge.inlined c.in-Some.edge found in
+    let at = (goal.at.loop-edge-smaller c).After-contracted-spec in
+    let same = ap (λ s. length s.edges) (c.seal-inlined.ensures ∙ is_contracted at) in
+    let shorter = contracted_shorter c.loop-edge.inlined c.in-Some.edge (found at) in
     omega (arith, same, shorter)
 
 pub loop-edge-preserved : goal.loop-edge-preserved
 loop-edge-preserved c =
-    let found = ap first_inlinable (sym c.spec.ensures.value) ∙ sym c.first_inlinable.ensures ∙ c.in-Some.is in
-    let is = c.contracted-spec.ensures ∙ ap (λ s. contracted s c.in-Some.edge) (c.in_ok-try_copy.ensures ∙ c.spec-in-Some.ensures.value) in
-    ap inlined (c.in-Ok.ensures.value ∙ is) ∙ inlined_more c.loop-edge.inlined c.in-Some.edge found ∙ c.loop-edge.invariant
-
-pub unreachable-requires : goal.unreachable-requires
-unreachable-requires c =
-    let found = ap first_inlinable (sym c.spec.ensures.value) ∙ sym c.first_inlinable.ensures ∙ c.in-Some.is in
-    let is = c.contracted-spec.ensures ∙ ap (λ s. contracted s c.in-Some.edge) (c.in_ok-try_copy.ensures ∙ c.spec-in-Some.ensures.value) in
-    let sealed = contracted_sealed c.loop-edge.inlined c.in-Some.edge c.spec.ensures.sealed found in
-    refused_not_accepted c.contracted-spec.result c.in-Err-Refused.field-0-1
-    (subst (IfHandedBack (λ back refusal. IsFirstBroken c.contracted-spec.result refusal)) c.in-Err-Refused.field-0-is c.in-Err-Refused.ensures.first)
-    (subst IsAccepted (sym is) sealed.accepted)
+    let at = (goal.at.loop-edge-preserved c).After-contracted-spec in
+    ap inlined (c.seal-inlined.ensures ∙ is_contracted at) ∙ inlined_more c.loop-edge.inlined c.in-Some.edge (found at) ∙ c.loop-edge.invariant
 
 pub returns-clause-value : goal.returns-clause-value
 returns-clause-value c =

@@ -2,7 +2,7 @@ use Rattle.std.proofs.Common.{◌<◌, length, sym, ap, ◌∙◌, subst, not, a
 use Rattle.std.proofs.lemmas.Bool.{false≢true}
 use Rattle.rc_tuple.specs.RisingSet.{In}
 use Rattle.rc_spec.specs.InRange.{HasOutsAmong}
-use Rattle.rc_place.proofs.RuleLemmas.{outs_distinct, outs_none}
+use Rattle.rc_place.proofs.PlacementLemmas.{outs_distinct, outs_none}
 use Rattle.rc_place.proofs.ops.keeps_o3.Goals as goal
 
 pub from_list-requires : goal.from_list-requires

@@ -1,14 +1,16 @@
-use Rattle.std.proofs.Common.{inl, inr, sym, ◌∙◌}
+use Rattle.std.proofs.Common.{inl, inr, refl, sym, ◌∙◌}
 use Rattle.std.proofs.lemmas.Bool.{false≢true, eq-eqb}
 use Rattle.rc_tuple.specs.RisingSetLaws.{in_has, has_in}
 use Rattle.rc_spec.specs.Decomposition.{bound}
-use Rattle.rc_route.proofs.GoodLemmas.{lossless_at}
+use Rattle.rc_fd.specs.FollowsLaws.{lossless_at}
 use Rattle.rc_route.proofs.good.can_be_read.Goals as goal
 use Rattle.rc_route.proofs.good.can_be_read.Goals.{then-edge-eq0, else-edge-eq0}
 
 pub returns-then-has : goal.returns-then-has
 returns-then-has c =
-    let lossless = lossless_at c.args.spec.now c.args.visited c.bound.result (bound c.args.spec.now c.args.edge.now.to) c.is_lossless.result c.bound.ensures c.is_lossless.ensures in (
+    let lossless =
+    lossless_at c.list.result.now c.args.spec.now.deps c.args.visited c.args.visited c.bound.result (bound c.args.spec.now c.args.edge.now.to)
+    c.is_lossless.result c.list.ensures refl c.bound.ensures c.is_lossless.ensures in (
       λ h. (
         elim c.if-edge-eq0.branch [
           | then-edge-eq0 w ↦ inl w.if-edge-eq0.true

@@ -1,6 +1,0 @@
-use Rattle.std.proofs.Common.{ℕ, ◌<◌}
-use Rattle.rc_spec.specs.Placement.{KeepsP5}
-use Rattle.rc_place.proofs.place.check_p5.Given as goal
-
-abbrev pub invariant-loop-edge : goal.invariant-loop-edge
-invariant-loop-edge l = (e : ℕ) → e < l.edge → KeepsP5 l.spec e

@@ -1,0 +1,10 @@
+use Rattle.std.proofs.Common.{◌≡◌, ◌≤◌, ◌==◌, length, take}
+use Rattle.std.specs.List.{filter}
+use Rattle.rc_spec.specs.declared.items.Place.{Place}
+use Rattle.rc_place.proofs.placement.count_places.Given as goal
+
+abbrev pub invariant-loop-place : goal.invariant-loop-place
+invariant-loop-place l = record {
+  counted : l.count ≡ length (filter (λ (p : Place). p.edge == l.edge) (take l.place-index l.place-items));
+  few : l.count ≤ l.place-index;
+}

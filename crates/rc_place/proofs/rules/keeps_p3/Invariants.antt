@@ -1,7 +1,0 @@
-use Rattle.std.proofs.Common.{◌≡◌, ℕ, ◌<◌, ◌≤◌}
-use Rattle.rc_spec.specs.Decomposition.{edge_at}
-use Rattle.rc_spec.specs.Placement.{class_of}
-use Rattle.rc_place.proofs.rules.keeps_p3.Given as goal
-
-abbrev pub invariant-loop-other : goal.invariant-loop-other
-invariant-loop-other l = (e : ℕ) → e < l.other → (edge_at l.spec e).to ≡ (edge_at l.spec l.number).from → class_of l.spec e ≤ class_of l.spec l.number
