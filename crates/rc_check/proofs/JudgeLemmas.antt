@@ -1,5 +1,5 @@
 -- The answer to the checks of a plan.
-use Rattle.std.proofs.Common.{◌≡◌, ℕ, ◌<◌, ◌↔◌, List, [], ◌∷◌, ◌++◌, length, Bool, true, false, Option, None, Some, Result, Ok, Err, refl, sym, subst, arith}
+use Rattle.std.proofs.Common.{◌≡◌, ℕ, ◌<◌, ◌↔◌, List, [], ◌∷◌, length, Bool, true, Option, None, Some, Result, Ok, Err, refl, sym, subst, arith}
 use Rattle.std.specs.List.{flat_map, range_with_len, slice_get}
 use Rattle.std.specs.Result.{IsOk, IfErr}
 use Rattle.std.proofs.lemmas.Bool.{false≢true}
@@ -8,7 +8,7 @@ use Rattle.rc_tuple.specs.RisingSetLaws.{slice_get_in}
 use Rattle.rc_spec.specs.declared.items.Op.{Op}
 use Rattle.rc_spec.specs.declared.spec.Spec.{Spec}
 use Rattle.rc_spec.specs.First.{EachHolds, IsFirstFailing, Judges}
-use Rattle.rc_spec.specs.FirstLaws.{each_listed, first_here, first_listed, first_left, judged_append, judged_err, judged_one}
+use Rattle.rc_spec.specs.FirstLaws.{each_listed, first_listed, first_left, judged_append, judged_err, judged_one}
 use Rattle.rc_plan.specs.declared.refusal.PlanRefusal.{PlanRefusal}
 use Rattle.rc_plan.specs.declared.refusal.PlanRule.{PlanRule}
 use Rattle.rc_plan.specs.declared.refusal.PlanRule.TheVariants.{K1}
@@ -30,18 +30,12 @@ err_judged spec op plan (Err refusal) j = j
 -- ---- the rules at a statement
 
 -- a statement that was found keeps a rule exactly where the test for it says so
-pub rule_kept : (spec others : Spec) (op same : Op) (plan : List Statement) (n : ℕ) (x : Statement) (rule : PlanRule) (b : Bool) → others ≡ spec → same ≡ op → slice_get plan n ≡ Some x
-    → (b ≡ true) ↔ StatementKeeps others same rule (progress_at spec op plan n) x → (b ≡ true) ↔ IsKeptInPlan spec op plan (check_at n rule)
-rule_kept spec others op same plan n x rule b s o there test =
-    let at_spec : (b ≡ true) ↔ StatementKeeps spec same rule (progress_at spec op plan n) x = subst (λ (z : Spec). (b ≡ true) ↔ StatementKeeps z same rule (progress_at spec op plan n) x) s test in
-    let at_op : (b ≡ true) ↔ StatementKeeps spec op rule (progress_at spec op plan n) x = subst (λ (z : Op). (b ≡ true) ↔ StatementKeeps spec z rule (progress_at spec op plan n) x) o at_spec in
-    subst (λ (z : Option Statement). (b ≡ true) ↔ KeepsThere spec op rule (progress_at spec op plan n) z) (sym there) at_op
-
--- the first check that fails, behind some that hold
-pub refused_behind : {B : Type 0} (P : PlanRefusal → Type 0) (before after : List PlanRefusal) (x : PlanRefusal) (answer : Result B PlanRefusal) (y : PlanRefusal) (b : Bool) → EachHolds P before
-    → (b ≡ true) ↔ P x → (false ≡ true) ↔ (b ≡ true) → answer ≡ Err y → y ≡ x → Judges P (before ++ x ∷ after) answer
-refused_behind P before after x answer y b holds test ok e same =
-    judged_append P before (x ∷ after) answer holds (judged_err P (x ∷ after) answer y x e same (first_here P x after (λ k. false≢true (ok.1 (test.1 k)))))
+pub rule_kept : (spec : Spec) (op same : Op) (plan : List Statement) (n : ℕ) (x : Statement) (rule : PlanRule) (b : Bool)
+    → same ≡ op → slice_get plan n ≡ Some x
+    → (b ≡ true) ↔ StatementKeeps spec same rule (progress_at spec op plan n) x → (b ≡ true) ↔ IsKeptInPlan spec op plan (check_at n rule)
+rule_kept spec op same plan n x rule b o there test =
+    subst (λ (z : Option Statement). (b ≡ true) ↔ KeepsThere spec op rule (progress_at spec op plan n) z) (sym there)
+    (subst (λ (z : Op). (b ≡ true) ↔ StatementKeeps spec z rule (progress_at spec op plan n) x) o test)
 
 -- the statement that was found by its number
 pub known_at : (spec : Spec) (plan : List Statement) (n : ℕ) (x : Statement) → AreKnown spec plan → slice_get plan n ≡ Some x → IsKnown spec x

@@ -1,7 +1,8 @@
 ghost use Rattle.std.specs.Prelude.{◌≡◌, ◌<◌, ◌^◌, ◌↔◌, length, IfErr, IsOk, IsTrue};
 ghost use Rattle.rc_spec.specs.First.{Judges};
+ghost use Rattle.rc_spec.specs.InRange.{IsOpAmong};
 ghost use Rattle.rc_spec.specs.Placement.{op_at};
-ghost use Rattle.rc_plan.specs.PlanRules.{AreKnown, IsFirstBrokenPlanRule, IsKeptInPlan, KeepsPlanRules, checks_at, progress_at};
+ghost use Rattle.rc_plan.specs.PlanRules.{AreKnown, IsFirstBrokenPlanRule, IsKeptInPlan, IsKnown, KeepsPlanRules, Progress, StatementKeeps, checks_at, progress_at};
 ghost use Rattle.rc_check.specs.Sets.{sets_of};
 
 use crate::checks::keeps_k7;
@@ -10,22 +11,46 @@ use crate::found::keeps_k6;
 use crate::phases::keeps_k1;
 use crate::progress::ProgressSets;
 use crate::steps::keeps_k5;
-use rc_plan::{Plan, PlanRefusal, PlanRule};
-use rc_spec::Accepted;
+use rc_plan::{Plan, PlanRefusal, PlanRule, Statement};
+use rc_spec::{Accepted, Op};
 
-/// Refuses a statement for a rule, unless it keeps it.
-fn unless(keeps: bool, rule: PlanRule, at: u32) -> Result<(), PlanRefusal>
-    ensures ok { IsOk result ↔ IsTrue keeps }
-    ensures refusal { IfErr result (λ refusal. refusal ≡ record { rule = rule; at = at }) }
+/// The rules of plans, in the order in which a statement is tested by them.
+const RULES: [PlanRule; 7] = [
+    PlanRule::K1,
+    PlanRule::K2,
+    PlanRule::K3,
+    PlanRule::K4,
+    PlanRule::K5,
+    PlanRule::K6,
+    PlanRule::K7,
+];
+
+/// Whether the statement keeps the rule, after the statements that left `before`.
+fn keeps(
+    accepted: &Accepted,
+    op: &Op,
+    rule: PlanRule,
+    before: &ProgressSets,
+    statement: &Statement,
+) -> bool
+    requires operation { IsOpAmong (length accepted.now.columns) op.now }
+    requires known { IsKnown accepted.now statement.now }
+    ensures { (p : Progress) → before.now ≡ sets_of p
+        → IsTrue result ↔ StatementKeeps accepted.now op.now rule p statement.now }
 {
-    if keeps {
-        Ok(())
-    } else {
-        Err(PlanRefusal { rule, at })
+    let spec = accepted.spec();
+    match rule {
+        PlanRule::K1 => keeps_k1(&op.kind, before, statement),
+        PlanRule::K2 => keeps_k2(before, statement),
+        PlanRule::K3 => keeps_k3(accepted, before, statement),
+        PlanRule::K4 => keeps_k4(accepted, before, statement),
+        PlanRule::K5 => keeps_k5(spec, before, statement),
+        PlanRule::K6 => keeps_k6(spec, op, before, statement),
+        PlanRule::K7 => keeps_k7(spec, op, before, statement),
     }
 }
 
-/// Tests the statement `at` of a plan for the operation `number` by K1 to K7, one after another.
+/// Tests the statement `at` of a plan for the operation `number` by all rules, one after another.
 fn check_statement(
     accepted: &Accepted,
     number: u8,
@@ -39,16 +64,14 @@ fn check_statement(
     requires before { before.now ≡ sets_of (progress_at accepted.now (op_at accepted.now number) plan.now at) }
     ensures { Judges (IsKeptInPlan accepted.now (op_at accepted.now number) plan.now) (checks_at at) result }
 {
-    let spec = accepted.spec();
-    let op = spec.op(number);
+    let op = accepted.spec().op(number);
     let statement = &plan.list()[at as usize];
-    unless(keeps_k1(&op.kind, before, statement), PlanRule::K1, at)?;
-    unless(keeps_k2(before, statement), PlanRule::K2, at)?;
-    unless(keeps_k3(accepted, before, statement), PlanRule::K3, at)?;
-    unless(keeps_k4(accepted, before, statement), PlanRule::K4, at)?;
-    unless(keeps_k5(spec, before, statement), PlanRule::K5, at)?;
-    unless(keeps_k6(spec, op, before, statement), PlanRule::K6, at)?;
-    unless(keeps_k7(spec, op, before, statement), PlanRule::K7, at)
+    for rule in RULES {
+        if !keeps(accepted, op, rule, before, statement) {
+            return Err(PlanRefusal { rule, at });
+        }
+    }
+    Ok(())
 }
 
 /// Tests a plan for the operation with this number by K1 to K7: its statements in order, each by the rules in order, and
@@ -70,5 +93,11 @@ pub fn check_plan(accepted: &Accepted, op: u8, plan: &Plan) -> Result<(), PlanRe
         check_statement(accepted, op, plan, at as u32, &known)?;
         known = known.after(spec, statement);
     }
-    unless(known.is_complete(), PlanRule::K1, statements.len() as u32)
+    if !known.is_complete() {
+        return Err(PlanRefusal {
+            rule: PlanRule::K1,
+            at: statements.len() as u32,
+        });
+    }
+    Ok(())
 }

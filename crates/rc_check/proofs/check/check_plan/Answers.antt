@@ -1,6 +1,7 @@
-use Rattle.std.proofs.Common.{◌≡◌, ℕ, ◌<◌, ◌↔◌, true, List, length, Some, Err, refl, sym, ap, subst, ◌∙◌, arith, below_more}
+use Rattle.std.proofs.Common.{◌≡◌, ℕ, ◌<◌, ◌↔◌, true, List, length, Some, Result, Ok, Err, refl, sym, ap, subst, ◌∙◌, arith, below_more}
 use Rattle.std.specs.List.{slice_get}
-use Rattle.std.specs.Result.{IfErr}
+use Rattle.std.specs.Result.{IfErr, IsOk}
+use Rattle.std.proofs.lemmas.Bool.{false≢true}
 use Rattle.std.proofs.lemmas.Option.{slice_get_read}
 use Rattle.std.proofs.lemmas.Result.{err_from_is_err_and}
 use Rattle.rc_spec.specs.declared.items.Op.{Op}
@@ -16,6 +17,7 @@ use Rattle.rc_plan.specs.PlanRules.{IsComplete, IsKeptInPlan, IsKnown, after, at
 use Rattle.rc_plan.specs.PlanRulesLaws.{progress_more}
 use Rattle.rc_check.specs.Sets.{sets_of}
 use Rattle.rc_check.proofs.JudgeLemmas.{err_judged, judged_end, known_at, ok_judged, refused_statement}
+use Rattle.rc_check.proofs.check.check_plan.Goals.{After-is_complete}
 use Rattle.rc_check.proofs.check.check_plan.Goals as goal
 
 pub at_start-known-requires-clause-known : goal.at_start-known-requires-clause-known
@@ -66,8 +68,11 @@ loop-at-preserved c =
       kept = below_more (λ k. EachHolds (IsKeptInPlan spec op plan) (checks_at k)) n c.loop-at.invariant.kept c.in_ok-check_statement.ensures;
     }
 
-pub returns : goal.returns
-returns c =
+-- the loop has gone over all statements, and the plan is judged by the test of its end
+ended : (c : After-is_complete) → (answer : Result (Unit {0}) PlanRefusal) → IsOk answer ↔ (c.is_complete.result ≡ true)
+    → IfErr answer (λ (y : PlanRefusal). y ≡ check_at (length c.list-statements.result.now) K1)
+    → Judges (IsKeptInPlan c.args.accepted.now (op_at c.args.accepted.now c.args.op) c.args.plan.now) (plan_checks c.args.plan.now) answer
+ended c answer ok refusal =
     let spec : Spec = c.args.accepted.now in
     let op : Op = op_at spec c.args.op in
     let plan : List Statement = c.args.plan.now in
@@ -75,7 +80,22 @@ returns c =
     let all : length c.list-statements.result.now ≡ length plan = ap (λ (l : List Statement). length l) c.list-statements.ensures in
     let end : n ≡ length plan = omega arith in
     let complete = subst (λ k. (c.is_complete.result ≡ true) ↔ IsComplete (progress_at spec op plan k)) end (c.is_complete.ensures (progress_at spec op plan n) c.loop-at.invariant.known) in
-    let refusal = subst (λ k. IfErr c.unless.result (λ (y : PlanRefusal). y ≡ check_at k K1)) all c.unless.ensures.refusal in
-    let judged : Judges (IsKeptInPlan spec op plan) (plan_checks plan) c.unless.result =
-    judged_end spec op plan c.unless.result c.is_complete.result (λ k l. c.loop-at.invariant.kept k (omega arith)) complete c.unless.ensures.ok refusal in
-    record { accepted = ok_judged spec op plan c.unless.result judged; first = err_judged spec op plan c.unless.result judged }
+    judged_end spec op plan answer c.is_complete.result (λ k l. c.loop-at.invariant.kept k (omega arith)) complete ok
+    (subst (λ k. IfErr answer (λ (y : PlanRefusal). y ≡ check_at k K1)) all refusal)
+
+pub returns-then-not-is_complete : goal.returns-then-not-is_complete
+returns-then-not-is_complete c =
+    let spec : Spec = c.args.accepted.now in
+    let op : Op = op_at spec c.args.op in
+    let answer : Result (Unit {0}) PlanRefusal = Err (check_at (length c.list-statements.result.now) K1) in
+    let judged = ended (goal.at.returns-then-not-is_complete c).After-is_complete answer
+    (λ h. absurd (false≢true h), λ h. absurd (false≢true (sym c.if-not-is_complete.true ∙ h))) refl in
+    record { accepted = ok_judged spec op c.args.plan.now answer judged; first = err_judged spec op c.args.plan.now answer judged }
+
+pub returns : goal.returns
+returns c =
+    let spec : Spec = c.args.accepted.now in
+    let op : Op = op_at spec c.args.op in
+    let answer : Result (Unit {0}) PlanRefusal = Ok tt in
+    let judged = ended (goal.at.returns c).After-is_complete answer (λ h. c.if-not-is_complete.false, λ h. refl) tt in
+    record { accepted = ok_judged spec op c.args.plan.now answer judged; first = err_judged spec op c.args.plan.now answer judged }
