@@ -8,8 +8,8 @@ use Rattle.rc_spec.specs.declared.spec.Spec.{Spec}
 use Rattle.rc_rel.specs.declared.entry.Entry.{Entry}
 use Rattle.rc_rel.specs.History.{steps_of}
 use Rattle.rc_work.specs.declared.work.Work.{Work}
-use Rattle.rc_shards.specs.declared.summary.Summary.{Summary}
-use Rattle.rc_shards.specs.Summary.{counted, rows_in, summary}
+use Rattle.rc_generate.specs.declared.summary.Summary.{Summary}
+use Rattle.rc_generate.specs.Summary.{counted, rows_in, summary}
 use Rattle.rc_generate.specs.Generated.{generated}
 use Rattle.rc_generate.specs.GeneratedLaws.{generated_runs_are_small}
 use Rattle.rc_generate.specs.Sample.{sample_graph}

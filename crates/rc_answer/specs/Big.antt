@@ -1,7 +1,7 @@
 -- What a generated workload may have written, and what its run leaves.
 use Rattle.std.specs.Prelude.{◌≡◌, ℕ, List, Option}
 use Rattle.rc_io.specs.Bytes.{Adds}
-use Rattle.rc_shards.specs.Summary.{one_thread_summary, summary}
+use Rattle.rc_generate.specs.Summary.{one_thread_summary, summary}
 use Rattle.rc_generate.specs.Generated.{generated, generated_calls}
 use Rattle.rc_generate.specs.Sample.{sample_graph}
 use Rattle.rc_generate.specs.SummaryText.{summary_text}

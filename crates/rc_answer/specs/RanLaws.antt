@@ -7,7 +7,7 @@ use Rattle.rc_rel.specs.History.{IsLegal, replay}
 use Rattle.rc_rel.specs.HistoryLaws.{states_satisfy}
 use Rattle.rc_work.specs.declared.work.Work.{Work}
 use Rattle.rc_work.specs.Report.{report}
-use Rattle.rc_shards.specs.Summary.{summary}
+use Rattle.rc_generate.specs.Summary.{summary}
 use Rattle.rc_generate.specs.Generated.{generated}
 use Rattle.rc_generate.specs.GeneratedLaws.{generated_summary_is_one_threads}
 use Rattle.rc_generate.specs.Sample.{sample_graph}

@@ -3,7 +3,7 @@
 use crate::fault::Fault;
 use crate::reading::{first_word, text_of, tuple};
 use crate::showing::push_pairs;
-use rc_join::join;
+use rc_instance::join;
 use rc_maps::Seed;
 
 /// Joins the tuples of the lines `left` with those of the lines `right`, and lists what comes of it.

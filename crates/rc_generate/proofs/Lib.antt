@@ -1,2 +1,4 @@
+pub mod SummaryLemmas
+pub mod ShardingLemmas
 pub mod TextLemmas
 pub mod GeneratingLemmas

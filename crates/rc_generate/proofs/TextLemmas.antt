@@ -3,7 +3,7 @@ use Rattle.std.proofs.Common.{◌≡◌, ℕ, List, [], ◌∷◌, ◌++◌, cod
 use Rattle.std.proofs.lemmas.List.{append-nil, append_assoc}
 use Rattle.rc_text.specs.Lines.{printed_lines}
 use Rattle.rc_work.specs.Report.{count_line}
-use Rattle.rc_shards.specs.declared.summary.Summary.{Summary}
+use Rattle.rc_generate.specs.declared.summary.Summary.{Summary}
 use Rattle.rc_generate.specs.SummaryText.{summary_text}
 
 -- once a line is written, the others are left

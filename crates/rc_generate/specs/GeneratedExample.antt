@@ -2,7 +2,7 @@
 use Rattle.std.specs.Prelude.{◌≡◌, [], ◌∷◌, codes}
 use Rattle.std.proofs.Common.{refl}
 use Rattle.rc_work.specs.Report.{count_line}
-use Rattle.rc_shards.specs.Summary.{one_thread_summary}
+use Rattle.rc_generate.specs.Summary.{one_thread_summary}
 use Rattle.rc_generate.specs.Sample.{sample_graph}
 use Rattle.rc_generate.specs.Generated.{insert_call, query_call, generated_turns, generated_calls}
 use Rattle.rc_generate.specs.SummaryText.{summary_lines}

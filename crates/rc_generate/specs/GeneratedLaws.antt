@@ -16,9 +16,9 @@ use Rattle.rc_work.specs.declared.work.Turn.{Turn}
 use Rattle.rc_work.specs.Fitting.{RoundsFit, HasThreads}
 use Rattle.rc_work.specs.Limits.{KeepsLimits}
 use Rattle.rc_work.specs.Runs.{Runs}
-use Rattle.rc_shards.specs.Shards.{shard_of, IsAsOneThread}
-use Rattle.rc_shards.specs.Summary.{rows_in, counted, summary, one_thread_summary}
-use Rattle.rc_shards.specs.SummaryLaws.{summaries_are_one_threads, length_as_one_thread, rows_are_few}
+use Rattle.rc_generate.specs.Shards.{shard_of, IsAsOneThread}
+use Rattle.rc_generate.specs.Summary.{rows_in, counted, summary, one_thread_summary}
+use Rattle.rc_generate.specs.SummaryLaws.{summaries_are_one_threads, length_as_one_thread, rows_are_few}
 use Rattle.rc_generate.specs.Sample.{sample_graph}
 use Rattle.rc_generate.specs.SampleLaws.{sample_is_sharded}
 use Rattle.rc_generate.specs.SharedRuns.{TurnsKeepShards}

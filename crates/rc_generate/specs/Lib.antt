@@ -1,3 +1,11 @@
+pub mod Shards
+pub mod Summary
+pub mod FilterLaws
+pub mod PartLaws
+pub mod CallLaws
+pub mod ShardLaws
+pub mod ExistenceLaws
+pub mod SummaryLaws
 pub mod Sample
 pub mod SampleText
 pub mod Generated

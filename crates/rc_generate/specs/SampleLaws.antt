@@ -17,7 +17,7 @@ use Rattle.rc_reader.specs.ReadingLaws.{text_means}
 use Rattle.rc_reader.specs.RulesLaws.{Keeps, keeps-after_bytes}
 use Rattle.rc_reader.specs.InRangeLaws.{in_range-keeps, in_range-empty}
 use Rattle.rc_reader.specs.WellNamedLaws.{well_named-keeps, well_named-empty}
-use Rattle.rc_shards.specs.Shards.{IsSharded}
+use Rattle.rc_generate.specs.Shards.{IsSharded}
 use Rattle.rc_generate.specs.Sample.{sample_graph}
 use Rattle.rc_generate.specs.SampleText.{sample_lines, sample_is_read}
 

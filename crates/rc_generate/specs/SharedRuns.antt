@@ -3,7 +3,7 @@ use Rattle.std.specs.Prelude.{◌≡◌, ℕ, List, map}
 use Rattle.std.specs.List.{flat_map, AllByRecursion}
 use Rattle.rc_spec.specs.declared.call.Call.{Call}
 use Rattle.rc_work.specs.declared.work.Turn.{Turn}
-use Rattle.rc_shards.specs.Shards.{shard_of}
+use Rattle.rc_generate.specs.Shards.{shard_of}
 
 -- all calls of some rounds, in written order
 abbrev pub all_calls : List (List Turn) → List Call

@@ -11,8 +11,8 @@ use Rattle.rc_work.specs.declared.work.Work.{Work}
 use Rattle.rc_work.specs.Fitting.{TurnsFit, RoundsFit}
 use Rattle.rc_work.specs.Runs.{thread_calls, Runs}
 use Rattle.rc_work.specs.RunsLaws.{runs_make_calls}
-use Rattle.rc_shards.specs.Shards.{IsSharded, IsSharedOut, MakesShards, shard_of, calls_in, CallsFit, IsAsOneThread}
-use Rattle.rc_shards.specs.ShardLaws.{all_fit, keeps_shards, same_in_every_schedule, shards_are_as_one_thread}
+use Rattle.rc_generate.specs.Shards.{IsSharded, IsSharedOut, MakesShards, shard_of, calls_in, CallsFit, IsAsOneThread}
+use Rattle.rc_generate.specs.ShardLaws.{all_fit, keeps_shards, same_in_every_schedule, shards_are_as_one_thread}
 use Rattle.rc_generate.specs.SharedRuns.{all_calls, TurnsKeepShards}
 
 round_calls : (key : ℕ) (share : ℕ → ℕ) (thread : ℕ) (round : List Turn) → AllByRecursion (λ t. shard_of key share t.call.args ≡ t.thread) round

@@ -2,7 +2,7 @@
 use Rattle.std.specs.Prelude.{ℕ, List, [], ◌∷◌, codes}
 use Rattle.rc_text.specs.Lines.{printed_lines}
 use Rattle.rc_work.specs.Report.{count_line}
-use Rattle.rc_shards.specs.declared.summary.Summary.{Summary}
+use Rattle.rc_generate.specs.declared.summary.Summary.{Summary}
 
 abbrev pub summary_lines : Summary → List (List ℕ)
 summary_lines s =

@@ -1,9 +1,14 @@
-//! The sample specification, a workload generated on it by a seed, and the text of a run's summary.
+//! The sample specification, a workload generated on it by a seed, and a run's summary with its text. With the laws of calls
+//! that are shared out among threads by the value of one column, its shards: what they answer and the relation that they
+//! leave do not depend on the order in which the threads come.
 #![tactic(auto)]
 
 mod generating;
 mod laws;
 mod sample;
+mod shard_laws;
+mod sharding;
+mod summary;
 mod summary_text;
 
 pub use generating::generate;
@@ -12,4 +17,10 @@ pub use laws::{
     shared_runs_are_as_one_thread,
 };
 pub use sample::sample_spec;
+pub use shard_laws::{
+    histories_exist, rows_are_few, same_in_every_schedule, shards_are_apart,
+    shards_are_as_one_thread, summaries_add_up, summaries_are_of_calls, summaries_are_one_threads,
+};
+pub use sharding::is_sharded;
+pub use summary::{Summary, summarise};
 pub use summary_text::print_summary;

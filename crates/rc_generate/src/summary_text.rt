@@ -5,7 +5,7 @@ ghost use Rattle.rc_text.specs.Lines.{printed_lines};
 ghost use Rattle.rc_work.specs.Report.{count_line};
 ghost use Rattle.rc_generate.specs.SummaryText.{summary_text};
 
-use rc_shards::Summary;
+use crate::summary::Summary;
 use rc_text::{push_bytes, push_u64};
 use rc_tuple::Memory;
 use std::alloc::Global;

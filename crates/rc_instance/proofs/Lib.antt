@@ -1,3 +1,5 @@
+mod IndexLemmas
+mod TupleKeys
 mod AlikeLemmas
 mod ChangeLemmas
 mod EmptyLemmas

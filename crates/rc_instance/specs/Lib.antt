@@ -1,3 +1,4 @@
+pub mod Index
 pub mod Fragments
 pub mod Instance
 pub mod InstanceLaws

@@ -7,7 +7,7 @@ use Rattle.rc_rel.specs.declared.entry.Entry.{Entry}
 use Rattle.rc_row.specs.Passes.{PassSeen, core_of}
 use Rattle.rc_store.specs.Closed.{ClosedSeen, Leaves}
 use Rattle.rc_store.specs.Store.{IsFree, StoreSeen}
-use Rattle.rc_rounds.specs.Rounds.{Stand}
+use Rattle.rc_runner.specs.Rounds.{Stand}
 use Rattle.rc_work.specs.declared.work.Work.{Work}
 use Rattle.rc_work.specs.Runs.{HasSingleSteps, Runs}
 

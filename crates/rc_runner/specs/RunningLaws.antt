@@ -25,8 +25,8 @@ use Rattle.rc_work.specs.declared.work.Turn.{Turn}
 use Rattle.rc_work.specs.declared.work.Work.{Work}
 use Rattle.rc_work.specs.Fitting.{HasThreads}
 use Rattle.rc_work.specs.Runs.{Runs, thread_calls}
-use Rattle.rc_rounds.specs.Rounds.{AreSingle, EachHasMade, HasCalled, HasGrown, HaveMade, IsClosed, MadeBy, Stand, entries_of}
-use Rattle.rc_rounds.specs.CloseLaws.{rounds_run}
+use Rattle.rc_runner.specs.Rounds.{AreSingle, EachHasMade, HasCalled, HasGrown, HaveMade, IsClosed, MadeBy, Stand, entries_of}
+use Rattle.rc_runner.specs.CloseLaws.{rounds_run}
 use Rattle.rc_runner.specs.Running.{HasRun, MayMake, number_of, numbers_of, stand_of, stands_of}
 
 -- ---- a call

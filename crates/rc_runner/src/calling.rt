@@ -4,7 +4,7 @@ ghost use Rattle.std.specs.Prelude.{◌≡◌, ◌+◌, ◌<◌, ◌≤◌, All,
 ghost use Rattle.std.specs.Thread.{IsSend, IsSync};
 ghost use Rattle.rc_spec.specs.Calls.{Fits};
 ghost use Rattle.rc_row.specs.Passes.{core_of, spec_of};
-ghost use Rattle.rc_rounds.specs.Rounds.{HasCalled, HasGrown, MadeRound};
+ghost use Rattle.rc_runner.specs.Rounds.{HasCalled, HasGrown, MadeRound};
 ghost use Rattle.rc_store.specs.Store.{IsFree};
 ghost use Rattle.rc_work.specs.Fitting.{TurnsFit};
 ghost use Rattle.rc_work.specs.Runs.{thread_calls};

@@ -3,7 +3,7 @@
 ghost use Rattle.std.specs.Prelude.{◌≡◌, ◌≤◌, [], All, IfOk, OnOk, length, sum_by};
 ghost use Rattle.std.specs.List.{range_with_len};
 ghost use Rattle.rc_row.specs.Passes.{AreIdlePasses, core_of, spec_of};
-ghost use Rattle.rc_rounds.specs.Rounds.{HaveMade};
+ghost use Rattle.rc_runner.specs.Rounds.{HaveMade};
 ghost use Rattle.rc_store.specs.Closed.{HasClosed};
 ghost use Rattle.rc_store.specs.Store.{IsFree};
 ghost use Rattle.rc_work.specs.Fitting.{HasThreads, RoundsFit};

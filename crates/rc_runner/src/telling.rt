@@ -1,7 +1,7 @@
 //! What the passes have seen of the history, told among them between two rounds.
 
 ghost use Rattle.std.specs.Prelude.{◌≡◌, All};
-ghost use Rattle.rc_rounds.specs.Rounds.{HasHeard, HasHeardAll, HaveHeard, HaveLearnt};
+ghost use Rattle.rc_runner.specs.Rounds.{HasHeard, HasHeardAll, HaveHeard, HaveLearnt};
 ghost use Rattle.rc_store.specs.Store.{IsFree};
 ghost use Rattle.rc_runner.specs.Running.{number_of, numbers_of, stand_of, stands_of};
 

@@ -1,4 +1,4 @@
-use Rattle.rc_rounds.specs.CallersLaws.{both_made}
+use Rattle.rc_runner.specs.CallersLaws.{both_made}
 use Rattle.rc_runner.specs.Running.{number_of, stand_of}
 use Rattle.rc_runner.proofs.calling.+halves.Goals as goal
 

@@ -1,6 +1,6 @@
 use Rattle.std.proofs.Common.{◌+◌, ◌∙◌, subst, sym}
 use Rattle.rc_row.specs.Passes.{PassSeen}
-use Rattle.rc_rounds.specs.CallersLaws.{HasMadeTurns, its_turn, others_turn, turns_end, turns_start}
+use Rattle.rc_runner.specs.CallersLaws.{HasMadeTurns, its_turn, others_turn, turns_end, turns_start}
 use Rattle.rc_store.specs.Store.{IsFree}
 use Rattle.rc_runner.specs.Running.{number_of, stand_of}
 use Rattle.rc_runner.specs.RunningLaws.{may_one}

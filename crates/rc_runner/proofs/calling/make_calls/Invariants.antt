@@ -1,4 +1,4 @@
-use Rattle.rc_rounds.specs.CallersLaws.{HasMadeTurns}
+use Rattle.rc_runner.specs.CallersLaws.{HasMadeTurns}
 use Rattle.rc_store.specs.Store.{IsFree}
 use Rattle.rc_runner.specs.Running.{number_of, stand_of}
 use Rattle.rc_runner.proofs.calling.make_calls.Given as goal

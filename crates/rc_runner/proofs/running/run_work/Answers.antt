@@ -1,6 +1,6 @@
 use Rattle.std.proofs.Common.{◌≡◌, ◌∙◌, ap, drop, length, subst, sym, arith}
 use Rattle.std.specs.List.{range_with_len}
-use Rattle.rc_rounds.specs.Rounds.{HaveMade}
+use Rattle.rc_runner.specs.Rounds.{HaveMade}
 use Rattle.rc_runner.specs.Running.{stands_of}
 use Rattle.rc_runner.specs.RunningLaws.{all_of_them, idle_at_end, new_are_free, new_count, new_have_none, new_numbers, run_at_end}
 use Rattle.rc_runner.proofs.running.run_work.Goals as goal

@@ -1,7 +1,7 @@
 use Rattle.std.proofs.Common.{◌∙◌, ◌≤◌, subst}
 use Rattle.std.proofs.lemmas.List.Elements.{All-set}
 use Rattle.rc_row.specs.Passes.{PassSeen, core_of}
-use Rattle.rc_rounds.specs.TellingLaws.{set_same, told_all, told_more}
+use Rattle.rc_runner.specs.TellingLaws.{set_same, told_all, told_more}
 use Rattle.rc_store.specs.Store.{IsFree}
 use Rattle.rc_runner.specs.Running.{number_of, stand_of}
 use Rattle.rc_runner.proofs.telling.tell_all.Goals as goal

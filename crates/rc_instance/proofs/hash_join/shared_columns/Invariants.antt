@@ -1,0 +1,11 @@
+use Rattle.std.proofs.Common.{take}
+use Rattle.rc_tuple.specs.RisingSet.{In}
+use Rattle.rc_tuple.specs.ColSet.{Within}
+use Rattle.rc_tuple.specs.Tuple.{Pairs, IsTuple, cols_of}
+use Rattle.rc_instance.proofs.hash_join.shared_columns.Given as goal
+
+abbrev pub invariant-loop-tuple : goal.invariant-loop-tuple
+invariant-loop-tuple l = record {
+  shared : (t : Pairs) → In t (take l.tuple-index l.tuples) → Within l.columns (cols_of t);
+  tuples : (t : Pairs) → In t (take l.tuple-index l.tuples) → IsTuple t;
+}

@@ -1,6 +1,0 @@
-use Rattle.std.proofs.Common.{take}
-use Rattle.rc_join.specs.Index.{IsIndexed}
-use Rattle.rc_join.proofs.index.index_by.Given as goal
-
-abbrev pub invariant-loop-tuple : goal.invariant-loop-tuple
-invariant-loop-tuple l = IsIndexed l.columns (take l.tuple-index l.tuples) l.index.entries

@@ -1,2 +1,0 @@
-pub mod SummaryLemmas
-pub mod ShardingLemmas

@@ -1,5 +1,0 @@
-use Rattle.rc_shards.specs.ShardLaws as laws
-use Rattle.rc_shards.proofs.laws.shards_are_as_one_thread.Goals as goal
-
-pub returns : goal.returns
-returns c = laws.shards_are_as_one_thread
