@@ -32,7 +32,7 @@ impl Session {
     }
 
     /// Makes a call that has no fault of its own.
-    fn call_idle(&mut self, op: u32, values: &[u64]) -> Result<Position, CallFault>
+    pub(crate) fn call_idle(&mut self, op: u32, values: &[u64]) -> Result<Position, CallFault>
         requires { fault_of self.old op values.now ≡ None }
         ensures { Answers (HasCalled self.old op values.now self.new)
             self.old op values.now self.new result }

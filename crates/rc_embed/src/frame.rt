@@ -151,7 +151,7 @@ impl Session {
         if let Some(fault) = self.fault_for(frame.op, count) {
             return call_code(fault);
         }
-        match self.try_call(frame.op, &frame.values[..count]) {
+        match self.call_idle(frame.op, &frame.values[..count]) {
             Ok(at) => {
                 frame.tell_place(at);
                 frame.tell_reply(self);
@@ -170,7 +170,7 @@ impl Session {
         if let Some(fault) = self.fault_for(frame.op, count) {
             return call_code(fault);
         }
-        match self.begin(frame.op, &frame.values[..count]) {
+        match self.begin_idle(frame.op, &frame.values[..count]) {
             Ok(()) => {
                 frame.tell_reply(self);
                 DONE

@@ -29,7 +29,7 @@ impl Session {
     }
 
     /// Prepares a call that has no fault of its own.
-    fn begin_idle(&mut self, op: u32, values: &[u64]) -> Result<(), CallFault>
+    pub(crate) fn begin_idle(&mut self, op: u32, values: &[u64]) -> Result<(), CallFault>
         requires { fault_of self.old op values.now ≡ None }
         ensures { Answers (λ _. HasPrepared self.old op values.now self.new)
             self.old op values.now self.new result }
