@@ -1,6 +1,7 @@
 -- A line that breaks no rule leaves the specification in range.
-use Rattle.std.proofs.Common.{◌≡◌, ℕ, ◌<◌, ◌≤◌, false, not, eqb, ◌||◌, List, [], ◌∷◌, ◌++◌, length, Option, Some, None, refl, arith, lit≤}
+use Rattle.std.proofs.Common.{◌≡◌, ℕ, ◌<◌, ◌≤◌, false, eqb, ◌||◌, List, [], ◌∷◌, ◌++◌, length, Option, Some, None, refl, arith, lit≤}
 use Rattle.std.specs.Prelude.{is_none, unwrap_or}
+use Rattle.std.specs.List.{list_any}
 use Rattle.std.specs.Ordering.{nat_cmp}
 use Rattle.std.proofs.lemmas.Bool.{leb-false, or_parts, not-false, eqb-true}
 use Rattle.std.proofs.lemmas.List.{length_push, length-map}
@@ -19,7 +20,10 @@ use Rattle.rc_spec.specs.Names.{column_names, node_names, edge_names, class_name
 use Rattle.rc_spec.specs.InRange.{AreBelow, IsSetBelow, IsDepAmong, IsEdgeAmong, IsPlaceAmong, IsOpAmong, IsInRange}
 use Rattle.rc_reader.specs.Names.{number_among, is_unknown}
 use Rattle.rc_reader.specs.Forms.{header_line, column_line, dependency_line, node_line, edge_line, lock_line, place_line, query_line, insert_line, remove_line, end_line}
-use Rattle.rc_reader.specs.Rules.{lacks, has_operations, has_places, has_classes, has_edges, has_nodes, has_dependencies, number_named, columns_named, set_named, operation_of, with_operation}
+use Rattle.rc_reader.specs.declared.sections.LineKind.{LineKind}
+use Rattle.rc_reader.specs.declared.sections.LineKind.TheVariants as sections
+use Rattle.rc_reader.specs.Sections.{later, count_of, has_lines, has_later}
+use Rattle.rc_reader.specs.Rules.{lacks, number_named, columns_named, set_named, operation_of}
 use Rattle.rc_reader.specs.MembersLaws.{each_push, each_of_none, gather_some}
 use Rattle.rc_reader.specs.NamesLaws.{number_among-below, numbers_of-below, length-numbers_of}
 use Rattle.rc_reader.specs.RulesLaws.{Keeps}
@@ -44,42 +48,20 @@ set_some spec words more known e =
     let count = length-numbers_of (column_names spec.columns) words known in
     gather_some (columns_named spec words) (omega arith) e
 
-is_empty : (n : ℕ) → not (eqb n 0) ≡ false → n ≡ 0
-is_empty n e = eqb-true n 0 (not-false (eqb n 0) e)
+-- these sections have no item
+abbrev pub AreEmpty : Spec → List (LineKind × ℕ) → Type 0
+AreEmpty spec [] = Unit {0}
+AreEmpty spec (row ∷ rows) = (count_of spec row.0 ≡ 0) × AreEmpty spec rows
 
--- no later section has an item
-pub record IsFirstAfter (spec : Spec) : Type 0 where
-  pub nodes : length spec.nodes ≡ 0
-  pub edges : length spec.edges ≡ 0
-  pub classes : length spec.classes ≡ 0
-  pub places : length spec.places ≡ 0
-  pub ops : length spec.ops ≡ 0
+are_empty : (spec : Spec) (rows : List (LineKind × ℕ)) → list_any (λ (row : LineKind × ℕ). has_lines (count_of spec) row.0) rows ≡ false → AreEmpty spec rows
+are_empty spec [] e = tt
+are_empty spec (row ∷ rows) e =
+    let parts = or_parts (has_lines (count_of spec) row.0) (list_any (λ (r : LineKind × ℕ). has_lines (count_of spec) r.0) rows) e in
+    (eqb-true (count_of spec row.0) 0 (not-false (eqb (count_of spec row.0) 0) parts.0), are_empty spec rows parts.1)
 
-no_operations : (spec : Spec) → has_operations spec ≡ false → length spec.ops ≡ 0
-no_operations spec e = is_empty (length spec.ops) e
-
-no_places : (spec : Spec) → has_places spec ≡ false → (length spec.places ≡ 0) × (length spec.ops ≡ 0)
-no_places spec e =
-    let parts = or_parts (not (eqb (length spec.places) 0)) (has_operations spec) e in
-    (is_empty (length spec.places) parts.0, no_operations spec parts.1)
-
-no_classes : (spec : Spec) → has_classes spec ≡ false → (length spec.classes ≡ 0) × (length spec.places ≡ 0) × (length spec.ops ≡ 0)
-no_classes spec e =
-    let parts = or_parts (not (eqb (length spec.classes) 0)) (has_places spec) e in
-    let rest = no_places spec parts.1 in
-    (is_empty (length spec.classes) parts.0, rest.0, rest.1)
-
-no_edges : (spec : Spec) → has_edges spec ≡ false → (length spec.edges ≡ 0) × (length spec.classes ≡ 0) × (length spec.places ≡ 0) × (length spec.ops ≡ 0)
-no_edges spec e =
-    let parts = or_parts (not (eqb (length spec.edges) 0)) (has_classes spec) e in
-    let rest = no_classes spec parts.1 in
-    (is_empty (length spec.edges) parts.0, rest.0, rest.1, rest.2)
-
-no_nodes : (spec : Spec) → has_nodes spec ≡ false → IsFirstAfter spec
-no_nodes spec e =
-    let parts = or_parts (not (eqb (length spec.nodes) 0)) (has_edges spec) e in
-    let rest = no_edges spec parts.1 in
-    record { nodes = is_empty (length spec.nodes) parts.0; edges = rest.0; classes = rest.1; places = rest.2; ops = rest.3 }
+-- where a line is in order, those behind its own
+empty_later : (spec : Spec) (kind : LineKind) → has_later (count_of spec) kind ≡ false → AreEmpty spec (later kind)
+empty_later spec kind e = are_empty spec (later kind) e
 
 -- a known name's number is one of the items
 named_below : (found : Option ℕ) (limit : ℕ) → ((k : ℕ) → found ≡ Some k → k < limit) → is_none found ≡ false → unwrap_or found 0 < limit
@@ -90,10 +72,9 @@ number_below : (names : List (List ℕ)) (word : List ℕ) (limit : ℕ) → len
 number_below names word limit len known =
     named_below (number_among names word) limit (λ k e. let below = number_among-below names word k e in omega arith) known
 
-in_range-column : (spec : Spec) (more : Column) → IsInRange spec → length spec.columns < 16 → has_dependencies spec ≡ false → IsInRange (record spec { columns = spec.columns ++ more ∷ [] })
+in_range-column : (spec : Spec) (more : Column) → IsInRange spec → length spec.columns < 16 → has_later (count_of spec) sections.Column ≡ false → IsInRange (record spec { columns = spec.columns ++ more ∷ [] })
 in_range-column spec more range few order =
-    let parts = or_parts (not (eqb (length spec.deps) 0)) (has_nodes spec) order in
-    let first = no_nodes spec parts.1 in
+    let (deps, (nodes, (edges, (classes, (places, (ops, none)))))) = empty_later spec sections.Column order in
     let count : ℕ = length (spec.columns ++ more ∷ []) in
     record {
       columns = omega (arith, length_push spec.columns more);
@@ -103,15 +84,15 @@ in_range-column spec more range few order =
       classes = range.classes;
       places = range.places;
       ops = range.ops;
-      known_deps = each_of_none (IsDepAmong count) spec.deps (is_empty (length spec.deps) parts.0);
-      known_nodes = each_of_none (λ (x : Node). IsSetBelow count x.cols) spec.nodes first.nodes;
-      known_edges = each_of_none (IsEdgeAmong (length spec.nodes) count) spec.edges first.edges;
-      known_classes = each_of_none (λ (x : Class). IsSetBelow count x.cols) spec.classes first.classes;
+      known_deps = each_of_none (IsDepAmong count) spec.deps deps;
+      known_nodes = each_of_none (λ (x : Node). IsSetBelow count x.cols) spec.nodes nodes;
+      known_edges = each_of_none (IsEdgeAmong (length spec.nodes) count) spec.edges edges;
+      known_classes = each_of_none (λ (x : Class). IsSetBelow count x.cols) spec.classes classes;
       known_places = range.known_places;
-      known_ops = each_of_none (IsOpAmong count) spec.ops first.ops;
+      known_ops = each_of_none (IsOpAmong count) spec.ops ops;
     }
 
-in_range-operation : (spec : Spec) (more : Op) → IsInRange spec → length spec.ops < 32 → IsOpAmong (length spec.columns) more → IsInRange (with_operation spec more)
+in_range-operation : (spec : Spec) (more : Op) → IsInRange spec → length spec.ops < 32 → IsOpAmong (length spec.columns) more → IsInRange (record spec { ops = spec.ops ++ more ∷ [] })
 in_range-operation spec more range few known = record {
   columns = range.columns;
   deps = range.deps;
@@ -157,7 +138,7 @@ in_range-with_line spec (dependency_line left right) next formed is_taken range 
     }
 in_range-with_line spec (node_line name columns) next formed is_taken range =
     let few = leb-false 16 (length spec.nodes) is_taken.limit in
-    let later = no_edges spec is_taken.order in
+    let (edges, others) = empty_later spec sections.Node is_taken.order in
     let more : Node = record { name = name; cols = set_named spec columns } in
     record {
       columns = range.columns;
@@ -169,14 +150,14 @@ in_range-with_line spec (node_line name columns) next formed is_taken range =
       ops = range.ops;
       known_deps = range.known_deps;
       known_nodes = each_push (λ (x : Node). IsSetBelow (length spec.columns) x.cols) spec.nodes more range.known_nodes (set_below spec columns range.columns);
-      known_edges = each_of_none (IsEdgeAmong (length (spec.nodes ++ more ∷ [])) (length spec.columns)) spec.edges later.0;
+      known_edges = each_of_none (IsEdgeAmong (length (spec.nodes ++ more ∷ [])) (length spec.columns)) spec.edges edges;
       known_classes = range.known_classes;
       known_places = range.known_places;
       known_ops = range.known_ops;
     }
 in_range-with_line spec (edge_line name from to kind key) next formed is_taken range =
     let few = leb-false 24 (length spec.edges) is_taken.limit in
-    let later = no_classes spec is_taken.order in
+    let (classes, (places, others)) = empty_later spec sections.Edge is_taken.order in
     let names : List (List ℕ) = node_names spec.nodes in
     let known = or_parts (is_unknown names from || is_unknown names to) (lacks spec key) is_taken.known in
     let ends = or_parts (is_unknown names from) (is_unknown names to) known.0 in
@@ -198,12 +179,12 @@ in_range-with_line spec (edge_line name from to kind key) next formed is_taken r
         key = set_below spec key range.columns;
       });
       known_classes = range.known_classes;
-      known_places = each_of_none (IsPlaceAmong (length (spec.edges ++ more ∷ [])) (length spec.classes)) spec.places later.1;
+      known_places = each_of_none (IsPlaceAmong (length (spec.edges ++ more ∷ [])) (length spec.classes)) spec.places places;
       known_ops = range.known_ops;
     }
 in_range-with_line spec (lock_line name number columns) next formed is_taken range =
     let few = leb-false 16 (length spec.classes) is_taken.limit in
-    let later = no_places spec is_taken.order in
+    let (places, others) = empty_later spec sections.Lock is_taken.order in
     let more : Class = record { name = name; stripes = unwrap_or number 0; cols = set_named spec columns } in
     record {
       columns = range.columns;
@@ -217,7 +198,7 @@ in_range-with_line spec (lock_line name number columns) next formed is_taken ran
       known_nodes = range.known_nodes;
       known_edges = range.known_edges;
       known_classes = each_push (λ (x : Class). IsSetBelow (length spec.columns) x.cols) spec.classes more range.known_classes (set_below spec columns range.columns);
-      known_places = each_of_none (IsPlaceAmong (length spec.edges) (length (spec.classes ++ more ∷ []))) spec.places later.0;
+      known_places = each_of_none (IsPlaceAmong (length spec.edges) (length (spec.classes ++ more ∷ []))) spec.places places;
       known_ops = range.known_ops;
     }
 in_range-with_line spec (place_line edge class) next formed is_taken range =

@@ -1,13 +1,14 @@
 -- A line that is taken broke no rule, and what all such lines keep.
-use Rattle.std.proofs.Common.{◌≡◌, ℕ, Bool, true, false, cond, List, Option, Some, None, Result, Ok, Err, refl, subst}
+use Rattle.std.proofs.Common.{◌≡◌, ℕ, false, List, Option, Some, None, Result, Ok, Err, refl, subst}
 use Rattle.rc_spec.specs.declared.spec.Spec.{Spec}
 use Rattle.rc_reader.specs.declared.refusal.LineRule.{LineRule}
-use Rattle.rc_reader.specs.declared.refusal.LineRule.TheVariants.{S2, S3, S4, S5, S6, S7}
+use Rattle.rc_reader.specs.declared.refusal.LineRule.TheVariants.{S2}
 use Rattle.rc_reader.specs.Forms.{FormText, plain_words_of, form_of}
-use Rattle.rc_reader.specs.Rules.{breaks_names, breaks_known, breaks_range, breaks_limit, breaks_order, with_line, after_form}
+use Rattle.rc_reader.specs.Rules.{breaks_names, breaks_known, breaks_range, breaks_limit, breaks_order, with_line, tests, after_form}
 use Rattle.rc_reader.specs.Grammar.{After, is_end, ended_by, after_form_of, after_words, after_bytes}
 use Rattle.rc_reader.specs.Answers.{IsSpecRule}
 use Rattle.rc_reader.specs.FormsLaws.{IsFormed, formed}
+use Rattle.rc_reader.specs.JudgingLaws.{passed, refused}
 
 -- the line of this form breaks no rule, and leaves the specification `next`
 pub record IsSpecLineTaken (spec : Spec) (form : FormText) (next : Spec) : Type 0 where
@@ -18,29 +19,11 @@ pub record IsSpecLineTaken (spec : Spec) (form : FormText) (next : Spec) : Type 
   pub order : breaks_order spec form ≡ false
   pub value : with_line spec form ≡ next
 
--- a test that did not refuse
-unrefused : (b : Bool) (rule : LineRule) (gives : Result Spec LineRule) (next : Spec) → cond b (Err rule) gives ≡ Ok next → (b ≡ false) × (gives ≡ Ok next)
-unrefused true rule gives next e = absurd cc
-unrefused false rule gives next e = (refl, e)
-
-abbrev ok_spec : Spec → Result Spec LineRule
-ok_spec spec = Ok spec
-
-same_spec : (x y : Spec) → ok_spec x ≡ ok_spec y → x ≡ y
-same_spec x y e = cc
-
 pub taken : (spec : Spec) (form : FormText) (next : Spec) → after_form spec form ≡ Ok next → IsSpecLineTaken spec form next
 taken spec form next e =
-    let order_test = cond (breaks_order spec form) (Err S7) (ok_spec (with_line spec form)) in
-    let limit_test = cond (breaks_limit spec form) (Err S6) order_test in
-    let range_test = cond (breaks_range form) (Err S5) limit_test in
-    let known_test = cond (breaks_known spec form) (Err S4) range_test in
-    let names = unrefused (breaks_names spec form) S3 known_test next e in
-    let known = unrefused (breaks_known spec form) S4 range_test next names.1 in
-    let range = unrefused (breaks_range form) S5 limit_test next known.1 in
-    let limit = unrefused (breaks_limit spec form) S6 order_test next range.1 in
-    let order = unrefused (breaks_order spec form) S7 (ok_spec (with_line spec form)) next limit.1 in
-    record { names = names.0; known = known.0; range = range.0; limit = limit.0; order = order.0; value = same_spec (with_line spec form) next order.1 }
+    let (passes, value) = passed (tests spec form) (with_line spec form) next e in
+    let (names, (known, (range, (limit, (order, none))))) = passes in
+    record { names = names; known = known; range = range; limit = limit; order = order; value = value }
 
 -- a line that is read has a form that is taken
 pub record IsLineTaken (spec : Spec) (after : After) : Type 0 where
@@ -83,21 +66,8 @@ keeps-after_bytes P keeps spec bytes after holds e =
     subst P line.taken.value (keeps spec line.form after.spec line.formed line.taken holds)
 
 -- the rule that a line breaks is one of a specification's
-rule_by : (b : Bool) (broken rule : LineRule) (gives : Result Spec LineRule) → IsSpecRule broken → (gives ≡ Err rule → IsSpecRule rule) → cond b (Err broken) gives ≡ Err rule → IsSpecRule rule
-rule_by true broken rule gives here others e = let same : broken ≡ rule = cc in subst IsSpecRule same here
-rule_by false broken rule gives here others e = others e
-
 form_rule : (spec : Spec) (form : FormText) (rule : LineRule) → after_form spec form ≡ Err rule → IsSpecRule rule
-form_rule spec form rule e =
-    let order_test = cond (breaks_order spec form) (Err S7) (ok_spec (with_line spec form)) in
-    let limit_test = cond (breaks_limit spec form) (Err S6) order_test in
-    let range_test = cond (breaks_range form) (Err S5) limit_test in
-    let known_test = cond (breaks_known spec form) (Err S4) range_test in
-    rule_by (breaks_names spec form) S3 rule known_test tt
-    (λ h. rule_by (breaks_known spec form) S4 rule range_test tt
-    (λ h. rule_by (breaks_range form) S5 rule limit_test tt
-    (λ h. rule_by (breaks_limit spec form) S6 rule order_test tt
-    (λ h. rule_by (breaks_order spec form) S7 rule (ok_spec (with_line spec form)) tt (λ h. absurd cc) h) h) h) h) e
+form_rule spec form rule e = refused IsSpecRule (tests spec form) (with_line spec form) rule (tt, (tt, (tt, (tt, (tt, tt))))) e
 
 ended_rule : (form : FormText) (gives : Result Spec LineRule) (rule : LineRule) → ((rule : LineRule) → gives ≡ Err rule → IsSpecRule rule) → ended_by form gives ≡ Err rule → IsSpecRule rule
 ended_rule form (Ok next) rule rules e = absurd cc

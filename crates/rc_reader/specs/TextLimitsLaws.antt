@@ -1,5 +1,5 @@
 -- A line that breaks no rule keeps the limits of a text, and `end` stands behind a column and a node.
-use Rattle.std.proofs.Common.{◌≡◌, ℕ, ◌<◌, ◌≤◌, Bool, true, false, eqb, List, length, Ok, ◌∙◌, subst, arith, lit≤}
+use Rattle.std.proofs.Common.{◌≡◌, ℕ, ◌<◌, ◌≤◌, Bool, true, false, eqb, List, [], ◌∷◌, ◌++◌, length, Ok, ◌∙◌, subst, arith, lit≤}
 use Rattle.std.specs.Prelude.{unwrap_or}
 use Rattle.std.proofs.lemmas.Bool.{leb-false, or_parts, eqb-false, false≢true}
 use Rattle.std.proofs.lemmas.List.{length_push}
@@ -10,14 +10,14 @@ use Rattle.rc_spec.specs.declared.items.OpKind.TheVariants as kinds
 use Rattle.rc_spec.specs.declared.spec.Spec.{Spec}
 use Rattle.rc_spec.specs.Spec.{empty}
 use Rattle.rc_reader.specs.Forms.{FormText, header_line, column_line, dependency_line, node_line, edge_line, lock_line, place_line, query_line, insert_line, remove_line, end_line}
-use Rattle.rc_reader.specs.Rules.{columns_named, set_named, operation_of, with_operation, with_line}
+use Rattle.rc_reader.specs.Rules.{columns_named, set_named, operation_of, with_line}
 use Rattle.rc_reader.specs.Grammar.{is_end, after_bytes}
 use Rattle.rc_spec.specs.InRange.{HasColumnAndNode}
 use Rattle.rc_reader.specs.TextLimits.{KeepsTextLimits}
 use Rattle.rc_reader.specs.MembersLaws.{each_push}
 use Rattle.rc_reader.specs.RulesLaws.{IsSpecLineTaken, line_taken, Keeps}
 
-limits-operation : (spec : Spec) (more : Op) → KeepsTextLimits spec → length spec.ops < 32 → KeepsTextLimits (with_operation spec more)
+limits-operation : (spec : Spec) (more : Op) → KeepsTextLimits spec → length spec.ops < 32 → KeepsTextLimits (record spec { ops = spec.ops ++ more ∷ [] })
 limits-operation spec more limits few = record { columns = limits.columns; ops = omega (arith, length_push spec.ops more); stripes = limits.stripes }
 
 limits-with_line : Keeps KeepsTextLimits

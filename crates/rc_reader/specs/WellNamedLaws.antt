@@ -1,5 +1,5 @@
 -- A line that breaks no rule leaves the specification well named.
-use Rattle.std.proofs.Common.{◌≡◌, ℕ, false, List, []}
+use Rattle.std.proofs.Common.{◌≡◌, ℕ, false, List, [], ◌∷◌, ◌++◌}
 use Rattle.std.specs.Prelude.{unwrap_or}
 use Rattle.std.proofs.lemmas.Bool.{or_parts}
 use Rattle.rc_tuple.specs.RisingSet.{AreDistinct}
@@ -15,12 +15,12 @@ use Rattle.rc_spec.specs.Spec.{empty}
 use Rattle.rc_spec.specs.Names.{node_names, edge_names, class_names, op_names, AreNames, IsWellNamed}
 use Rattle.rc_reader.specs.Names.{is_refused_name}
 use Rattle.rc_reader.specs.Forms.{header_line, column_line, dependency_line, node_line, edge_line, lock_line, place_line, query_line, insert_line, remove_line, end_line}
-use Rattle.rc_reader.specs.Rules.{repeats, number_named, columns_named, set_named, operation_of, with_operation}
+use Rattle.rc_reader.specs.Rules.{repeats, number_named, columns_named, set_named, operation_of}
 use Rattle.rc_reader.specs.MembersLaws.{each_push, distinct_from_test}
 use Rattle.rc_reader.specs.NamesLaws.{items_push}
 use Rattle.rc_reader.specs.RulesLaws.{Keeps}
 
-well_named-operation : (spec : Spec) (name : List ℕ) (pattern : List (List ℕ)) (kind : OpKind) → IsWellNamed spec → (is_refused_name (op_names spec.ops) name ≡ false) × (repeats spec pattern ≡ false) → IsWellNamed (with_operation spec (operation_of spec name pattern kind))
+well_named-operation : (spec : Spec) (name : List ℕ) (pattern : List (List ℕ)) (kind : OpKind) → IsWellNamed spec → (is_refused_name (op_names spec.ops) name ≡ false) × (repeats spec pattern ≡ false) → IsWellNamed (record spec { ops = spec.ops ++ operation_of spec name pattern kind ∷ [] })
 well_named-operation spec name pattern kind named parts =
     let more : Op = operation_of spec name pattern kind in
     record {

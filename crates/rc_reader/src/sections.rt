@@ -1,0 +1,133 @@
+//! The sections of a specification, as a table, and what a line's kind alone may break: limits and order.
+
+ghost use Rattle.std.specs.Prelude.{◌≡◌};
+ghost use Rattle.std.specs.List.{list_any, position_or_len};
+ghost use Rattle.rc_reader.specs.Sections.{sections, is_kind, row_of, limit_of, count_of, has_lines, has_later, is_full, is_out_of_order};
+
+use rc_spec::{MAX_CLASSES, MAX_DEPS, MAX_EDGES, MAX_NODES, Spec};
+
+/// The kinds of lines.
+#[derive(Clone, Copy, Debug)]
+pub(crate) enum LineKind {
+    Header,
+    Column,
+    Dependency,
+    Node,
+    Edge,
+    Lock,
+    Place,
+    Operation,
+    End,
+}
+
+/// The most columns of a specification that is written as a text, of which an accepted one may have more.
+const MAX_TEXT_COLUMNS: usize = 16;
+
+/// The most operations of a specification that is written as a text, of which an accepted one may have more.
+const MAX_TEXT_OPS: usize = 32;
+
+/// A section: the kind of its lines, and the most of them that a text may have.
+type Section = (LineKind, usize);
+
+/// The sections in their order.
+const SECTIONS: [Section; 7] = [
+    (LineKind::Column, MAX_TEXT_COLUMNS),
+    (LineKind::Dependency, MAX_DEPS),
+    (LineKind::Node, MAX_NODES),
+    (LineKind::Edge, MAX_EDGES),
+    (LineKind::Lock, MAX_CLASSES),
+    (LineKind::Place, MAX_EDGES),
+    (LineKind::Operation, MAX_TEXT_OPS),
+];
+
+fn is_kind(kind: LineKind, other: LineKind) -> bool
+    ensures { result ≡ is_kind kind other }
+{
+    kind as u8 == other as u8
+}
+
+/// The place of a kind's row among these, or their number where none is of the kind.
+fn row_among(rows: &[Section], kind: LineKind) -> usize
+    ensures { result ≡ position_or_len (λ row. is_kind kind row.0) rows.now }
+{
+    for (place, row) in rows.iter().enumerate() {
+        if is_kind(kind, row.0) {
+            return place;
+        }
+    }
+    rows.len()
+}
+
+/// The place of a kind's row in the table, or the table's length where it has none.
+fn row_of(kind: LineKind) -> usize
+    ensures { result ≡ row_of kind }
+{
+    row_among(&SECTIONS, kind)
+}
+
+/// How many lines of a kind there may be, where the table has a row for it.
+fn limit_of(kind: LineKind) -> Option<usize>
+    ensures { result ≡ limit_of kind }
+{
+    SECTIONS.get(row_of(kind)).map(|(_, most)| *most)
+}
+
+/// How many lines of a kind were read.
+fn count_of(spec: &Spec, kind: LineKind) -> usize
+    ensures { result ≡ count_of spec.now kind }
+{
+    match kind {
+        LineKind::Column => spec.columns.list().len(),
+        LineKind::Dependency => spec.deps.list().len(),
+        LineKind::Node => spec.nodes.list().len(),
+        LineKind::Edge => spec.edges.list().len(),
+        LineKind::Lock => spec.classes.list().len(),
+        LineKind::Place => spec.places.list().len(),
+        LineKind::Operation => spec.ops.list().len(),
+        LineKind::Header | LineKind::End => 0,
+    }
+}
+
+fn has_lines(spec: &Spec, kind: LineKind) -> bool
+    ensures { result ≡ has_lines (count_of spec.now) kind }
+{
+    count_of(spec, kind) != 0
+}
+
+/// Whether a line of one of these sections was read.
+fn has_any(spec: &Spec, rows: &[Section]) -> bool
+    ensures { result ≡ list_any (λ row. has_lines (count_of spec.now) row.0) rows.now }
+{
+    rows.iter().any(|row| has_lines(spec, row.0))
+}
+
+/// Whether a line of a section behind that of this kind was read.
+fn has_later(spec: &Spec, kind: LineKind) -> bool
+    ensures { result ≡ has_later (count_of spec.now) kind }
+{
+    let behind = row_of(kind) + 1;
+    behind < SECTIONS.len() && has_any(spec, &SECTIONS[behind..])
+}
+
+/// Whether as many lines of the kind were read as there may be.
+pub(crate) fn is_full(spec: &Spec, kind: LineKind) -> bool
+    ensures { result ≡ is_full (count_of spec.now) kind }
+{
+    match limit_of(kind) {
+        Some(most) => count_of(spec, kind) >= most,
+        None => false,
+    }
+}
+
+/// Whether a line of this kind comes too late, or `end` too early.
+pub(crate) fn is_out_of_order(spec: &Spec, kind: LineKind) -> bool
+    ensures { result ≡ is_out_of_order (count_of spec.now) kind }
+{
+    match kind {
+        LineKind::Header => true,
+        LineKind::End => {
+            count_of(spec, LineKind::Column) == 0 || count_of(spec, LineKind::Node) == 0
+        }
+        _ => has_later(spec, kind),
+    }
+}
