@@ -12,17 +12,9 @@ use Rattle.rc_reader.specs.Forms.{FormText, header_line, column_line, dependency
 
 -- the right list of a dependency has a word, and a number of stripes is not above 65,535
 abbrev pub IsFormed : FormText → Type 0
-IsFormed header_line = Unit {0}
-IsFormed (column_line name kind) = Unit {0}
 IsFormed (dependency_line left right) = 0 < length right
-IsFormed (node_line name columns) = Unit {0}
-IsFormed (edge_line name from to kind key) = Unit {0}
 IsFormed (lock_line name number columns) = unwrap_or number 0 ≤ 65535
-IsFormed (place_line edge class) = Unit {0}
-IsFormed (query_line name pattern outs) = Unit {0}
-IsFormed (insert_line name pattern) = Unit {0}
-IsFormed (remove_line name pattern) = Unit {0}
-IsFormed end_line = Unit {0}
+IsFormed _ = Unit {0}
 
 abbrev some_form : FormText → Option FormText
 some_form form = Some form

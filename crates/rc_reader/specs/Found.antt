@@ -11,7 +11,7 @@ use Rattle.rc_reader.specs.declared.sections.LineKind.{LineKind}
 use Rattle.rc_reader.specs.declared.sections.LineKind.TheVariants as kinds
 use Rattle.rc_reader.specs.Names.{is_refused_name}
 use Rattle.rc_reader.specs.Forms.{FormText}
-use Rattle.rc_reader.specs.Sections.{kind_of, count_of, is_full, is_out_of_order}
+use Rattle.rc_reader.specs.Sections.{kind_of, count_of, is_full, is_misplaced}
 use Rattle.rc_reader.specs.Rules.{repeats, lacks, breaks_names, breaks_known, breaks_range, operation_of, item_of}
 
 abbrev pub found_line : Spec → FormText → FoundLine
@@ -44,5 +44,5 @@ tests_of spec line =
     ∷ (S4, line.breaks_known)
     ∷ (S5, line.breaks_range)
     ∷ (S6, is_full (count_of spec) line.kind)
-    ∷ (S7, is_out_of_order (count_of spec) line.kind)
+    ∷ (S7, is_misplaced (count_of spec) line.kind)
     ∷ []

@@ -19,7 +19,7 @@ use Rattle.rc_spec.specs.Spec.{empty}
 use Rattle.rc_spec.specs.Names.{column_names, node_names, edge_names, class_names}
 use Rattle.rc_spec.specs.InRange.{AreBelow, IsSetBelow, IsDepAmong, IsEdgeAmong, IsPlaceAmong, IsOpAmong, IsInRange}
 use Rattle.rc_reader.specs.Names.{number_among, is_unknown}
-use Rattle.rc_reader.specs.Forms.{header_line, column_line, dependency_line, node_line, edge_line, lock_line, place_line, query_line, insert_line, remove_line, end_line}
+use Rattle.rc_reader.specs.Forms.{column_line, dependency_line, node_line, edge_line, lock_line, place_line, query_line, insert_line, remove_line}
 use Rattle.rc_reader.specs.declared.sections.LineKind.{LineKind}
 use Rattle.rc_reader.specs.declared.sections.LineKind.TheVariants as sections
 use Rattle.rc_reader.specs.Sections.{later, count_of, has_lines, has_later}
@@ -110,7 +110,6 @@ in_range-operation spec more range few known = record {
 }
 
 in_range-with_line : Keeps IsInRange
-in_range-with_line spec header_line next formed is_taken range = range
 in_range-with_line spec (column_line name kind) next formed is_taken range =
     in_range-column spec (record { name = name; kind = kind }) range (leb-false 16 (length spec.columns) is_taken.limit) is_taken.order
 in_range-with_line spec (dependency_line left right) next formed is_taken range =
@@ -229,7 +228,7 @@ in_range-with_line spec (insert_line name pattern) next formed is_taken range =
     in_range-operation spec (operation_of spec name pattern kinds.Insert) range (leb-false 32 (length spec.ops) is_taken.limit) (record { pattern = columns_below spec pattern; outs = tt })
 in_range-with_line spec (remove_line name pattern) next formed is_taken range =
     in_range-operation spec (operation_of spec name pattern kinds.Remove) range (leb-false 32 (length spec.ops) is_taken.limit) (record { pattern = columns_below spec pattern; outs = tt })
-in_range-with_line spec end_line next formed is_taken range = range
+in_range-with_line spec form next formed is_taken range = range
 
 pub in_range-keeps : Keeps IsInRange
 in_range-keeps = in_range-with_line

@@ -87,7 +87,7 @@ is_full count kind = option_map_or (λ most. nat_le most (count kind)) (limit_of
 
 -- A line of the kind may not stand behind the header and those lines: one of a later section is among them; or it is
 -- a header, which stands first alone; or it is `end`, and there is no column or no node.
-abbrev pub is_out_of_order : (LineKind → ℕ) → LineKind → Bool
-is_out_of_order count kinds.Header = true
-is_out_of_order count kinds.End = count kinds.Column == 0 || count kinds.Node == 0
-is_out_of_order count kind = has_later count kind
+abbrev pub is_misplaced : (LineKind → ℕ) → LineKind → Bool
+is_misplaced count kinds.Header = true
+is_misplaced count kinds.End = count kinds.Column == 0 || count kinds.Node == 0
+is_misplaced count kind = has_later count kind

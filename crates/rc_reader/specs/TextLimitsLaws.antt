@@ -9,7 +9,7 @@ use Rattle.rc_spec.specs.declared.items.Op.{Op}
 use Rattle.rc_spec.specs.declared.items.OpKind.TheVariants as kinds
 use Rattle.rc_spec.specs.declared.spec.Spec.{Spec}
 use Rattle.rc_spec.specs.Spec.{empty}
-use Rattle.rc_reader.specs.Forms.{FormText, header_line, column_line, dependency_line, node_line, edge_line, lock_line, place_line, query_line, insert_line, remove_line, end_line}
+use Rattle.rc_reader.specs.Forms.{FormText, column_line, lock_line, query_line, insert_line, remove_line, end_line}
 use Rattle.rc_reader.specs.Rules.{columns_named, set_named, operation_of, with_line}
 use Rattle.rc_reader.specs.Grammar.{is_end, after_bytes}
 use Rattle.rc_spec.specs.InRange.{HasColumnAndNode}
@@ -21,25 +21,26 @@ limits-operation : (spec : Spec) (more : Op) → KeepsTextLimits spec → length
 limits-operation spec more limits few = record { columns = limits.columns; ops = omega (arith, length_push spec.ops more); stripes = limits.stripes }
 
 limits-with_line : Keeps KeepsTextLimits
-limits-with_line spec header_line next formed is_taken limits = limits
 limits-with_line spec (column_line name kind) next formed is_taken limits =
     let few = leb-false 16 (length spec.columns) is_taken.limit in
     let more : Column = record { name = name; kind = kind } in
     record { columns = omega (arith, length_push spec.columns more); ops = limits.ops; stripes = limits.stripes }
-limits-with_line spec (dependency_line left right) next formed is_taken limits = record { columns = limits.columns; ops = limits.ops; stripes = limits.stripes }
-limits-with_line spec (node_line name columns) next formed is_taken limits = record { columns = limits.columns; ops = limits.ops; stripes = limits.stripes }
-limits-with_line spec (edge_line name from to kind key) next formed is_taken limits = record { columns = limits.columns; ops = limits.ops; stripes = limits.stripes }
 limits-with_line spec (lock_line name number columns) next formed is_taken limits =
     let more : Class = record { name = name; stripes = unwrap_or number 0; cols = set_named spec columns } in
-    record { columns = limits.columns; ops = limits.ops; stripes = each_push (λ (x : Class). x.stripes ≤ 65535) spec.classes more limits.stripes formed }
-limits-with_line spec (place_line edge class) next formed is_taken limits = record { columns = limits.columns; ops = limits.ops; stripes = limits.stripes }
+    record {
+      columns = limits.columns;
+      ops = limits.ops;
+      stripes = each_push (λ (x : Class). x.stripes ≤ 65535) spec.classes more limits.stripes formed;
+    }
 limits-with_line spec (query_line name pattern outs) next formed is_taken limits =
-    limits-operation spec (operation_of spec name pattern (kinds.Query (columns_named spec outs))) limits (leb-false 32 (length spec.ops) is_taken.limit)
+    limits-operation spec (operation_of spec name pattern (kinds.Query (columns_named spec outs))) limits
+    (leb-false 32 (length spec.ops) is_taken.limit)
 limits-with_line spec (insert_line name pattern) next formed is_taken limits =
     limits-operation spec (operation_of spec name pattern kinds.Insert) limits (leb-false 32 (length spec.ops) is_taken.limit)
 limits-with_line spec (remove_line name pattern) next formed is_taken limits =
     limits-operation spec (operation_of spec name pattern kinds.Remove) limits (leb-false 32 (length spec.ops) is_taken.limit)
-limits-with_line spec end_line next formed is_taken limits = limits
+limits-with_line spec form next formed is_taken limits =
+    record { columns = limits.columns; ops = limits.ops; stripes = limits.stripes }
 
 pub limits-keeps : Keeps KeepsTextLimits
 limits-keeps = limits-with_line
@@ -51,19 +52,10 @@ more_than_none : (n : ℕ) → eqb n 0 ≡ false → 0 < n
 more_than_none n e = let other = eqb-false n 0 e in omega arith
 
 populated : (spec next : Spec) (form : FormText) → IsSpecLineTaken spec form next → is_end form ≡ true → HasColumnAndNode (with_line spec form)
-populated spec next header_line is_taken e = absurd (false≢true e)
-populated spec next (column_line name kind) is_taken e = absurd (false≢true e)
-populated spec next (dependency_line left right) is_taken e = absurd (false≢true e)
-populated spec next (node_line name columns) is_taken e = absurd (false≢true e)
-populated spec next (edge_line name from to kind key) is_taken e = absurd (false≢true e)
-populated spec next (lock_line name number columns) is_taken e = absurd (false≢true e)
-populated spec next (place_line edge class) is_taken e = absurd (false≢true e)
-populated spec next (query_line name pattern outs) is_taken e = absurd (false≢true e)
-populated spec next (insert_line name pattern) is_taken e = absurd (false≢true e)
-populated spec next (remove_line name pattern) is_taken e = absurd (false≢true e)
 populated spec next end_line is_taken e =
     let parts = or_parts (eqb (length spec.columns) 0) (eqb (length spec.nodes) 0) is_taken.order in
     record { column = more_than_none (length spec.columns) parts.0; node = more_than_none (length spec.nodes) parts.1 }
+populated spec next form is_taken e = absurd (false≢true e)
 
 -- the line `end`
 pub populated-end : (spec : Spec) (bytes : List ℕ) (ended : Bool) (next : Spec) → after_bytes spec bytes ≡ Ok (record { ended = ended; spec = next }) → ended ≡ true → HasColumnAndNode next

@@ -14,7 +14,7 @@ use Rattle.rc_spec.specs.declared.spec.Spec.{Spec}
 use Rattle.rc_spec.specs.Spec.{empty}
 use Rattle.rc_spec.specs.Names.{node_names, edge_names, class_names, op_names, AreNames, IsWellNamed}
 use Rattle.rc_reader.specs.Names.{is_refused_name}
-use Rattle.rc_reader.specs.Forms.{header_line, column_line, dependency_line, node_line, edge_line, lock_line, place_line, query_line, insert_line, remove_line, end_line}
+use Rattle.rc_reader.specs.Forms.{column_line, node_line, edge_line, lock_line, query_line, insert_line, remove_line}
 use Rattle.rc_reader.specs.Rules.{repeats, number_named, columns_named, set_named, operation_of}
 use Rattle.rc_reader.specs.MembersLaws.{each_push, distinct_from_test}
 use Rattle.rc_reader.specs.NamesLaws.{items_push}
@@ -33,7 +33,6 @@ well_named-operation spec name pattern kind named parts =
     }
 
 well_named-with_line : Keeps IsWellNamed
-well_named-with_line spec header_line next formed is_taken named = named
 well_named-with_line spec (column_line name kind) next formed is_taken named =
     let more : Column = record { name = name; kind = kind } in
     record {
@@ -44,14 +43,6 @@ well_named-with_line spec (column_line name kind) next formed is_taken named =
       ops = named.ops;
       patterns = named.patterns;
     }
-well_named-with_line spec (dependency_line left right) next formed is_taken named = record {
-  columns = named.columns;
-  nodes = named.nodes;
-  edges = named.edges;
-  classes = named.classes;
-  ops = named.ops;
-  patterns = named.patterns;
-}
 well_named-with_line spec (node_line name columns) next formed is_taken named =
     let parts = or_parts (is_refused_name (node_names spec.nodes) name) (repeats spec columns) is_taken.names in
     let more : Node = record { name = name; cols = set_named spec columns } in
@@ -85,7 +76,13 @@ well_named-with_line spec (lock_line name number columns) next formed is_taken n
       ops = named.ops;
       patterns = named.patterns;
     }
-well_named-with_line spec (place_line edge class) next formed is_taken named = record {
+well_named-with_line spec (query_line name pattern outs) next formed is_taken named =
+    well_named-operation spec name pattern (kinds.Query (columns_named spec outs)) named (or_parts (is_refused_name (op_names spec.ops) name) (repeats spec pattern) is_taken.names)
+well_named-with_line spec (insert_line name pattern) next formed is_taken named =
+    well_named-operation spec name pattern kinds.Insert named (or_parts (is_refused_name (op_names spec.ops) name) (repeats spec pattern) is_taken.names)
+well_named-with_line spec (remove_line name pattern) next formed is_taken named =
+    well_named-operation spec name pattern kinds.Remove named (or_parts (is_refused_name (op_names spec.ops) name) (repeats spec pattern) is_taken.names)
+well_named-with_line spec form next formed is_taken named = record {
   columns = named.columns;
   nodes = named.nodes;
   edges = named.edges;
@@ -93,13 +90,6 @@ well_named-with_line spec (place_line edge class) next formed is_taken named = r
   ops = named.ops;
   patterns = named.patterns;
 }
-well_named-with_line spec (query_line name pattern outs) next formed is_taken named =
-    well_named-operation spec name pattern (kinds.Query (columns_named spec outs)) named (or_parts (is_refused_name (op_names spec.ops) name) (repeats spec pattern) is_taken.names)
-well_named-with_line spec (insert_line name pattern) next formed is_taken named =
-    well_named-operation spec name pattern kinds.Insert named (or_parts (is_refused_name (op_names spec.ops) name) (repeats spec pattern) is_taken.names)
-well_named-with_line spec (remove_line name pattern) next formed is_taken named =
-    well_named-operation spec name pattern kinds.Remove named (or_parts (is_refused_name (op_names spec.ops) name) (repeats spec pattern) is_taken.names)
-well_named-with_line spec end_line next formed is_taken named = named
 
 pub well_named-keeps : Keeps IsWellNamed
 well_named-keeps = well_named-with_line

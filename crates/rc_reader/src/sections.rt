@@ -2,21 +2,30 @@
 
 ghost use Rattle.std.specs.Prelude.{◌≡◌};
 ghost use Rattle.std.specs.List.{list_any, position_or_len};
-ghost use Rattle.rc_reader.specs.Sections.{sections, is_kind, row_of, limit_of, count_of, has_lines, has_later, is_full, is_out_of_order};
+ghost use Rattle.rc_reader.specs.Sections.{sections, is_kind, row_of, limit_of, count_of, has_lines, has_later, is_full, is_misplaced};
 
 use rc_spec::{MAX_CLASSES, MAX_DEPS, MAX_EDGES, MAX_NODES, Spec};
 
-/// The kinds of lines.
+/// The kinds of lines: the header, those of the sections, and `end`.
 #[derive(Clone, Copy, Debug)]
-pub(crate) enum LineKind {
+pub enum LineKind {
+    /// The first line.
     Header,
+    /// A column of the relation.
     Column,
+    /// A functional dependency.
     Dependency,
+    /// A node of the decomposition.
     Node,
+    /// An edge of the decomposition.
     Edge,
+    /// A lock class.
     Lock,
+    /// The placement of an edge on a class.
     Place,
+    /// An operation.
     Operation,
+    /// The last line.
     End,
 }
 
@@ -120,8 +129,8 @@ pub(crate) fn is_full(spec: &Spec, kind: LineKind) -> bool
 }
 
 /// Whether a line of this kind comes too late, or `end` too early.
-pub(crate) fn is_out_of_order(spec: &Spec, kind: LineKind) -> bool
-    ensures { result ≡ is_out_of_order (count_of spec.now) kind }
+pub(crate) fn is_misplaced(spec: &Spec, kind: LineKind) -> bool
+    ensures { result ≡ is_misplaced (count_of spec.now) kind }
 {
     match kind {
         LineKind::Header => true,

@@ -7,7 +7,7 @@ use Rattle.rc_text.specs.NextWordLaws.{found_comes}
 use Rattle.rc_text.specs.Words.{WordText, plain_text, quoted_text, Found, next_word_of, found_then, words_within, words_of, IsPlain, IsWritable, ComesNext}
 use Rattle.rc_text.specs.declared.words.WordFault.{WordFault}
 use Rattle.rc_spec.specs.declared.spec.Spec.{Spec}
-use Rattle.rc_reader.specs.Forms.{FormText, header_line, column_line, dependency_line, node_line, edge_line, lock_line, place_line, query_line, insert_line, remove_line, end_line, onto_words, all_plain, plain_words_of, form_of}
+use Rattle.rc_reader.specs.Forms.{FormText, dependency_line, lock_line, query_line, onto_words, all_plain, plain_words_of, form_of}
 use Rattle.rc_reader.specs.FormsLaws.{IsFormed, formed}
 use Rattle.rc_reader.specs.Grammar.{after_form_of, after_words, after_bytes}
 use Rattle.rc_written.specs.Written.{stripes_word, words_of_form, HasForm, DifferInNumber, ArePlain, CanBeLine, written_line}
@@ -80,17 +80,10 @@ lock_has_form name (Some n) columns few =
 -- the words of a form have it
 has_own : (words : List (List ℕ)) (form : FormText) → IsFormed form → HasForm words form
     → HasForm (words_of_form form) form
-has_own words header_line formed has = refl
-has_own words (column_line name kind) formed has = refl
 has_own words (dependency_line left right) formed has = (refl, has.1, has.2, has.3)
-has_own words (node_line name columns) formed has = refl
-has_own words (edge_line name from to kind key) formed has = refl
 has_own words (lock_line name number columns) formed has = lock_has_form name number columns formed
-has_own words (place_line edge class) formed has = refl
 has_own words (query_line name pattern outs) formed has = (refl, has.1, has.2)
-has_own words (insert_line name pattern) formed has = refl
-has_own words (remove_line name pattern) formed has = refl
-has_own words end_line formed has = refl
+has_own words form formed has = refl
 
 lock_plain : (name digits : List ℕ) (number : Option ℕ) (columns : List (List ℕ)) → unwrap_or number 0 ≤ 65535
     → ArePlain (codes "lock" ∷ name ∷ digits ∷ columns)
@@ -100,18 +93,11 @@ lock_plain name digits number columns few plain =
 
 own_plain : (words : List (List ℕ)) (form : FormText) → IsFormed form → HasForm words form → ArePlain words
     → ArePlain (words_of_form form)
-own_plain words header_line formed has plain = subst ArePlain has plain
-own_plain words (column_line name kind) formed has plain = subst ArePlain has plain
 own_plain words (dependency_line left right) formed has plain = subst ArePlain has.0 plain
-own_plain words (node_line name columns) formed has plain = subst ArePlain has plain
-own_plain words (edge_line name from to kind key) formed has plain = subst ArePlain has plain
 own_plain words (lock_line name number columns) formed (digits, has, are_digits, value) plain =
     lock_plain name digits number columns formed (subst ArePlain has plain)
-own_plain words (place_line edge class) formed has plain = subst ArePlain has plain
 own_plain words (query_line name pattern outs) formed has plain = subst ArePlain has.0 plain
-own_plain words (insert_line name pattern) formed has plain = subst ArePlain has plain
-own_plain words (remove_line name pattern) formed has plain = subst ArePlain has plain
-own_plain words end_line formed has plain = subst ArePlain has plain
+own_plain words form formed has plain = subst ArePlain has plain
 
 -- the words of a form that is read are read as it
 pub words_anew : (words : List (List ℕ)) (form : FormText) → form_of words ≡ Some form
@@ -148,11 +134,7 @@ line_anew bytes form e = line_of_form form ((some_line form).0 (bytes, e))
 
 same_words : (words others : List (List ℕ)) (form : FormText) → HasForm words form → HasForm others form
     → (words ≡ others) ⊎ DifferInNumber words others
-same_words words others header_line has had = inl (has ∙ sym had)
-same_words words others (column_line name kind) has had = inl (has ∙ sym had)
 same_words words others (dependency_line left right) has had = inl (has.0 ∙ sym had.0)
-same_words words others (node_line name columns) has had = inl (has ∙ sym had)
-same_words words others (edge_line name from to kind key) has had = inl (has ∙ sym had)
 same_words words others (lock_line name number columns) (digits, has, are_digits, value)
     (others_digits, had, others_are_digits, others_value) = inr (record {
       name = name;
@@ -165,11 +147,8 @@ same_words words others (lock_line name number columns) (digits, has, are_digits
       second_number = others_are_digits;
       same = value ∙ sym others_value;
     })
-same_words words others (place_line edge class) has had = inl (has ∙ sym had)
 same_words words others (query_line name pattern outs) has had = inl (has.0 ∙ sym had.0)
-same_words words others (insert_line name pattern) has had = inl (has ∙ sym had)
-same_words words others (remove_line name pattern) has had = inl (has ∙ sym had)
-same_words words others end_line has had = inl (has ∙ sym had)
+same_words words others form has had = inl (has ∙ sym had)
 
 pub form_tells_words : (words others : List (List ℕ)) (form : FormText) → form_of words ≡ Some form
     → form_of others ≡ Some form → (words ≡ others) ⊎ DifferInNumber words others

@@ -209,7 +209,7 @@ module _ (spec : Spec) (can : CanBeWritten spec) where
     names = is_new (λ (column : Column). column.name) spec.columns front x others e can.well_named.columns;
     known = refl;
     range = refl;
-    limit = fits 16 spec.columns front x others e can.limits.columns;
+    limit = fits _ spec.columns front x others e can.limits.columns;
     order = refl;
     value = refl;
   }
@@ -222,7 +222,7 @@ module _ (spec : Spec) (can : CanBeWritten spec) where
         names = neither _ _ (set_once x.left among.left) (set_once x.right among.right);
         known = neither _ _ (list_known x.left among.left.below) (list_known x.right among.right.below);
         range = refl;
-        limit = fits 32 spec.deps front x others e can.in_range.deps;
+        limit = fits _ spec.deps front x others e can.in_range.deps;
         order = refl;
         value =
             ap (λ left. with_deps spec (front
@@ -241,7 +241,7 @@ module _ (spec : Spec) (can : CanBeWritten spec) where
             can.well_named.nodes) (set_once x.cols set);
         known = list_known x.cols set.below;
         range = refl;
-        limit = fits 16 spec.nodes front x others e can.in_range.nodes;
+        limit = fits _ spec.nodes front x others e can.in_range.nodes;
         order = refl;
         value = ap (λ cols. with_nodes spec (front ++ record { name = x.name; cols = cols } ∷ []))
             (set_is x.cols set);
@@ -265,7 +265,7 @@ module _ (spec : Spec) (can : CanBeWritten spec) where
         known = neither _ _ (neither _ _ (known_name nodes x.from distinct from)
             (known_name nodes x.to distinct to)) (list_known x.key among.key.below);
         range = refl;
-        limit = fits 24 spec.edges front x others e can.in_range.edges;
+        limit = fits _ spec.edges front x others e can.in_range.edges;
         order = refl;
         value =
             ap (λ n. with_edges spec (front
@@ -299,7 +299,7 @@ module _ (spec : Spec) (can : CanBeWritten spec) where
             can.well_named.classes) (set_once x.cols set);
         known = list_known x.cols set.below;
         range = refl;
-        limit = fits 16 spec.classes front x others e can.in_range.classes;
+        limit = fits _ spec.classes front x others e can.in_range.classes;
         order = refl;
         value = ap (λ cols. with_classes spec
             (front ++ record { name = x.name; stripes = x.stripes; cols = cols } ∷ [])) (set_is x.cols set);
@@ -318,7 +318,7 @@ module _ (spec : Spec) (can : CanBeWritten spec) where
         known = neither _ _ (known_name edges x.edge can.well_named.edges.distinct edge)
             (known_name classes x.class can.well_named.classes.distinct class);
         range = refl;
-        limit = fits 24 spec.places front x others e can.in_range.places;
+        limit = fits _ spec.places front x others e can.in_range.places;
         order = refl;
         value =
             ap (λ n. with_places spec (front
@@ -376,7 +376,7 @@ module _ (spec : Spec) (can : CanBeWritten spec) where
       operation_taken_by front x.name x.pattern x.kind
       (is_new (λ (op : Op). op.name) spec.ops front x others e can.well_named.ops)
       among.pattern (can.well_named.patterns x here) among.outs
-      (fits 32 spec.ops front x others e can.limits.ops)
+      (fits _ spec.ops front x others e can.limits.ops)
 
   -- all items are taken
   pub items_taken : AreFormsTaken (with_columns spec []) (item_forms spec) spec

@@ -60,21 +60,14 @@ LackArrow words = list_any is_arrow words ≡ false
 -- Words that have a form: they are those of a line that says this. A number of stripes may have leading zeros, and all
 -- numbers above 65,535 say the same.
 abbrev pub HasForm : List (List ℕ) → FormText → Type 0
-HasForm words header_line = words ≡ words_of_form header_line
-HasForm words (column_line name kind) = words ≡ words_of_form (column_line name kind)
 HasForm words (dependency_line left right) =
     (words ≡ words_of_form (dependency_line left right)) × LackArrow left × LackArrow right × (0 < length right)
-HasForm words (node_line name columns) = words ≡ words_of_form (node_line name columns)
-HasForm words (edge_line name from to kind key) = words ≡ words_of_form (edge_line name from to kind key)
 HasForm words (lock_line name number columns) =
     (digits : List ℕ) × (words ≡ codes "lock" ∷ name ∷ digits ∷ columns) × (is_number digits ≡ true)
     × (stripes_of digits ≡ number)
-HasForm words (place_line edge class) = words ≡ words_of_form (place_line edge class)
 HasForm words (query_line name pattern outs) =
     (words ≡ words_of_form (query_line name pattern outs)) × LackArrow pattern × LackArrow outs
-HasForm words (insert_line name pattern) = words ≡ words_of_form (insert_line name pattern)
-HasForm words (remove_line name pattern) = words ≡ words_of_form (remove_line name pattern)
-HasForm words end_line = words ≡ words_of_form end_line
+HasForm words form = words ≡ words_of_form form
 
 -- words that are the same, save for the digits of a number of stripes: these stand for the same number, or for two
 -- that are above 65,535

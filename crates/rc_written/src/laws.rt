@@ -10,7 +10,9 @@ ghost use Rattle.rc_reader.specs.Grammar.{After, Reading, after_form_of, after_b
 ghost use Rattle.rc_reader.specs.FirstBroken.{AreTaken};
 ghost use Rattle.rc_reader.specs.TextLimits.{KeepsTextLimits};
 ghost use Rattle.rc_written.specs.Written.{words_of_form, HasForm, DifferInNumber, CanBeLine, written_line, spec_lines, spec_text, CanBeWritten};
-ghost use Rattle.rc_written.specs.Kinds.{line_form, Says, LineKind, kind_of, kinds_of, how_many, limit_of, is_one_too_many, is_out_of_order};
+ghost use Rattle.rc_reader.specs.Sections.{kind_of, limit_of};
+ghost use Rattle.rc_reader.specs.declared.sections.LineKind.{LineKind};
+ghost use Rattle.rc_written.specs.Kinds.{line_form, Says, kinds_of, how_many, is_one_too_many, is_out_of_order};
 
 use rc_spec::Spec;
 
