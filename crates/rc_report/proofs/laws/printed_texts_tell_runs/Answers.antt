@@ -1,5 +1,0 @@
-use Rattle.rc_report.specs.RunTexts as laws
-use Rattle.rc_report.proofs.laws.printed_texts_tell_runs.Goals as goal
-
-pub returns : goal.returns
-returns c = laws.printed_texts_tell_runs

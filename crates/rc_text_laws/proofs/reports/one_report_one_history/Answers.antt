@@ -1,0 +1,5 @@
+use Rattle.rc_text_laws.specs.HistoriesLaws as laws
+use Rattle.rc_text_laws.proofs.reports.one_report_one_history.Goals as goal
+
+pub returns : goal.returns
+returns c = laws.one_report_one_history

@@ -1,0 +1,193 @@
+-- The lines of a specification that can be written are read as what they say.
+use Rattle.std.proofs.Common.{◌≡◌, ℕ, ◌<◌, ◌≤◌, ◌^◌, false, List, [], ◌∷◌, ◌++◌, length, map, refl, sym, subst, inl, inr, arith, lit≤}
+use Rattle.std.specs.Prelude.{decimal}
+use Rattle.std.specs.List.{AllByRecursion}
+use Rattle.rc_tuple.specs.RisingSet.{In}
+use Rattle.rc_tuple.specs.RisingSetLaws.{in_append, in_map, map_in, get_or_in}
+use Rattle.rc_tuple.specs.declared.dep.Dep.{Dep}
+use Rattle.rc_text.specs.Lines.{IsPrintable}
+use Rattle.rc_text.specs.NumbersLaws.{is_number-decimal, plain-number}
+use Rattle.rc_text.specs.Words.{IsPlain}
+use Rattle.rc_spec.specs.declared.items.ColKind.{ColKind}
+use Rattle.rc_spec.specs.declared.items.ColKind.TheVariants.{Num, Text}
+use Rattle.rc_spec.specs.declared.items.EdgeKind.{EdgeKind}
+use Rattle.rc_spec.specs.declared.items.EdgeKind.TheVariants as edge_kinds
+use Rattle.rc_spec.specs.declared.items.Column.{Column}
+use Rattle.rc_spec.specs.declared.items.Node.{Node}
+use Rattle.rc_spec.specs.declared.items.Edge.{Edge}
+use Rattle.rc_spec.specs.declared.items.Class.{Class}
+use Rattle.rc_spec.specs.declared.items.Place.{Place}
+use Rattle.rc_spec.specs.declared.items.Op.{Op}
+use Rattle.rc_spec.specs.declared.items.OpKind.{OpKind}
+use Rattle.rc_spec.specs.declared.items.OpKind.TheVariants as kinds
+use Rattle.rc_spec.specs.declared.spec.Spec.{Spec}
+use Rattle.rc_spec.specs.InRange.{AreBelow, HasOutsAmong}
+use Rattle.rc_spec.specs.Names.{AreNames}
+use Rattle.rc_reader.specs.Forms.{FormText, header_line, end_line}
+use Rattle.rc_reader.specs.Grammar.{is_end}
+use Rattle.rc_text_laws.specs.Written.{column_kind_word, edge_kind_word, words_of_form, HasForm, ArePlain, CanBeLine, written_line, name_at, names_at, column_names_at, column_form_of, dependency_form_of, node_form_of, edge_form_of, class_form_of, place_form_of, operation_form_by, operation_form_of, item_forms, spec_lines, CanBeWritten}
+use Rattle.rc_text_laws.specs.WordsLaws.{plain_name, plain_append}
+use Rattle.rc_text_laws.specs.LineLaws.{line_printable, stripes_of-decimal}
+use Rattle.rc_text_laws.specs.SectionsLaws.{below_map, list_plain, list_lacks_arrow}
+
+-- the line of an item is read as what it says, and is not `end`
+pub record IsItemLine (form : FormText) : Type 0 where
+  pub can_be_line : CanBeLine form
+  pub goes_on : is_end form ≡ false
+
+column_kind_plain : (kind : ColKind) → IsPlain (column_kind_word kind)
+column_kind_plain Num = (refl, refl)
+column_kind_plain Text = (refl, refl)
+
+edge_kind_plain : (kind : EdgeKind) → IsPlain (edge_kind_word kind)
+edge_kind_plain edge_kinds.Hash = (refl, refl)
+edge_kind_plain edge_kinds.Ordered = (refl, refl)
+edge_kind_plain edge_kinds.List = (refl, refl)
+edge_kind_plain edge_kinds.Singleton = (refl, refl)
+
+-- the name of an item, and the name with a number
+own_plain : {X : Type 0} (name_of : X → List ℕ) (items : List X) (x : X) → AreNames (map name_of items)
+    → In x items → IsPlain (name_of x)
+own_plain name_of items x names here =
+    plain_name (name_of x) (names.each (name_of x) (map_in name_of x items here))
+
+other_plain : {X : Type 0} (name_of : X → List ℕ) (items : List X) (n : ℕ) → AreNames (map name_of items)
+    → n < length items → IsPlain (name_at (map name_of items) n)
+other_plain name_of items n names below =
+    let here : In (name_at (map name_of items) n) (map name_of items) =
+    get_or_in (map name_of items) n [] (below_map name_of items n below) in
+    plain_name (name_at (map name_of items) n) (names.each (name_at (map name_of items) n) here)
+
+some_names : (names : List (List ℕ)) (ns : List ℕ) → (ns ≡ [] → ⊥) → 0 < length (names_at names ns)
+some_names names [] some = absurd (some refl)
+some_names names (n ∷ ns) some = omega arith
+
+item : (form : FormText) → HasForm (words_of_form form) form → ArePlain (words_of_form form) → is_end form ≡ false
+    → IsItemLine form
+item form has_form plain goes_on = record {
+  can_be_line = record { has_form = has_form; plain = plain };
+  goes_on = goes_on;
+}
+
+module _ (spec : Spec) (can : CanBeWritten spec) where
+  column_written : (x : Column) → In x spec.columns → IsItemLine (column_form_of x)
+  column_written x here =
+      let name = own_plain (λ (column : Column). column.name) spec.columns x can.well_named.columns here in
+      item (column_form_of x) refl ((refl, refl), (name, (column_kind_plain x.kind, tt))) refl
+
+  dependency_written : (x : Dep) → In x spec.deps → IsItemLine (dependency_form_of spec x)
+  dependency_written x here =
+      let among = can.in_range.known_deps x here in
+      let lacks_left = list_lacks_arrow spec can x.left among.left.below in
+      let lacks_right = list_lacks_arrow spec can x.right among.right.below in
+      let left = list_plain spec can x.left among.left.below in
+      let right = list_plain spec can x.right among.right.below in
+      let lists = plain_append (column_names_at spec x.left) _ left ((refl, refl), right) in
+      item (dependency_form_of spec x) (refl, lacks_left, lacks_right, some_names _ x.right among.has_right) ((refl, refl), lists) refl
+
+  node_written : (x : Node) → In x spec.nodes → IsItemLine (node_form_of spec x)
+  node_written x here =
+      let name = own_plain (λ (node : Node). node.name) spec.nodes x can.well_named.nodes here in
+      let columns = list_plain spec can x.cols (can.in_range.known_nodes x here).below in
+      item (node_form_of spec x) refl ((refl, refl), (name, columns)) refl
+
+  edge_written : (x : Edge) → In x spec.edges → IsItemLine (edge_form_of spec x)
+  edge_written x here =
+      let among = can.in_range.known_edges x here in
+      let name = own_plain (λ (edge : Edge). edge.name) spec.edges x can.well_named.edges here in
+      let from = other_plain (λ (node : Node). node.name) spec.nodes x.from can.well_named.nodes among.from in
+      let to = other_plain (λ (node : Node). node.name) spec.nodes x.to can.well_named.nodes among.to in
+      let key = list_plain spec can x.key among.key.below in
+      item (edge_form_of spec x) refl ((refl, refl), (name, (from, (to, (edge_kind_plain x.kind, key))))) refl
+
+  class_written : (x : Class) → In x spec.classes → IsItemLine (class_form_of spec x)
+  class_written x here =
+      let few = can.limits.stripes x here in
+      let large : 65536 ≤ 2 ^ 64 = lit≤ tt in
+      let digits = is_number-decimal x.stripes (omega (arith, large, few)) in
+      let name = own_plain (λ (class : Class). class.name) spec.classes x can.well_named.classes here in
+      let number = plain-number (decimal x.stripes) digits in
+      let columns = list_plain spec can x.cols (can.in_range.known_classes x here).below in
+      item (class_form_of spec x) (decimal x.stripes, refl, digits, stripes_of-decimal x.stripes few)
+      ((refl, refl), (name, (number, columns))) refl
+
+  place_written : (x : Place) → In x spec.places → IsItemLine (place_form_of spec x)
+  place_written x here =
+      let among = can.in_range.known_places x here in
+      let edge = other_plain (λ (e : Edge). e.name) spec.edges x.edge can.well_named.edges among.edge in
+      let class = other_plain (λ (c : Class). c.name) spec.classes x.class can.well_named.classes among.class in
+      item (place_form_of spec x) refl ((refl, refl), (edge, (class, tt))) refl
+
+  operation_written_by : (name pattern : List ℕ) (kind : OpKind) → IsPlain name
+      → AreBelow (length spec.columns) pattern → HasOutsAmong (length spec.columns) kind
+      → IsItemLine (operation_form_by spec name pattern kind)
+  operation_written_by name pattern (kinds.Query outs) plain below outs_below =
+      let lacks_pattern = list_lacks_arrow spec can pattern below in
+      let lacks_outs = list_lacks_arrow spec can outs outs_below in
+      let columns = list_plain spec can pattern below in
+      let answers = list_plain spec can outs outs_below in
+      let lists = plain_append (column_names_at spec pattern) _ columns ((refl, refl), answers) in
+      item (operation_form_by spec name pattern (kinds.Query outs)) (refl, lacks_pattern, lacks_outs)
+      ((refl, refl), (plain, ((refl, refl), lists))) refl
+  operation_written_by name pattern kinds.Insert plain below outs_below =
+      let columns = list_plain spec can pattern below in
+      item (operation_form_by spec name pattern kinds.Insert) refl ((refl, refl), (plain, ((refl, refl), columns))) refl
+  operation_written_by name pattern kinds.Remove plain below outs_below =
+      let columns = list_plain spec can pattern below in
+      item (operation_form_by spec name pattern kinds.Remove) refl ((refl, refl), (plain, ((refl, refl), columns))) refl
+
+  operation_written : (x : Op) → In x spec.ops → IsItemLine (operation_form_of spec x)
+  operation_written x here =
+      let among = can.in_range.known_ops x here in
+      let name = own_plain (λ (op : Op). op.name) spec.ops x can.well_named.ops here in
+      operation_written_by x.name x.pattern x.kind name among.pattern among.outs
+
+  in_section : {X : Type 0} (form : X → FormText) (items : List X)
+      → ((x : X) → In x items → IsItemLine (form x)) → (f : FormText) → In f (map form items) → IsItemLine f
+  in_section form items each f m =
+      let found = in_map form f items m in
+      subst IsItemLine (sym found.2) (each found.0 found.1)
+
+  in_sections : (front others : List FormText) → ((f : FormText) → In f front → IsItemLine f)
+      → ((f : FormText) → In f others → IsItemLine f) → (f : FormText) → In f (front ++ others) → IsItemLine f
+  in_sections front others first second f m =
+      elim (in_append f front others m) [ inl here ↦ first f here | inr later ↦ second f later ]
+
+  -- each line between the header and `end`
+  pub items_written : (f : FormText) → In f (item_forms spec) → IsItemLine f
+  items_written =
+      in_sections _ _ (in_section column_form_of spec.columns column_written)
+      (in_sections _ _ (in_section (dependency_form_of spec) spec.deps dependency_written)
+      (in_sections _ _ (in_section (node_form_of spec) spec.nodes node_written)
+      (in_sections _ _ (in_section (edge_form_of spec) spec.edges edge_written)
+      (in_sections _ _ (in_section (class_form_of spec) spec.classes class_written)
+      (in_sections _ _ (in_section (place_form_of spec) spec.places place_written)
+      (in_section (operation_form_of spec) spec.ops operation_written))))))
+
+-- lines of plain words are read again where they are printed
+printable_lines : (forms : List FormText) → ((f : FormText) → In f forms → ArePlain (words_of_form f))
+    → AllByRecursion IsPrintable (map written_line forms)
+printable_lines [] each = tt
+printable_lines (form ∷ forms) each =
+    (line_printable form (each form (inl refl)), printable_lines forms (λ f m. each f (inr m)))
+
+pub header_plain : ArePlain (words_of_form header_line)
+header_plain = ((refl, refl), ((refl, refl), tt))
+
+pub end_written : CanBeLine end_line
+end_written = record { has_form = refl; plain = ((refl, refl), tt) }
+
+items_and_end : (spec : Spec) → CanBeWritten spec → (f : FormText) → In f (item_forms spec ++ end_line ∷ [])
+    → ArePlain (words_of_form f)
+items_and_end spec can f m = elim (in_append f (item_forms spec) (end_line ∷ []) m) [
+  | inl here ↦ (items_written spec can f here).can_be_line.plain
+  | inr (inl same) ↦ subst (λ g. ArePlain (words_of_form g)) (sym same) end_written.plain
+  | inr (inr none) ↦ absurd none
+]
+
+pub spec_lines_printable : (spec : Spec) → CanBeWritten spec → AllByRecursion IsPrintable (spec_lines spec)
+spec_lines_printable spec can = (
+  line_printable header_line header_plain,
+  printable_lines (item_forms spec ++ end_line ∷ [])
+      (items_and_end spec can),
+)

@@ -1,0 +1,228 @@
+-- The report of a legal history shows it: the replies of the plain relation are of the kind of their operations,
+-- with known values.
+use Rattle.std.proofs.Common.{◌≡◌, ℕ, ◌+◌, ◌<◌, ◌≤◌, ◌^◌, Bool, true, false, cond, nat_le, List, [], ◌∷◌, ◌++◌, length, map, inl, inr, Some, refl, sym, ap, ◌∙◌, subst, arith}
+use Rattle.std.specs.Prelude.{filter}
+use Rattle.std.specs.List.{AllByRecursion, list_any, zip}
+use Rattle.std.specs.Ordering.{match_ordering}
+use Rattle.std.specs.declared.cmp.Ordering.{Ordering}
+use Rattle.std.specs.declared.cmp.Ordering.TheVariants.{Less, Equal, Greater}
+use Rattle.std.proofs.lemmas.List.{length-map}
+use Rattle.rc_tuple.specs.RisingSet.{In, put, gather}
+use Rattle.rc_tuple.specs.RisingSetLaws.{number_lists_order, in_gather, in_map, in_filter, each_in, in_each, slice_get_in}
+use Rattle.rc_tuple.specs.ColSetLaws.{in_range_below}
+use Rattle.rc_tuple.specs.Tuple.{Pairs, cols_of, value, pick, matches, agree_on, tuple_cmp}
+use Rattle.rc_tuple.specs.MergeLaws.{value_in}
+use Rattle.rc_tuple.specs.Relation.{breaks}
+use Rattle.rc_tuple.specs.declared.dep.Dep.{Dep}
+use Rattle.rc_spec.specs.Calls.{FitsAt}
+use Rattle.rc_spec.specs.Names.{IsWellNamed}
+use Rattle.rc_spec.specs.CallsLaws.{insert_columns}
+use Rattle.rc_spec.specs.InRange.{IsInRange, HasOutsAmong, AreBelow}
+use Rattle.rc_spec.specs.Plain.{plain, plain_by, rows_of, row_cmp, at_most_256, first_broken_dependency, inserted_unless, removed_first}
+use Rattle.rc_spec.specs.PlainLaws.{each_after, plain-known, plain_grows}
+use Rattle.rc_spec.specs.declared.items.Op.{Op}
+use Rattle.rc_spec.specs.declared.items.OpKind.{OpKind}
+use Rattle.rc_spec.specs.declared.items.OpKind.TheVariants.{Query, Insert, Remove}
+use Rattle.rc_spec.specs.declared.call.Reply.TheVariants.{Rows, Many, Present}
+use Rattle.rc_spec.specs.declared.spec.Spec.{Spec}
+use Rattle.rc_rel.specs.declared.entry.Step.{Step}
+use Rattle.rc_rel.specs.declared.entry.Entry.{Entry}
+use Rattle.rc_rel.specs.History.{IsLegal, IsNumbered, AreLegalFrom, after_steps, steps_of, replay}
+use Rattle.rc_work.specs.Printed.{kind_at}
+use Rattle.rc_work.specs.Report.{report}
+use Rattle.rc_text.specs.Lines.{printed_lines}
+use Rattle.rc_text_laws.specs.CutLaws.{AreTexts}
+use Rattle.rc_text_laws.specs.LinesLaws.{IsShown, AreShown, IsReplyOf, RowIsShown}
+use Rattle.rc_text_laws.specs.StepsLaws.{IsStepShown}
+use Rattle.rc_text_laws.specs.HistoriesLaws.{IsEntryShown, IsRowShown, IsShownBy}
+use Rattle.rc_text_laws.specs.TextsLaws.{one_text_one_history}
+
+-- ---- counts
+
+length-put-le : {A : Type 0} (R : A → A → Ordering) (x : A) (ys : List A)
+    → length (put R x ys) ≤ length ys + 1
+length-put-le R x [] = omega arith
+length-put-le {A} R x (y ∷ ys) = go (R x y) (length-put-le R x ys)
+  where
+    go : (a : Ordering) → length (put R x ys) ≤ length ys + 1
+        → length (match_ordering a (x ∷ (y ∷ ys)) (y ∷ ys) (y ∷ put R x ys)) ≤ length (y ∷ ys) + 1
+    go Less h = omega arith
+    go Equal h = omega arith
+    go Greater h = omega arith
+
+pub length-gather-le : {A : Type 0} (R : A → A → Ordering) (xs : List A)
+    → length (gather R xs) ≤ length xs
+length-gather-le R [] = omega arith
+length-gather-le R (x ∷ xs) = omega (arith, length-gather-le R xs, length-put-le R x (gather R xs))
+
+pub length-filter-le : {A : Type 0} (p : A → Bool) (xs : List A) → length (filter p xs) ≤ length xs
+length-filter-le p [] = omega arith
+length-filter-le {A} p (x ∷ xs) = go (p x) (length-filter-le p xs)
+  where
+    go : (b : Bool) → length (filter p xs) ≤ length xs
+        → length (cond b (x ∷ filter p xs) (filter p xs)) ≤ length (x ∷ xs)
+    go true h = omega arith
+    go false h = omega arith
+
+length-rows_of-le : (outs : List ℕ) (args : Pairs) (r : List Pairs)
+    → length (rows_of outs (filter (matches args) r)) ≤ length r
+length-rows_of-le outs args r =
+    omega (
+      arith,
+      length-gather-le row_cmp (map (pick outs) (filter (matches args) r)),
+      length-map (filter (matches args) r) (pick outs),
+      length-filter-le (matches args) r,
+    )
+
+module _ (spec : Spec) (texts : List (List ℕ)) (ranged : IsInRange spec) where
+  -- ---- replies
+
+  shown_at : (t : Pairs) (c : ℕ) → AreShown spec texts t → In c (cols_of t)
+      → IsShown (kind_at spec c) texts (value t c)
+  shown_at t c h m =
+      each_in (λ p. IsShown (kind_at spec p.0) texts p.1) t h (c, value t c) (value_in t c m)
+
+  picked : (t : Pairs) (outs : List ℕ) → AreShown spec texts t
+      → ((c : ℕ) → In c outs → In c (cols_of t)) → AreShown spec texts (zip outs (pick outs t))
+  picked t [] h f = tt
+  picked t (c ∷ outs) h f = (shown_at t c h (f c (inl refl)), picked t outs h (λ d m. f d (inr m)))
+
+  row_shown : (outs : List ℕ) (ts : List Pairs) → AreBelow (length spec.columns) outs
+      → ((t : Pairs) → In t ts → IsRowShown spec texts t) → (row : List ℕ)
+      → In row (rows_of outs ts) → RowIsShown spec texts outs row
+  row_shown outs ts below each row m =
+      let found =
+      in_map (pick outs) row ts (in_gather row_cmp number_lists_order row (map (pick outs) ts) m) in
+      let t = found.0 in
+      let shown = each t found.1 in
+      let here : RowIsShown spec texts outs (pick outs t) =
+      (length-map outs (value t), picked t outs shown.1 (λ c n. subst (In c) (sym shown.0) (in_range_below (length spec.columns) c (below c n)))) in
+      subst (RowIsShown spec texts outs) (sym found.2) here
+
+  many_or_rows : (outs : List ℕ) (rows : List (List ℕ)) → length rows < 2 ^ 64
+      → AllByRecursion (RowIsShown spec texts outs) rows
+      → IsReplyOf spec texts (Query outs) (at_most_256 rows)
+  many_or_rows outs rows small h = go (nat_le (length rows) 256)
+    where
+      go : (b : Bool) → IsReplyOf spec texts (Query outs) (cond b (Rows rows) (Many (length rows)))
+      go true = (small, h)
+      go false = small
+
+  broken_small : (n : ℕ) (deps : List Dep) (r : List Pairs) (s : List Pairs) (t : List Pairs)
+      → n + length deps < 2 ^ 64
+      → IsReplyOf spec texts Insert (inserted_unless (first_broken_dependency n deps r) s t).reply
+  broken_small n [] r s t h = tt
+  broken_small n (d ∷ deps) r s t h =
+      go (breaks r d) (broken_small (n + 1) deps r s t (omega arith))
+    where
+      go : (b : Bool)
+          → IsReplyOf spec texts Insert (inserted_unless (first_broken_dependency (n + 1) deps r) s t).reply
+          → IsReplyOf spec texts Insert (inserted_unless (cond b (Some n) (first_broken_dependency (n + 1) deps r)) s t).reply
+      go true k = omega arith
+      go false k = k
+
+  reply_shown : (kind : OpKind) (pattern : List ℕ) (args : Pairs) (r : List Pairs)
+      → HasOutsAmong (length spec.columns) kind → length r < 2 ^ 64
+      → ((t : Pairs) → In t r → IsRowShown spec texts t)
+      → IsReplyOf spec texts kind (plain_by kind pattern spec.deps args r).reply
+  reply_shown (Query outs) pattern args r outs_below small each =
+      let ts = filter (matches args) r in
+      many_or_rows outs (rows_of outs ts) (omega (arith, length-rows_of-le outs args r))
+      (in_each (RowIsShown spec texts outs) (rows_of outs ts) (row_shown outs ts outs_below (λ t m. each t (in_filter (matches args) t r m).0)))
+  reply_shown Insert pattern args r outs_below small each = go (list_any (agree_on pattern args) r)
+    where
+      go : (b : Bool)
+          → IsReplyOf spec texts Insert (cond b (record { reply = Present; relation = r }) (inserted_unless (first_broken_dependency 1 spec.deps (put tuple_cmp args r)) (put tuple_cmp args r) r)).reply
+      go true = tt
+      go false =
+          broken_small 1 spec.deps (put tuple_cmp args r) (put tuple_cmp args r) r
+          (omega (arith, ranged.deps))
+  reply_shown Remove pattern args r outs_below small each =
+      go (filter (matches args) r) (λ t m. each t (in_filter (matches args) t r m).0)
+    where
+      go : (ts : List Pairs) → ((t : Pairs) → In t ts → IsRowShown spec texts t)
+          → IsReplyOf spec texts Remove (removed_first ts r).reply
+      go [] f = tt
+      go (t ∷ ts) f = f t (inl refl)
+
+-- ---- histories
+
+-- an entry of one step, whose call fits and has known values
+pub record IsCallShown (spec : Spec) (texts : List (List ℕ)) (entry : Entry) : Type 0 where
+  pub small : entry.pass < 2 ^ 64
+  pub step : Step
+  pub one : entry.steps ≡ step ∷ []
+  pub op : Op
+  pub fits : FitsAt spec step.call op
+  pub args : AreShown spec texts step.call.args
+
+module _ (spec : Spec) (texts : List (List ℕ)) (ranged : IsInRange spec) where
+  legal_entries : (r : List Pairs) (history : List Entry)
+      → ((t : Pairs) → In t r → IsRowShown spec texts t) → length r + length history < 2 ^ 64
+      → AllByRecursion (IsCallShown spec texts) history → AreLegalFrom spec r (steps_of history)
+      → AllByRecursion (IsEntryShown spec texts) history
+      × ((t : Pairs) → In t (after_steps spec r (steps_of history)) → IsRowShown spec texts t)
+      × (length (after_steps spec r (steps_of history)) ≤ length r + length history)
+  legal_entries r [] each small h legal = (tt, each, omega arith)
+  legal_entries r (e ∷ history) each small h legal =
+      let called = h.0 in
+      let step = called.step in
+      let op = called.op in
+      let turns =
+      subst (λ steps. AreLegalFrom spec r (steps ++ steps_of history)) called.one legal in
+      let known = plain-known spec r step.call op called.fits.known in
+      let outs =
+      (ranged.known_ops op (slice_get_in spec.ops step.call.op op called.fits.known)).outs in
+      let reply : IsReplyOf spec texts op.kind step.reply =
+      subst (IsReplyOf spec texts op.kind) (sym (turns.0 ∙ ap (λ o. o.reply) known))
+      (reply_shown spec texts ranged op.kind op.pattern step.call.args r outs (omega arith) each) in
+      let each' : (t : Pairs) → In t (plain spec r step.call).relation → IsRowShown spec texts t =
+      subst (λ o. (t : Pairs) → In t o.relation → IsRowShown spec texts t) (sym known)
+      (each_after (IsRowShown spec texts) op.kind op.pattern spec.deps step.call.args r (λ k. (insert_columns spec step.call op called.fits k, called.args)) each) in
+      let rest = legal_entries (plain spec r step.call).relation history each'
+      (omega (arith, plain_grows spec r step.call)) h.1 turns.1 in
+      let shown_step : IsStepShown spec texts step =
+      record { op = op; fits = called.fits; args = called.args; reply = reply } in
+      let shown : IsEntryShown spec texts e =
+      record { small = called.small; step = step; one = called.one; shown = shown_step } in (
+        (shown, rest.0),
+        subst
+            (λ steps. (t : Pairs) → In t (after_steps spec r (steps ++ steps_of history)) → IsRowShown spec texts t)
+            (sym called.one) rest.1,
+        subst
+            (λ steps. length (after_steps spec r (steps ++ steps_of history)) ≤ length r + length (e ∷ history))
+            (sym called.one) (omega (arith, rest.2, plain_grows spec r step.call)),
+      )
+
+-- what a run journals: a legal numbered history of calls that fit, each an entry of its own, with the ranks of some
+-- texts
+pub record IsJournal (spec : Spec) (texts : List (List ℕ)) (history : List Entry) : Type 0 where
+  pub count : length history < 2 ^ 64
+  pub calls : AllByRecursion (IsCallShown spec texts) history
+  pub numbered : IsNumbered history
+  pub legal : IsLegal spec history
+
+journal_shown : (spec : Spec) (texts : List (List ℕ)) (history : List Entry) → IsInRange spec
+    → IsJournal spec texts history
+    → IsShownBy spec texts history (replay spec history) × (length (replay spec history) < 2 ^ 64)
+journal_shown spec texts history ranged j =
+    let all = legal_entries spec texts ranged [] history (λ t m. absurd m)
+    (omega (arith, j.count)) j.calls j.legal in (
+      record { count = j.count; entries = all.0; numbered = j.numbered; tuples = in_each (IsRowShown spec texts) (replay spec history) all.1 },
+      omega (arith, all.2, j.count),
+    )
+
+-- one printed report has one journal: the text determines the history
+abbrev pub OneReportOneJournal : Type 0
+OneReportOneJournal =
+    (spec : Spec) (texts : List (List ℕ)) (history other : List Entry) → IsWellNamed spec
+    → IsInRange spec → AreTexts texts → IsJournal spec texts history → IsJournal spec texts other
+    → printed_lines (report spec texts history (replay spec history))
+    ≡ printed_lines (report spec texts other (replay spec other))
+    → history ≡ other
+
+pub one_report_one_journal : OneReportOneJournal
+one_report_one_journal spec texts history other named ranged good h k e =
+    let a = journal_shown spec texts history ranged h in
+    let b = journal_shown spec texts other ranged k in
+    (one_text_one_history spec texts history other (replay spec history) (replay spec other) named good a.0 b.0 a.1 b.1 e).0

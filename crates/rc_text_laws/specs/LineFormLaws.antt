@@ -1,0 +1,156 @@
+-- What a line does is told by what it says, and what it says can be written anew.
+use Rattle.std.proofs.Common.{◌≡◌, ◌⊎◌, ◌↔◌, ℕ, zero, suc, ◌≤◌, ◌<◌, ◌^◌, List, ◌∷◌, length, Option, Some, None, Result, Ok, Err, refl, sym, ap, ◌∙◌, subst, inl, inr, arith, lit≤, codes}
+use Rattle.std.specs.Prelude.{decimal, unwrap_or}
+use Rattle.std.specs.Option.{option_and_then}
+use Rattle.rc_text.specs.NumbersLaws.{is_number-decimal, plain-number}
+use Rattle.rc_text.specs.NextWordLaws.{found_comes}
+use Rattle.rc_text.specs.Words.{WordText, plain_text, quoted_text, Found, next_word_of, found_then, words_within, words_of, IsPlain, IsWritable, ComesNext}
+use Rattle.rc_text.specs.declared.words.WordFault.{WordFault}
+use Rattle.rc_spec.specs.declared.spec.Spec.{Spec}
+use Rattle.rc_reader.specs.Forms.{FormText, dependency_line, lock_line, query_line, onto_words, all_plain, plain_words_of, form_of}
+use Rattle.rc_reader.specs.FormsLaws.{IsFormed, formed}
+use Rattle.rc_reader.specs.Grammar.{after_form_of, after_words, after_bytes}
+use Rattle.rc_text_laws.specs.Written.{stripes_word, words_of_form, HasForm, DifferInNumber, ArePlain, CanBeLine, written_line}
+use Rattle.rc_text_laws.specs.Kinds.{line_form}
+use Rattle.rc_text_laws.specs.WordsLaws.{line_is_read}
+use Rattle.rc_text_laws.specs.FormOfLaws.{form_read}
+use Rattle.rc_text_laws.specs.HasFormLaws.{form_is_exact}
+use Rattle.rc_text_laws.specs.LineLaws.{stripes_of-decimal}
+
+-- ---- what a line does
+
+by_words : (spec : Spec) (found : Option (List (List ℕ)))
+    → after_words spec found ≡ after_form_of spec (option_and_then form_of found)
+by_words spec None = refl
+by_words spec (Some words) = refl
+
+pub told_by_form : (spec : Spec) (bytes : List ℕ)
+    → after_bytes spec bytes ≡ after_form_of spec (line_form bytes)
+unfolding after_bytes
+told_by_form spec bytes = by_words spec (plain_words_of bytes)
+
+-- ---- the words of a line that has none quoted and no fault can be written plain
+
+abbrev PlainIf : Option (List (List ℕ)) → Type 0
+PlainIf None = Unit {0}
+PlainIf (Some words) = ArePlain words
+
+onto_plain : (text : List ℕ) (words : Option (List (List ℕ))) → IsPlain text → PlainIf words
+    → PlainIf (onto_words text words)
+onto_plain text None plain others = tt
+onto_plain text (Some words) plain others = (plain, others)
+
+word_plain : (word : WordText) (words : List (Result WordText WordFault)) → IsWritable word
+    → PlainIf (all_plain words) → PlainIf (all_plain (Ok word ∷ words))
+word_plain (plain_text text) words writable others = onto_plain text (all_plain words) writable others
+word_plain (quoted_text text) words writable others = tt
+
+found_plain : (bytes : List ℕ) (found : Found) → ComesNext bytes found
+    → (others : List ℕ → List (Result WordText WordFault))
+    → ((rest : List ℕ) → PlainIf (all_plain (others rest))) → PlainIf (all_plain (found_then found others))
+found_plain bytes (Ok None) comes others each = tt
+found_plain bytes (Ok (Some found)) comes others each =
+    word_plain found.0 (others found.1) comes.is_writable (each found.1)
+found_plain bytes (Err fault) comes others each = tt
+
+within_plain : (n : ℕ) (bytes : List ℕ) → PlainIf (all_plain (words_within n bytes))
+within_plain zero bytes = tt
+within_plain (suc n) bytes = found_plain bytes (next_word_of bytes) (found_comes bytes) (words_within n)
+    (within_plain n)
+
+words_plain : (bytes : List ℕ) → PlainIf (plain_words_of bytes)
+unfolding words_of
+words_plain bytes = within_plain (length bytes) bytes
+
+-- ---- what a line says, written anew
+
+small : (n : ℕ) → n ≤ 65535 → n < 2 ^ 64
+small n few = let large : 65536 ≤ 2 ^ 64 = lit≤ tt in omega (arith, large, few)
+
+stripes_plain : (number : Option ℕ) → unwrap_or number 0 ≤ 65535 → IsPlain (stripes_word number)
+stripes_plain None few = (refl, refl)
+stripes_plain (Some n) few = plain-number (decimal n) (is_number-decimal n (small n few))
+
+lock_has_form : (name : List ℕ) (number : Option ℕ) (columns : List (List ℕ)) → unwrap_or number 0 ≤ 65535
+    → HasForm (words_of_form (lock_line name number columns)) (lock_line name number columns)
+lock_has_form name None columns few = (codes "65536", refl, refl, refl)
+lock_has_form name (Some n) columns few =
+    (decimal n, refl, is_number-decimal n (small n few), stripes_of-decimal n few)
+
+-- the words of a form have it
+has_own : (words : List (List ℕ)) (form : FormText) → IsFormed form → HasForm words form
+    → HasForm (words_of_form form) form
+has_own words (dependency_line left right) formed has = (refl, has.1, has.2, has.3)
+has_own words (lock_line name number columns) formed has = lock_has_form name number columns formed
+has_own words (query_line name pattern outs) formed has = (refl, has.1, has.2)
+has_own words form formed has = refl
+
+lock_plain : (name digits : List ℕ) (number : Option ℕ) (columns : List (List ℕ)) → unwrap_or number 0 ≤ 65535
+    → ArePlain (codes "lock" ∷ name ∷ digits ∷ columns)
+    → ArePlain (words_of_form (lock_line name number columns))
+lock_plain name digits number columns few plain =
+    (plain.0, (plain.1.0, (stripes_plain number few, plain.1.1.1)))
+
+own_plain : (words : List (List ℕ)) (form : FormText) → IsFormed form → HasForm words form → ArePlain words
+    → ArePlain (words_of_form form)
+own_plain words (dependency_line left right) formed has plain = subst ArePlain has.0 plain
+own_plain words (lock_line name number columns) formed (digits, has, are_digits, value) plain =
+    lock_plain name digits number columns formed (subst ArePlain has plain)
+own_plain words (query_line name pattern outs) formed has plain = subst ArePlain has.0 plain
+own_plain words form formed has plain = subst ArePlain has plain
+
+-- the words of a form that is read are read as it
+pub words_anew : (words : List (List ℕ)) (form : FormText) → form_of words ≡ Some form
+    → form_of (words_of_form form) ≡ Some form
+words_anew words form e = form_read (words_of_form form) form
+    (has_own words form (formed words form e) ((form_is_exact words form).0 e))
+
+-- and so is their line
+pub line_of_form : (form : FormText) → CanBeLine form → line_form (written_line form) ≡ Some form
+line_of_form form can_be_line =
+    ap (option_and_then form_of) (line_is_read (words_of_form form) can_be_line.plain)
+    ∙ form_read (words_of_form form) form can_be_line.has_form
+
+read_can_be_line : (found : Option (List (List ℕ))) (form : FormText) → PlainIf found
+    → option_and_then form_of found ≡ Some form → CanBeLine form
+read_can_be_line None form plain e = absurd cc
+read_can_be_line (Some words) form plain e =
+    let is_formed = formed words form e in
+    let has = (form_is_exact words form).0 e in
+    record { has_form = has_own words form is_formed has; plain = own_plain words form is_formed has plain }
+
+-- some line says it exactly where it can be one
+pub some_line : (form : FormText) → ((bytes : List ℕ) × (line_form bytes ≡ Some form)) ↔ CanBeLine form
+some_line form = (
+  (λ read. read_can_be_line (plain_words_of read.0) form (words_plain read.0) read.1),
+  (λ can_be_line. (written_line form, line_of_form form can_be_line)),
+)
+
+pub line_anew : (bytes : List ℕ) (form : FormText) → line_form bytes ≡ Some form
+    → line_form (written_line form) ≡ Some form
+line_anew bytes form e = line_of_form form ((some_line form).0 (bytes, e))
+
+-- ---- the form tells the words
+
+same_words : (words others : List (List ℕ)) (form : FormText) → HasForm words form → HasForm others form
+    → (words ≡ others) ⊎ DifferInNumber words others
+same_words words others (dependency_line left right) has had = inl (has.0 ∙ sym had.0)
+same_words words others (lock_line name number columns) (digits, has, are_digits, value)
+    (others_digits, had, others_are_digits, others_value) = inr (record {
+      name = name;
+      first = digits;
+      second = others_digits;
+      columns = columns;
+      words_are = has;
+      others_are = had;
+      first_number = are_digits;
+      second_number = others_are_digits;
+      same = value ∙ sym others_value;
+    })
+same_words words others (query_line name pattern outs) has had = inl (has.0 ∙ sym had.0)
+same_words words others form has had = inl (has ∙ sym had)
+
+pub form_tells_words : (words others : List (List ℕ)) (form : FormText) → form_of words ≡ Some form
+    → form_of others ≡ Some form → (words ≡ others) ⊎ DifferInNumber words others
+form_tells_words words others form e f =
+    same_words words others form ((form_is_exact words form).0 e) ((form_is_exact others form).0 f)

@@ -1,0 +1,141 @@
+-- What holds of each workload that is read: its limits, its texts, and that its calls fit.
+use Rattle.std.proofs.Common.{◌≡◌, ℕ, ◌+◌, ◌*◌, ◌<◌, ◌≤◌, ◌-◌, ◌^◌, List, [], ◌∷◌, length, map, Ok, inl, inr, refl, sym, subst, arith}
+use Rattle.std.specs.Prelude.{sum_by}
+use Rattle.std.specs.List.{AllByRecursion, flat_map}
+use Rattle.std.specs.Ordering.{match_ordering, nat_cmp}
+use Rattle.std.specs.declared.cmp.Ordering.{Ordering}
+use Rattle.std.specs.declared.cmp.Ordering.TheVariants.{Less, Equal, Greater}
+use Rattle.std.proofs.lemmas.Cmp.{ranked}
+use Rattle.std.proofs.lemmas.List.{length-append}
+use Rattle.std.proofs.lemmas.List.Elements.{recursion_from_All}
+use Rattle.std.proofs.lemmas.List.Sums.{sum_by-cons}
+use Rattle.rc_tuple.specs.RisingSet.{In, IsRising, AreDistinct, put, gather}
+use Rattle.rc_tuple.specs.RisingSetLaws.{nat_order, each_in, in_map, in_gather, rising_gather}
+use Rattle.rc_tuple.specs.Tuple.{IsTuple}
+use Rattle.rc_tuple.specs.TupleLaws.{IsTuple-tuple_of}
+use Rattle.rc_text.specs.Lines.{TextPlace}
+use Rattle.rc_spec.specs.InRange.{IsInRange}
+use Rattle.rc_spec.specs.Names.{IsWellNamed}
+use Rattle.rc_spec.specs.declared.spec.Spec.{Spec}
+use Rattle.rc_values.specs.Ranks.{text_cmp, texts_of}
+use Rattle.rc_work.specs.declared.work.Work.{Work}
+use Rattle.rc_work.specs.CallColumns.{columns_at}
+use Rattle.rc_work.specs.CallColumnsLaws.{columns_at-below, columns_at-distinct, columns_at-few}
+use Rattle.rc_work.specs.Drafts.{IsRawTurn}
+use Rattle.rc_work.specs.Fitting.{RoundsFit}
+use Rattle.rc_work.specs.Limits.{KeepsLimits, KnowsTexts}
+use Rattle.rc_work.specs.Ranking.{texts_in_value, texts_in_turn, texts_in_round, texts_in, ranked_value, ranked_turn, ranked_round, ranked_rounds, work_of, work_reading}
+use Rattle.rc_work.specs.RankingLaws.{KeepsLimits-work_with, RoundsFit-ranked_rounds, KnowsTexts-work_of}
+use Rattle.rc_text_laws.specs.CutLaws.{AreTexts}
+use Rattle.rc_text_laws.specs.LegalLaws.{length-gather-le}
+use Rattle.rc_text_laws.specs.QuotableLaws.{WorkValue, WorkTurn, WorkDraft, IsReadValue, HasReadValues, HaveReadValues, IsReadDraft, draft_texts, work_of_draft}
+
+-- ---- how many texts there are
+
+length-values : (values : List WorkValue) → AllByRecursion IsReadValue values
+    → length (flat_map texts_in_value values) ≤ length values
+length-values [] are = omega arith
+length-values (value ∷ values) are =
+    omega (
+      arith,
+      length-append (texts_in_value value) (flat_map texts_in_value values),
+      are.0.one_text,
+      length-values values are.1,
+    )
+
+module _ (spec : Spec) (named : IsWellNamed spec) (ranged : IsInRange spec) where
+  length-turn : (turn : WorkTurn) → IsRawTurn spec turn → HasReadValues turn
+      → length (texts_in_turn turn) ≤ 32
+  length-turn turn is read =
+      omega (
+        arith,
+        length-values turn.values (recursion_from_All IsReadValue turn.values read),
+        is.count,
+        columns_at-few spec turn.op named ranged,
+      )
+
+  length-round : (round : List WorkTurn) → AllByRecursion (IsRawTurn spec) round
+      → AllByRecursion HasReadValues round
+      → length (texts_in_round round) ≤ 32 * length round
+  length-round [] are read = omega arith
+  length-round (turn ∷ round) are read =
+      omega (
+        arith,
+        length-append (texts_in_turn turn) (texts_in_round round),
+        length-turn turn are.0 read.0,
+        length-round round are.1 read.1,
+      )
+
+  length-texts_in : (rounds : List (List WorkTurn))
+      → AllByRecursion (AllByRecursion (IsRawTurn spec)) rounds → HaveReadValues rounds
+      → length (texts_in rounds) ≤ 32 * sum_by length rounds
+  length-texts_in [] are read = omega arith
+  length-texts_in (round ∷ rounds) are read =
+      omega (
+        arith,
+        length-append (texts_in_round round) (texts_in rounds),
+        length-round round are.0 read.0,
+        length-texts_in rounds are.1 read.1,
+        sum_by-cons length round rounds,
+      )
+
+  -- ---- calls fit
+
+  turn_tuple : (texts : List (List ℕ)) (turn : WorkTurn) → length texts < 2 ^ 64
+      → HasReadValues turn → IsTuple (ranked_turn spec texts turn).call.args
+  turn_tuple texts turn few read =
+      IsTuple-tuple_of (columns_at spec turn.op) (map (ranked_value texts) turn.values)
+      (columns_at-distinct spec turn.op named) (columns_at-below spec turn.op ranged)
+      (λ n m.
+      let found = in_map (ranked_value texts) n turn.values m in
+      subst (λ v. v < 2 ^ 64) (sym found.2)
+      ((each_in IsReadValue turn.values (recursion_from_All IsReadValue turn.values read) found.0 found.1).small texts few))
+
+  round_tuples : (texts : List (List ℕ)) (round : List WorkTurn) → length texts < 2 ^ 64
+      → AllByRecursion HasReadValues round
+      → AllByRecursion (λ turn. IsTuple turn.call.args) (ranked_round spec texts round)
+  round_tuples texts [] few read = tt
+  round_tuples texts (turn ∷ round) few read =
+      (turn_tuple texts turn few read.0, round_tuples texts round few read.1)
+
+  rounds_tuples : (texts : List (List ℕ)) (rounds : List (List WorkTurn)) → length texts < 2 ^ 64
+      → HaveReadValues rounds
+      → AllByRecursion (AllByRecursion (λ turn. IsTuple turn.call.args)) (ranked_rounds spec texts rounds)
+  rounds_tuples texts [] few read = tt
+  rounds_tuples texts (round ∷ rounds) few read =
+      (round_tuples texts round few read.0, rounds_tuples texts rounds few read.1)
+
+  draft_fits : (draft : WorkDraft) → IsReadDraft spec draft
+      → RoundsFit spec (work_of spec draft).rounds
+  draft_fits draft read =
+      let texts = texts_of (texts_in draft.rounds) in
+      let few : length texts < 2 ^ 64 =
+      omega (
+        arith,
+        length-gather-le text_cmp (texts_in draft.rounds),
+        length-texts_in draft.rounds read.is.turns read.values,
+        read.is.few_calls,
+      ) in
+      RoundsFit-ranked_rounds spec texts draft.rounds named read.is.turns
+      (rounds_tuples texts draft.rounds few read.values)
+
+-- what holds of a workload that is read behind a specification
+pub record IsReadWork (spec : Spec) (work : Work) : Type 0 where
+  pub texts : AreTexts work.ranks
+  pub limits : KeepsLimits work
+  pub known : KnowsTexts spec work
+  pub fit : RoundsFit spec work.rounds
+
+-- a workload that is read keeps its limits, knows its texts, each of which can stand in quotes, and its calls
+-- fit
+pub is_read_work : (spec : Spec) (place : TextPlace) (work : Work) → IsWellNamed spec
+    → IsInRange spec → work_reading spec place ≡ Ok work
+    → IsReadWork spec work
+is_read_work spec place work named ranged e =
+    let from = work_of_draft spec place work e in
+    subst (IsReadWork spec) from.value (record {
+      texts = draft_texts spec from.draft from.read;
+      limits = KeepsLimits-work_with spec (texts_of (texts_in from.draft.rounds)) from.draft from.read.is;
+      known = KnowsTexts-work_of spec from.draft from.read.is;
+      fit = draft_fits spec named ranged from.draft from.read;
+    })

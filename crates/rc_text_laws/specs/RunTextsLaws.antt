@@ -1,0 +1,115 @@
+-- What `run` prints for an input tells its run.
+use Rattle.std.proofs.Common.{◌≡◌, ℕ, ◌<◌, List, [], ◌∷◌, ◌++◌, length, Some, inl, inr, refl, sym, ap, ◌∙◌, subst, arith}
+use Rattle.std.specs.List.{flat_map, range_with_len}
+use Rattle.std.proofs.lemmas.List.{append_cancel_left}
+use Rattle.rc_tuple.specs.RisingSet.{In}
+use Rattle.rc_tuple.specs.ColSetLaws.{in_range_bounds}
+use Rattle.rc_text.specs.Lines.{printed_lines}
+use Rattle.rc_spec.specs.Acceptance.{IsSealed}
+use Rattle.rc_spec.specs.Placement.{op_at}
+use Rattle.rc_spec.specs.declared.spec.Spec.{Spec}
+use Rattle.rc_plan.specs.Compiled.{plan_at}
+use Rattle.rc_plan.specs.PlanText.{plan_text}
+use Rattle.rc_plan.specs.declared.statement.Statement.{Statement}
+use Rattle.rc_query.specs.PlannedLaws.{one_planned}
+use Rattle.rc_rel.specs.History.{replay}
+use Rattle.rc_rel.specs.declared.entry.Entry.{Entry}
+use Rattle.rc_work.specs.Report.{report}
+use Rattle.rc_work.specs.declared.work.Work.{Work}
+use Rattle.rc_work.specs.WholeText.{place_after}
+use Rattle.rc_answer.specs.Answers.{IsReport, plans_and_report}
+use Rattle.rc_answer.specs.Plans.{ArePlanned, op_text, plans_text}
+use Rattle.rc_answer.specs.Ran.{IsReadAs, IsRunOf, entries_in, run_text}
+use Rattle.rc_answer.specs.declared.outcome.Ran.{Ran}
+use Rattle.rc_answer.specs.declared.status.Status.{Status}
+use Rattle.rc_text_laws.specs.SpecLaws.{reading_can_be_written}
+use Rattle.rc_text_laws.specs.Written.{CanBeWritten}
+use Rattle.rc_text_laws.specs.RunsLaws.{IsPrintedRun, reports_tell_runs}
+
+-- ---- one specification has one text of plans
+
+same_texts : (spec : Spec) (plans others : List (List Statement)) (ops : List ℕ)
+    → ((op : ℕ) → In op ops → plan_at plans op ≡ plan_at others op)
+    → flat_map (op_text spec plans) ops ≡ flat_map (op_text spec others) ops
+same_texts spec plans others [] same = refl
+same_texts spec plans others (op ∷ ops) same =
+    ap (λ plan. plan_text spec op plan ++ flat_map (op_text spec plans) ops) (same op (inl refl))
+    ∙ ap (λ rest. op_text spec others op ++ rest)
+    (same_texts spec plans others ops (λ o m. same o (inr m)))
+
+-- the planned plans of a specification are printed in one way
+pub one_plans_text : (spec : Spec) (plans others : List (List Statement)) → IsSealed spec
+    → ArePlanned spec plans → ArePlanned spec others
+    → plans_text spec plans ≡ plans_text spec others
+one_plans_text spec plans others sealed planned kept =
+    same_texts spec plans others (range_with_len 0 (length spec.ops)) (λ op m.
+    let below : op < length spec.ops =
+    omega (arith, (in_range_bounds 0 (length spec.ops) op m).1) in
+    one_planned spec sealed (op_at spec op) (plan_at plans op) (plan_at others op)
+    (planned.each op below) (kept.each op below))
+
+-- ---- the plans, and then the report
+
+-- of what was read, the plans and the report behind them have one history
+one_run : (input : List ℕ) (spec : Spec) (work : Work) (plans others : List (List Statement))
+    → (history other : List Entry)
+    → IsReadAs input spec work → ArePlanned spec plans → ArePlanned spec others
+    → IsPrintedRun spec work history → IsPrintedRun spec work other
+    → plans_and_report spec work plans history ≡ plans_and_report spec work others other
+    → history ≡ other
+one_run input spec work plans others history other read planned kept run again e =
+    let is : CanBeWritten spec =
+    subst CanBeWritten read.of_spec (reading_can_be_written input read.reading read.read) in
+    let sealed : IsSealed spec =
+    record { in_range = is.in_range; populated = is.populated; accepted = read.accepted } in
+    let left = printed_lines (report spec work.ranks history (replay spec history)) in
+    let right = printed_lines (report spec work.ranks other (replay spec other)) in
+    let plans_are = one_plans_text spec plans others sealed planned kept in
+    let reports : left ≡ right =
+    append_cancel_left (plans_text spec plans) left right
+    (e ∙ ap (λ text. text ++ right) (sym plans_are)) in
+    reports_tell_runs spec (place_after input read.reading) work history other is.well_named is.in_range
+    read.work_read run again reports
+
+-- Two runs of what an input is read as, of which the same text is printed, have the same journal and the same
+-- rows.
+abbrev pub PrintedTextsTellRuns : Type 0
+PrintedTextsTellRuns =
+    (input : List ℕ) (spec : Spec) (work : Work) (ran other : Ran) → IsReadAs input spec work
+    → IsRunOf spec work ran → IsRunOf spec work other
+    → run_text work.ranks ran ≡ run_text work.ranks other
+    → (ran.closed.journal ≡ other.closed.journal) × (ran.last ≡ other.last)
+
+-- the text of a run is that of its plans, and then that of the report of its history
+run_text-is : (spec : Spec) (work : Work) (ran : Ran) → (run : IsRunOf spec work ran)
+    → run_text work.ranks ran ≡ plans_and_report spec work ran.closed.compiled.plans run.history
+run_text-is spec work ran run i =
+    plans_text (run.of_spec i) ran.closed.compiled.plans
+    ++ printed_lines (report (run.of_spec i) work.ranks (entries_in (run.journal i)) (run.last i))
+
+pub printed_texts_tell_runs : PrintedTextsTellRuns
+printed_texts_tell_runs input spec work ran other read run again e =
+    let same : run.history ≡ again.history =
+    one_run input spec work ran.closed.compiled.plans other.closed.compiled.plans
+    run.history again.history read run.planned again.planned
+    (record { run = run.runs; single = run.single })
+    (record { run = again.runs; single = again.single })
+    (sym (run_text-is spec work ran run) ∙ e ∙ run_text-is spec work other again) in (
+      run.journal ∙ ap (λ history. Some history) same ∙ sym again.journal,
+      run.last ∙ ap (replay spec) same ∙ sym again.last,
+    )
+
+-- A text that `run` may print for an input is that of one history.
+abbrev pub PrintedTextsHaveOneHistory : Type 0
+PrintedTextsHaveOneHistory =
+    (input : List ℕ) (spec : Spec) (work : Work) (text : List ℕ) (status : Status)
+    → IsReadAs input spec work
+    → (some other : IsReport spec work text status) → some.history ≡ other.history
+
+pub printed_texts_have_one_history : PrintedTextsHaveOneHistory
+printed_texts_have_one_history input spec work text status read some other =
+    one_run input spec work some.plans other.plans some.history other.history read
+    some.planned other.planned
+    (record { run = some.runs; single = some.single })
+    (record { run = other.runs; single = other.single })
+    (sym some.printed ∙ other.printed)

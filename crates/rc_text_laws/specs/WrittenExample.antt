@@ -1,0 +1,35 @@
+-- The lines of one specification, as they are written.
+use Rattle.std.specs.Prelude.{◌≡◌, [], ◌∷◌, decimal, codes}
+use Rattle.std.proofs.Common.{refl}
+use Rattle.rc_spec.specs.declared.items.ColKind.TheVariants.{Num, Text}
+use Rattle.rc_spec.specs.declared.items.EdgeKind.TheVariants.{Hash, Singleton}
+use Rattle.rc_spec.specs.declared.items.OpKind.TheVariants.{Query, Insert, Remove}
+use Rattle.rc_spec.specs.declared.spec.Spec.{Spec}
+use Rattle.rc_text_laws.specs.Written.{line_of, spec_lines}
+
+abbrev pub people : Spec
+people = record {
+  columns = record { name = codes "id"; kind = Num } ∷ record { name = codes "name"; kind = Text } ∷ [];
+  deps = record { left = 0 ∷ []; right = 1 ∷ [] } ∷ [];
+  nodes =
+      record { name = codes "root"; cols = [] } ∷ record { name = codes "one"; cols = 0 ∷ [] }
+      ∷ record { name = codes "all"; cols = 0 ∷ 1 ∷ [] } ∷ [];
+  edges =
+      record { name = codes "find"; from = 0; to = 1; kind = Hash; key = 0 ∷ [] }
+      ∷ record { name = codes "rest"; from = 1; to = 2; kind = Singleton; key = 1 ∷ [] } ∷ [];
+  classes = record { name = codes "locks"; stripes = 16; cols = 0 ∷ [] } ∷ [];
+  places = record { edge = 0; class = 0 } ∷ record { edge = 1; class = 0 } ∷ [];
+  ops =
+      record { name = codes "add"; pattern = 0 ∷ []; kind = Insert }
+      ∷ record { name = codes "drop"; pattern = 0 ∷ []; kind = Remove }
+      ∷ record { name = codes "who"; pattern = 1 ∷ []; kind = Query (0 ∷ []) } ∷ [];
+}
+
+pub people_lines : spec_lines people
+    ≡ codes "relc 1" ∷ codes "col id num" ∷ codes "col name text" ∷ codes "fd id -> name"
+    ∷ codes "node root" ∷ codes "node one id"
+    ∷ codes "node all id name" ∷ codes "edge find root one hash id" ∷ codes "edge rest one all singleton name"
+    ∷ line_of (codes "lock" ∷ codes "locks" ∷ decimal 16 ∷ codes "id" ∷ []) ∷ codes "place find locks"
+    ∷ codes "place rest locks" ∷ codes "op add insert id"
+    ∷ codes "op drop remove id" ∷ codes "op who query name -> id" ∷ codes "end" ∷ []
+people_lines = refl

@@ -1,0 +1,15 @@
+//! Laws of texts: every specification that keeps the limits of a text is read back from its lines, and what a line does is
+//! told by what it says and by the kinds of the lines before it; a printed report tells everything of the run.
+#![tactic(auto)]
+
+mod reports;
+mod specifications;
+
+pub use reports::{
+    one_report_one_history, one_report_one_journal, one_report_one_run, one_text_one_history,
+    printed_texts_have_one_history, printed_texts_tell_runs, reports_tell_runs, texts_are_quotable,
+};
+pub use specifications::{
+    forms_are_exact, limits_and_order_are_told_by_kinds, lines_do_what_they_say,
+    specifications_are_read_back,
+};
