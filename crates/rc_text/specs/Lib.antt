@@ -1,9 +1,11 @@
 pub mod Bytes
+pub mod Language
+pub mod LanguageLaws
 pub mod Lines
 pub mod LinesLaws
-pub mod Words
-pub mod WordsLaws
 pub mod NextWordLaws
 pub mod Numbers
 pub mod NumbersLaws
 pub mod Reader
+pub mod Words
+pub mod WordsLaws
