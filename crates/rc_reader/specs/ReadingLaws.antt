@@ -44,7 +44,7 @@ runs_out past_end spec lines lines-are = laws.runs_out spec_language past_end sp
 
 -- ---- what reading gives is what the lines mean
 
-means-reading_from : (past_end : ℕ) (spec : Spec) (lines : List ContentLine) → LinesMean past_end spec lines (reading_from past_end spec lines)
+pub means-reading_from : (past_end : ℕ) (spec : Spec) (lines : List ContentLine) → LinesMean past_end spec lines (reading_from past_end spec lines)
 unfolding reading_from
 means-reading_from past_end spec lines = laws.means-reading spec_language past_end spec lines
 

@@ -47,10 +47,10 @@ module _ {State Given Read Rule : Type 0} (language : Language State Given Read 
 
   -- the lines before a line are taken, and leave this state
   pub record Reaches (state : State) (lines : List ContentLine) (before : State) (line : ContentLine)
-    (others : List ContentLine) : Type 0 where
-      pub front : List ContentLine
-      pub whole : lines ≡ front ++ line ∷ others
-      pub taken : AreTaken state front before
+      (others : List ContentLine) : Type 0 where
+    pub front : List ContentLine
+    pub whole : lines ≡ front ++ line ∷ others
+    pub taken : AreTaken state front before
 
   -- the first line that breaks a rule
   pub record IsFirstBroken (state : State) (lines : List ContentLine) (broken : Broken Rule) : Type 0 where
@@ -74,10 +74,10 @@ module _ {State Given Read Rule : Type 0} (language : Language State Given Read 
 
   -- all lines are taken, and none is the last
   pub record RunsOut (past_end : ℕ) (state : State) (lines : List ContentLine) (gives : Result Read (Broken Rule))
-    : Type 0 where
-      pub next : State
-      pub taken : AreTaken state lines next
-      pub out : language.out past_end next ≡ gives
+      : Type 0 where
+    pub next : State
+    pub taken : AreTaken state lines next
+    pub out : language.out past_end next ≡ gives
 
   -- a line is the last, or the first that breaks a rule
   abbrev pub Finds : State → List ContentLine → Result Read (Broken Rule) → Type 0

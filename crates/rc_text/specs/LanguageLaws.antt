@@ -37,49 +37,49 @@ module _ {State Given Read Rule : Type 0} (language : Language State Given Read 
 
   -- one line more in front, which is taken
   module _ (state : State) (first : ContentLine) (lines : List ContentLine) (given : Given)
-    (e : language.next state first.bytes ≡ Ok given) (going : language.ended given ≡ false) where
-      reaches-more : (before : State) (line : ContentLine) (others : List ContentLine)
-          → Reaches language (language.state given) lines before line others
-          → Reaches language state (first ∷ lines) before line others
-      reaches-more before line others reached = record {
-        front = first ∷ reached.front;
-        whole = ap (λ (xs : List ContentLine). first ∷ xs) reached.whole;
-        taken = (given, e, going, reached.taken);
-      }
+      (e : language.next state first.bytes ≡ Ok given) (going : language.ended given ≡ false) where
+    reaches-more : (before : State) (line : ContentLine) (others : List ContentLine)
+        → Reaches language (language.state given) lines before line others
+        → Reaches language state (first ∷ lines) before line others
+    reaches-more before line others reached = record {
+      front = first ∷ reached.front;
+      whole = ap (λ (xs : List ContentLine). first ∷ xs) reached.whole;
+      taken = (given, e, going, reached.taken);
+    }
 
-      finds-more : (gives : Result Read (Broken Rule)) → Finds language (language.state given) lines gives
-          → Finds language state (first ∷ lines) gives
-      finds-more (Ok read) found = record {
-        before = found.before;
-        last = found.last;
-        others = found.others;
-        given = found.given;
-        reached = reaches-more found.before found.last found.others found.reached;
-        gives = found.gives;
-        ended = found.ended;
-        value = found.value;
-      }
-      finds-more (Err broken) found = record {
-        before = found.before;
-        line = found.line;
-        others = found.others;
-        reached = reaches-more found.before found.line found.others found.reached;
-        breaks = found.breaks;
-        number = found.number;
-      }
+    finds-more : (gives : Result Read (Broken Rule)) → Finds language (language.state given) lines gives
+        → Finds language state (first ∷ lines) gives
+    finds-more (Ok read) found = record {
+      before = found.before;
+      last = found.last;
+      others = found.others;
+      given = found.given;
+      reached = reaches-more found.before found.last found.others found.reached;
+      gives = found.gives;
+      ended = found.ended;
+      value = found.value;
+    }
+    finds-more (Err broken) found = record {
+      before = found.before;
+      line = found.line;
+      others = found.others;
+      reached = reaches-more found.before found.line found.others found.reached;
+      breaks = found.breaks;
+      number = found.number;
+    }
 
-      means-more : (past_end : ℕ) (gives : Result Read (Broken Rule))
-          → LinesMean language past_end (language.state given) lines gives
-          → LinesMean language past_end state (first ∷ lines) gives
-      means-more past_end gives (inl found) = inl (finds-more gives found)
-      means-more past_end gives (inr out) =
-          inr (record { next = out.next; taken = (given, e, going, out.taken); out = out.out })
+    means-more : (past_end : ℕ) (gives : Result Read (Broken Rule))
+        → LinesMean language past_end (language.state given) lines gives
+        → LinesMean language past_end state (first ∷ lines) gives
+    means-more past_end gives (inl found) = inl (finds-more gives found)
+    means-more past_end gives (inr out) =
+        inr (record { next = out.next; taken = (given, e, going, out.taken); out = out.out })
 
   means-given : (past_end : ℕ) (state : State) (line : ContentLine) (others : List ContentLine) (given : Given)
       (ended : Bool) (go_on : State → Result Read (Broken Rule)) → language.next state line.bytes ≡ Ok given
       → language.ended given ≡ ended → ((next : State) → LinesMean language past_end next others (go_on next))
       → LinesMean language past_end state (line ∷ others)
-        (cond ended (Ok (language.done (language.state given) line others)) (go_on (language.state given)))
+      (cond ended (Ok (language.done (language.state given) line others)) (go_on (language.state given)))
   means-given past_end state line others given true go_on e last means = inl (record {
     before = state;
     last = line;
@@ -169,3 +169,31 @@ module _ {State Given Read Rule : Type 0} (language : Language State Given Read 
   taken_keeps P keeps state [] next e h = subst P e h
   taken_keeps P keeps state (line ∷ lines) next (given, e, going, taken) h =
       taken_keeps P keeps (language.state given) lines next taken (keeps state line.bytes given h e)
+
+  -- so has what is read
+  pub read_keeps : (P : State → Type 0) (Q : Read → Type 0) → Keeps P
+      → ((state : State) (last : ContentLine) (others : List ContentLine) → P state → Q (language.done state last others))
+      → ((past_end : ℕ) (state : State) (read : Read) → P state → language.out past_end state ≡ Ok read → Q read)
+      → (past_end : ℕ) (state : State) (lines : List ContentLine) (read : Read) → P state
+      → reading_from language past_end state lines ≡ Ok read → Q read
+  read_keeps P Q keeps at_end at_out past_end state lines read h e =
+      elim (subst (LinesMean language past_end state lines) e (means-reading past_end state lines)) [
+        | inl found ↦
+            let before = taken_keeps P keeps state found.reached.front found.before found.reached.taken h in
+            subst Q found.value
+            (at_end (language.state found.given) found.last found.others
+            (keeps found.before found.last.bytes found.given before found.gives))
+        | inr out ↦ at_out past_end out.next read (taken_keeps P keeps state lines out.next out.taken h) out.out
+      ]
+
+  -- and what is refused is refused for a rule that a line breaks, or that lines break which run out
+  pub refused_for : (P : Rule → Type 0)
+      → ((state : State) (bytes : List ℕ) (rule : Rule) → language.next state bytes ≡ Err rule → P rule)
+      → ((past_end : ℕ) (state : State) (broken : Broken Rule) → language.out past_end state ≡ Err broken → P broken.rule)
+      → (past_end : ℕ) (state : State) (lines : List ContentLine) (broken : Broken Rule)
+      → reading_from language past_end state lines ≡ Err broken → P broken.rule
+  refused_for P at_line at_out past_end state lines broken e =
+      elim (subst (LinesMean language past_end state lines) e (means-reading past_end state lines)) [
+        | inl found ↦ at_line found.before found.line.bytes broken.rule found.breaks
+        | inr out ↦ at_out past_end out.next broken out.out
+      ]

@@ -20,11 +20,11 @@ use Rattle.rc_reader.specs.declared.sections.LineKind.{LineKind}
 use Rattle.rc_reader.specs.declared.sections.LineKind.TheVariants as kinds
 use Rattle.rc_reader.specs.Grammar.{After, is_end, ended_by, after_form_of, after_bytes}
 use Rattle.rc_reader.specs.FirstBroken.{AreTaken}
+use Rattle.rc_reader.specs.ReadKeepsLaws.{taken_keeps}
 use Rattle.rc_reader.specs.RulesLaws.{taken}
 use Rattle.rc_reader.specs.InRangeLaws.{in_range-keeps, in_range-empty}
 use Rattle.rc_reader.specs.TextLimits.{KeepsTextLimits}
 use Rattle.rc_reader.specs.TextLimitsLaws.{limits-keeps, limits-empty}
-use Rattle.rc_text_laws.specs.SpecLaws.{taken_keeps}
 use Rattle.rc_text_laws.specs.Kinds.{line_form, Says, kinds_of, how_many, is_one_too_many, is_out_of_order}
 use Rattle.rc_text_laws.specs.LineFormLaws.{told_by_form}
 
@@ -83,9 +83,9 @@ line_grows spec (Some form) after kinds next e goes_on h =
 lines_grow : (spec : Spec) (lines : List ContentLine) (next : Spec) → AreTaken spec lines next
     → Grows spec (kinds_of lines) next
 lines_grow spec [] next e = subst (λ (s : Spec). Grows spec [] s) e (λ kind. same (count_of spec kind))
-lines_grow spec (line ∷ lines) next (between, e, others) =
-    line_grows spec (line_form line.bytes) (record { ended = false; spec = between }) (kinds_of lines) next
-    (sym (told_by_form spec line.bytes) ∙ e) refl (lines_grow between lines next others)
+lines_grow spec (line ∷ lines) next (after, e, goes_on, others) =
+    line_grows spec (line_form line.bytes) after (kinds_of lines) next (sym (told_by_form spec line.bytes) ∙ e) goes_on
+    (lines_grow after.spec lines next others)
 
 -- ---- the tests
 

@@ -8,6 +8,7 @@ use Rattle.std.proofs.lemmas.Bool.{ltb-true}
 use Rattle.std.proofs.lemmas.List.Elements.{All-from_recursion, recursion_from_All}
 use Rattle.rc_tuple.specs.RisingSet.{In}
 use Rattle.rc_tuple.specs.RisingSetLaws.{each_in, in_flat_map, in_gather, number_lists_order}
+use Rattle.rc_text.specs.LanguageLaws.{taken_keeps}
 use Rattle.rc_text.specs.Bytes.{is_quotable_byte}
 use Rattle.rc_text.specs.Lines.{ContentLine, TextPlace, content_from, past_end_of}
 use Rattle.rc_text.specs.NextWordLaws.{found_comes}
@@ -27,9 +28,9 @@ use Rattle.rc_work.specs.LineRulesLaws.{taken}
 use Rattle.rc_work.specs.WorkGrammar.{after_form_of, after_words, after_bytes, broken_at, threads_of, draft_of}
 use Rattle.rc_work.specs.Drafts.{IsDraft}
 use Rattle.rc_work.specs.DraftsLaws.{IsThreadCount, IsDraft-after_bytes, threads_of-count}
-use Rattle.rc_work.specs.FirstBroken.{AreTaken, LinesMean, ContentMeans}
+use Rattle.rc_work.specs.FirstBroken.{work_language, AreTaken, LinesMean, ContentMeans}
 use Rattle.rc_work.specs.Ranking.{texts_in_value, texts_in_turn, texts_in_round, texts_in, ranked_value, work_of, work_reading}
-use Rattle.rc_work.specs.ReadingLaws.{work_means}
+use Rattle.rc_work.specs.ReadingLaws.{are_whole, work_means}
 use Rattle.rc_text_laws.specs.CutLaws.{AreTexts}
 
 -- ---- the words of a line
@@ -265,14 +266,12 @@ pub record IsReadDraft (spec : Spec) (draft : WorkDraft) : Type 0 where
 taken_read : (spec : Spec) (draft : WorkDraft) (lines : List ContentLine) (last : WorkDraft)
     → IsReadDraft spec draft
     → AreTaken spec draft lines last → IsReadDraft spec last
-taken_read spec draft [] last here e = subst (IsReadDraft spec) e here
-taken_read spec draft (line ∷ lines) last here (between, e, others) =
-    taken_read spec between lines last
-    (record {
-      is = IsDraft-after_bytes spec draft line.bytes between here.is e;
-      values = after_bytes-read spec draft line.bytes between here.values e;
-    })
-    others
+taken_read spec draft lines last here taken =
+    taken_keeps (work_language spec) (IsReadDraft spec)
+    (λ before bytes next is e. record {
+      is = IsDraft-after_bytes spec before bytes next is.is e;
+      values = after_bytes-read spec before bytes next is.values e;
+    }) draft lines last taken here
 
 draft_of-read : (spec : Spec) (threads : ℕ) → IsThreadCount threads
     → IsReadDraft spec (draft_of threads)
@@ -303,11 +302,14 @@ header_read : (spec : Spec) (past_end : ℕ) (line : ContentLine) (others : List
     (λ rule. broken_at rule line.number ≡ Ok work)
     → IsOfDraft spec work
 header_read spec past_end line others work (Err rule) e means = absurd cc
-header_read spec past_end line others work (Ok threads) e means = record {
-  draft = means.last;
-  read = taken_read spec (draft_of threads) others means.last (draft_of-read spec threads (threads_of-count line.bytes threads e)) means.taken;
-  value = means.value;
-}
+header_read spec past_end line others work (Ok threads) e means =
+    let whole = are_whole past_end spec (draft_of threads) others work means in
+    record {
+      draft = whole.last;
+      read = taken_read spec (draft_of threads) others whole.last
+          (draft_of-read spec threads (threads_of-count line.bytes threads e)) whole.taken;
+      value = whole.value;
+    }
 
 content_read : (spec : Spec) (past_end : ℕ) (lines : List ContentLine) (work : Work)
     → ContentMeans past_end spec lines (Ok work)

@@ -12,13 +12,13 @@ use Rattle.rc_spec.specs.Spec.{empty}
 use Rattle.rc_reader.specs.declared.refusal.LineRule.TheVariants.{S1}
 use Rattle.rc_reader.specs.Forms.{FormText, header_line, end_line}
 use Rattle.rc_reader.specs.Grammar.{Reading, Broken, is_end, ended_by, after_bytes, broken_at, reading_from, is_header_by, is_header, reading_all, spec_reading, nothing_after, alone, spec_of}
-use Rattle.rc_reader.specs.FirstBroken.{AreTaken, LinesMean, ContentMeans, ReachesEnd}
-use Rattle.rc_reader.specs.ReadingLaws.{goes_on, ends, text_means}
-use Rattle.rc_reader.specs.RulesLaws.{IsSpecLineTaken, Keeps, keeps-after_bytes}
+use Rattle.rc_reader.specs.ReadKeepsLaws.{spec_read, read_keeps, read_populated}
+use Rattle.rc_reader.specs.ReadingLaws.{goes_on, ends}
+use Rattle.rc_reader.specs.RulesLaws.{IsSpecLineTaken}
 use Rattle.rc_reader.specs.InRangeLaws.{in_range-keeps, in_range-empty}
 use Rattle.rc_reader.specs.WellNamedLaws.{well_named-keeps, well_named-empty}
 use Rattle.rc_reader.specs.TextLimits.{KeepsTextLimits}
-use Rattle.rc_reader.specs.TextLimitsLaws.{limits-keeps, limits-empty, populated-end}
+use Rattle.rc_reader.specs.TextLimitsLaws.{limits-keeps, limits-empty}
 use Rattle.rc_text_laws.specs.Written.{words_of_form, CanBeLine, written_line, item_forms, spec_lines, spec_text, CanBeWritten}
 use Rattle.rc_text_laws.specs.WordsLaws.{line_is_read}
 use Rattle.rc_text_laws.specs.LineLaws.{line_read, takes}
@@ -108,66 +108,20 @@ spec_is_read spec can =
 
 -- ---- what is read
 
--- a specification that was read, with the lines behind its header
-record IsRead (reading : Reading) : Type 0 where
-  lines : List ContentLine
-  reached : ReachesEnd empty lines reading
-
-behind_header : (b : Bool) (past_end : ℕ) (line : ContentLine) (others : List ContentLine)
-    (reading : Reading)
-    → MatchBool b (LinesMean past_end empty others (Ok reading)) (broken_at S1 line.number ≡ Ok reading)
-    → IsRead reading
-behind_header true past_end line others reading means = record { lines = others; reached = means }
-behind_header false past_end line others reading means = absurd cc
-
-content_read : (past_end : ℕ) (lines : List ContentLine) (reading : Reading)
-    → ContentMeans past_end lines (Ok reading) → IsRead reading
-content_read past_end [] reading means = absurd cc
-content_read past_end (line ∷ others) reading means =
-    behind_header (is_header line.bytes) past_end line others reading means
-
--- what each line keeps holds behind lines that are taken
-pub taken_keeps : (P : Spec → Type 0) → Keeps P → (spec : Spec) (lines : List ContentLine) (next : Spec)
-    → AreTaken spec lines next → P spec → P next
-taken_keeps P keeps spec [] next e h = subst P e h
-taken_keeps P keeps spec (line ∷ lines) next (between, e, others) h =
-    taken_keeps P keeps between lines next others (keeps-after_bytes P keeps spec line.bytes _ h e)
-
--- and of what is read
-read_keeps : (P : Spec → Type 0) → Keeps P → P empty → (reading : Reading) → IsRead reading → P reading.spec
-read_keeps P keeps at_first reading read =
-    let found = read.reached in
-    keeps-after_bytes P keeps found.before reading.last.bytes _
-    (taken_keeps P keeps empty found.reached.front found.before found.reached.taken at_first) found.is_end
-
 -- so a specification that is read can be written, whatever stands behind it
 pub reading_can_be_written : (text : List ℕ) (reading : Reading) → spec_reading text ≡ Ok reading
     → CanBeWritten reading.spec
-reading_can_be_written text reading e =
-    let read = content_read (past_end_of text) (content_from (start_of text)) reading
-    ((text_means text (Ok reading)).0 e) in
-    record {
-      in_range = read_keeps IsInRange in_range-keeps in_range-empty reading read;
-      well_named = read_keeps IsWellNamed well_named-keeps well_named-empty reading read;
-      populated = populated-end read.reached.before reading.last.bytes true reading.spec
-          read.reached.is_end refl;
-      limits = read_keeps KeepsTextLimits limits-keeps limits-empty reading read;
-    }
-
-nothing_more : (found : Spec) (lines : List ContentLine) (spec : Spec) → nothing_after found lines ≡ Ok spec
-    → found ≡ spec
-nothing_more found [] spec e = cc
-nothing_more found (line ∷ lines) spec e = absurd cc
-
-alone_read : (text : List ℕ) (gives : Result Reading Broken) (spec : Spec) → spec_reading text ≡ gives
-    → alone gives ≡ Ok spec → CanBeWritten spec
-alone_read text (Err broken) spec e k = absurd cc
-alone_read text (Ok reading) spec e k =
-    subst CanBeWritten (nothing_more reading.spec reading.others spec k)
-    (reading_can_be_written text reading e)
+reading_can_be_written text reading e = record {
+  in_range = read_keeps IsInRange in_range-keeps in_range-empty text reading e;
+  well_named = read_keeps IsWellNamed well_named-keeps well_named-empty text reading e;
+  populated = read_populated text reading e;
+  limits = read_keeps KeepsTextLimits limits-keeps limits-empty text reading e;
+}
 
 pub what_is_read : (text : List ℕ) (spec : Spec) → spec_of text ≡ Ok spec → CanBeWritten spec
-what_is_read text spec e = alone_read text (spec_reading text) spec refl e
+what_is_read text spec e =
+    let read = spec_read text spec (spec_reading text) refl e in
+    subst CanBeWritten read.2 (reading_can_be_written text read.0 read.1)
 
 -- a text gives a specification exactly where it can be written
 pub some_text_gives : (spec : Spec) → ((text : List ℕ) × (spec_of text ≡ Ok spec)) ↔ CanBeWritten spec

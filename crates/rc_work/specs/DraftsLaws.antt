@@ -5,6 +5,7 @@ use Rattle.std.specs.Str.{bytes_eq}
 use Rattle.std.proofs.lemmas.Bool.{and_parts, leb-false, leb-true, eqb-false}
 use Rattle.std.proofs.lemmas.List.{length-append}
 use Rattle.std.proofs.lemmas.List.Sums.{sum_by-append}
+use Rattle.rc_text.specs.LanguageLaws.{read_keeps}
 use Rattle.rc_text.specs.Lines.{ContentLine}
 use Rattle.rc_text.specs.Words.{WordText, plain_text, quoted_text}
 use Rattle.rc_text.specs.Numbers.{u64_of}
@@ -20,7 +21,7 @@ use Rattle.rc_work.specs.RawTurnsLaws.{length-onto_last, sum_by-onto_last, each_
 use Rattle.rc_work.specs.LineForms.{FormText, round_line, end_line, call_line, words_read, form_of}
 use Rattle.rc_work.specs.LineRules.{turn_of, with_line}
 use Rattle.rc_work.specs.LineRulesLaws.{IsWorkLineTaken, taken, turn_of-thread, IsRawTurn-turn_of}
-use Rattle.rc_work.specs.WorkGrammar.{after_form_of, after_words, after_bytes, broken_at, reading_after, reading_from, threads_by, threads_at, threads_of_words, threads_of_read, threads_of, Headed, headed_by, headed, draft_of, reading_behind, reading_all}
+use Rattle.rc_work.specs.WorkGrammar.{after_form_of, after_words, after_bytes, broken_at, draft_language, reading_from, threads_by, threads_at, threads_of_words, threads_of_read, threads_of, Headed, headed_by, headed, draft_of, reading_behind, reading_all}
 use Rattle.rc_work.specs.Drafts.{IsRawTurn, IsDraft}
 
 -- ---- a line
@@ -80,17 +81,12 @@ ended_draft : (ended : Bool) (past_end : ℕ) (draft last : Draft) → cond ende
 ended_draft true past_end draft last e = same_draft draft last e
 ended_draft false past_end draft last e = absurd cc
 
-line_keeps : (spec : Spec) (draft : Draft) (line : ContentLine) (after : Result Draft LineRule) (go_on : Draft → Result Draft Broken) (last : Draft) → after_bytes spec draft line.bytes ≡ after → IsDraft spec draft
-    → ((next : Draft) → IsDraft spec next → go_on next ≡ Ok last → IsDraft spec last) → reading_after after line go_on ≡ Ok last → IsDraft spec last
-line_keeps spec draft line (Err rule) go_on last is-after is others e = absurd cc
-line_keeps spec draft line (Ok next) go_on last is-after is others e = others next (IsDraft-after_bytes spec draft line.bytes next is is-after) e
-
 pub IsDraft-reading_from : (past_end : ℕ) (spec : Spec) (draft : Draft) (lines : List ContentLine) (last : Draft) → IsDraft spec draft → reading_from past_end spec draft lines ≡ Ok last → IsDraft spec last
 unfolding reading_from
-IsDraft-reading_from past_end spec draft [] last is e = subst (IsDraft spec) (ended_draft draft.ended past_end draft last e) is
-IsDraft-reading_from past_end spec draft (line ∷ others) last is e =
-    line_keeps spec draft line (after_bytes spec draft line.bytes) (λ next. reading_from past_end spec next others) last refl is
-    (λ next holds h. IsDraft-reading_from past_end spec next others last holds h) e
+IsDraft-reading_from past_end spec draft lines last is e =
+    read_keeps (draft_language spec (λ (read : Draft). read)) (IsDraft spec) (IsDraft spec)
+    (λ before bytes next h given. IsDraft-after_bytes spec before bytes next h given) (λ next line others h. h)
+    (λ at next found h out. subst (IsDraft spec) (ended_draft next.ended at next found out) h) past_end draft lines last is e
 
 -- ---- the header
 

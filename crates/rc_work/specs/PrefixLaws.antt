@@ -5,6 +5,7 @@ use Rattle.std.specs.List.{list_all}
 use Rattle.std.proofs.lemmas.Bool.{eqb-true, and_parts, or_cases}
 use Rattle.std.proofs.lemmas.List.Sums.{sum_by-cons}
 use Rattle.rc_text.specs.Bytes.{is_blank}
+use Rattle.rc_text.specs.Language as language
 use Rattle.rc_text.specs.Lines.{lines_of, past_end_of, without_last, bytes_of_line, is_content, ContentLine, content_among, start_of, content_from, IsLineStart}
 use Rattle.rc_text.specs.LinesLaws.{lines_from_is}
 use Rattle.rc_spec.specs.declared.spec.Spec.{Spec}
@@ -82,21 +83,28 @@ spec_all_cut p q reading (first ∷ front) line rest extra ending e =
 
 -- ---- the workload
 
+-- what a line gives, and what is given where the lines run out
+abbrev reading_after : Spec → Result Draft LineRule → ContentLine → List ContentLine → (Draft → Result Draft Broken) → Result Draft Broken
+reading_after s after line rest go = language.reading_after (work.draft_language s (λ (read : Draft). read)) after line rest go
+
+abbrev at_end : ℕ → Draft → Result Draft Broken
+at_end past_end draft = cond draft.ended (Ok draft) (broken_at S8 past_end)
+
 abbrev Fails : {X : Type 0} → Result X Broken → Type 0
 Fails gives = (broken : Broken) × (gives ≡ Err broken)
 
 abbrev pub FirstTaken : Spec → Draft → ContentLine → (Draft → Result Draft Broken) → Draft → Type 0
 FirstTaken s draft line go last = (next : Draft) × (after_bytes s draft line.bytes ≡ Ok next) × (go next ≡ Ok last)
 
-first_by : (s : Spec) (draft last : Draft) (line : ContentLine) (go : Draft → Result Draft Broken) (after : Result Draft LineRule) → after_bytes s draft line.bytes ≡ after → work.reading_after after line go ≡ Ok last → FirstTaken s draft line go last
-first_by s draft last line go (Err rule) is e = absurd cc
-first_by s draft last line go (Ok next) is e = (next, is, e)
+first_by : (s : Spec) (draft last : Draft) (line : ContentLine) (rest : List ContentLine) (go : Draft → Result Draft Broken) (after : Result Draft LineRule) → after_bytes s draft line.bytes ≡ after → reading_after s after line rest go ≡ Ok last → FirstTaken s draft line go last
+first_by s draft last line rest go (Err rule) is e = absurd cc
+first_by s draft last line rest go (Ok next) is e = (next, is, e)
 
 pub first_taken : (p : ℕ) (s : Spec) (draft last : Draft) (line : ContentLine) (rest : List ContentLine) → work.reading_from p s draft (line ∷ rest) ≡ Ok last → FirstTaken s draft line (λ next. work.reading_from p s next rest) last
 unfolding work.reading_from
-first_taken p s draft last line rest e = first_by s draft last line (λ next. work.reading_from p s next rest) (after_bytes s draft line.bytes) refl e
+first_taken p s draft last line rest e = first_by s draft last line rest (λ next. work.reading_from p s next rest) (after_bytes s draft line.bytes) refl e
 
-runs_out : (q : ℕ) (draft : Draft) → draft.ended ≡ false → Fails (work.at_end q draft)
+runs_out : (q : ℕ) (draft : Draft) → draft.ended ≡ false → Fails (at_end q draft)
 runs_out q draft not_yet = rw not_yet (record { rule = S8; line = q }, refl)
 
 -- where a line that begins with `e` was taken, none is behind it
@@ -114,21 +122,21 @@ part_ends p s draft next last line part rest is e taken ended =
     let line_ended : first.0.ended ≡ true = e_ends s draft first.0 line.bytes (is.begins begins) first.1 in
     end_has_d part.bytes end (is.lacks begins (none_behind p s first.0 last rest line_ended first.2))
 
-part_fails : (q : ℕ) (draft : Draft) → (draft.ended ≡ true → ⊥) → Fails (work.at_end q draft)
+part_fails : (q : ℕ) (draft : Draft) → (draft.ended ≡ true → ⊥) → Fails (at_end q draft)
 part_fails q draft not_yet =
     elim draft.ended as (λ v. draft.ended ≡ v → Fails (cond v (Ok draft) (broken_at S8 q))) [
       | true ↦ λ ended. absurd (not_yet ended)
       | false ↦ λ _. (record { rule = S8; line = q }, refl)
     ] refl
 
-part_step : (q : ℕ) (s : Spec) (draft : Draft) (part : ContentLine) (after : Result Draft LineRule) → after_bytes s draft part.bytes ≡ after → ((next : Draft) → after_bytes s draft part.bytes ≡ Ok next → next.ended ≡ true → ⊥) → Fails (work.reading_after after part (λ next. work.reading_from q s next []))
+part_step : (q : ℕ) (s : Spec) (draft : Draft) (part : ContentLine) (after : Result Draft LineRule) → after_bytes s draft part.bytes ≡ after → ((next : Draft) → after_bytes s draft part.bytes ≡ Ok next → next.ended ≡ true → ⊥) → Fails (reading_after s after part [] (λ next. work.reading_from q s next []))
 unfolding work.reading_from
 part_step q s draft part (Err rule) is not_yet = (record { rule = rule; line = part.number }, refl)
 part_step q s draft part (Ok next) is not_yet = part_fails q next (not_yet next is)
 
-work_step : (last : Draft) (first : ContentLine) (go left_go : Draft → Result Draft Broken) → ((next : Draft) → go next ≡ Ok last → Fails (left_go next)) → (after : Result Draft LineRule) → work.reading_after after first go ≡ Ok last → Fails (work.reading_after after first left_go)
-work_step last first go left_go ih (Err rule) e = absurd cc
-work_step last first go left_go ih (Ok next) e = ih next e
+work_step : (s : Spec) (last : Draft) (first : ContentLine) (rest left : List ContentLine) (go left_go : Draft → Result Draft Broken) → ((next : Draft) → go next ≡ Ok last → Fails (left_go next)) → (after : Result Draft LineRule) → reading_after s after first rest go ≡ Ok last → Fails (reading_after s after first left left_go)
+work_step s last first rest left go left_go ih (Err rule) e = absurd cc
+work_step s last first rest left go left_go ih (Ok next) e = ih next e
 
 work_cut : (p q : ℕ) (s : Spec) (draft last : Draft) (front : List ContentLine) (line : ContentLine) (rest extra : List ContentLine) → IsEnding line rest extra → work.reading_from p s draft (front ++ line ∷ rest) ≡ Ok last → Fails (work.reading_from q s draft (front ++ extra))
 unfolding work.reading_from
@@ -139,7 +147,7 @@ work_cut p q s draft last [] line rest (part ∷ []) ending e =
     part_step q s draft part (after_bytes s draft part.bytes) refl (λ next taken ended. part_ends p s draft next last line part rest ending e taken ended)
 work_cut p q s draft last [] line rest (part ∷ other ∷ others) ending e = absurd ending
 work_cut p q s draft last (first ∷ front) line rest extra ending e =
-    work_step last first (λ next. work.reading_from p s next (front ++ line ∷ rest)) (λ next. work.reading_from q s next (front ++ extra)) (λ next. work_cut p q s next last front line rest extra ending) (after_bytes s draft first.bytes) e
+    work_step s last first (front ++ line ∷ rest) (front ++ extra) (λ next. work.reading_from p s next (front ++ line ∷ rest)) (λ next. work.reading_from q s next (front ++ extra)) (λ next. work_cut p q s next last front line rest extra ending) (after_bytes s draft first.bytes) e
 
 head_alone : (q : ℕ) (s : Spec) (part : ContentLine) (threads : Result ℕ LineRule) → Fails (work.reading_behind q s (work.headed_by threads part []))
 unfolding work.reading_from

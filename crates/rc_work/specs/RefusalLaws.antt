@@ -2,6 +2,7 @@
 use Rattle.std.proofs.Common.{◌≡◌, ℕ, Bool, true, false, cond, List, [], ◌∷◌, codes, Option, Some, None, Result, Ok, Err, refl, subst}
 use Rattle.std.specs.Prelude.{◌&&◌, nat_le}
 use Rattle.std.specs.Str.{bytes_eq}
+use Rattle.rc_text.specs.LanguageLaws.{refused_for}
 use Rattle.rc_text.specs.Lines.{ContentLine, TextPlace, content_from, past_end_of}
 use Rattle.rc_text.specs.Words.{WordText, plain_text, quoted_text}
 use Rattle.rc_text.specs.Numbers.{u64_of}
@@ -18,7 +19,7 @@ use Rattle.rc_work.specs.declared.raw.Draft.{Draft}
 use Rattle.rc_work.specs.declared.work.Work.{Work}
 use Rattle.rc_work.specs.LineForms.{FormText, words_read, form_of}
 use Rattle.rc_work.specs.LineRules.{breaks_range, breaks_limit, breaks_order, breaks_operation, breaks_count, breaks_kinds, with_line, after_form}
-use Rattle.rc_work.specs.WorkGrammar.{after_form_of, after_words, after_bytes, broken_at, reading_after, reading_from, threads_by, threads_at, threads_of_words, threads_of_read, threads_of, headed_by, draft_of, reading_behind, reading_all}
+use Rattle.rc_work.specs.WorkGrammar.{after_form_of, after_words, after_bytes, broken_at, draft_language, reading_from, threads_by, threads_at, threads_of_words, threads_of_read, threads_of, headed_by, draft_of, reading_behind, reading_all}
 use Rattle.rc_work.specs.Ranking.{work_by, work_reading}
 use Rattle.rc_work.specs.Answers.{IsWorkRule, IsWorkRefusal}
 
@@ -101,15 +102,11 @@ end_rule : (ended : Bool) (past_end : ℕ) (draft : Draft) (broken : Broken) →
 end_rule true past_end draft broken e = absurd cc
 end_rule false past_end draft broken e = at_line {X = Draft} S8 past_end broken tt e
 
-after_rule : (spec : Spec) (draft : Draft) (line : ContentLine) (after : Result Draft LineRule) (go_on : Draft → Result Draft Broken) (broken : Broken) → after_bytes spec draft line.bytes ≡ after → ((next : Draft) → go_on next ≡ Err broken → IsWorkRule broken.rule) → reading_after after line go_on ≡ Err broken → IsWorkRule broken.rule
-after_rule spec draft line (Ok next) go_on broken is others e = others next e
-after_rule spec draft line (Err rule) go_on broken is others e = at_line {X = Draft} rule line.number broken (line_rule spec draft line.bytes rule is) e
-
 lines_rule : (past_end : ℕ) (spec : Spec) (draft : Draft) (lines : List ContentLine) (broken : Broken) → reading_from past_end spec draft lines ≡ Err broken → IsWorkRule broken.rule
 unfolding reading_from
-lines_rule past_end spec draft [] broken e = end_rule draft.ended past_end draft broken e
-lines_rule past_end spec draft (line ∷ others) broken e =
-    after_rule spec draft line (after_bytes spec draft line.bytes) (λ next. reading_from past_end spec next others) broken refl (λ next h. lines_rule past_end spec next others broken h) e
+lines_rule past_end spec draft lines broken e =
+    refused_for (draft_language spec (λ (read : Draft). read)) IsWorkRule (λ before bytes rule breaks. line_rule spec before bytes rule breaks)
+    (λ at next out breaks. end_rule next.ended at next out breaks) past_end draft lines broken e
 
 head_rule : (past_end : ℕ) (spec : Spec) (line : ContentLine) (others : List ContentLine) (found : Result ℕ LineRule) (broken : Broken) → threads_of line.bytes ≡ found → reading_behind past_end spec (headed_by found line others) ≡ Err broken → IsWorkRule broken.rule
 head_rule past_end spec line others (Ok threads) broken is e = lines_rule past_end spec (draft_of threads) others broken e

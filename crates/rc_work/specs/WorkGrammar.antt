@@ -1,6 +1,8 @@
 -- What the content lines behind a specification give: a draft of a workload, or the first broken line rule with its line.
 use Rattle.std.specs.Prelude.{ℕ, false, ◌&&◌, nat_le, if◌then◌else◌, List, [], ◌∷◌, Option, Some, None, Result, Ok, Err, codes}
 use Rattle.std.specs.Str.{bytes_eq}
+use Rattle.rc_text.specs.Language as language
+use Rattle.rc_text.specs.Language.{Language}
 use Rattle.rc_text.specs.Lines.{ContentLine}
 use Rattle.rc_text.specs.Words.{WordText, plain_text}
 use Rattle.rc_text.specs.Numbers.{u64_of}
@@ -29,19 +31,20 @@ after_bytes spec draft bytes = after_words spec draft (words_read bytes)
 abbrev pub broken_at : {X : Type 0} → LineRule → ℕ → Result X Broken
 broken_at rule line = Err (record { rule = rule; line = line })
 
-abbrev pub reading_after : Result Draft LineRule → ContentLine → (Draft → Result Draft Broken) → Result Draft Broken
-reading_after (Err rule) line go_on = broken_at rule line.number
-reading_after (Ok next) line go_on = go_on next
+-- The language of the lines behind the header, of which none ends the reading: a line behind `end` breaks a rule. S8: they
+-- run out and `end` does not stand before, and then the line is one past the last.
+abbrev pub draft_language : {Read : Type 0} → Spec → (Draft → Read) → Language Draft Draft Read LineRule
+draft_language spec value = record {
+  next = after_bytes spec;
+  ended = λ next. false;
+  state = λ next. next;
+  done = λ draft last others. value draft;
+  out = λ past_end draft. if draft.ended then Ok (value draft) else broken_at S8 past_end;
+}
 
--- S8 where the lines run out: `end` does not stand before, and the line is one past the last
-abbrev pub at_end : ℕ → Draft → Result Draft Broken
-at_end past_end draft = if draft.ended then Ok draft else broken_at S8 past_end
-
--- The lines behind the header, tested in order.
+-- the lines behind the header, tested in order
 unfoldable pub reading_from : ℕ → Spec → Draft → List ContentLine → Result Draft Broken
-reading_from past_end spec draft [] = at_end past_end draft
-reading_from past_end spec draft (line ∷ others) =
-    reading_after (after_bytes spec draft line.bytes) line (λ next. reading_from past_end spec next others)
+reading_from past_end spec draft lines = language.reading_from (draft_language spec (λ (read : Draft). read)) past_end draft lines
 
 -- S1 for a count of threads that is no digits, and S5 for one that is not 1 to 8
 abbrev pub threads_by : Result ℕ NumFault → Result ℕ LineRule
