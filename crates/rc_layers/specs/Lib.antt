@@ -1,4 +1,0 @@
-pub mod Open
-pub mod Relation
-pub mod Session
-pub mod Stopping

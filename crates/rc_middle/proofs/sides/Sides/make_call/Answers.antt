@@ -1,0 +1,25 @@
+use Rattle.std.proofs.Common.{◌≡◌, ◌∙◌, List, ap, length, subst}
+use Rattle.rc_tuple.specs.Tuple.{Pairs}
+use Rattle.rc_spec.specs.Plain.{Outcome, plain}
+use Rattle.rc_spec.specs.Stripes.{stripe_total}
+use Rattle.rc_spec.specs.declared.call.Call.{Call}
+use Rattle.rc_spec.specs.declared.spec.Spec.{Spec}
+use Rattle.rc_instance.specs.Instance.{Stripe, holding}
+use Rattle.rc_instance.specs.InstanceLaws.{offered-length}
+use Rattle.rc_middle.specs.Relation.{HoldsRelation}
+use Rattle.rc_middle.proofs.RelationLemmas.{holds_after_call, known_held}
+use Rattle.rc_middle.proofs.sides.Sides.make_call.Goals as goal
+
+pub returns-in-Ok : goal.returns-in-Ok
+returns-in-Ok c =
+    let spec : Spec = c.args.compiled.now.spec in
+    let call : Call = c.args.call.now in
+    let old : List Stripe = c.args.self.now.instance in
+    let new : List Stripe = c.run_plan.new.holder in
+    let r : List Pairs = c.args.self.now.relation in
+    let stripes : length (holding new).offered ≡ stripe_total spec = ap length c.run_plan.ensures.goes_on.offered ∙ offered-length old ∙ c.requires.relation.stripes in
+    let holds : HoldsRelation spec (holding new) (plain spec r call).relation =
+    holds_after_call c.args.compiled.now call old (holding new) c.in-Ok.reply r c.requires.fits c.requires.relation (known_held new (stripe_total spec) stripes) c.run_plan.ensures.goes_on c.run_plan.ensures.taken c.in-Ok.ensures.answered in
+    let made : (plain c.spec.result.now r call).relation ≡ c.run.new.self = ap (λ (o : Outcome). o.relation) c.in_ok-plain-in-Ok.ensures.ok in
+    let same : (plain spec r call).relation ≡ c.run.new.self = subst (λ (z : Spec). (plain z r call).relation ≡ c.run.new.self) (c.spec.ensures.value ∙ c.accepted.ensures.value) made in
+    subst (HoldsRelation spec (holding new)) same holds
