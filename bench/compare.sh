@@ -1,6 +1,6 @@
 #!/bin/sh
-# Calls on a shared store beside those on a store written by hand: what a call of a thread takes by crates/bench_calls, and what it
-# takes by peers/store.rs, which makes the same calls. Build first: cd crates/bench_calls && rt run
+# Calls on a shared store beside those on a store written by hand: what a call of a thread takes by crates/bench_store, and what it
+# takes by peers/store.rs, which makes the same calls. Build first: cd crates/bench_store && rt run
 #
 #     sh bench/compare.sh [instructions] [PROGRAM]
 #
@@ -13,9 +13,9 @@ if [ "$1" = instructions ]; then
     what=instructions nodes=64 calls=5000
     shift
 fi
-program=${1:-$here/../crates/bench_calls/out/bench_calls}
+program=${1:-$here/../crates/bench_store/out/bench_store}
 if [ ! -x "$program" ]; then
-    echo "compare.sh: there is no program $program. Prove and build it first: cd crates/bench_calls && rt run" >&2
+    echo "compare.sh: there is no program $program. Prove and build it first: cd crates/bench_store && rt run" >&2
     exit 1
 fi
 if ! command -v rustc >/dev/null; then

@@ -18,7 +18,7 @@ folder=$(mktemp -d) || exit 1
 trap 'rm -rf "$folder"' EXIT
 trap 'exit 1' HUP INT TERM
 rustc -O --edition 2021 -o "$folder/store" "$here/peers/store.rs" || exit 1
-${CC:-cc} -std=c11 -D_POSIX_C_SOURCE=200809L -O2 -Wall -Wextra -I"$here/../bindings/c" \
+${CC:-cc} -std=c11 -D_DEFAULT_SOURCE -O2 -Wall -Wextra -I"$here/../bindings/c" \
     -o "$folder/calls" "$here/peers/calls.c" "$library/librelc.a" -lpthread || exit 1
 (cd "$here/../bindings/rust" &&
     cargo build --quiet --offline --release --example calls --target-dir "$folder/target") || exit 1

@@ -2,15 +2,18 @@
  * order, by one, two and four threads, each of which waits where another is in the way. All rows of
  * a reply are read. `sh bench/embed.sh` builds and runs it.
  *
- *     calls SPECIFICATION NODES CALLS
+ *     calls SPECIFICATION NODES CALLS [TIMES]
  *
- * Each line: the mix, the threads, what was called, and the nanoseconds of a thread's call. */
+ * Each line: the mix, the threads, what was called, and the nanoseconds of a thread's call. With
+ * TIMES one thread makes the calls of one mix so many times over, and the most memory is told that
+ * the program had (`sh bench/long.sh`). */
 #include "relc_wait.h"
 
 #include <pthread.h>
 #include <stdio.h>
 #include <stdlib.h>
 #include <string.h>
+#include <sys/resource.h>
 #include <time.h>
 
 #define WANT(what)                                                     \
@@ -104,19 +107,25 @@ static double now(void)
     return 1e9 * (double)time.tv_sec + (double)time.tv_nsec;
 }
 
-/* the nanoseconds of a thread's call; threads begin and end in that time */
-static double measure(const char *text, const struct call *calls, int threads, size_t each)
+static relc_store *open_store(const char *text, int passes, uint64_t limit, uint32_t *numbers)
 {
-    relc_open_frame frame = {.passes = (uint32_t)threads, .limit = each, .seed = {1, 2}};
+    relc_open_frame frame = {.passes = (uint32_t)passes, .limit = limit, .seed = {1, 2}};
     relc_store *store = NULL;
     WANT(relc_open((const uint8_t *)text, strlen(text), &frame, &store) == RELC_DONE);
-    uint32_t numbers[OPERATIONS];
     for (int operation = 0; operation < OPERATIONS; operation++) {
         relc_operation_frame named = {.length = (uint32_t)strlen(NAMES[operation])};
         memcpy(named.name, NAMES[operation], named.length);
         WANT(relc_operation(store, &named) == RELC_DONE);
         numbers[operation] = named.op;
     }
+    return store;
+}
+
+/* the nanoseconds of a thread's call; threads begin and end in that time */
+static double measure(const char *text, const struct call *calls, int threads, size_t each)
+{
+    uint32_t numbers[OPERATIONS];
+    relc_store *store = open_store(text, threads, each, numbers);
     relc_waiting *waiting = relc_open_waiting();
     WANT(waiting != NULL);
     struct side sides[4];
@@ -137,6 +146,24 @@ static double measure(const char *text, const struct call *calls, int threads, s
     return time;
 }
 
+/* makes the calls so many times over, and tells the most memory that the program had */
+static void endure(const char *text, const struct call *calls, size_t each, uint64_t times)
+{
+    uint32_t numbers[OPERATIONS];
+    relc_store *store = open_store(text, 1, 1ull << 48, numbers);
+    struct side side = {relc_open_waiting(), NULL, numbers, calls, each};
+    WANT(side.waiting != NULL);
+    WANT(relc_open_session(store, &side.session) == RELC_DONE);
+    for (uint64_t time = 0; time < times; time++)
+        work(&side);
+    relc_close_session(side.session);
+    relc_close_waiting(side.waiting);
+    relc_close_store(store);
+    struct rusage usage;
+    WANT(getrusage(RUSAGE_SELF, &usage) == 0);
+    printf("%llu calls, %ld kB\n", (unsigned long long)(each * times), usage.ru_maxrss);
+}
+
 static char *text_of(const char *path)
 {
     FILE *file = fopen(path, "rb");
@@ -147,13 +174,8 @@ static char *text_of(const char *path)
     return text;
 }
 
-int main(int count, char **words)
+static void measure_all(const char *text, uint64_t nodes, size_t each)
 {
-    WANT(count == 4);
-    char *text = text_of(words[1]);
-    uint64_t nodes = strtoull(words[2], NULL, 10);
-    size_t each = strtoull(words[3], NULL, 10);
-    WANT(nodes > 0 && each > 0);
     for (int mix = 0; mix < 4; mix++) {
         const uint64_t *shares = MIXES[mix];
         for (int threads = 1; threads <= 4; threads *= 2) {
@@ -163,6 +185,22 @@ int main(int count, char **words)
                 (int)shares[PRED], (int)shares[INS], (int)shares[DEL], threads, time);
             free(calls);
         }
+    }
+}
+
+int main(int count, char **words)
+{
+    WANT(count == 4 || count == 5);
+    char *text = text_of(words[1]);
+    uint64_t nodes = strtoull(words[2], NULL, 10);
+    size_t each = strtoull(words[3], NULL, 10);
+    WANT(nodes > 0 && each > 0);
+    if (count == 4) {
+        measure_all(text, nodes, each);
+    } else {
+        struct call *calls = calls_of(MIXES[1], nodes, each);
+        endure(text, calls, each, strtoull(words[4], NULL, 10));
+        free(calls);
     }
     free(text);
     return 0;

@@ -3,8 +3,9 @@
  *
  *     figures SPECIFICATION TUPLES KIND CALLS
  *
- * KIND is insert (of edges that aren't there), find (of edges that are), remove (of such), few
- * (the rows of a node that has 10) or many (of one that has 210); CALLS is at most TUPLES. It
+ * KIND is insert (of edges that aren't there), find (of edges that are), remove (of such), cancel
+ * (of inserts that are begun, and their begin), few (the rows of a node that has 10) or many (of
+ * one that has 210); CALLS is at most TUPLES. It
  * prints the nanoseconds and the allocations of a call, and the bytes that a tuple takes. The rows
  * of a reply are read, one call each, and that is counted too. Under callgrind only the calls are
  * collected. */
@@ -27,9 +28,9 @@
 
 enum { DEGREE = 16, FEW = 10, MANY = 210, HUBS = 1 << 20 };
 
-enum kind { INSERT, FIND, REMOVE, ASK_FEW, ASK_MANY, KINDS };
+enum kind { INSERT, FIND, REMOVE, CANCEL, ASK_FEW, ASK_MANY, KINDS };
 
-static const char *const KIND_NAMES[KINDS] = {"insert", "find", "remove", "few", "many"};
+static const char *const KIND_NAMES[KINDS] = {"insert", "find", "remove", "cancel", "few", "many"};
 
 static uint64_t allocated;
 
@@ -54,14 +55,27 @@ static uint32_t ins, del, succ, find;
 
 static relc_frame frame;
 
-static void make(uint32_t op, uint64_t source, uint64_t target, uint64_t weight, uint32_t kind)
+static void fill(uint32_t op, uint64_t source, uint64_t target, uint64_t weight)
 {
     frame.op = op;
     frame.count = op == ins ? 3 : op == succ ? 1 : 2;
     frame.values[0] = source;
     frame.values[1] = target;
     frame.values[2] = weight;
+}
+
+static void make(uint32_t op, uint64_t source, uint64_t target, uint64_t weight, uint32_t kind)
+{
+    fill(op, source, target, weight);
     WANT(relc_try_call(session, &frame) == RELC_DONE && frame.kind == kind);
+}
+
+/* begins an insert, and cancels it */
+static void cancel(uint64_t source, uint64_t target)
+{
+    fill(ins, source, target, 0);
+    WANT(relc_begin(session, &frame) == RELC_DONE && frame.kind == RELC_INSERTED);
+    WANT(relc_cancel(session, &frame) == RELC_DONE);
 }
 
 /* asks for rows, and reads them all */
@@ -91,6 +105,9 @@ static void call(enum kind kind, uint64_t k, uint64_t tuples)
         break;
     case REMOVE:
         make(del, source_of(some), target_of(some), 0, RELC_REMOVED);
+        break;
+    case CANCEL:
+        cancel(source_of(some), 2000000 + k);
         break;
     case ASK_FEW:
         ask(succ, HUBS, 0, FEW);

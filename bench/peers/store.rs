@@ -1,5 +1,5 @@
 //! A graph that threads share, written by hand for its relations and its calls: what RELC is measured against. It makes the calls
-//! of `crates/bench_calls` in the same order, and its words are the same: none, or `time NODES CALLS`. The word `check` compares
+//! of `crates/bench_store` in the same order, and its words are the same: none, or `time NODES CALLS`. The word `check` compares
 //! it with a plain list of edges. `rustc -O --edition 2021 store.rs` builds it.
 
 use std::collections::btree_map::{BTreeMap, Entry as Slot};
@@ -236,7 +236,7 @@ fn share_out<T: Send>(
     })
 }
 
-/// The numbers by chance of `bench_calls`: Marsaglia's xorshift of 64 bits.
+/// The numbers by chance of `bench_store`: Marsaglia's xorshift of 64 bits.
 struct Random(u64);
 
 impl Random {
@@ -268,7 +268,7 @@ const REMOVE: Operation = |edge| Call::Remove(edge.source, edge.target);
 /// The operations in the order of the shares of a mix.
 const OPERATIONS: [Operation; 5] = [FIND, SUCCESSORS, PREDECESSORS, INSERT, REMOVE];
 
-/// How many of a hundred calls are of each operation, and the name that `bench_calls` gives that.
+/// How many of a hundred calls are of each operation, and the name that `bench_store` gives that.
 struct Mix(Subject, &'static str, [u64; 5]);
 
 const MIXES: [Mix; 5] = [
@@ -284,7 +284,7 @@ const MIXES: [Mix; 5] = [
 ];
 
 impl Mix {
-    /// Calls by chance. Those of seed 1 are the calls of `bench_calls`, the first thread's first.
+    /// Calls by chance. Those of seed 1 are the calls of `bench_store`, the first thread's first.
     fn calls(&self, seed: u64, nodes: u64, count: u32) -> Vec<Call> {
         let mut random = Random(seed);
         let one = |_| {

@@ -1,5 +1,0 @@
-use Rattle.bench_row.specs.Free.{IsFreePass}
-use Rattle.bench_row.proofs.work.lock_two.Given as goal
-
-abbrev pub invariant-loop : goal.invariant-loop
-invariant-loop g l = IsFreePass l.row l.pass
