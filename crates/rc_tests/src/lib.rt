@@ -1,11 +1,14 @@
 //! Tests of what no case of data can say: which values threads may share, streams over a reader and a writer of the
-//! standard library, and printed plans of statements that no planned plan has.
+//! standard library, passes and threads on a row and on a store, and how often the top call asks its source and its gate. What
+//! differs by a closure alone is a table, which one test walks.
 #![tactic(auto)]
 
 #[cfg(test)]
-mod gate_tests;
+mod gates;
 #[cfg(test)]
 mod graph;
+#[cfg(test)]
+mod outcome;
 #[cfg(test)]
 mod plan_tests;
 #[cfg(test)]
@@ -15,14 +18,10 @@ mod row_tests;
 #[cfg(test)]
 mod run_tests;
 #[cfg(test)]
-mod running_tests;
-#[cfg(test)]
 mod shared_tests;
 #[cfg(test)]
 mod sharing_tests;
 #[cfg(test)]
-mod store_tests;
-#[cfg(test)]
 mod stream_tests;
 #[cfg(test)]
-mod trial;
+mod trials;

@@ -68,17 +68,19 @@ fn asked<R: Threads + Wait + Sync>(
     Ok((source.asked, source.ends))
 }
 
-#[test]
-fn the_end_is_asked_for_once(rt: HostRuntime) -> Result<(), Fail> {
-    assert_eq!(&rt; asked(&rt, rt.alloc(), &["check"])?, (2, 1));
-    assert_eq!(&rt; asked(&rt, rt.alloc(), &["plan"])?, (2, 1));
-    assert_eq!(&rt; asked(&rt, rt.alloc(), &["run"])?, (2, 1));
-    Ok(())
-}
+/// How often words ask, and how often they are answered the end.
+const ASKED: [(&[&str], (u64, u64)); 5] = [
+    (&["check"], (2, 1)),
+    (&["plan"], (2, 1)),
+    (&["run"], (2, 1)),
+    (&["big", "7", "4"], (0, 0)),
+    (&["run", "run"], (0, 0)),
+];
 
 #[test]
-fn nothing_is_asked_for_without_a_text(rt: HostRuntime) -> Result<(), Fail> {
-    assert_eq!(&rt; asked(&rt, rt.alloc(), &["big", "7", "4"])?, (0, 0));
-    assert_eq!(&rt; asked(&rt, rt.alloc(), &["run", "run"])?, (0, 0));
+fn the_end_is_asked_for_once_and_nothing_without_a_text(rt: HostRuntime) -> Result<(), Fail> {
+    for (words, want) in ASKED {
+        assert_eq!(&rt; asked(&rt, rt.alloc(), words)?, want);
+    }
     Ok(())
 }

@@ -17,22 +17,68 @@ use std::test::Fail;
 use std::thread::{Threads, join};
 
 /// What three passes try on a new row.
-trait Trial {
-    /// Whether it goes as it should.
-    fn goes_well(&self, row: &Row, one: Pass, two: Pass, three: Pass) -> bool
-        requires one { IsFreePass row.now one }
-        requires two { IsFreePass row.now two }
-        requires three { IsFreePass row.now three };
+#[derive(Clone, Copy, Debug)]
+enum Trial {
+    /// Two readers stand beside each other, and a writer that comes by doesn't.
+    TwoReaders,
+    /// A writer stands alone.
+    OneWriter,
+    /// A note of a pass tells what it has seen, and another learns it.
+    Noted,
+    /// A writer that is dropped keeps its stripe.
+    DroppedWriter,
+    /// Of two readers that come at once one finds the other at its latch. Nothing holds a reader there, so that it is met by
+    /// chance, in a few turns where both run.
+    Latched,
+}
+
+/// The trials.
+const TRIALS: [Trial; 5] = [
+    Trial::TwoReaders,
+    Trial::OneWriter,
+    Trial::Noted,
+    Trial::DroppedWriter,
+    Trial::Latched,
+];
+
+#[test]
+fn passes_find_each_other(rt: HostRuntime) -> Result<(), Fail> {
+    for trial in TRIALS {
+        assert!(&rt; goes_well(&rt, rt.alloc(), trial)?, "{trial:?}");
+    }
+    Ok(())
 }
 
 /// Whether the trial goes as it should.
-fn goes_well<T: Trial>(alloc: Global, trial: &T) -> Result<bool, Fail> {
+fn goes_well<R: Threads>(rt: &R, alloc: Global, trial: Trial) -> Result<bool, Fail> {
     let (row, mut passes) = row(alloc, 3)?;
     let one = passes.remove(0);
     let two = passes.remove(0);
     let three = passes.remove(0);
     passes.destroy_empty();
-    Ok(trial.goes_well(&row, one, two, three))
+    Ok(goes_well_on(rt, &row, trial, one, two, three))
+}
+
+/// Whether three passes of the row find what they should.
+fn goes_well_on<R: Threads>(
+    rt: &R,
+    row: &Row,
+    trial: Trial,
+    one: Pass,
+    two: Pass,
+    three: Pass,
+) -> bool
+    requires one { IsFreePass row.now one }
+    requires two { IsFreePass row.now two }
+    requires three { IsFreePass row.now three }
+{
+    match trial {
+        Trial::TwoReaders => are_beside(row, one, two, three),
+        Trial::OneWriter => is_alone(row, one, two),
+        Trial::Noted => is_noted(row, one, two),
+        Trial::DroppedWriter => is_kept(row, one, two),
+        Trial::Latched => is_latched(rt, row, one, two),
+    }
 }
 
 /// A row of the graph, and its passes.
@@ -111,22 +157,14 @@ fn found_beside_one(
     Ok(found)
 }
 
-/// Two readers, and a writer that comes by.
-#[derive(Drop)]
-struct TwoReaders;
-
-impl Trial for TwoReaders {
-    fn goes_well(&self, row: &Row, mut one: Pass, mut two: Pass, mut three: Pass) -> bool {
-        let beside = found_beside_two(row, &mut one, &mut two, &mut three);
-        let after = writer_finds(row, &mut three);
-        beside == Ok(Some(Found::Readers(2))) && after == None
-    }
-}
-
-#[test]
-fn readers_stand_beside_each_other(rt: HostRuntime) -> Result<(), Fail> {
-    assert!(rt; goes_well(rt.alloc(), &TwoReaders)?);
-    Ok(())
+fn are_beside(row: &Row, mut one: Pass, mut two: Pass, mut three: Pass) -> bool
+    requires one { IsFreePass row.now one }
+    requires two { IsFreePass row.now two }
+    requires three { IsFreePass row.now three }
+{
+    let beside = found_beside_two(row, &mut one, &mut two, &mut three);
+    let after = writer_finds(row, &mut three);
+    beside == Ok(Some(Found::Readers(2))) && after == None
 }
 
 /// What a reader and a writer find while a pass writes the first stripe.
@@ -147,23 +185,14 @@ fn found_beside_writer(
     Ok((by_reader?, by_writer))
 }
 
-/// A writer, and a reader and a writer that come by.
-#[derive(Drop)]
-struct OneWriter;
-
-impl Trial for OneWriter {
-    fn goes_well(&self, row: &Row, mut one: Pass, mut two: Pass, _three: Pass) -> bool {
-        let beside = found_beside_writer(row, &mut one, &mut two);
-        let after = reader_finds(row, &mut two);
-        let writer = Some(Found::Pass(0));
-        beside == Ok((writer, writer)) && after == Ok(None)
-    }
-}
-
-#[test]
-fn a_writer_stands_alone(rt: HostRuntime) -> Result<(), Fail> {
-    assert!(rt; goes_well(rt.alloc(), &OneWriter)?);
-    Ok(())
+fn is_alone(row: &Row, mut one: Pass, mut two: Pass) -> bool
+    requires one { IsFreePass row.now one }
+    requires two { IsFreePass row.now two }
+{
+    let beside = found_beside_writer(row, &mut one, &mut two);
+    let after = reader_finds(row, &mut two);
+    let writer = Some(Found::Pass(0));
+    beside == Ok((writer, writer)) && after == Ok(None)
 }
 
 /// Locks the first stripe and gives it back, so many times.
@@ -296,78 +325,35 @@ fn look_for_latch(row: &Row, mut pass: Pass, found: &AtomicU64)
     }
 }
 
-/// Two readers that come at once, of which one finds the other at its latch. Nothing holds a reader there, so that it is met
-/// by chance, in a few turns where both run.
-#[derive(Drop)]
-struct Latched<'a, R> {
-    rt: &'a R,
+fn is_latched<R: Threads>(rt: &R, row: &Row, one: Pass, two: Pass) -> bool
+    requires one { IsFreePass row.now one }
+    requires two { IsFreePass row.now two }
+{
+    let found = AtomicU64::new(0);
+    let shared = &found;
+    join(
+        rt,
+        move || look_for_latch(row, one, shared),
+        move || look_for_latch(row, two, shared),
+    );
+    found.load(SeqCst) == 1
 }
 
-impl<R: Threads> Trial for Latched<'_, R> {
-    fn goes_well(&self, row: &Row, one: Pass, two: Pass, _three: Pass) -> bool {
-        let found = AtomicU64::new(0);
-        let shared = &found;
-        join(
-            self.rt,
-            move || look_for_latch(row, one, shared),
-            move || look_for_latch(row, two, shared),
-        );
-        found.load(SeqCst) == 1
-    }
+fn is_noted(row: &Row, mut one: Pass, mut two: Pass) -> bool
+    requires one { IsFreePass row.now one }
+    requires two { IsFreePass row.now two }
+{
+    let note = row.note(&mut one);
+    let is_told = note.told() == one.seen();
+    row.learn(&mut two, note);
+    is_told && two.seen() == 0
 }
 
-#[test]
-fn a_latch_is_found(rt: HostRuntime) -> Result<(), Fail> {
-    assert!(&rt; goes_well(rt.alloc(), &Latched { rt: &rt })?);
-    Ok(())
+fn is_kept(row: &Row, mut one: Pass, mut two: Pass) -> bool
+    requires one { IsFreePass row.now one }
+    requires two { IsFreePass row.now two }
+{
+    let is_locked = row.try_lock(&mut one, 0) == None;
+    drop(one);
+    is_locked && writer_finds(row, &mut two) == Some(Found::Pass(0))
 }
-
-/// A note of a pass, and another that learns it.
-#[derive(Drop)]
-struct Noted;
-
-impl Trial for Noted {
-    fn goes_well(&self, row: &Row, mut one: Pass, mut two: Pass, _three: Pass) -> bool {
-        let note = row.note(&mut one);
-        let is_told = note.told() == one.seen();
-        row.learn(&mut two, note);
-        is_told && two.seen() == 0
-    }
-}
-
-#[test]
-fn notes_tell_what_was_seen(rt: HostRuntime) -> Result<(), Fail> {
-    assert!(rt; goes_well(rt.alloc(), &Noted)?);
-    Ok(())
-}
-
-/// A writer that is dropped.
-#[derive(Drop)]
-struct DroppedWriter;
-
-impl Trial for DroppedWriter {
-    fn goes_well(&self, row: &Row, mut one: Pass, mut two: Pass, _three: Pass) -> bool {
-        let is_locked = row.try_lock(&mut one, 0) == None;
-        drop(one);
-        is_locked && writer_finds(row, &mut two) == Some(Found::Pass(0))
-    }
-}
-
-#[test]
-fn a_dropped_pass_keeps_its_stripe(rt: HostRuntime) -> Result<(), Fail> {
-    assert!(rt; goes_well(rt.alloc(), &DroppedWriter)?);
-    Ok(())
-}
-
-#[test]
-fn shares_rows(rt: HostRuntime) -> Result<(), Fail> {
-    let (row, passes) = row(rt.alloc(), 2)?;
-    is_shared(&row);
-    is_sent(&passes);
-    row.discard(passes);
-    Ok(())
-}
-
-fn is_shared<T: Send + Sync>(_: &T) {}
-
-fn is_sent<T: Send>(_: &T) {}

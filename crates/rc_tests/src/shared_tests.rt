@@ -1,17 +1,19 @@
-//! Calls of several threads on one relation: limits, notes, and many threads on few keys.
+//! Calls of eight threads on few keys, and what the store leaves that is closed after them.
 
-ghost use Rattle.std.specs.Prelude.{◌≡◌, IfOk};
+ghost use Rattle.std.specs.Prelude.{◌≡◌, IfOk, OnOk};
 ghost use Rattle.rc_row.specs.Passes.{AreIdlePasses, core_of, new_passes};
+ghost use Rattle.rc_spec.specs.Calls.{all_columns};
+ghost use Rattle.rc_rel.specs.Over.{AreOver};
 ghost use Rattle.rc_store.specs.Store.{IsFree};
 ghost use Rattle.rc_tests.specs.Free.{AreFew};
 
-use crate::gate_tests::{TURNS, place};
-use crate::graph::{Calls, compiled, insert, remove, successors};
-use crate::trial::{LIMIT, Outcome, Trial, goes_well, rows, tried};
+use crate::gates::{TURNS, place};
+use crate::graph::{compiled, insert, remove, successors};
+use crate::outcome::{Outcome, tried};
 use rc_maps::Seed;
-use rc_rel::PlainRel;
+use rc_rel::{Entry, PlainRel, Step};
 use rc_row::{Keeping, Pass};
-use rc_spec::{Call, fits};
+use rc_spec::{Accepted, Call, fits};
 use rc_store::{Closed, OpenGate, Store, Waking};
 use rc_tuple::{Memory, Tuple};
 use std::alloc::Global;
@@ -19,62 +21,6 @@ use std::cmp::Ordering;
 use std::sync::Wait;
 use std::test::Fail;
 use std::thread::{self, Threads, for_each_mut};
-
-// ---- limits and notes
-
-/// Two calls of a pass are answered, a third isn't, and the entries stay two.
-#[derive(Drop)]
-struct SpentAtTwo;
-
-impl Trial<Waking> for SpentAtTwo {
-    fn goes_well(&self, store: &Store<Waking>, calls: &Calls, mut one: Pass, _two: Pass) -> bool {
-        let first = tried(store, &mut one, &calls.successors);
-        let second = tried(store, &mut one, &calls.successors);
-        let third = tried(store, &mut one, &calls.successors);
-        first == rows(0, 0, 0)
-            && second == rows(1, 1, 0)
-            && third == Outcome::Spent
-            && one.made() == LIMIT
-    }
-}
-
-#[test]
-fn a_pass_is_spent_at_its_limit(rt: HostRuntime) -> Result<(), Fail> {
-    assert!(rt; goes_well(rt.alloc(), Waking, 1, &SpentAtTwo)?);
-    Ok(())
-}
-
-/// A pass that has seen one entry has seen two once it has learnt a note of a pass that made the second.
-#[derive(Drop)]
-struct Learnt;
-
-impl Trial<Waking> for Learnt {
-    fn goes_well(
-        &self,
-        store: &Store<Waking>,
-        calls: &Calls,
-        mut one: Pass,
-        mut two: Pass,
-    ) -> bool {
-        let first = tried(store, &mut two, &calls.successors);
-        let second = tried(store, &mut one, &calls.insert);
-        let before = two.seen();
-        let note = store.note(&mut one);
-        store.learn(&mut two, note);
-        first == rows(0, 0, 0)
-            && second == Outcome::Inserted { place: 1, nth: 0 }
-            && before == 1
-            && two.seen() == 2
-    }
-}
-
-#[test]
-fn a_note_tells_what_was_seen(rt: HostRuntime) -> Result<(), Fail> {
-    assert!(rt; goes_well(rt.alloc(), Waking, 1, &Learnt)?);
-    Ok(())
-}
-
-// ---- many threads on few keys
 
 /// How many calls each thread makes.
 const CALLS: u64 = 500;
@@ -138,24 +84,48 @@ fn call_from_eight<R: Threads + Wait + Sync>(
     for_each_mut(rt, passes, 8, &calls);
 }
 
+// ---- what is left
+
 /// Whether the calls of a journal, made in order on the plain relation, are answered as it says, and leave these rows.
-pub(crate) fn is_legal(alloc: Global, closed: &Closed) -> Result<bool, Fail> {
-    let accepted = closed.compiled().accepted();
+pub(crate) fn is_legal(alloc: Global, closed: &Closed) -> Result<bool, Memory> {
     let Some(journal) = closed.journal() else {
         return Ok(false);
     };
     let mut plain = PlainRel::empty(alloc);
-    for entry in journal.entries() {
-        for step in entry.steps.list() {
-            if !fits(accepted.spec(), &step.call) {
-                return Ok(false);
-            }
-            let reply = plain.run(accepted.spec(), &step.call)?;
-            if !reply.equals(&step.reply) {
-                return Ok(false);
-            }
+    let accepted = closed.compiled().accepted();
+    Ok(agree_all(accepted, journal.entries(), &mut plain)? && leaves(alloc, closed, &plain)?)
+}
+
+/// Whether the plain relation answers the calls of all entries so.
+fn agree_all(accepted: &Accepted, entries: &[Entry], plain: &mut PlainRel) -> Result<bool, Memory>
+    requires { AreOver (all_columns accepted.now) plain.old }
+{
+    for entry in entries {
+        if !agree(accepted, entry.steps.list(), plain)? {
+            return Ok(false);
         }
     }
+    Ok(true)
+}
+
+/// Whether it answers these calls so.
+fn agree(accepted: &Accepted, steps: &[Step], plain: &mut PlainRel) -> Result<bool, Memory>
+    requires { AreOver (all_columns accepted.now) plain.old }
+    ensures { OnOk result (AreOver (all_columns accepted.now) plain.new) }
+{
+    for step in steps {
+        if !fits(accepted.spec(), &step.call) {
+            return Ok(false);
+        }
+        if !plain.run(accepted.spec(), &step.call)?.equals(&step.reply) {
+            return Ok(false);
+        }
+    }
+    Ok(true)
+}
+
+/// Whether the store left the rows of the plain relation.
+fn leaves(alloc: Global, closed: &Closed, plain: &PlainRel) -> Result<bool, Memory> {
     let left = closed.rows(alloc, Seed::fixed())?;
     Ok(are_same(plain.rows(), left.list()))
 }
@@ -169,41 +139,46 @@ fn are_same(one: &[Tuple], other: &[Tuple]) -> bool {
             .all(|(a, b)| a.order(b) == Ordering::Equal)
 }
 
-/// A store of the graph, and its eight passes, each of which keeps its entries.
-fn store_of_eight(alloc: Global) -> Result<(Store<Waking>, Vec<Pass>), Fail>
+/// A store of the graph, and its eight passes.
+fn store_of_eight(alloc: Global, keeping: Keeping) -> Result<(Store<Waking>, Vec<Pass>), Fail>
     ensures count { IfOk result (λ r. r.0.row.key.passes ≡ 8) }
     ensures passes { IfOk result (λ r. r.1.items ≡ new_passes r.0.row) }
 {
     let compiled = compiled(alloc)?;
-    Ok(Store::build(
-        alloc,
-        Seed::fixed(),
-        compiled,
-        8,
-        1 << 20,
-        Keeping::Entries,
-        Waking,
-    )?)
+    let (seed, limit) = (Seed::fixed(), 1 << 20);
+    Ok(Store::build(alloc, seed, compiled, 8, limit, keeping, Waking)?)
 }
 
-/// Whether the calls of eight threads are one legal history, each thread's all answered.
-fn is_one_history<R: Threads + Wait + Sync>(rt: &R, alloc: Global) -> Result<bool, Fail> {
-    let (store, mut passes) = store_of_eight(alloc)?;
+/// What a store leaves that is closed after the calls of eight threads.
+fn closed<R: Threads + Wait + Sync>(
+    rt: &R,
+    alloc: Global,
+    keeping: Keeping,
+) -> Result<Closed, Fail> {
+    let (store, mut passes) = store_of_eight(alloc, keeping)?;
     call_from_eight(rt, alloc, &store, &mut passes);
     match store.close(passes) {
-        Ok(closed) => is_whole(alloc, &closed),
-        Err(_) => Ok(false),
+        Ok(closed) => Ok(closed),
+        Err(_) => Err(Fail::new("no memory")),
     }
 }
 
-/// Whether each pass made all its calls, and they are legal.
-fn is_whole(alloc: Global, closed: &Closed) -> Result<bool, Fail> {
-    Ok(closed.made().iter().all(|made| *made == CALLS) && is_legal(alloc, closed)?)
+/// Whether each pass made all its calls, and they are legal where entries were kept.
+fn is_whole(alloc: Global, closed: &Closed, keeping: Keeping) -> Result<bool, Memory> {
+    if !closed.made().iter().all(|made| *made == CALLS) {
+        return Ok(false);
+    }
+    match keeping {
+        Keeping::Entries => is_legal(alloc, closed),
+        Keeping::Counts => Ok(closed.journal().is_none()),
+    }
 }
 
 #[test]
 fn calls_of_eight_threads_are_one_history(rt: HostRuntime) -> Result<(), Fail> {
-    let alloc = rt.alloc();
-    assert!(rt; is_one_history(&rt, alloc)?);
+    for keeping in [Keeping::Entries, Keeping::Counts] {
+        let closed = closed(&rt, rt.alloc(), keeping)?;
+        assert!(&rt; is_whole(rt.alloc(), &closed, keeping)?);
+    }
     Ok(())
 }

@@ -4,17 +4,13 @@ ghost use Rattle.std.specs.Prelude.{◌≡◌};
 ghost use Rattle.rc_row.specs.Passes.{core_of};
 ghost use Rattle.rc_store.specs.Store.{IsFree};
 
-use crate::graph::{Calls, compiled};
-use crate::trial::{LIMIT, Outcome, Trial, busy, goes_well, tried};
-use rc_maps::Seed;
-use rc_row::{Keeping, Pass};
-use rc_spec::{Call, Found, fits};
+use crate::outcome::{Outcome, tried};
+use rc_row::Pass;
+use rc_spec::{Call, fits};
 use rc_store::{Gate, OpenGate, Point, Store, Waking};
-use std::alloc::Global;
 use std::sync::Wait;
 use std::sync::atomic::AtomicU64;
 use std::sync::atomic::Ordering::SeqCst;
-use std::test::Fail;
 use std::thread::{self, Threads, join};
 
 /// For so many turns a call is held, or tried again, at most. Each turn lets others run, so that a loaded machine doesn't
@@ -66,7 +62,7 @@ impl Gate for Recorder {
 }
 
 /// The points that a gate is told of a call.
-fn points<R: Wait>(rt: &R, store: &Store<Waking>, mut pass: Pass, call: &Call) -> u64
+pub(crate) fn points<R: Wait>(rt: &R, store: &Store<Waking>, mut pass: Pass, call: &Call) -> u64
     requires { IsFree store.now pass }
 {
     let gate = Recorder {
@@ -74,25 +70,6 @@ fn points<R: Wait>(rt: &R, store: &Store<Waking>, mut pass: Pass, call: &Call) -
     };
     place(rt, store, &mut pass, call, &gate);
     gate.told.load(SeqCst)
-}
-
-/// A gate is told of each point of a call.
-#[derive(Drop)]
-struct Told<'a, R> {
-    rt: &'a R,
-}
-
-impl<R: Wait> Trial<Waking> for Told<'_, R> {
-    fn goes_well(&self, store: &Store<Waking>, calls: &Calls, one: Pass, two: Pass) -> bool {
-        points(self.rt, store, one, &calls.successors) == 1234
-            && points(self.rt, store, two, &calls.successors) == 5678
-    }
-}
-
-#[test]
-fn a_gate_is_told_of_each_point(rt: HostRuntime) -> Result<(), Fail> {
-    assert!(&rt; goes_well(rt.alloc(), Waking, 1, &Told { rt: &rt })?);
-    Ok(())
 }
 
 // ---- calls that are held
@@ -174,64 +151,8 @@ fn other_place<R: Wait>(
     Some(place)
 }
 
-/// How two calls meet, of which the first is held.
-#[derive(Clone, Copy, Debug)]
-enum Meeting {
-    /// The first is held before its commit, and the second is on other stripes: it goes by, and stands first.
-    Apart,
-    /// So is the first, and the second is on the same stripes: it waits.
-    InLine,
-    /// The first is held after its commit: it still keeps the second out, which stands behind it.
-    Committed,
-}
-
-/// Whether the calls of two passes of a new store meet so.
-fn meet<R: Threads + Wait + Sync>(rt: &R, alloc: Global, meeting: Meeting) -> Result<bool, Fail> {
-    let (calls, compiled) = (Calls::of(alloc, 1)?, compiled(alloc)?);
-    let (store, mut passes) = Store::build(
-        alloc,
-        Seed::fixed(),
-        compiled,
-        2,
-        LIMIT,
-        Keeping::Counts,
-        Waking,
-    )?;
-    let one = passes.remove(0);
-    let two = passes.remove(0);
-    passes.destroy_empty();
-    Ok(meet_on(rt, &store, &calls, one, two, meeting))
-}
-
-/// Whether the calls of two passes meet so.
-fn meet_on<R: Threads + Wait + Sync>(
-    rt: &R,
-    store: &Store<Waking>,
-    calls: &Calls,
-    one: Pass,
-    two: Pass,
-    meeting: Meeting,
-) -> bool
-    requires one { IsFree store.now one }
-    requires two { IsFree store.now two }
-{
-    let held = &calls.insert;
-    match meeting {
-        Meeting::Apart => {
-            held_before(rt, store, (one, held), (two, &calls.insert_next)) == (Some(1), Some(0))
-        }
-        Meeting::InLine => {
-            held_before(rt, store, (one, held), (two, &calls.insert_another)) == (Some(0), Some(1))
-        }
-        Meeting::Committed => {
-            held_after(rt, store, (one, held), (two, &calls.insert_another))
-                == (Some(0), (busy(2, Found::Pass(0)), Some(1)))
-        }
-    }
-}
-
 /// The places of a call that is held before its commit, and of one that is made meanwhile.
-fn held_before<R: Threads + Wait + Sync>(
+pub(crate) fn held_before<R: Threads + Wait + Sync>(
     rt: &R,
     store: &Store<Waking>,
     held: (Pass, &Call),
@@ -252,7 +173,7 @@ fn held_before<R: Threads + Wait + Sync>(
 }
 
 /// The place of a call that is held after its commit, and what one comes to that is made meanwhile, and again.
-fn held_after<R: Threads + Wait + Sync>(
+pub(crate) fn held_after<R: Threads + Wait + Sync>(
     rt: &R,
     store: &Store<Waking>,
     held: (Pass, &Call),
@@ -272,18 +193,6 @@ fn held_after<R: Threads + Wait + Sync>(
     )
 }
 
-#[test]
-fn a_call_that_is_held_lets_others_by(rt: HostRuntime) -> Result<(), Fail> {
-    assert!(&rt; meet(&rt, rt.alloc(), Meeting::Apart)?);
-    Ok(())
-}
-
-#[test]
-fn a_call_that_waits_is_woken(rt: HostRuntime) -> Result<(), Fail> {
-    assert!(&rt; meet(&rt, rt.alloc(), Meeting::InLine)?);
-    Ok(())
-}
-
 /// What a call comes to while the other is held after its commit, and its place where it is made again, and waits.
 fn beside_and_after<R: Wait>(
     rt: &R,
@@ -299,10 +208,4 @@ fn beside_and_after<R: Wait>(
     progress.answered.store(1, SeqCst);
     let after = place(rt, store, &mut pass, call, &OpenGate);
     (beside, after)
-}
-
-#[test]
-fn a_committed_call_keeps_its_stripes_until_its_end(rt: HostRuntime) -> Result<(), Fail> {
-    assert!(&rt; meet(&rt, rt.alloc(), Meeting::Committed)?);
-    Ok(())
 }

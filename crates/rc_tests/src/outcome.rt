@@ -1,65 +1,12 @@
-//! Trials of two passes on a store of the graph.
+//! What a call that waits for nobody comes to.
 
 ghost use Rattle.std.specs.Prelude.{◌≡◌};
 ghost use Rattle.rc_row.specs.Passes.{core_of};
 ghost use Rattle.rc_store.specs.Store.{IsFree};
 
-use crate::graph::{Calls, compiled};
-use rc_maps::Seed;
-use rc_row::{Keeping, Pass};
+use rc_row::Pass;
 use rc_spec::{Call, Found, Reply, fits};
 use rc_store::{Receipt, Store, TryFault, Wakes};
-use std::alloc::Global;
-use std::test::Fail;
-
-/// So many entries each pass of a trial may make.
-pub(crate) const LIMIT: u64 = 2;
-
-/// What two passes try on a new store.
-pub(crate) trait Trial<W: Wakes> {
-    /// Whether it goes as it should.
-    fn goes_well(&self, store: &Store<W>, calls: &Calls, one: Pass, two: Pass) -> bool
-        requires one { IsFree store.now one }
-        requires two { IsFree store.now two };
-}
-
-/// Whether the trial goes as it should, with the calls about this source, whether passes keep their entries or not.
-pub(crate) fn goes_well<W: Wakes + Copy, T: Trial<W>>(
-    alloc: Global,
-    wakes: W,
-    source: u32,
-    trial: &T,
-) -> Result<bool, Fail> {
-    let calls = Calls::of(alloc, source)?;
-    Ok(
-        goes_well_on(alloc, wakes, Keeping::Counts, &calls, trial)?
-            && goes_well_on(alloc, wakes, Keeping::Entries, &calls, trial)?,
-    )
-}
-
-/// Whether it does on a store that keeps entries so.
-fn goes_well_on<W: Wakes, T: Trial<W>>(
-    alloc: Global,
-    wakes: W,
-    keeping: Keeping,
-    calls: &Calls,
-    trial: &T,
-) -> Result<bool, Fail> {
-    let compiled = compiled(alloc)?;
-    let (store, mut passes) = Store::build(
-        alloc,
-        Seed::fixed(),
-        compiled,
-        2,
-        LIMIT,
-        keeping,
-        wakes,
-    )?;
-    let one = passes.remove(0);
-    let two = passes.remove(0);
-    passes.destroy_empty();
-    Ok(trial.goes_well(&store, calls, one, two))
-}
 
 /// What a call that waits for nobody comes to.
 #[derive(Clone, Copy, Debug, PartialEq, Eq)]
