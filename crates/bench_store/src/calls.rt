@@ -1,8 +1,9 @@
 //! How long calls take on a store that threads share.
 
-ghost use Rattle.std.specs.Prelude.{◌≤◌, All};
+ghost use Rattle.std.specs.Prelude.{All};
 ghost use Rattle.rc_store.specs.Store.{IsFree};
 
+use crate::crew::Crew;
 use crate::failed::Failed;
 use crate::mix::Mix;
 use rc_maps::Seed;
@@ -32,7 +33,7 @@ pub(crate) struct Size {
 #[derive(Clone, Copy, Debug)]
 pub(crate) struct Figure<'a> {
     pub(crate) mix: &'a Mix,
-    pub(crate) threads: u32,
+    pub(crate) crew: Crew,
     pub(crate) keeping: Keeping,
 }
 
@@ -49,13 +50,11 @@ pub(crate) fn measure<R: Threads + Clock + Sync>(
     alloc: Global,
     figure: Figure<'_>,
     size: Size,
-) -> Result<Outcome, Failed>
-    requires { (1 ≤ figure.threads) × (figure.threads ≤ 255) }
-{
+) -> Result<Outcome, Failed> {
     let compiled = figure.mix.subject.compiled(alloc)?;
     let calls = figure
         .mix
-        .calls(compiled.accepted().spec(), size, figure.threads)?;
+        .calls(compiled.accepted().spec(), size, figure.crew)?;
     measure_calls(rt, compiled, &calls, figure, size)
 }
 
@@ -67,11 +66,9 @@ fn measure_calls<R: Threads + Clock + Sync>(
     calls: &[Vec<Call>],
     figure: Figure<'_>,
     size: Size,
-) -> Result<Outcome, Failed>
-    requires { (1 ≤ figure.threads) × (figure.threads ≤ 255) }
-{
+) -> Result<Outcome, Failed> {
     let alloc = compiled.accepted().spec().ops.alloc();
-    let (threads, limit) = (figure.threads, u64::from(size.calls));
+    let (threads, limit) = (figure.crew.threads(), u64::from(size.calls));
     let seed = Seed::fixed();
     let (store, mut passes) = Store::build(
         alloc,

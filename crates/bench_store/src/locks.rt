@@ -4,6 +4,7 @@ ghost use Rattle.std.specs.Prelude.{◌+◌, ◌<◌, ◌≤◌, All, IfOk};
 ghost use Rattle.rc_row.specs.Passes.{stripes_of};
 ghost use Rattle.bench_store.specs.Idle.{IsIdlePass};
 
+use crate::crew::Crew;
 use crate::failed::Failed;
 use crate::subject::Subject;
 use rc_maps::Seed;
@@ -47,16 +48,14 @@ pub(crate) struct Turns {
     pub(crate) times: u32,
 }
 
-/// How long each of so many threads takes for its turns, on a new row of twelve stripes.
+/// How long each thread takes for its turns, on a new row of twelve stripes.
 pub(crate) fn measure_locks<R: Threads + Wait + Clock + Sync>(
     rt: &R,
     alloc: Global,
-    threads: u32,
+    crew: Crew,
     turns: Turns,
-) -> Result<Duration, Failed>
-    requires { (1 ≤ threads) × (threads ≤ 255) }
-{
-    let (row, mut passes) = row(alloc, threads)?;
+) -> Result<Duration, Failed> {
+    let (row, mut passes) = row(alloc, crew.threads())?;
     Ok(timed(rt, &row, &mut passes, turns)?)
 }
 

@@ -3,9 +3,8 @@
 //! with the words `time NODES CALLS` how long a thread's call took, and with the word `locks` how long its turn at a lock.
 #![tactic(auto)]
 
-ghost use Rattle.std.specs.Prelude.{◌≤◌};
-
 mod calls;
+mod crew;
 mod failed;
 mod locks;
 mod mix;
@@ -13,6 +12,7 @@ mod random;
 mod subject;
 
 use crate::calls::{Figure, Size, measure};
+use crate::crew::Crew;
 use crate::failed::Failed;
 use crate::locks::{Turns, Work, measure_locks};
 use crate::mix::MIXES;
@@ -101,13 +101,9 @@ fn tell_calls<R: Threads + Clock + Print + Sync>(
     is_timed: bool,
 ) -> Result<(), Failed> {
     for mix in &MIXES {
-        for threads in [1, 2, 4] {
+        for crew in [Crew::One, Crew::Two, Crew::Four] {
             for keeping in [Keeping::Entries, Keeping::Counts] {
-                let figure = Figure {
-                    mix,
-                    threads,
-                    keeping,
-                };
+                let figure = Figure { mix, crew, keeping };
                 tell_figure(rt, alloc, figure, size, is_timed)?;
             }
         }
@@ -122,12 +118,10 @@ fn tell_figure<R: Threads + Clock + Print + Sync>(
     figure: Figure<'_>,
     size: Size,
     is_timed: bool,
-) -> Result<(), Failed>
-    requires { (1 ≤ figure.threads) × (figure.threads ≤ 255) }
-{
+) -> Result<(), Failed> {
     let outcome = measure(rt, alloc, figure, size)?;
     let (subject, name) = (figure.mix.subject.name(), figure.mix.name);
-    let (threads, kept) = (counted(figure.threads), kept(figure.keeping));
+    let (threads, kept) = (figure.crew.name(), kept(figure.keeping));
     print!(rt; "{subject} {name}, {threads}, trying, {kept}: ")?;
     if is_timed {
         println!(rt; "{} ns a call", share(outcome.time, size.calls))?;
@@ -142,14 +136,6 @@ fn share(time: Duration, steps: u32) -> u128 {
     time.as_nanos() / u128::from(steps.max(1))
 }
 
-fn counted(threads: u32) -> &'static str {
-    match threads {
-        1 => "1 thread",
-        2 => "2 threads",
-        _ => "4 threads",
-    }
-}
-
 fn kept(keeping: Keeping) -> &'static str {
     match keeping {
         Keeping::Entries => "entries",
@@ -159,6 +145,15 @@ fn kept(keeping: Keeping) -> &'static str {
 
 // ---- locks
 
+/// How many threads take turns, and whether on stripes of their own.
+const PLACES: [(Crew, bool); 5] = [
+    (Crew::One, true),
+    (Crew::Two, true),
+    (Crew::Four, true),
+    (Crew::Two, false),
+    (Crew::Four, false),
+];
+
 /// Measures each kind of work, by one thread, by several on stripes of their own, and by several on the same.
 fn tell_locks<R: Threads + Wait + Clock + Print + Sync>(
     rt: &R,
@@ -167,14 +162,14 @@ fn tell_locks<R: Threads + Wait + Clock + Print + Sync>(
     is_timed: bool,
 ) -> Result<(), Failed> {
     for work in [Work::LockOne, Work::LockTwo, Work::ShareOne] {
-        for (threads, is_apart) in [(1, true), (2, true), (4, true), (2, false), (4, false)] {
+        for (crew, is_apart) in PLACES {
             let turns = Turns {
                 work,
                 is_apart,
                 times,
             };
-            let time = measure_locks(rt, alloc, threads, turns)?;
-            tell_turns(rt, threads, turns, if is_timed { Some(time) } else { None })?;
+            let time = measure_locks(rt, alloc, crew, turns)?;
+            tell_turns(rt, crew, turns, if is_timed { Some(time) } else { None })?;
         }
     }
     Ok(())
@@ -183,12 +178,12 @@ fn tell_locks<R: Threads + Wait + Clock + Print + Sync>(
 /// Prints what was measured, and how long a turn took where that is told.
 fn tell_turns<R: Print>(
     rt: &R,
-    threads: u32,
+    crew: Crew,
     turns: Turns,
     time: Option<Duration>,
 ) -> io::Result<()> {
     let place = if turns.is_apart { "apart" } else { "the same" };
-    print!(rt; "{}, {}, {place}", turns.work.name(), counted(threads))?;
+    print!(rt; "{}, {}, {place}", turns.work.name(), crew.name())?;
     match time {
         Some(time) => println!(rt; ": {} ns", share(time, turns.times)),
         None => println!(rt; ""),

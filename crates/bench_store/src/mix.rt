@@ -1,6 +1,7 @@
 //! Mixes of calls.
 
 use crate::calls::Size;
+use crate::crew::Crew;
 use crate::failed::Failed;
 use crate::random::Random;
 use crate::subject::Subject;
@@ -105,12 +106,12 @@ impl Mix {
         &self,
         spec: &Spec,
         size: Size,
-        threads: u32,
+        crew: Crew,
     ) -> Result<Vec<Vec<Call>>, Failed> {
         let alloc = spec.ops.alloc();
         let mut random = Random::new(1);
         let mut calls = Vec::new(alloc);
-        for _ in 0..threads {
+        for _ in 0..crew.threads() {
             let mut own = Vec::new(alloc);
             self.push_calls(spec, size, &mut random, &mut own)?;
             calls.push(own)?;
