@@ -13,6 +13,6 @@ pub use laws::{
     printed_numbers_are_read, written_words_are_read,
 };
 pub use lines::{Line, Lines, MAX_TEXT_BYTES, first_line_length};
-pub use numbers::{NumFault, read_u64};
+pub use numbers::{NumFault, is_number, read_u64};
 pub use words::{Word, WordFault, Words};
 pub use writing::{push_bytes, push_quoted, push_u64};

@@ -22,7 +22,7 @@ fn has_digits_only(word: &[u8]) -> bool
 }
 
 /// Whether a word is one or more decimal digits.
-fn is_number(word: &[u8]) -> bool
+pub fn is_number(word: &[u8]) -> bool
     ensures { result ≡ is_number word.now }
 {
     !word.is_empty() && has_digits_only(word)

@@ -4,10 +4,9 @@ ghost use Rattle.std.specs.Prelude.{◌≡◌};
 ghost use Rattle.std.specs.List.{list_all};
 ghost use Rattle.std.specs.Option.{option_map};
 ghost use Rattle.rc_text.specs.Words.{text_of};
-ghost use Rattle.rc_text.specs.Numbers.{is_number};
 ghost use Rattle.rc_work.specs.LineForms.{word_texts, form_text, round_line, end_line, alone, is_value, call_form, form_of};
 
-use rc_text::{NumFault, Word, read_u64};
+use rc_text::{Word, is_number};
 
 /// What a line behind the header says.
 #[derive(Clone, Copy, Debug)]
@@ -20,13 +19,6 @@ pub(crate) enum Form<'a> {
         /// Each is digits or quoted.
         values: &'a [Word<'a>],
     },
-}
-
-/// Whether a word is one or more decimal digits.
-fn is_number(word: &[u8]) -> bool
-    ensures { result ≡ is_number word.now }
-{
-    !matches!(read_u64(word), Err(NumFault::Form))
 }
 
 /// Whether a word stands for a value.

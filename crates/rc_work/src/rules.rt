@@ -1,6 +1,6 @@
 //! The rules that a line may break, and what it adds where it breaks none.
 
-ghost use Rattle.std.specs.Prelude.{◌≡◌, length, IfOk};
+ghost use Rattle.std.specs.Prelude.{◌≡◌, length, is_none, IfOk, IfSome};
 ghost use Rattle.std.specs.List.{list_any};
 ghost use Rattle.rc_text.specs.Words.{text_of};
 ghost use Rattle.rc_spec.specs.InRange.{IsInRange};
@@ -36,28 +36,6 @@ fn thread_of(threads: u32, word: &[u8]) -> Option<u32>
     }
 }
 
-/// Whether a number has more than 64 bits, or a text more than 64 bytes.
-fn is_too_large(word: &Word<'_>) -> bool
-    ensures { result ≡ is_too_large (text_of word.now) }
-{
-    match word {
-        Word::Plain(word) => read_u64(word).is_err(),
-        Word::Quoted(text) => text.len() > MAX_LEN,
-    }
-}
-
-/// Whether some value is too large.
-fn has_too_large(words: &[Word<'_>]) -> bool
-    ensures { result ≡ list_any is_too_large (word_texts words.now) }
-{
-    for word in words {
-        if is_too_large(word) {
-            return true;
-        }
-    }
-    false
-}
-
 /// The value that a word stands for, unless it is too large.
 fn raw_value(alloc: Global, word: &Word<'_>) -> Result<Option<RawValue>, Memory>
     ensures { IfOk result (λ value. value ≡ raw_value (text_of word.now)) }
@@ -74,17 +52,19 @@ fn raw_value(alloc: Global, word: &Word<'_>) -> Result<Option<RawValue>, Memory>
     }
 }
 
-/// The values that words stand for, save those that are too large.
-fn raw_values(alloc: Global, words: &[Word<'_>]) -> Result<RawValues, Memory>
-    ensures { IfOk result (λ values. values ≡ raw_values (word_texts words.now)) }
+/// The values that words stand for, or `None` where one is too large.
+fn raw_values(alloc: Global, words: &[Word<'_>]) -> Result<Option<RawValues>, Memory>
+    ensures large { IfOk result (λ values. is_none values ≡ list_any is_too_large (word_texts words.now)) }
+    ensures values { IfOk result (λ values. IfSome values (λ read. read ≡ raw_values (word_texts words.now))) }
 {
     let mut values = RawValues::new(alloc);
     for word in words {
-        if let Some(value) = raw_value(alloc, word)? {
-            values.push(value)?;
-        }
+        let Some(value) = raw_value(alloc, word)? else {
+            return Ok(None);
+        };
+        values.push(value)?;
     }
-    Ok(values)
+    Ok(Some(values))
 }
 
 /// Whether the value is none for a column of this kind.
@@ -141,17 +121,17 @@ fn add_call(
     draft: &mut Draft,
     thread: &[u8],
     op: &[u8],
-    values: &[Word<'_>],
+    words: &[Word<'_>],
 ) -> Result<(), LineFault>
     requires { IsInRange spec.now }
-    ensures { TakesLine result draft.new (after_form spec.now draft.old (call_line thread.now op.now (word_texts values.now))) }
+    ensures { TakesLine result draft.new (after_form spec.now draft.old (call_line thread.now op.now (word_texts words.now))) }
 {
     let Some(thread) = thread_of(draft.threads, thread) else {
         return Err(LineFault::Broken(LineRule::S5));
     };
-    if has_too_large(values) {
+    let Some(values) = raw_values(alloc, words)? else {
         return Err(LineFault::Broken(LineRule::S5));
-    }
+    };
     if draft.rounds.calls() >= MAX_CALLS {
         return Err(LineFault::Broken(LineRule::S6));
     }
@@ -165,10 +145,9 @@ fn add_call(
         return Err(LineFault::Broken(LineRule::W1));
     };
     let cols = columns_at(alloc, spec, op)?;
-    if values.len() != cols.list().len() {
+    if words.len() != cols.list().len() {
         return Err(LineFault::Broken(LineRule::W2));
     }
-    let values = raw_values(alloc, values)?;
     if has_wrong_kind(spec, cols.list(), values.list()) {
         return Err(LineFault::Broken(LineRule::W3));
     }

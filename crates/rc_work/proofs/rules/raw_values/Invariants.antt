@@ -1,7 +1,11 @@
 use Rattle.std.proofs.Common.{◌≡◌, ◌++◌, drop}
+use Rattle.std.specs.List.{list_any}
 use Rattle.rc_work.specs.LineForms.{word_texts}
-use Rattle.rc_work.specs.LineRules.{raw_values}
+use Rattle.rc_work.specs.LineRules.{is_too_large, raw_values}
 use Rattle.rc_work.proofs.rules.raw_values.Given as goal
 
 abbrev pub invariant-loop-word : goal.invariant-loop-word
-invariant-loop-word l = l.values ++ raw_values (word_texts (drop l.word-index l.words)) ≡ raw_values (word_texts l.words)
+invariant-loop-word l = record {
+  values : l.values ++ raw_values (word_texts (drop l.word-index l.words)) ≡ raw_values (word_texts l.words);
+  large : list_any is_too_large (word_texts (drop l.word-index l.words)) ≡ list_any is_too_large (word_texts l.words);
+}
