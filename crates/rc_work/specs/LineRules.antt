@@ -106,6 +106,7 @@ abbrev pub turn_of : Spec → Draft → List ℕ → List ℕ → List WordText 
 turn_of spec draft thread op values = record {
   thread = unwrap_or (thread_of draft.threads thread) 0;
   op = unwrap_or (op_number spec op) 0;
+  cols = columns_named spec op;
   values = raw_values values;
 }
 

@@ -103,6 +103,7 @@ known_turn spec draft thread op values (Some n) is known range count kinds =
     let same : (turn_of spec draft thread op values).op ≡ n = ap (λ found. unwrap_or found 0) is in
     record {
       known = subst (λ k. k < length spec.ops) (sym same) (subst (λ k. n < k) (length-map spec.ops (λ (x : Op). x.name)) (number_among-below (op_names spec.ops) op n is));
+      cols = ap (λ found. option_map_or (columns_at spec) found []) is ∙ ap (columns_at spec) (sym same);
       count = length-raw_values values range ∙ eqb-true (length values) (length (columns_at spec n)) (not-false _ count) ∙ ap (λ k. length (columns_at spec k)) (sym same);
       kinds = subst (λ k. has_wrong_kind spec (columns_at spec k) (raw_values values) ≡ false) (sym same) kinds;
     }

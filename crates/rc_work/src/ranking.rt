@@ -8,7 +8,6 @@ ghost use Rattle.rc_spec.specs.Names.{IsWellNamed};
 ghost use Rattle.rc_work.specs.Drafts.{IsRawTurn};
 ghost use Rattle.rc_work.specs.Ranking.{texts_in_turn, texts_in_round, texts_in, ranked_value, ranked_turn, ranked_round, ranked_rounds, work_of};
 
-use crate::columns::columns_at;
 use crate::raw::{Draft, RawRound, RawTurn, RawValue};
 use crate::work::{Round, Rounds, Turn, Work};
 use rc_spec::{Call, Spec};
@@ -79,9 +78,8 @@ fn ranked_turn(alloc: Global, spec: &Spec, ranks: &Ranks, turn: &RawTurn) -> Res
     ensures turn { IfOk result (λ ranked. ranked ≡ ranked_turn spec.now ranks.now turn.now) }
     ensures tuple { IfOk result (λ ranked. IsTuple ranked.call.args) }
 {
-    let cols = columns_at(alloc, spec, turn.op as usize)?;
     let vals = ranked_values(alloc, ranks, turn.values.list())?;
-    let args = Tuple::from_columns(alloc, cols.list(), &vals)?;
+    let args = Tuple::from_columns(alloc, turn.cols.list(), &vals)?;
     Ok(Turn {
         thread: turn.thread,
         call: Call { op: turn.op, args },

@@ -3,7 +3,7 @@
 ghost use Rattle.std.specs.Prelude.{◌≡◌, ◌<◌, [], ◌∷◌, ◌++◌, length, sum_by, OnOk};
 ghost use Rattle.rc_work.specs.RawTurns.{onto_last};
 
-use rc_tuple::{Memory, SmallList};
+use rc_tuple::{Cols, Memory, SmallList};
 use rc_values::Name64;
 use std::alloc::Global;
 use std::marker::Model;
@@ -23,6 +23,8 @@ pub(crate) type RawValues = SmallList<RawValue>;
 pub(crate) struct RawTurn {
     pub(crate) thread: u32,
     pub(crate) op: u8,
+    /// The columns to which it gives values.
+    pub(crate) cols: Cols,
     pub(crate) values: RawValues,
 }
 

@@ -154,6 +154,7 @@ fn add_call(
     draft.rounds.push_turn(RawTurn {
         thread,
         op: op as u8,
+        cols,
         values,
     })?;
     Ok(())
