@@ -8,8 +8,8 @@ ghost use Rattle.rc_fragment.specs.Fragment.{AreAllRows, edge_table};
 ghost use Rattle.rc_fragment.specs.FragmentRows.{FragmentRows};
 ghost use Rattle.rc_instance.specs.Instance.{rows_of_fragments};
 
-use rc_fragment::CowFragment;
 use crate::hash_join::join;
+use rc_fragment::CowFragment;
 use rc_maps::Seed;
 use rc_spec::Spec;
 use rc_tuple::{ColSet, Memory, Tuple, Tuples, Vals};

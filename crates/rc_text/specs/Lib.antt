@@ -7,5 +7,7 @@ pub mod NextWordLaws
 pub mod Numbers
 pub mod NumbersLaws
 pub mod Reader
+pub mod Reads
+pub mod ReadsLaws
 pub mod Words
 pub mod WordsLaws

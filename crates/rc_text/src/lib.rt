@@ -2,12 +2,14 @@
 #![tactic(auto)]
 
 mod bytes;
+mod language;
 mod laws;
 mod lines;
 mod numbers;
 mod words;
 mod writing;
 
+pub use language::{Language, Unread, read_lines};
 pub use laws::{
     leading_zeros_do_not_count, lines_are_the_text, next_word_is_exact, printed_lines_are_read,
     printed_numbers_are_read, written_words_are_read,
