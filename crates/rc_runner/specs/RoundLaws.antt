@@ -1,7 +1,6 @@
 -- Laws of passes that make their calls round by round.
-use Rattle.std.proofs.Common.{◌≡◌, ◌≢◌, ℕ, suc, ◌+◌, ◌<◌, ◌≤◌, ◌==◌, Bool, true, false, cond, max, List, [], ◌∷◌, ◌++◌, All, map, filter, length, take, get_or, if◌then◌else◌, sym, refl, ap, ◌∙◌, subst, arith}
+use Rattle.std.proofs.Common.{◌≡◌, ℕ, suc, ◌+◌, ◌<◌, ◌≤◌, ◌==◌, Bool, true, false, cond, max, List, [], ◌∷◌, ◌++◌, All, map, filter, length, take, get_or, if◌then◌else◌, sym, refl, ap, ◌∙◌, subst, arith}
 use Rattle.std.specs.List.{AllZip, range_with_len}
-use Rattle.std.proofs.lemmas.Bool.{eq-eqb, ne_eqb}
 use Rattle.std.proofs.lemmas.List.{append-nil, append_assoc, map-append, take_more}
 use Rattle.std.proofs.lemmas.List.Elements.{All-append, All-cons, All-head, All-nil, All-push, All-tail, All-weaker, filter-append}
 use Rattle.rc_spec.specs.declared.call.Call.{Call}
@@ -64,24 +63,12 @@ one_turn_more thread i round d l =
     ∙ ap (λ l. thread_calls thread (take i round) ++ l) (turn_go ((get_or round i d).thread == thread) (get_or round i d))
 
 -- the calls of a thread with a turn, which is its own or another's
-turn_go_on : (thread i : ℕ) (round : List Turn) (turn : Turn) (b : Bool) → i < length round → turn ≡ get_or round i turn → (turn.thread == thread) ≡ b
+pub turn_go_on : (thread i : ℕ) (round : List Turn) (turn : Turn) (b : Bool) → i < length round → turn ≡ get_or round i turn → (turn.thread == thread) ≡ b
     → thread_calls thread (take (i + 1) round) ≡ thread_calls thread (take i round) ++ (if b then turn.call ∷ [] else [])
 turn_go_on thread i round turn b l is e =
     one_turn_more thread i round turn l
     ∙ ap (λ (t : Turn). thread_calls thread (take i round) ++ (if t.thread == thread then t.call ∷ [] else [])) (sym is)
     ∙ ap (λ v. thread_calls thread (take i round) ++ (if v then turn.call ∷ [] else [])) e
-
-pub turn_taken : (thread i : ℕ) (round : List Turn) (turn : Turn) (s t u : Stand) → i < length round → turn ≡ get_or round i turn → turn.thread ≡ thread
-    → HasGrown (thread_calls thread (take i round)) s t → HasCalled turn.call t u → HasGrown (thread_calls thread (take (i + 1) round)) s u
-turn_taken thread i round turn s t u l is mine g h =
-    subst (λ calls. HasGrown calls s u) (sym (turn_go_on thread i round turn true l is (eq-eqb turn.thread thread mine)))
-    (growth_goes_on (thread_calls thread (take i round)) turn.call s t u g h)
-
-pub turn_passed : (thread i : ℕ) (round : List Turn) (turn : Turn) (s t : Stand) → i < length round → turn ≡ get_or round i turn → turn.thread ≢ thread
-    → HasGrown (thread_calls thread (take i round)) s t → HasGrown (thread_calls thread (take (i + 1) round)) s t
-turn_passed thread i round turn s t l is other g =
-    subst (λ calls. HasGrown calls s t)
-    (sym (turn_go_on thread i round turn false l is (ne_eqb turn.thread thread other) ∙ append-nil (thread_calls thread (take i round)))) g
 
 -- ---- how much of the history all have seen
 

@@ -1,6 +1,6 @@
 -- Passes that make their calls round by round. (PLDI 2012, serializable transactions: what threads make beside each other is one history.)
 use Rattle.std.specs.Prelude.{◌≡◌, ℕ, suc, ◌<◌, ◌≤◌, List, [], ◌∷◌, ◌++◌, map, length, Some, All}
-use Rattle.std.specs.List.{AllByRecursion, AllZip, slice_get}
+use Rattle.std.specs.List.{AllZip, slice_get}
 use Rattle.rc_tuple.specs.RisingSet.{In}
 use Rattle.rc_spec.specs.declared.spec.Spec.{Spec}
 use Rattle.rc_spec.specs.declared.call.Call.{Call}
@@ -96,10 +96,13 @@ pub record HaveLearnt (ts us : List Stand) : Type 0 where
 
 -- ---- callers of any kind
 
--- each caller has made the calls of its thread in the round
+-- each caller has made the calls of its thread
+abbrev pub MadeCalls : {A : Type 0} → (A → ℕ) → (A → Stand) → (ℕ → List Call) → List A → List A → Type 0
+MadeCalls number stand calls olds news = AllZip (λ a b. HasGrown (calls (number a)) (stand a) (stand b)) olds news
+
+-- those of the round
 abbrev pub MadeRound : {A : Type 0} → (A → ℕ) → (A → Stand) → List Turn → List A → List A → Type 0
-MadeRound number stand round olds news =
-    AllZip (λ a b. HasGrown (thread_calls (number a) round) (stand a) (stand b)) olds news
+MadeRound number stand round olds news = MadeCalls number stand (λ thread. thread_calls thread round) olds news
 
 -- a pass has its entries as before, and has seen at least what it had seen and what the other has
 pub record HasHeard (other s t : Stand) : Type 0 where

@@ -1,8 +1,6 @@
 -- Passes of a store that make the calls of a workload. (PLDI 2012, serializable transactions of threads that run beside
 -- each other.)
-use Rattle.std.specs.Prelude.{◌≡◌, ℕ, ◌+◌, ◌≤◌, List, [], Option, Some, All, map, length}
-use Rattle.std.specs.List.{range_with_len}
-use Rattle.rc_spec.specs.declared.spec.Spec.{Spec}
+use Rattle.std.specs.Prelude.{◌≡◌, ℕ, ◌+◌, ◌≤◌, List, Some, map, length}
 use Rattle.rc_rel.specs.declared.entry.Entry.{Entry}
 use Rattle.rc_row.specs.Passes.{PassSeen, core_of}
 use Rattle.rc_store.specs.Closed.{ClosedSeen, Leaves}

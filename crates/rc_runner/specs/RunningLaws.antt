@@ -1,10 +1,11 @@
 -- Laws of passes that make the calls of a workload.
 use Rattle.std.proofs.Common.{◌≡◌, ℕ, zero, suc, ◌+◌, ◌<◌, ◌≤◌, ◌==◌, List, [], ◌∷◌, ◌++◌, All, Some, map, filter, length, min, take, get_or, sum_by, sym, refl, ap, ◌∙◌, subst, arith}
+use Rattle.std.specs.Borrow.{Bor}
 use Rattle.std.specs.Prelude.{IfOk, Result, Ok, Err}
 use Rattle.std.specs.List.{range_with_len, slice_get}
 use Rattle.std.proofs.Math.Seq.{take-append_seam}
 use Rattle.std.proofs.lemmas.List.{length-append, length-map, length-take, map-id}
-use Rattle.std.proofs.lemmas.List.Elements.{All-cons, All-head, All-nil, All-tail, All-weaker}
+use Rattle.std.proofs.lemmas.List.Elements.{All-cons, All-filter, All-from_recursion, All-head, All-map, All-nil, All-tail, All-weaker}
 use Rattle.std.proofs.lemmas.List.FromFn.{length-range_with_len}
 use Rattle.std.proofs.lemmas.List.Sums.{count_by-le-length, length-filter, sum_by-cons, sum_by_more_le}
 use Rattle.std.proofs.lemmas.Simd.{map-map}
@@ -23,10 +24,12 @@ use Rattle.rc_store.specs.FreeLaws.{new_are_free as all_free}
 use Rattle.rc_store.specs.Store.{HasMade, IsAsBefore, IsFree, StoreSeen}
 use Rattle.rc_work.specs.declared.work.Turn.{Turn}
 use Rattle.rc_work.specs.declared.work.Work.{Work}
-use Rattle.rc_work.specs.Fitting.{HasThreads}
+use Rattle.rc_spec.specs.Calls.{Fits}
+use Rattle.rc_work.specs.Fitting.{HasThreads, TurnsFit}
 use Rattle.rc_work.specs.Runs.{Runs, thread_calls}
 use Rattle.rc_runner.specs.Rounds.{AreSingle, EachHasMade, HasCalled, HasGrown, HaveMade, IsClosed, MadeBy, Stand, entries_of}
 use Rattle.rc_runner.specs.CloseLaws.{rounds_run}
+use Rattle.rc_runner.specs.Shares.{AreShared, MayMakeShare, Shares, SharesFit, calls_in, share_of}
 use Rattle.rc_runner.specs.Running.{HasRun, MayMake, number_of, numbers_of, stand_of, stands_of}
 
 -- ---- a call
@@ -69,13 +72,12 @@ as_many_calls (x ∷ xs) single =
     let both : length (steps_of (entries_of (x ∷ xs))) ≡ length x.entry.steps + length (steps_of (entries_of xs)) = length-append x.entry.steps (steps_of (entries_of xs)) in
     omega (arith, first, rest, all, less, both)
 
--- what a pass has grown by is at most the turns
-pub grown_few : (thread : ℕ) (round : List Turn) (s t : Stand) → HasGrown (thread_calls thread round) s t → length t.own ≤ length s.own + length round
-grown_few thread round s t g =
+-- what a pass has grown by is as many as the calls
+grown_by : (calls : List Call) (s t : Stand) → HasGrown calls s t → length t.own ≡ length s.own + length calls
+grown_by calls s t g =
     let long : length t.own ≡ length s.own + length g.more = ap (λ (l : List Placed). length l) g.own ∙ length-append s.own g.more in
-    let many : length g.more ≡ length (thread_calls thread round) = sym (as_many_calls g.more g.single) ∙ ap (λ (l : List Call). length l) g.made in
-    let few : length (thread_calls thread round) ≤ length round = few_thread_calls thread round in
-    omega (arith, long, many, few)
+    let many : length g.more ≡ length calls = sym (as_many_calls g.more g.single) ∙ ap (λ (l : List Call). length l) g.made in
+    omega (arith, long, many)
 
 All-left : {A : Type 0} (P : A → Type 0) (xs ys : List A) → All P (xs ++ ys) → All P xs
 All-left P [] ys h = All-nil P
@@ -126,14 +128,34 @@ module _ (store : StoreSeen) where
       may_next (sum_by length (take i rounds)) (length round) passes (omega (arith, within, same, small)) free
       (each_made_few 0 (take i rounds) made.0 (stands_of passes) made.1)
 
--- a pass within a round may make one call more
-pub may_one : (store : StoreSeen) (thread i : ℕ) (round : List Turn) (first now : PassSeen) → MayMake store (length round) first → i < length round → IsFree store now
-    → HasGrown (thread_calls thread (take i round)) (stand_of first) (stand_of now) → MayMake store 1 now
-may_one store thread i round first now may l free grown =
-    let few : length (core_of now).own ≤ length (core_of first).own + length (take i round) = grown_few thread (take i round) (stand_of first) (stand_of now) grown in
-    let taken : length (take i round) ≡ min i (length round) = length-take i round in
-    let left : length (core_of first).own + length round ≤ store.limit = may.left in
-    record { free = free; left = omega (arith, few, taken, left, l) }
+-- a pass that has made some of its calls may make one more
+pub may_one : (store : StoreSeen) (i : ℕ) (calls : List (Bor Call)) (first now : PassSeen)
+    → MayMake store (length calls) first → i < length calls → IsFree store now
+    → HasGrown (calls_in (take i calls)) (stand_of first) (stand_of now) → MayMake store 1 now
+may_one store i calls first now may l free grown =
+    let few : length (core_of now).own ≡ length (core_of first).own + length (calls_in (take i calls)) =
+    grown_by (calls_in (take i calls)) (stand_of first) (stand_of now) grown in
+    let mapped : length (calls_in (take i calls)) ≡ length (take i calls) = length-map (take i calls) (λ (c : Bor Call). c.now) in
+    let taken : length (take i calls) ≡ min i (length calls) = length-take i calls in
+    let left : length (core_of first).own + length calls ≤ store.limit = may.left in
+    record { free = free; left = omega (arith, few, mapped, taken, left, l) }
+
+-- one that may make all turns of a round may make its share
+pub may_make_share : (store : StoreSeen) (round : List Turn) (shares : Shares) → AreShared round shares
+    → (passes : List PassSeen) → All (MayMake store (length round)) passes → All (MayMakeShare store shares) passes
+may_make_share store round shares shared =
+    All-weaker (MayMake store (length round)) (MayMakeShare store shares) (λ p may.
+    let same : length (share_of shares (number_of p)) ≡ length (thread_calls (number_of p) round) = ap (λ (l : List Call). length l) (shared (number_of p)) in
+    let few : length (thread_calls (number_of p) round) ≤ length round = few_thread_calls (number_of p) round in
+    let left : length (core_of p).own + length round ≤ store.limit = may.left in
+    record { free = may.free; left = omega (arith, same, few, left) })
+
+-- each call of a share fits, where each turn's does
+pub shares_fit : (spec : Spec) (round : List Turn) (shares : Shares) → AreShared round shares → TurnsFit spec round → SharesFit spec shares
+shares_fit spec round shares shared fit thread =
+    subst (All (Fits spec)) (sym (shared thread))
+    (All-map (Fits spec) (λ (t : Turn). t.call) (filter (λ t. t.thread == thread) round)
+    (All-filter (λ t. t.thread == thread) (λ (t : Turn). Fits spec t.call) round (All-from_recursion (λ (t : Turn). Fits spec t.call) round fit)))
 
 -- ---- the end
 

@@ -4,17 +4,19 @@ ghost use Rattle.std.specs.Prelude.{◌≡◌, ◌+◌, ◌<◌, ◌≤◌, All,
 ghost use Rattle.std.specs.Thread.{IsSend, IsSync};
 ghost use Rattle.rc_spec.specs.Calls.{Fits};
 ghost use Rattle.rc_row.specs.Passes.{core_of, spec_of};
-ghost use Rattle.rc_runner.specs.Rounds.{HasCalled, HasGrown, MadeRound};
+ghost use Rattle.rc_runner.specs.Rounds.{HasCalled, HasGrown, MadeCalls, MadeRound};
 ghost use Rattle.rc_store.specs.Store.{IsFree};
 ghost use Rattle.rc_work.specs.Fitting.{TurnsFit};
-ghost use Rattle.rc_work.specs.Runs.{thread_calls};
 ghost use Rattle.rc_runner.specs.Running.{MayMake, number_of, numbers_of, stand_of};
+ghost use Rattle.rc_runner.specs.Shares.{MayMakeShare, SharesFit, TurnsAreOf, calls_in, share_of};
 
+use crate::sharing::{Share, share_out};
 use rc_row::Pass;
 use rc_spec::Call;
 use rc_store::{CallFault, Gate, Store, Waking};
 use rc_tuple::Memory;
 use rc_work::Turn;
+use std::alloc::Global;
 use std::sync::Wait;
 use std::thread::{Threads, join_mut};
 
@@ -39,92 +41,133 @@ fn make_call<R: Wait, G: Gate>(
     }
 }
 
-/// Makes a thread's calls of a round, in order.
+/// Makes some calls of a pass, in order.
 fn make_calls<R: Wait, G: Gate>(
     rt: &R,
     store: &Store<Waking>,
     pass: &mut Pass,
-    round: &[Turn],
+    calls: &[&Call],
     gate: &G,
 ) -> Result<(), Memory>
-    requires may { MayMake store.now (length round.now) pass.old }
-    requires fit { TurnsFit (spec_of store.now.row) round.now }
+    requires may { MayMake store.now (length calls.now) pass.old }
+    requires fit { All (Fits (spec_of store.now.row)) (calls_in calls.now) }
     ensures free { IsFree store.now pass.new }
     ensures number { number_of pass.new ≡ number_of pass.old }
-    ensures made { OnOk result (HasGrown (thread_calls (number_of pass.old) round.now)
-        (stand_of pass.old) (stand_of pass.new)) }
+    ensures made { OnOk result (HasGrown (calls_in calls.now) (stand_of pass.old) (stand_of pass.new)) }
 {
-    let number = pass.number();
-    for turn in round {
-        if turn.thread == number {
-            make_call(rt, store, pass, &turn.call, gate)?;
-        }
+    for call in calls {
+        make_call(rt, store, pass, call, gate)?;
     }
     Ok(())
 }
 
-/// Makes the calls of a round, each thread's beside those of the others.
+/// Makes the calls of a pass's own share.
+fn make_share<R: Wait, G: Gate>(
+    rt: &R,
+    store: &Store<Waking>,
+    pass: &mut Pass,
+    shares: &[Share<'_>],
+    gate: &G,
+) -> Result<(), Memory>
+    requires may { MayMakeShare store.now shares.now pass.old }
+    requires fit { SharesFit (spec_of store.now.row) shares.now }
+    ensures free { IsFree store.now pass.new }
+    ensures number { number_of pass.new ≡ number_of pass.old }
+    ensures made { OnOk result (HasGrown (share_of shares.now (number_of pass.old))
+        (stand_of pass.old) (stand_of pass.new)) }
+{
+    match shares.get(pass.number() as usize) {
+        Some(calls) => make_calls(rt, store, pass, calls, gate),
+        None => Ok(()),
+    }
+}
+
+/// Makes the shares of some passes, each beside those of the others.
 #[cycle(halves)]
-pub(crate) fn make_round<R: Threads + Wait + Sync, G: Gate + Sync>(
+fn make_shares<R: Threads + Wait + Sync, G: Gate + Sync>(
     rt: &R,
     store: &Store<Waking>,
     passes: &mut [Pass],
-    round: &[Turn],
+    shares: &[Share<'_>],
     gate: &G,
 ) -> Result<(), Memory>
-    requires may { All (MayMake store.now (length round.now)) passes.old }
-    requires fit { TurnsFit (spec_of store.now.row) round.now }
+    requires may { All (MayMakeShare store.now shares.now) passes.old }
+    requires fit { SharesFit (spec_of store.now.row) shares.now }
     ensures free { All (IsFree store.now) passes.new }
     ensures numbers { numbers_of passes.new ≡ numbers_of passes.old }
-    ensures made { OnOk result (MadeRound number_of stand_of round.now passes.old passes.new) }
+    ensures made { OnOk result (MadeCalls number_of stand_of (share_of shares.now)
+        passes.old passes.new) }
 {
     let count = passes.len();
     if count == 0 {
         return Ok(());
     }
     if count == 1 {
-        return make_calls(rt, store, &mut passes[0], round, gate);
+        return make_share(rt, store, &mut passes[0], shares, gate);
     }
     let (left, right) = passes.split_at_mut(count / 2);
-    make_both(rt, store, left, right, round, gate)
+    make_both(rt, store, left, right, shares, gate)
 }
 
-/// Makes the calls of a round, those of some threads beside those of others.
+/// Makes the shares of some passes beside those of others.
 #[cycle(halves)]
 fn make_both<R: Threads + Wait + Sync, G: Gate + Sync>(
     rt: &R,
     store: &Store<Waking>,
     left: &mut [Pass],
     right: &mut [Pass],
-    round: &[Turn],
+    shares: &[Share<'_>],
     gate: &G,
 ) -> Result<(), Memory>
     requires sides { (1 ≤ length left.old) × (1 ≤ length right.old) }
-    requires may_left { All (MayMake store.now (length round.now)) left.old }
-    requires may_right { All (MayMake store.now (length round.now)) right.old }
-    requires fit { TurnsFit (spec_of store.now.row) round.now }
+    requires may_left { All (MayMakeShare store.now shares.now) left.old }
+    requires may_right { All (MayMakeShare store.now shares.now) right.old }
+    requires fit { SharesFit (spec_of store.now.row) shares.now }
     ensures free_left { All (IsFree store.now) left.new }
     ensures free_right { All (IsFree store.now) right.new }
     ensures numbers_left { numbers_of left.new ≡ numbers_of left.old }
     ensures numbers_right { numbers_of right.new ≡ numbers_of right.old }
-    ensures made { OnOk result (MadeRound number_of stand_of round.now left.old left.new
-        × MadeRound number_of stand_of round.now right.old right.new) }
+    ensures made { OnOk result (MadeCalls number_of stand_of (share_of shares.now) left.old left.new
+        × MadeCalls number_of stand_of (share_of shares.now) right.old right.new) }
 {
     let mut first = || -> Result<(), Memory>
-        requires { IsSync R.row × IsSync G.row × All (MayMake store.now (length round.now)) left.now
-            × TurnsFit (spec_of store.now.row) round.now }
+        requires { IsSync R.row × IsSync G.row × All (MayMakeShare store.now shares.now) left.now
+            × SharesFit (spec_of store.now.row) shares.now }
         ensures { All (IsFree store.entry.now) left.exit.now
             × (numbers_of left.exit.now ≡ numbers_of left.entry.now)
-            × OnOk result (MadeRound number_of stand_of round.entry.now left.entry.now left.exit.now) }
-    { make_round(rt, store, left, round, gate) };
+            × OnOk result (MadeCalls number_of stand_of (share_of shares.entry.now)
+            left.entry.now left.exit.now) }
+    { make_shares(rt, store, left, shares, gate) };
     let mut second = || -> Result<(), Memory>
-        requires { IsSync R.row × IsSync G.row × All (MayMake store.now (length round.now)) right.now
-            × TurnsFit (spec_of store.now.row) round.now }
+        requires { IsSync R.row × IsSync G.row × All (MayMakeShare store.now shares.now) right.now
+            × SharesFit (spec_of store.now.row) shares.now }
         ensures { All (IsFree store.entry.now) right.exit.now
             × (numbers_of right.exit.now ≡ numbers_of right.entry.now)
-            × OnOk result (MadeRound number_of stand_of round.entry.now right.entry.now right.exit.now) }
-    { make_round(rt, store, right, round, gate) };
+            × OnOk result (MadeCalls number_of stand_of (share_of shares.entry.now)
+            right.entry.now right.exit.now) }
+    { make_shares(rt, store, right, shares, gate) };
     let (first, second) = join_mut(rt, &mut first, &mut second);
     first?;
     second
+}
+
+/// Makes the calls of a round of so many threads, each thread's beside those of the others.
+pub(crate) fn make_round<R: Threads + Wait + Sync, G: Gate + Sync>(
+    rt: &R,
+    alloc: Global,
+    store: &Store<Waking>,
+    passes: &mut [Pass],
+    threads: u32,
+    round: &[Turn],
+    gate: &G,
+) -> Result<(), Memory>
+    requires may { All (MayMake store.now (length round.now)) passes.old }
+    requires threads { TurnsAreOf threads round.now }
+    requires fit { TurnsFit (spec_of store.now.row) round.now }
+    ensures free { All (IsFree store.now) passes.new }
+    ensures numbers { numbers_of passes.new ≡ numbers_of passes.old }
+    ensures made { OnOk result (MadeRound number_of stand_of round.now passes.old passes.new) }
+{
+    let shares = share_out(alloc, threads, round)?;
+    make_shares(rt, store, passes, &shares, gate)
 }

@@ -6,6 +6,7 @@
 mod calling;
 mod laws;
 mod running;
+mod sharing;
 mod telling;
 
 pub use laws::{a_round_goes_on, rounds_run, rounds_start};

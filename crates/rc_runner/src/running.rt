@@ -9,6 +9,7 @@ ghost use Rattle.rc_store.specs.Store.{IsFree};
 ghost use Rattle.rc_work.specs.Fitting.{HasThreads, RoundsFit};
 ghost use Rattle.rc_work.specs.Limits.{KeepsLimits};
 ghost use Rattle.rc_runner.specs.Running.{HasRun, numbers_of, stands_of};
+ghost use Rattle.rc_runner.specs.Shares.{RoundsAreOf};
 
 use crate::calling::make_round;
 use crate::telling::tell;
@@ -25,12 +26,14 @@ use std::thread::Threads;
 /// How many calls a pass may make: more than any workload has.
 const MOST_CALLS: u64 = 1 << 48;
 
-/// Makes the calls of some rounds, one round after another. After each, all passes learn what any has seen, so that what
+/// Makes the calls of some rounds of so many threads, one round after another. After each, all passes learn what any has seen, so that what
 /// they commit next stands behind it.
 fn run_rounds<R: Threads + Wait + Sync, G: Gate + Sync>(
     rt: &R,
+    alloc: Global,
     store: &Store<Waking>,
     passes: &mut [Pass],
+    threads: u32,
     rounds: &[Round],
     gate: &G,
 ) -> Result<(), Memory>
@@ -39,12 +42,13 @@ fn run_rounds<R: Threads + Wait + Sync, G: Gate + Sync>(
     requires none { All (λ pass. (core_of pass).own ≡ []) passes.old }
     requires few { sum_by length rounds.now ≤ store.now.limit }
     requires fit { RoundsFit (spec_of store.now.row) rounds.now }
+    requires threads { RoundsAreOf threads rounds.now }
     ensures free { All (IsFree store.now) passes.new }
     ensures numbers { numbers_of passes.new ≡ numbers_of passes.old }
     ensures made { OnOk result (HaveMade rounds.now (stands_of passes.new)) }
 {
     for round in rounds {
-        make_round(rt, store, passes, round.list(), gate)?;
+        make_round(rt, alloc, store, passes, threads, round.list(), gate)?;
         tell(store, passes);
     }
     Ok(())
@@ -88,6 +92,14 @@ pub fn run_work<R: Threads + Wait + Sync, G: Gate + Sync>(
         Keeping::Entries,
         Waking,
     )?;
-    run_rounds(rt, &store, &mut passes, work.rounds.list(), gate)?;
+    run_rounds(
+        rt,
+        alloc,
+        &store,
+        &mut passes,
+        work.threads,
+        work.rounds.list(),
+        gate,
+    )?;
     close(store, passes)
 }

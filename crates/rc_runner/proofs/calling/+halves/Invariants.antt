@@ -1,8 +1,8 @@
 use Rattle.std.proofs.Common.{◌+◌, ◌-◌, ◌*◌, length}
 use Rattle.rc_runner.proofs.calling.+halves.Given as goal
 
-abbrev pub decreases-make_round : goal.decreases-make_round
-decreases-make_round g l = 4 * length l.passes.now
+abbrev pub decreases-make_shares : goal.decreases-make_shares
+decreases-make_shares g l = 4 * length l.passes.now
 
 abbrev pub decreases-make_both : goal.decreases-make_both
 decreases-make_both g l = 4 * (length l.left.now + length l.right.now) - 1
