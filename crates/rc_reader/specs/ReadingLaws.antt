@@ -28,20 +28,6 @@ unfolding reading_from
 ends past_end spec next lines line others ended lines-are after is-end =
     laws.ends spec_language past_end spec lines line others _ lines-are after is-end
 
--- a line that breaks a rule
-pub breaks : (past_end : ℕ) (spec : Spec) (lines : List ContentLine) (line : ContentLine) (others : List ContentLine)
-    (rule : LineRule) → lines ≡ line ∷ others → after_bytes spec line.bytes ≡ Err rule
-    → reading_from past_end spec lines ≡ broken_at rule line.number
-unfolding reading_from
-breaks past_end spec lines line others rule lines-are after =
-    laws.breaks spec_language past_end spec lines line others rule lines-are after
-
--- no line is left
-pub runs_out : (past_end : ℕ) (spec : Spec) (lines : List ContentLine) → lines ≡ []
-    → reading_from past_end spec lines ≡ broken_at S8 past_end
-unfolding reading_from
-runs_out past_end spec lines lines-are = laws.runs_out spec_language past_end spec lines lines-are
-
 -- ---- what reading gives is what the lines mean
 
 pub means-reading_from : (past_end : ℕ) (spec : Spec) (lines : List ContentLine) → LinesMean past_end spec lines (reading_from past_end spec lines)

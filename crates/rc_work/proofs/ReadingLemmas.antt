@@ -1,17 +1,95 @@
--- A refused line as the refusal of the text.
-use Rattle.std.proofs.Common.{◌≡◌, ℕ, List, ◌∷◌, Result, sym, ◌∙◌}
-use Rattle.rc_text.specs.Lines.{ContentLine}
+-- The answers of the code that reads a workload.
+use Rattle.std.proofs.Common.{◌≡◌, ℕ, true, false, List, [], ◌∷◌, Option, Some, None, Ok, Err, refl, sym, ap, ◌∙◌, inl, inr}
+use Rattle.std.proofs.lemmas.Bool.{false≢true}
+use Rattle.rc_text.specs.Language as language
+use Rattle.rc_text.specs.LanguageLaws as laws
+use Rattle.rc_text.specs.Lines.{ContentLine, TextPlace, content_from, past_end_of}
+use Rattle.rc_text.specs.Reads.{AreRead, Comes, Stops, Reads}
+use Rattle.rc_text.specs.declared.language.Unread.{Unread}
+use Rattle.rc_text.specs.declared.lines.Line.{Line}
 use Rattle.rc_spec.specs.declared.spec.Spec.{Spec}
-use Rattle.rc_reader.specs.Grammar.{Broken}
-use Rattle.rc_reader.specs.Answers.{FailsLine, Refuses, refusal_at}
+use Rattle.rc_reader.specs.Answers.{Refuses, refusal_at}
 use Rattle.rc_reader.specs.declared.refusal.LineFault.{LineFault}
 use Rattle.rc_reader.specs.declared.refusal.LineFault.TheVariants as faults
+use Rattle.rc_reader.specs.declared.refusal.LineRule.{LineRule}
+use Rattle.rc_reader.specs.declared.refusal.LineRule.TheVariants.{S8}
 use Rattle.rc_work.specs.declared.raw.Draft.{Draft}
-use Rattle.rc_work.specs.WorkGrammar.{after_bytes, reading_from}
-use Rattle.rc_work.specs.ReadingLaws.{breaks}
+use Rattle.rc_work.specs.declared.raw.RawTurn.{RawTurn}
+use Rattle.rc_work.specs.Answers.{ReadsLine, fails_line}
+use Rattle.rc_work.specs.WorkGrammar.{broken_at, draft_language, reading_from, headed, reading_behind, reading_all}
 
--- a fault of a line is the text's
-pub refuses : (past_end : ℕ) (spec : Spec) (draft : Draft) (lines : List ContentLine) (line : ContentLine) (others : List ContentLine) (fault : LineFault) (total : Result Draft Broken) → lines ≡ line ∷ others → FailsLine fault (after_bytes spec draft line.bytes) → reading_from past_end spec draft lines ≡ total → Refuses (refusal_at fault line.number) total
-refuses past_end spec draft lines line others faults.Memory total lines-are fails whole = tt
-refuses past_end spec draft lines line others (faults.Broken rule) total lines-are fails whole =
-    sym whole ∙ breaks past_end spec draft lines line others rule lines-are fails
+module _ (spec : Spec) where
+  abbrev drafts : language.Language Draft Draft Draft LineRule
+  drafts = draft_language spec (λ (read : Draft). read)
+
+  -- lines that are read break no rule
+  taken : (draft : Draft) (lines : List ContentLine) (next : Draft) → AreRead (ReadsLine spec) draft lines next
+      → language.AreTaken drafts draft lines next
+  taken draft [] next e = e
+  taken draft (line ∷ lines) next (between, is, read) = (between, is.gives, refl, taken between lines next read)
+
+  -- none of them ends the reading
+  all_read : (draft : Draft) (lines : List ContentLine) (answer : Option Line) (next : Draft) (others : List ContentLine)
+      → Reads (ReadsLine spec) (fails_line spec) draft lines (Ok answer) next others → AreRead (ReadsLine spec) draft lines next
+  all_read draft lines None next others read = read
+  all_read draft lines (Some last) next others read = absurd (false≢true (sym read.ends.goes_on))
+
+  reached : (draft : Draft) (lines : List ContentLine) (before : Draft) (line : ContentLine) (others : List ContentLine)
+      → Comes (ReadsLine spec) draft lines before line others → language.Reaches drafts draft lines before line others
+  reached draft lines before line others comes = record {
+    front = comes.front;
+    whole = comes.whole;
+    taken = taken draft comes.front before comes.read;
+  }
+
+  module _ (past_end : ℕ) (draft : Draft) (lines : List ContentLine) where
+    -- `end` is one of the lines
+    pub whole : (answer : Option Line) (next : Draft) (others : List ContentLine)
+        → Reads (ReadsLine spec) (fails_line spec) draft lines (Ok answer) next others → next.ended ≡ true
+        → reading_from past_end spec draft lines ≡ Ok next
+    unfolding reading_from
+    whole answer next others read ended =
+        laws.reading-means drafts past_end draft lines (Ok next)
+        (inr (record { next = next; taken = taken draft lines next (all_read draft lines answer next others read); out = rw ended refl }))
+
+    -- it is none of them
+    pub unended : (answer : Option Line) (next : Draft) (others : List ContentLine)
+        → Reads (ReadsLine spec) (fails_line spec) draft lines (Ok answer) next others → next.ended ≡ false
+        → reading_from past_end spec draft lines ≡ broken_at S8 past_end
+    unfolding reading_from
+    unended answer next others read not_yet =
+        laws.reading-means drafts past_end draft lines (broken_at S8 past_end)
+        (inr (record { next = next; taken = taken draft lines next (all_read draft lines answer next others read); out = rw not_yet refl }))
+
+    broken : (fault : LineFault) (number : ℕ)
+        → Stops (ReadsLine spec) (fails_line spec) draft lines (record { fault = fault; line = number })
+        → Refuses (refusal_at fault number) (reading_from past_end spec draft lines)
+    unfolding reading_from
+    broken faults.Memory number stops = tt
+    broken (faults.Broken rule) number stops =
+        laws.reading-means drafts past_end draft lines (Err (record { rule = rule; line = number }))
+        (inl (record {
+          before = stops.before;
+          line = stops.line;
+          others = stops.others;
+          reached = reached draft lines stops.before stops.line stops.others stops.comes;
+          breaks = stops.stops;
+          number = stops.number;
+        }))
+
+    -- a line is refused
+    pub refused : (unread : Unread LineFault) → Stops (ReadsLine spec) (fails_line spec) draft lines unread
+        → Refuses (refusal_at unread.fault unread.line) (reading_from past_end spec draft lines)
+    refused unread stops = broken unread.fault unread.line stops
+
+  -- behind the header, what the lines give from its draft is what all lines give
+  pub behind_header : (old new : TextPlace) (threads : ℕ) (rounds : List (List RawTurn)) → rounds ≡ []
+      → headed (past_end_of old.text) (content_from old) ≡ Ok (record { threads = threads; others = content_from new })
+      → reading_all (past_end_of old.text) spec (content_from old)
+        ≡ reading_from (past_end_of old.text) spec (record { threads = threads; ended = false; rounds = rounds }) (content_from new)
+  behind_header old new threads rounds none header =
+      ap (reading_behind (past_end_of old.text) spec) header
+      ∙ ap
+      (λ (rs : List (List RawTurn)).
+      reading_from (past_end_of old.text) spec (record { threads = threads; ended = false; rounds = rs }) (content_from new))
+      (sym none)

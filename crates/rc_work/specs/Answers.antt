@@ -1,12 +1,14 @@
 -- How the code's answers give what the definitions give. Want of memory says nothing.
-use Rattle.std.specs.Prelude.{◌≡◌, ℕ, Result, Ok, Err}
+use Rattle.std.specs.Prelude.{◌≡◌, ℕ, Bool, false, List, Result, Ok, Err}
 use Rattle.rc_reader.specs.Answers.{FailsLine}
 use Rattle.rc_reader.specs.declared.refusal.LineRule.{LineRule}
 use Rattle.rc_reader.specs.declared.refusal.LineRule.TheVariants.{S1, S2, S3, S4, S5, S6, S7, S8, W1, W2, W3}
 use Rattle.rc_reader.specs.declared.refusal.ReadRefusal.{ReadRefusal}
 use Rattle.rc_reader.specs.declared.refusal.ReadRefusal.TheVariants as refusals
 use Rattle.rc_reader.specs.declared.refusal.LineFault.{LineFault}
+use Rattle.rc_spec.specs.declared.spec.Spec.{Spec}
 use Rattle.rc_work.specs.declared.raw.Draft.{Draft}
+use Rattle.rc_work.specs.WorkGrammar.{after_bytes}
 
 -- the header gave a number of threads
 abbrev pub GivesThreads : Result ℕ LineFault → Result ℕ LineRule → Type 0
@@ -17,6 +19,15 @@ GivesThreads (Err fault) gives = FailsLine fault gives
 abbrev pub TakesLine : {X : Type 0} → Result X LineFault → Draft → Result Draft LineRule → Type 0
 TakesLine (Ok done) new gives = gives ≡ Ok new
 TakesLine (Err fault) new gives = FailsLine fault gives
+
+-- a line is read from a draft to the next, and never ends the reading
+pub record ReadsLine (spec : Spec) (draft : Draft) (bytes : List ℕ) (ended : Bool) (next : Draft) : Type 0 where
+  pub goes_on : ended ≡ false
+  pub gives : after_bytes spec draft bytes ≡ Ok next
+
+-- a line is refused behind a draft
+abbrev pub fails_line : Spec → Draft → List ℕ → LineFault → Type 0
+fails_line spec draft bytes fault = FailsLine fault (after_bytes spec draft bytes)
 
 -- a rule that lines of a workload may break
 abbrev pub IsWorkRule : LineRule → Type 0

@@ -21,7 +21,7 @@ use crate::words::line_words;
 use crate::work::Work;
 use rc_reader::{LineFault, LineRule, ReadRefusal, Rest};
 use rc_spec::Spec;
-use rc_text::{Lines, NumFault, Word, read_u64};
+use rc_text::{Language, Lines, NumFault, Word, read_lines, read_u64};
 use std::alloc::Global;
 
 /// The number of threads, which is 1 to 8.
@@ -93,6 +93,33 @@ fn read_line(alloc: Global, spec: &Spec, draft: &mut Draft, bytes: &[u8]) -> Res
     take_form(alloc, spec, draft, form)
 }
 
+/// The lines behind the header, as a language that reads them into a draft. None ends the reading.
+#[derive(Clone, Copy, Debug)]
+struct DraftLines<'a> {
+    alloc: Global,
+    spec: &'a Spec,
+}
+
+impl<'a> Language for DraftLines<'a> {
+    ghost use Rattle.rc_spec.specs.InRange.{IsInRange};
+    ghost use Rattle.rc_work.specs.Answers.{ReadsLine, fails_line};
+
+    type State = Draft;
+
+    type Fault = LineFault;
+
+    ghost reads = { λ language draft bytes ended next. ReadsLine language.spec.now draft bytes ended next };
+
+    ghost fails = { λ language draft bytes fault. fails_line language.spec.now draft bytes fault };
+
+    ghost can = { λ language draft. IsInRange language.spec.now };
+
+    fn read_line(&self, draft: &mut Draft, bytes: &[u8]) -> Result<bool, LineFault> {
+        read_line(self.alloc, self.spec, draft, bytes)?;
+        Ok(false)
+    }
+}
+
 /// Reads the lines of a workload.
 fn read_draft(alloc: Global, spec: &Spec, lines: &mut Lines<'_>) -> Result<Draft, ReadRefusal>
     requires { IsInRange spec.now }
@@ -104,11 +131,8 @@ fn read_draft(alloc: Global, spec: &Spec, lines: &mut Lines<'_>) -> Result<Draft
         ended: false,
         rounds: RawRounds::new(alloc),
     };
-    while let Some(line) = lines.next_line() {
-        match read_line(alloc, spec, &mut draft, line.bytes) {
-            Ok(()) => {}
-            Err(fault) => return Err(fault.at(line.number)),
-        }
+    if let Err(unread) = read_lines(&DraftLines { alloc, spec }, &mut draft, lines) {
+        return Err(unread.fault.at(unread.line));
     }
     if draft.ended {
         Ok(draft)
