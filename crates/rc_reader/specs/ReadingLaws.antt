@@ -1,12 +1,11 @@
 -- The lines of a specification, read one after another, and what they mean.
-use Rattle.std.proofs.Common.{◌≡◌, ℕ, Bool, true, false, cond, List, [], ◌∷◌, Result, Ok, Err, refl, subst, inl, inr}
+use Rattle.std.proofs.Common.{◌≡◌, ℕ, Bool, true, false, cond, List, [], ◌∷◌, Result, Ok, refl, subst, inl, inr}
 use Rattle.std.specs.Prelude.{MatchBool, ◌↔◌}
 use Rattle.rc_text.specs.LanguageLaws as laws
 use Rattle.rc_text.specs.Lines.{ContentLine, start_of, content_from, past_end_of}
 use Rattle.rc_spec.specs.declared.spec.Spec.{Spec}
 use Rattle.rc_spec.specs.Spec.{empty}
-use Rattle.rc_reader.specs.declared.refusal.LineRule.{LineRule}
-use Rattle.rc_reader.specs.declared.refusal.LineRule.TheVariants.{S1, S8}
+use Rattle.rc_reader.specs.declared.refusal.LineRule.TheVariants.{S1}
 use Rattle.rc_reader.specs.Grammar.{Reading, Broken, broken_at, after_bytes, spec_language, reading_from, is_header, reading_all, spec_reading}
 use Rattle.rc_reader.specs.FirstBroken.{ReachesEnd, LinesMean, ContentMeans, TextMeans}
 

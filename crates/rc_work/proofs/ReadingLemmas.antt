@@ -11,20 +11,16 @@ use Rattle.rc_spec.specs.declared.spec.Spec.{Spec}
 use Rattle.rc_reader.specs.Answers.{Refuses, refusal_at}
 use Rattle.rc_reader.specs.declared.refusal.LineFault.{LineFault}
 use Rattle.rc_reader.specs.declared.refusal.LineFault.TheVariants as faults
-use Rattle.rc_reader.specs.declared.refusal.LineRule.{LineRule}
 use Rattle.rc_reader.specs.declared.refusal.LineRule.TheVariants.{S8}
 use Rattle.rc_work.specs.declared.raw.Draft.{Draft}
 use Rattle.rc_work.specs.declared.raw.RawTurn.{RawTurn}
 use Rattle.rc_work.specs.Answers.{ReadsLine, fails_line}
-use Rattle.rc_work.specs.WorkGrammar.{broken_at, draft_language, reading_from, headed, reading_behind, reading_all}
+use Rattle.rc_work.specs.WorkGrammar.{broken_at, drafts, reading_from, headed, reading_behind, reading_all}
 
 module _ (spec : Spec) where
-  abbrev drafts : language.Language Draft Draft Draft LineRule
-  drafts = draft_language spec (λ (read : Draft). read)
-
   -- lines that are read break no rule
   taken : (draft : Draft) (lines : List ContentLine) (next : Draft) → AreRead (ReadsLine spec) draft lines next
-      → language.AreTaken drafts draft lines next
+      → language.AreTaken (drafts spec) draft lines next
   taken draft [] next e = e
   taken draft (line ∷ lines) next (between, is, read) = (between, is.gives, refl, taken between lines next read)
 
@@ -35,7 +31,7 @@ module _ (spec : Spec) where
   all_read draft lines (Some last) next others read = absurd (false≢true (sym read.ends.goes_on))
 
   reached : (draft : Draft) (lines : List ContentLine) (before : Draft) (line : ContentLine) (others : List ContentLine)
-      → Comes (ReadsLine spec) draft lines before line others → language.Reaches drafts draft lines before line others
+      → Comes (ReadsLine spec) draft lines before line others → language.Reaches (drafts spec) draft lines before line others
   reached draft lines before line others comes = record {
     front = comes.front;
     whole = comes.whole;
@@ -49,7 +45,7 @@ module _ (spec : Spec) where
         → reading_from past_end spec draft lines ≡ Ok next
     unfolding reading_from
     whole answer next others read ended =
-        laws.reading-means drafts past_end draft lines (Ok next)
+        laws.reading-means (drafts spec) past_end draft lines (Ok next)
         (inr (record { next = next; taken = taken draft lines next (all_read draft lines answer next others read); out = rw ended refl }))
 
     -- it is none of them
@@ -58,7 +54,7 @@ module _ (spec : Spec) where
         → reading_from past_end spec draft lines ≡ broken_at S8 past_end
     unfolding reading_from
     unended answer next others read not_yet =
-        laws.reading-means drafts past_end draft lines (broken_at S8 past_end)
+        laws.reading-means (drafts spec) past_end draft lines (broken_at S8 past_end)
         (inr (record { next = next; taken = taken draft lines next (all_read draft lines answer next others read); out = rw not_yet refl }))
 
     broken : (fault : LineFault) (number : ℕ)
@@ -67,7 +63,7 @@ module _ (spec : Spec) where
     unfolding reading_from
     broken faults.Memory number stops = tt
     broken (faults.Broken rule) number stops =
-        laws.reading-means drafts past_end draft lines (Err (record { rule = rule; line = number }))
+        laws.reading-means (drafts spec) past_end draft lines (Err (record { rule = rule; line = number }))
         (inl (record {
           before = stops.before;
           line = stops.line;
@@ -86,7 +82,7 @@ module _ (spec : Spec) where
   pub behind_header : (old new : TextPlace) (threads : ℕ) (rounds : List (List RawTurn)) → rounds ≡ []
       → headed (past_end_of old.text) (content_from old) ≡ Ok (record { threads = threads; others = content_from new })
       → reading_all (past_end_of old.text) spec (content_from old)
-        ≡ reading_from (past_end_of old.text) spec (record { threads = threads; ended = false; rounds = rounds }) (content_from new)
+      ≡ reading_from (past_end_of old.text) spec (record { threads = threads; ended = false; rounds = rounds }) (content_from new)
   behind_header old new threads rounds none header =
       ap (reading_behind (past_end_of old.text) spec) header
       ∙ ap

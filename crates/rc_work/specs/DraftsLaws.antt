@@ -21,7 +21,7 @@ use Rattle.rc_work.specs.RawTurnsLaws.{length-onto_last, sum_by-onto_last, each_
 use Rattle.rc_work.specs.LineForms.{FormText, round_line, end_line, call_line, words_read, form_of}
 use Rattle.rc_work.specs.LineRules.{turn_of, with_line}
 use Rattle.rc_work.specs.LineRulesLaws.{IsWorkLineTaken, taken, turn_of-thread, IsRawTurn-turn_of}
-use Rattle.rc_work.specs.WorkGrammar.{after_form_of, after_words, after_bytes, broken_at, draft_language, reading_from, threads_by, threads_at, threads_of_words, threads_of_read, threads_of, Headed, headed_by, headed, draft_of, reading_behind, reading_all}
+use Rattle.rc_work.specs.WorkGrammar.{after_form_of, after_words, after_bytes, broken_at, drafts, reading_from, threads_by, threads_at, threads_of_words, threads_of_read, threads_of, Headed, headed_by, headed, draft_of, reading_behind, reading_all}
 use Rattle.rc_work.specs.Drafts.{IsRawTurn, IsDraft}
 
 -- ---- a line
@@ -84,7 +84,7 @@ ended_draft false past_end draft last e = absurd cc
 pub IsDraft-reading_from : (past_end : ℕ) (spec : Spec) (draft : Draft) (lines : List ContentLine) (last : Draft) → IsDraft spec draft → reading_from past_end spec draft lines ≡ Ok last → IsDraft spec last
 unfolding reading_from
 IsDraft-reading_from past_end spec draft lines last is e =
-    read_keeps (draft_language spec (λ (read : Draft). read)) (IsDraft spec) (IsDraft spec)
+    read_keeps (drafts spec) (IsDraft spec) (IsDraft spec)
     (λ before bytes next h given. IsDraft-after_bytes spec before bytes next h given) (λ next line others h. h)
     (λ at next found h out. subst (IsDraft spec) (ended_draft next.ended at next found out) h) past_end draft lines last is e
 

@@ -85,7 +85,7 @@ spec_all_cut p q reading (first ∷ front) line rest extra ending e =
 
 -- what a line gives, and what is given where the lines run out
 abbrev reading_after : Spec → Result Draft LineRule → ContentLine → List ContentLine → (Draft → Result Draft Broken) → Result Draft Broken
-reading_after s after line rest go = language.reading_after (work.draft_language s (λ (read : Draft). read)) after line rest go
+reading_after s after line rest go = language.reading_after (work.drafts s) after line rest go
 
 abbrev at_end : ℕ → Draft → Result Draft Broken
 at_end past_end draft = cond draft.ended (Ok draft) (broken_at S8 past_end)

@@ -11,42 +11,9 @@ use Rattle.rc_reader.specs.declared.refusal.LineRule.{LineRule}
 use Rattle.rc_reader.specs.declared.refusal.LineRule.TheVariants.{S8}
 use Rattle.rc_work.specs.declared.raw.Draft.{Draft}
 use Rattle.rc_work.specs.declared.work.Work.{Work}
-use Rattle.rc_work.specs.WorkGrammar.{broken_at, after_bytes, draft_language, reading_from, threads_of, headed_by, draft_of, reading_behind, reading_all}
+use Rattle.rc_work.specs.WorkGrammar.{broken_at, after_bytes, drafts, reading_from, threads_of, headed_by, draft_of, reading_behind, reading_all}
 use Rattle.rc_work.specs.Ranking.{work_of, work_by, work_reading}
 use Rattle.rc_work.specs.FirstBroken.{work_language, AreTaken, LinesMean, ContentMeans, WorkMeans}
-
-abbrev drafts : Spec → Language Draft Draft Draft LineRule
-drafts spec = draft_language spec (λ (read : Draft). read)
-
--- ---- one line
-
--- a line that breaks no rule: the others go on from the draft with it
-pub goes_on : (past_end : ℕ) (spec : Spec) (draft next : Draft) (lines : List ContentLine) (line : ContentLine)
-    (others : List ContentLine) → lines ≡ line ∷ others → after_bytes spec draft line.bytes ≡ Ok next
-    → reading_from past_end spec draft lines ≡ reading_from past_end spec next others
-unfolding reading_from
-goes_on past_end spec draft next lines line others lines-are after =
-    laws.goes_on (drafts spec) past_end draft lines line others next lines-are after refl
-
--- a line that breaks a rule
-pub breaks : (past_end : ℕ) (spec : Spec) (draft : Draft) (lines : List ContentLine) (line : ContentLine)
-    (others : List ContentLine) (rule : LineRule) → lines ≡ line ∷ others → after_bytes spec draft line.bytes ≡ Err rule
-    → reading_from past_end spec draft lines ≡ broken_at rule line.number
-unfolding reading_from
-breaks past_end spec draft lines line others rule lines-are after =
-    laws.breaks (drafts spec) past_end draft lines line others rule lines-are after
-
--- no line is left, and `end` was read
-pub ends : (past_end : ℕ) (spec : Spec) (draft : Draft) (lines : List ContentLine) → lines ≡ [] → draft.ended ≡ true
-    → reading_from past_end spec draft lines ≡ Ok draft
-unfolding reading_from
-ends past_end spec draft lines lines-are ended = rw (lines-are, ended) refl
-
--- no line is left, and `end` was not read
-pub runs_out : (past_end : ℕ) (spec : Spec) (draft : Draft) (lines : List ContentLine) → lines ≡ [] → draft.ended ≡ false
-    → reading_from past_end spec draft lines ≡ broken_at S8 past_end
-unfolding reading_from
-runs_out past_end spec draft lines lines-are unended = rw (lines-are, unended) refl
 
 -- ---- the workload of the draft that is read is what the lines mean
 

@@ -19,7 +19,7 @@ use Rattle.rc_work.specs.declared.raw.Draft.{Draft}
 use Rattle.rc_work.specs.declared.work.Work.{Work}
 use Rattle.rc_work.specs.LineForms.{FormText, words_read, form_of}
 use Rattle.rc_work.specs.LineRules.{breaks_range, breaks_limit, breaks_order, breaks_operation, breaks_count, breaks_kinds, with_line, after_form}
-use Rattle.rc_work.specs.WorkGrammar.{after_form_of, after_words, after_bytes, broken_at, draft_language, reading_from, threads_by, threads_at, threads_of_words, threads_of_read, threads_of, headed_by, draft_of, reading_behind, reading_all}
+use Rattle.rc_work.specs.WorkGrammar.{after_form_of, after_words, after_bytes, broken_at, drafts, reading_from, threads_by, threads_at, threads_of_words, threads_of_read, threads_of, headed_by, draft_of, reading_behind, reading_all}
 use Rattle.rc_work.specs.Ranking.{work_by, work_reading}
 use Rattle.rc_work.specs.Answers.{IsWorkRule, IsWorkRefusal}
 
@@ -105,7 +105,7 @@ end_rule false past_end draft broken e = at_line {X = Draft} S8 past_end broken 
 lines_rule : (past_end : ℕ) (spec : Spec) (draft : Draft) (lines : List ContentLine) (broken : Broken) → reading_from past_end spec draft lines ≡ Err broken → IsWorkRule broken.rule
 unfolding reading_from
 lines_rule past_end spec draft lines broken e =
-    refused_for (draft_language spec (λ (read : Draft). read)) IsWorkRule (λ before bytes rule breaks. line_rule spec before bytes rule breaks)
+    refused_for (drafts spec) IsWorkRule (λ before bytes rule breaks. line_rule spec before bytes rule breaks)
     (λ at next out breaks. end_rule next.ended at next out breaks) past_end draft lines broken e
 
 head_rule : (past_end : ℕ) (spec : Spec) (line : ContentLine) (others : List ContentLine) (found : Result ℕ LineRule) (broken : Broken) → threads_of line.bytes ≡ found → reading_behind past_end spec (headed_by found line others) ≡ Err broken → IsWorkRule broken.rule

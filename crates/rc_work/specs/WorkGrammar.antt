@@ -42,9 +42,13 @@ draft_language spec value = record {
   out = λ past_end draft. if draft.ended then Ok (value draft) else broken_at S8 past_end;
 }
 
+-- it reads the draft itself
+abbrev pub drafts : Spec → Language Draft Draft Draft LineRule
+drafts spec = draft_language spec (λ (read : Draft). read)
+
 -- the lines behind the header, tested in order
 unfoldable pub reading_from : ℕ → Spec → Draft → List ContentLine → Result Draft Broken
-reading_from past_end spec draft lines = language.reading_from (draft_language spec (λ (read : Draft). read)) past_end draft lines
+reading_from past_end spec draft lines = language.reading_from (drafts spec) past_end draft lines
 
 -- S1 for a count of threads that is no digits, and S5 for one that is not 1 to 8
 abbrev pub threads_by : Result ℕ NumFault → Result ℕ LineRule
