@@ -16,8 +16,7 @@ use Rattle.rc_spec.specs.declared.call.Call.{Call}
 use Rattle.rc_spec.specs.declared.call.Reply.{Reply}
 use Rattle.rc_spec.specs.declared.lock.Mode.{Mode}
 use Rattle.rc_spec.specs.declared.spec.Spec.{Spec}
-use Rattle.rc_fragment.specs.Fragment.{edge_table}
-use Rattle.rc_fragment.specs.Holder.{AreOffered, GoesOn, HasTaken, HeldStripe, Holding, IsAbove, IsHeld, all_reverted, held_of, offered_at, reverted}
+use Rattle.rc_fragment.specs.Holder.{AreOffered, GoesOn, HasTaken, HeldStripe, Holding, IsAbove, IsHeld, all_reverted, held_of, reverted}
 use Rattle.rc_fragment.specs.HoldingLaws.{held-reverted}
 use Rattle.rc_instance.specs.Instance.{AreReleased, IsOfRelation, Stripe, held_from, holding, offered_at as instance_offers, table_of, taken_in}
 use Rattle.rc_instance.specs.InstanceLaws.{IsHeldFrom, held_of-holding, in_held_from, offered-length, released_law}
