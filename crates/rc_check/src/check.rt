@@ -2,7 +2,8 @@ ghost use Rattle.std.specs.Prelude.{◌≡◌, ◌<◌, ◌^◌, ◌↔◌, leng
 ghost use Rattle.rc_spec.specs.First.{Judges};
 ghost use Rattle.rc_spec.specs.InRange.{IsOpAmong};
 ghost use Rattle.rc_spec.specs.Placement.{op_at};
-ghost use Rattle.rc_plan.specs.PlanRules.{AreKnown, IsFirstBrokenPlanRule, IsKeptInPlan, IsKnown, KeepsPlanRules, Progress, StatementKeeps, checks_at, progress_at};
+ghost use Rattle.rc_plan.specs.PlanRules.{AreKnown, IsFirstBrokenPlanRule, IsKeptInPlan, IsKnown};
+ghost use Rattle.rc_plan.specs.PlanRules.{KeepsPlanRules, Progress, StatementKeeps, checks_at, progress_at};
 ghost use Rattle.rc_check.specs.Sets.{sets_of};
 
 use crate::checks::keeps_k7;
@@ -61,8 +62,10 @@ fn check_statement(
     requires operation { number < length accepted.now.ops }
     requires known { AreKnown accepted.now plan.now }
     requires there { at < length plan.now }
-    requires before { before.now ≡ sets_of (progress_at accepted.now (op_at accepted.now number) plan.now at) }
-    ensures { Judges (IsKeptInPlan accepted.now (op_at accepted.now number) plan.now) (checks_at at) result }
+    requires before { before.now
+        ≡ sets_of (progress_at accepted.now (op_at accepted.now number) plan.now at) }
+    ensures { Judges (IsKeptInPlan accepted.now (op_at accepted.now number) plan.now)
+        (checks_at at) result }
 {
     let op = accepted.spec().op(number);
     let statement = &plan.list()[at as usize];
@@ -74,17 +77,19 @@ fn check_statement(
     Ok(())
 }
 
-/// Tests a plan for the operation with this number by K1 to K7: its statements in order, each by the rules in order, and
-/// then its end, where K1 alone speaks: a plan that ends too early breaks it at the number that is its length. The
-/// answer is Ok exactly where the plan keeps the rules, else the first broken rule at the first such statement. The plan
-/// has fewer than 2^32 statements, and its numbers are the specification's. Takes no memory. (PLDI 2011, valid query
-/// plans; PLDI 2012, well-locked plans.)
+/// Tests a plan for the operation with this number by K1 to K7: its statements in order, each by the
+/// rules in order, and then its end, where K1 alone speaks: a plan that ends too early breaks it at
+/// the number that is its length. The answer is Ok exactly where the plan keeps the rules, else the
+/// first broken rule at the first such statement. The plan has fewer than 2^32 statements, and its
+/// numbers are the specification's. Takes no memory. (PLDI 2011, valid query plans; PLDI 2012,
+/// well-locked plans.)
 pub fn check_plan(accepted: &Accepted, op: u8, plan: &Plan) -> Result<(), PlanRefusal>
     requires short { length plan.now < 2 ^ 32 }
     requires operation { op < length accepted.now.ops }
     requires known { AreKnown accepted.now plan.now }
     ensures accepted { IsOk result ↔ KeepsPlanRules accepted.now (op_at accepted.now op) plan.now }
-    ensures first { IfErr result (IsFirstBrokenPlanRule accepted.now (op_at accepted.now op) plan.now) }
+    ensures first { IfErr result
+        (IsFirstBrokenPlanRule accepted.now (op_at accepted.now op) plan.now) }
 {
     let spec = accepted.spec();
     let statements = plan.list();
