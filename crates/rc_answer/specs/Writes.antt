@@ -1,6 +1,7 @@
 -- What a sink holds once a text of some kind is written, or a part of it.
-use Rattle.std.specs.Prelude.{◌≡◌, ℕ, List, Option, Result, Ok, Err, ◌⊎◌}
+use Rattle.std.specs.Prelude.{◌≡◌, ℕ, ◌≤◌, List, Option, Result, Ok, Err, ◌⊎◌, IsErrOf}
 use Rattle.rc_io.specs.Bytes.{Adds, AddsPrefix}
+use Rattle.rc_io.specs.Counts.{Rose}
 use Rattle.rc_answer.specs.declared.status.Status.{Status}
 use Rattle.rc_answer.specs.declared.status.Stop.{Stop}
 use Rattle.rc_answer.specs.declared.status.Stop.TheVariants.{Memory, Sink}
@@ -18,3 +19,8 @@ abbrev pub Writes : (List ℕ → Status → Type 0) → Option (List ℕ) → O
 Writes A old new (Ok status) = WritesWhole A old new status
 Writes A old new (Err Memory) = (new ≡ old) ⊎ WritesPart A old new
 Writes A old new (Err Sink) = WritesPart A old new
+
+-- what a writer's answer says of the count of the sink's faults: a fault of the sink was counted, and no count is lost
+pub record CountsFaults {A : Type 0} (old new : ℕ) (answer : Result A Stop) : Type 0 where
+  pub failed : IsErrOf answer Sink → Rose old new
+  pub count : old ≤ new

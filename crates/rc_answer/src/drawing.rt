@@ -1,9 +1,8 @@
 //! Writes drawings of a specification.
 
-ghost use Rattle.std.specs.Prelude.{◌≡◌, ◌≤◌, ◌<◌, length, IsErrOf};
-ghost use Rattle.rc_io.specs.Counts.{Rose};
+ghost use Rattle.std.specs.Prelude.{◌≡◌, ◌<◌, length};
 ghost use Rattle.rc_answer.specs.Answers.{IsPlanDrawingNamed, IsDrawing, IsPlanDrawing};
-ghost use Rattle.rc_answer.specs.Writes.{Writes};
+ghost use Rattle.rc_answer.specs.Writes.{CountsFaults, Writes};
 
 use crate::refusing::refuse_operation;
 use crate::status::{Status, Stop};
@@ -22,8 +21,7 @@ pub(crate) fn write_drawing<K: Sink>(
     accepted: &Accepted,
 ) -> Result<Status, Stop>
     ensures written { Writes (IsDrawing accepted.now) (K.held sink.old) (K.held sink.new) result }
-    ensures failed { IsErrOf result Stop.Sink → Rose (K.faults sink.old) (K.faults sink.new) }
-    ensures count { K.faults sink.old ≤ K.faults sink.new }
+    ensures faults { CountsFaults (K.faults sink.old) (K.faults sink.new) result }
 {
     let text = print_drawing(alloc, accepted)?;
     write_text(sink, &text)?;
@@ -40,8 +38,7 @@ pub(crate) fn write_drawn_plan<K: Sink>(
 ) -> Result<Status, Stop>
     ensures written { Writes (IsPlanDrawingNamed name.now accepted) (K.held sink.old) (K.held sink.new)
         result }
-    ensures failed { IsErrOf result Stop.Sink → Rose (K.faults sink.old) (K.faults sink.new) }
-    ensures count { K.faults sink.old ≤ K.faults sink.new }
+    ensures faults { CountsFaults (K.faults sink.old) (K.faults sink.new) result }
 {
     match number_among(accepted.spec().ops.list(), name) {
         Some(op) => write_plan_of(alloc, sink, accepted, op as u8),
@@ -59,8 +56,7 @@ fn write_plan_of<K: Sink>(
 ) -> Result<Status, Stop>
     requires { op < length accepted.ops }
     ensures written { Writes (IsPlanDrawing accepted op) (K.held sink.old) (K.held sink.new) result }
-    ensures failed { IsErrOf result Stop.Sink → Rose (K.faults sink.old) (K.faults sink.new) }
-    ensures count { K.faults sink.old ≤ K.faults sink.new }
+    ensures faults { CountsFaults (K.faults sink.old) (K.faults sink.new) result }
 {
     let compiled = compile(alloc, accepted)?;
     let text = print_plan_drawing(alloc, compiled.accepted(), op, compiled.plan(op))?;

@@ -1,16 +1,15 @@
 //! Answers a text: reads it, tests its rules, plans its operations, makes its calls, and writes what the command asks or
 //! a refusal.
 
-ghost use Rattle.std.specs.Prelude.{◌≡◌, ◌≤◌, ◌^◌, ◌↔◌, length, IfOk, IfSome, IsErrOf, IsSome, OnErr, OnOk};
+ghost use Rattle.std.specs.Prelude.{◌≡◌, ◌≤◌, ◌^◌, ◌↔◌, length, IfOk, IfSome, IsSome, OnErr, OnOk};
 ghost use Rattle.rc_io.specs.Bytes.{Adds, AddsPrefix};
-ghost use Rattle.rc_io.specs.Counts.{Rose};
 ghost use Rattle.rc_reader.specs.Grammar.{spec_of};
 ghost use Rattle.rc_rel.specs.History.{AllFit};
 ghost use Rattle.rc_work.specs.Fitting.{RoundsFit, HasThreads};
 ghost use Rattle.rc_work.specs.Limits.{KeepsLimits};
 ghost use Rattle.rc_answer.specs.Answers.{Answers, AnswersAlone, IsReport};
 ghost use Rattle.rc_answer.specs.Ran.{HasRunText, IsRunOf, done_in, entries_in, run_text, status_in};
-ghost use Rattle.rc_answer.specs.Writes.{Writes};
+ghost use Rattle.rc_answer.specs.Writes.{CountsFaults, Writes};
 ghost use Rattle.rc_answer.specs.Asked.{IsAskedText};
 ghost use Rattle.rc_command.specs.declared.command.TextCommand.TheVariants as commands;
 
@@ -66,8 +65,7 @@ fn write_run<K: Sink>(alloc: Global, sink: &mut K, ran: &Ran, work: &Work) -> Re
         (K.held sink.new)) }
     ensures prefix { OnErr result (AddsPrefix (K.held sink.old) (run_text work.now.ranks ran.now)
         (K.held sink.new)) }
-    ensures failed { IsErrOf result Stop.Sink → Rose (K.faults sink.old) (K.faults sink.new) }
-    ensures count { K.faults sink.old ≤ K.faults sink.new }
+    ensures faults { CountsFaults (K.faults sink.old) (K.faults sink.new) result }
 {
     let compiled = ran.closed.compiled();
     let Some(journal) = ran.closed.journal() else {
@@ -101,8 +99,7 @@ fn perform<R: Threads + Wait + Sync, K: Sink, G: Gate + Sync>(
         Adds (K.held sink.old) (run_text work.now.ranks ran) (K.held sink.new)) }
     ensures written { Writes (IsReport accepted work.now) (K.held sink.old) (K.held sink.new)
         (done_in result) }
-    ensures failed { IsErrOf result Stop.Sink → Rose (K.faults sink.old) (K.faults sink.new) }
-    ensures count { K.faults sink.old ≤ K.faults sink.new }
+    ensures faults { CountsFaults (K.faults sink.old) (K.faults sink.new) result }
 {
     let ran = make_run(rt, alloc, hash_seed, accepted, work, gate)?;
     write_run(alloc, sink, &ran, work)?;
@@ -133,8 +130,7 @@ fn write_asked<K: Sink>(
     sink: &mut K,
 ) -> Result<Status, Stop>
     ensures written { Writes (IsAskedText asked accepted) (K.held sink.old) (K.held sink.new) result }
-    ensures failed { IsErrOf result Stop.Sink → Rose (K.faults sink.old) (K.faults sink.new) }
-    ensures count { K.faults sink.old ≤ K.faults sink.new }
+    ensures faults { CountsFaults (K.faults sink.old) (K.faults sink.new) result }
 {
     match asked {
         Asked::Acceptance => write_accepted(sink),
@@ -153,8 +149,7 @@ fn answer_alone<K: Sink>(
 ) -> Result<Status, Stop>
     requires { length text.now ≤ 2 ^ 24 }
     ensures written { Writes (AnswersAlone (IsAskedText asked) (spec_of text.now)) (K.held sink.old) (K.held sink.new) result }
-    ensures failed { IsErrOf result Stop.Sink → Rose (K.faults sink.old) (K.faults sink.new) }
-    ensures count { K.faults sink.old ≤ K.faults sink.new }
+    ensures faults { CountsFaults (K.faults sink.old) (K.faults sink.new) result }
 {
     let spec = match read_spec_only(alloc, text) {
         Ok(spec) => spec,
@@ -181,8 +176,7 @@ fn run<R: Threads + Wait + Sync, K: Sink, G: Gate + Sync>(
     ensures has_ran { IfOk result (λ outcome. IsSome outcome.ran ↔ outcome.status ≡ Status.Done) }
     ensures ran { IfOk result (λ outcome.
         IfSome outcome.ran (HasRunText text.now (K.held sink.old) (K.held sink.new))) }
-    ensures failed { IsErrOf result Stop.Sink → Rose (K.faults sink.old) (K.faults sink.new) }
-    ensures count { K.faults sink.old ≤ K.faults sink.new }
+    ensures faults { CountsFaults (K.faults sink.old) (K.faults sink.new) result }
 {
     let (spec, rest) = match read_spec(alloc, text) {
         Ok(read) => read,
@@ -222,8 +216,7 @@ pub fn answer<R: Threads + Wait + Sync, K: Sink, G: Gate + Sync>(
         IsSome outcome.ran ↔ (command ≡ commands.Run) × (outcome.status ≡ Status.Done)) }
     ensures ran { IfOk result (λ outcome.
         IfSome outcome.ran (HasRunText text.now (K.held sink.old) (K.held sink.new))) }
-    ensures failed { IsErrOf result Stop.Sink → Rose (K.faults sink.old) (K.faults sink.new) }
-    ensures count { K.faults sink.old ≤ K.faults sink.new }
+    ensures faults { CountsFaults (K.faults sink.old) (K.faults sink.new) result }
 {
     match command {
         TextCommand::Check => without_run(answer_alone(alloc, Asked::Acceptance, text, sink)),

@@ -1,10 +1,9 @@
 //! Writes the plans of a specification's operations.
 
-ghost use Rattle.std.specs.Prelude.{◌≡◌, ◌≤◌, OnOk, OnErr, IsErrOf};
+ghost use Rattle.std.specs.Prelude.{◌≡◌, OnOk, OnErr};
 ghost use Rattle.rc_io.specs.Bytes.{Adds, AddsPrefix};
-ghost use Rattle.rc_io.specs.Counts.{Rose};
 ghost use Rattle.rc_answer.specs.Answers.{IsPlansText};
-ghost use Rattle.rc_answer.specs.Writes.{Writes};
+ghost use Rattle.rc_answer.specs.Writes.{CountsFaults, Writes};
 ghost use Rattle.rc_answer.specs.Plans.{plans_text};
 
 use crate::status::{Status, Stop};
@@ -23,8 +22,7 @@ pub(crate) fn write_plans<K: Sink>(
 ) -> Result<(), Stop>
     ensures ok { OnOk result (Adds (K.held sink.old) (plans_text compiled.now.spec compiled.now.plans) (K.held sink.new)) }
     ensures prefix { OnErr result (AddsPrefix (K.held sink.old) (plans_text compiled.now.spec compiled.now.plans) (K.held sink.new)) }
-    ensures failed { IsErrOf result Stop.Sink → Rose (K.faults sink.old) (K.faults sink.new) }
-    ensures count { K.faults sink.old ≤ K.faults sink.new }
+    ensures faults { CountsFaults (K.faults sink.old) (K.faults sink.new) result }
 {
     let spec = compiled.accepted().spec();
     for op in 0..spec.ops.list().len() as u8 {
@@ -41,8 +39,7 @@ pub(crate) fn write_planned<K: Sink>(
     accepted: Accepted,
 ) -> Result<Status, Stop>
     ensures written { Writes (IsPlansText accepted) (K.held sink.old) (K.held sink.new) result }
-    ensures failed { IsErrOf result Stop.Sink → Rose (K.faults sink.old) (K.faults sink.new) }
-    ensures count { K.faults sink.old ≤ K.faults sink.new }
+    ensures faults { CountsFaults (K.faults sink.old) (K.faults sink.new) result }
 {
     let compiled = compile(alloc, accepted)?;
     write_plans(alloc, sink, &compiled)?;

@@ -1,12 +1,11 @@
 //! Writes refusals.
 
-ghost use Rattle.std.specs.Prelude.{◌≡◌, ◌≤◌, IfOk, IsErrOf};
-ghost use Rattle.rc_io.specs.Counts.{Rose};
+ghost use Rattle.std.specs.Prelude.{◌≡◌, IfOk};
 ghost use Rattle.rc_spec.specs.Acceptance.{IsItemOf};
 ghost use Rattle.rc_place.specs.Fault.{IfHandedBack};
 ghost use Rattle.rc_answer.specs.Answers.{refusal_line, IsOperationRefusal, IsSizeRefusal};
 ghost use Rattle.rc_answer.specs.Ran.{LeavesNone, status_in};
-ghost use Rattle.rc_answer.specs.Writes.{Writes};
+ghost use Rattle.rc_answer.specs.Writes.{CountsFaults, Writes};
 ghost use Rattle.rc_answer.specs.Refusals.{WritesRefusal, WritesRuleRefusal};
 
 use crate::outcome::Outcome;
@@ -35,8 +34,7 @@ pub(crate) fn refuse<K: Sink>(
 ) -> Result<Status, Stop>
     ensures written { WritesRefusal (K.held sink.old) (K.held sink.new) refusal result }
     ensures refused { IfOk result (λ status. status ≡ Status.Refused) }
-    ensures failed { IsErrOf result Stop.Sink → Rose (K.faults sink.old) (K.faults sink.new) }
-    ensures count { K.faults sink.old ≤ K.faults sink.new }
+    ensures faults { CountsFaults (K.faults sink.old) (K.faults sink.new) result }
 {
     match refusal {
         ReadRefusal::Memory => Err(Stop::Memory),
@@ -57,8 +55,7 @@ pub(crate) fn refuse_spec<K: Sink>(
     requires { IfHandedBack (λ spec refusal. IsItemOf spec refusal.item) fault }
     ensures written { WritesRuleRefusal (K.held sink.old) (K.held sink.new) fault result }
     ensures refused { IfOk result (λ status. status ≡ Status.Refused) }
-    ensures failed { IsErrOf result Stop.Sink → Rose (K.faults sink.old) (K.faults sink.new) }
-    ensures count { K.faults sink.old ≤ K.faults sink.new }
+    ensures faults { CountsFaults (K.faults sink.old) (K.faults sink.new) result }
 {
     match fault {
         AcceptFault::Memory => Err(Stop::Memory),
@@ -78,8 +75,7 @@ pub(crate) fn refuse_run<K: Sink>(
 ) -> Result<Outcome, Stop>
     ensures written { WritesRefusal (K.held sink.old) (K.held sink.new) refusal (status_in result) }
     ensures none { IfOk result LeavesNone }
-    ensures failed { IsErrOf result Stop.Sink → Rose (K.faults sink.old) (K.faults sink.new) }
-    ensures count { K.faults sink.old ≤ K.faults sink.new }
+    ensures faults { CountsFaults (K.faults sink.old) (K.faults sink.new) result }
 {
     match refuse(alloc, sink, refusal) {
         Ok(_) => Ok(Outcome::without_run(Status::Refused)),
@@ -96,8 +92,7 @@ pub(crate) fn refuse_run_of<K: Sink>(
     requires { IfHandedBack (λ spec refusal. IsItemOf spec refusal.item) fault }
     ensures written { WritesRuleRefusal (K.held sink.old) (K.held sink.new) fault (status_in result) }
     ensures none { IfOk result LeavesNone }
-    ensures failed { IsErrOf result Stop.Sink → Rose (K.faults sink.old) (K.faults sink.new) }
-    ensures count { K.faults sink.old ≤ K.faults sink.new }
+    ensures faults { CountsFaults (K.faults sink.old) (K.faults sink.new) result }
 {
     match refuse_spec(alloc, sink, fault) {
         Ok(_) => Ok(Outcome::without_run(Status::Refused)),
@@ -109,8 +104,7 @@ pub(crate) fn refuse_run_of<K: Sink>(
 /// written.
 pub(crate) fn refuse_operation<K: Sink>(sink: &mut K) -> Result<Status, Stop>
     ensures written { Writes IsOperationRefusal (K.held sink.old) (K.held sink.new) result }
-    ensures failed { IsErrOf result Stop.Sink → Rose (K.faults sink.old) (K.faults sink.new) }
-    ensures count { K.faults sink.old ≤ K.faults sink.new }
+    ensures faults { CountsFaults (K.faults sink.old) (K.faults sink.new) result }
 {
     write_all(sink, b"refused operation\n")?;
     Ok(Status::Refused)
@@ -119,8 +113,7 @@ pub(crate) fn refuse_operation<K: Sink>(sink: &mut K) -> Result<Status, Stop>
 /// Writes the refusal of a text that is too long; `Err` where a write fails, with a first part written.
 pub fn refuse_size<K: Sink>(sink: &mut K) -> Result<Status, Stop>
     ensures written { Writes IsSizeRefusal (K.held sink.old) (K.held sink.new) result }
-    ensures failed { IsErrOf result Stop.Sink → Rose (K.faults sink.old) (K.faults sink.new) }
-    ensures count { K.faults sink.old ≤ K.faults sink.new }
+    ensures faults { CountsFaults (K.faults sink.old) (K.faults sink.new) result }
 {
     write_all(sink, b"refused size\n")?;
     Ok(Status::Refused)

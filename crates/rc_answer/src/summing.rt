@@ -1,14 +1,13 @@
 //! Makes the calls of a generated workload, and writes the summary of their replies.
 
-ghost use Rattle.std.specs.Prelude.{◌≡◌, ◌<◌, ◌≤◌, ◌^◌, length, IfOk, IfSome, IsErrOf, IsSome, OnErr, OnOk};
+ghost use Rattle.std.specs.Prelude.{◌≡◌, ◌<◌, ◌≤◌, ◌^◌, length, IfOk, IfSome, IsSome, OnErr, OnOk};
 ghost use Rattle.rc_io.specs.Bytes.{Adds, AddsPrefix};
-ghost use Rattle.rc_io.specs.Counts.{Rose};
 ghost use Rattle.rc_rel.specs.History.{steps_of};
 ghost use Rattle.rc_generate.specs.Summary.{counted, rows_in};
 ghost use Rattle.rc_generate.specs.Sample.{sample_graph};
 ghost use Rattle.rc_answer.specs.Big.{HasSummaryText, IsBigText, ran_text};
 ghost use Rattle.rc_answer.specs.Ran.{done_in, entries_in, status_in};
-ghost use Rattle.rc_answer.specs.Writes.{Writes};
+ghost use Rattle.rc_answer.specs.Writes.{CountsFaults, Writes};
 
 use crate::outcome::{Outcome, Ran, with_run};
 use crate::performing::make_run;
@@ -46,8 +45,7 @@ fn write_summary<K: Sink>(alloc: Global, sink: &mut K, ran: &Ran) -> Result<(), 
         (K.held sink.new)) }
     ensures prefix { OnErr result (AddsPrefix (K.held sink.old) (ran_text ran.now)
         (K.held sink.new)) }
-    ensures failed { IsErrOf result Stop.Sink → Rose (K.faults sink.old) (K.faults sink.new) }
-    ensures count { K.faults sink.old ≤ K.faults sink.new }
+    ensures faults { CountsFaults (K.faults sink.old) (K.faults sink.new) result }
 {
     let Some(journal) = ran.closed.journal() else {
         unreachable!()
@@ -71,8 +69,7 @@ fn perform_big<R: Threads + Wait + Sync, K: Sink, G: Gate + Sync>(
     ensures ran { IfOk result (HasSummaryText seed calls (K.held sink.old) (K.held sink.new)) }
     ensures written { Writes (IsBigText seed calls) (K.held sink.old) (K.held sink.new)
         (done_in result) }
-    ensures failed { IsErrOf result Stop.Sink → Rose (K.faults sink.old) (K.faults sink.new) }
-    ensures count { K.faults sink.old ≤ K.faults sink.new }
+    ensures faults { CountsFaults (K.faults sink.old) (K.faults sink.new) result }
 {
     let accepted = accepted_sample(alloc)?;
     let work = generate(alloc, seed, calls)?;
@@ -103,8 +100,7 @@ pub fn answer_big<R: Threads + Wait + Sync, K: Sink, G: Gate + Sync>(
     ensures has_ran { IfOk result (λ outcome. IsSome outcome.ran × (outcome.status ≡ Status.Done)) }
     ensures ran { IfOk result (λ outcome.
         IfSome outcome.ran (HasSummaryText seed calls (K.held sink.old) (K.held sink.new))) }
-    ensures failed { IsErrOf result Stop.Sink → Rose (K.faults sink.old) (K.faults sink.new) }
-    ensures count { K.faults sink.old ≤ K.faults sink.new }
+    ensures faults { CountsFaults (K.faults sink.old) (K.faults sink.new) result }
 {
     with_run(perform_big(rt, alloc, hash_seed, seed, calls, sink, gate))
 }

@@ -1,13 +1,12 @@
 //! Writes lines to a sink, each with its line feed at a time.
 
-ghost use Rattle.std.specs.Prelude.{◌≡◌, ◌≤◌, ◌∷◌, [], OnOk, OnErr, IsErrOf};
+ghost use Rattle.std.specs.Prelude.{◌≡◌, ◌∷◌, [], OnOk, OnErr};
 ghost use Rattle.rc_io.specs.Bytes.{Adds, AddsPrefix};
-ghost use Rattle.rc_io.specs.Counts.{Rose};
 ghost use Rattle.rc_rel.specs.History.{AllFit};
 ghost use Rattle.rc_text.specs.Lines.{printed_lines};
 ghost use Rattle.rc_work.specs.Report.{report};
 ghost use Rattle.rc_answer.specs.Answers.{IsAcceptedText};
-ghost use Rattle.rc_answer.specs.Writes.{Writes};
+ghost use Rattle.rc_answer.specs.Writes.{CountsFaults, Writes};
 
 use crate::status::{Status, Stop};
 use rc_io::{Sink, write_all};
@@ -19,8 +18,7 @@ use std::alloc::Global;
 pub(crate) fn write_line<K: Sink>(sink: &mut K, mut line: Vec<u8>) -> Result<(), Stop>
     ensures ok { OnOk result (Adds (K.held sink.old) (printed_lines (line.items ∷ [])) (K.held sink.new)) }
     ensures prefix { OnErr result (AddsPrefix (K.held sink.old) (printed_lines (line.items ∷ [])) (K.held sink.new)) }
-    ensures failed { IsErrOf result Stop.Sink → Rose (K.faults sink.old) (K.faults sink.new) }
-    ensures count { K.faults sink.old ≤ K.faults sink.new }
+    ensures faults { CountsFaults (K.faults sink.old) (K.faults sink.new) result }
 {
     if line.push(b'\n').is_err() {
         return Err(Stop::Memory);
@@ -33,8 +31,7 @@ pub(crate) fn write_line<K: Sink>(sink: &mut K, mut line: Vec<u8>) -> Result<(),
 pub(crate) fn write_text<K: Sink>(sink: &mut K, text: &[u8]) -> Result<(), Stop>
     ensures ok { OnOk result (Adds (K.held sink.old) text.now (K.held sink.new)) }
     ensures prefix { OnErr result (AddsPrefix (K.held sink.old) text.now (K.held sink.new)) }
-    ensures failed { IsErrOf result Stop.Sink → Rose (K.faults sink.old) (K.faults sink.new) }
-    ensures count { K.faults sink.old ≤ K.faults sink.new }
+    ensures faults { CountsFaults (K.faults sink.old) (K.faults sink.new) result }
 {
     let mut rest = text;
     while !rest.is_empty() {
@@ -48,8 +45,7 @@ pub(crate) fn write_text<K: Sink>(sink: &mut K, text: &[u8]) -> Result<(), Stop>
 /// Writes that a specification is accepted.
 pub(crate) fn write_accepted<K: Sink>(sink: &mut K) -> Result<Status, Stop>
     ensures written { Writes IsAcceptedText (K.held sink.old) (K.held sink.new) result }
-    ensures failed { IsErrOf result Stop.Sink → Rose (K.faults sink.old) (K.faults sink.new) }
-    ensures count { K.faults sink.old ≤ K.faults sink.new }
+    ensures faults { CountsFaults (K.faults sink.old) (K.faults sink.new) result }
 {
     write_all(sink, b"accepted\n")?;
     Ok(Status::Done)
@@ -64,8 +60,7 @@ pub(crate) fn write_report<K: Sink>(
     requires { AllFit printed.now.spec.now printed.now.entries.now }
     ensures ok { OnOk result (Adds (K.held sink.old) (printed_lines (report printed.now.spec.now printed.now.ranks.now printed.now.entries.now printed.now.rows.now)) (K.held sink.new)) }
     ensures prefix { OnErr result (AddsPrefix (K.held sink.old) (printed_lines (report printed.now.spec.now printed.now.ranks.now printed.now.entries.now printed.now.rows.now)) (K.held sink.new)) }
-    ensures failed { IsErrOf result Stop.Sink → Rose (K.faults sink.old) (K.faults sink.new) }
-    ensures count { K.faults sink.old ≤ K.faults sink.new }
+    ensures faults { CountsFaults (K.faults sink.old) (K.faults sink.new) result }
 {
     for number in 0..printed.line_count() {
         match printed.line(alloc, number)? {

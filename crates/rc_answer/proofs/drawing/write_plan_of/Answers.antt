@@ -1,6 +1,5 @@
-use Rattle.std.proofs.Common.{◌≡◌, ◌∙◌, ◌<◌, length, refl, sym, subst}
+use Rattle.std.proofs.Common.{◌∙◌, refl}
 use Rattle.rc_dot.specs.Dot.{plan_drawing_text}
-use Rattle.rc_spec.specs.declared.spec.Spec.{Spec}
 use Rattle.rc_plan.specs.Compiled.{SpecWithPlans, plan_at}
 use Rattle.rc_answer.specs.Answers.{IsPlanDrawing}
 use Rattle.rc_answer.proofs.DrawingLemmas.{drawing_printed, text_begun, text_written}
