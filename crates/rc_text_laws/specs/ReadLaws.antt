@@ -1,16 +1,11 @@
 -- What holds of each workload that is read: its limits, its texts, and that its calls fit.
-use Rattle.std.proofs.Common.{◌≡◌, ℕ, ◌+◌, ◌*◌, ◌<◌, ◌≤◌, ◌-◌, ◌^◌, List, [], ◌∷◌, length, map, Ok, inl, inr, refl, sym, subst, arith}
+use Rattle.std.proofs.Common.{◌≡◌, ℕ, ◌*◌, ◌<◌, ◌≤◌, ◌^◌, List, [], ◌∷◌, length, map, Ok, sym, subst, arith}
 use Rattle.std.specs.Prelude.{sum_by}
 use Rattle.std.specs.List.{AllByRecursion, flat_map}
-use Rattle.std.specs.Ordering.{match_ordering, nat_cmp}
-use Rattle.std.specs.declared.cmp.Ordering.{Ordering}
-use Rattle.std.specs.declared.cmp.Ordering.TheVariants.{Less, Equal, Greater}
-use Rattle.std.proofs.lemmas.Cmp.{ranked}
 use Rattle.std.proofs.lemmas.List.{length-append}
 use Rattle.std.proofs.lemmas.List.Elements.{recursion_from_All}
 use Rattle.std.proofs.lemmas.List.Sums.{sum_by-cons}
-use Rattle.rc_tuple.specs.RisingSet.{In, IsRising, AreDistinct, put, gather}
-use Rattle.rc_tuple.specs.RisingSetLaws.{nat_order, each_in, in_map, in_gather, rising_gather}
+use Rattle.rc_tuple.specs.RisingSetLaws.{each_in, in_map}
 use Rattle.rc_tuple.specs.Tuple.{IsTuple}
 use Rattle.rc_tuple.specs.TupleLaws.{IsTuple-tuple_of}
 use Rattle.rc_text.specs.Lines.{TextPlace}

@@ -1,6 +1,5 @@
 -- A specification that can be written is what its text is read as, and what a text is read as can be written.
-use Rattle.std.proofs.Common.{◌≡◌, ◌↔◌, ℕ, ◌<◌, Bool, true, false, eqb, ◌||◌, List, [], ◌∷◌, ◌++◌, length, map, get_or, drop, Result, Ok, Err, refl, sym, ap, ◌∙◌, subst, inl, inr, arith}
-use Rattle.std.specs.Prelude.{MatchBool}
+use Rattle.std.proofs.Common.{◌≡◌, ◌↔◌, ℕ, ◌<◌, true, false, eqb, ◌||◌, List, [], ◌∷◌, ◌++◌, length, map, get_or, drop, Result, Ok, refl, sym, ap, ◌∙◌, subst, inl, inr, arith}
 use Rattle.std.proofs.lemmas.Bool.{eqb-true}
 use Rattle.rc_tuple.specs.RisingSet.{In}
 use Rattle.rc_text.specs.Lines.{ContentLine, start_of, content_from, past_end_of, bytes_of_content}
@@ -9,9 +8,8 @@ use Rattle.rc_spec.specs.declared.spec.Spec.{Spec}
 use Rattle.rc_spec.specs.InRange.{IsInRange, HasColumnAndNode}
 use Rattle.rc_spec.specs.Names.{IsWellNamed}
 use Rattle.rc_spec.specs.Spec.{empty}
-use Rattle.rc_reader.specs.declared.refusal.LineRule.TheVariants.{S1}
 use Rattle.rc_reader.specs.Forms.{FormText, header_line, end_line}
-use Rattle.rc_reader.specs.Grammar.{Reading, Broken, is_end, ended_by, after_bytes, broken_at, reading_from, is_header_by, is_header, reading_all, spec_reading, nothing_after, alone, spec_of}
+use Rattle.rc_reader.specs.Grammar.{Reading, Broken, is_end, ended_by, after_bytes, reading_from, is_header_by, is_header, reading_all, spec_reading, nothing_after, alone, spec_of}
 use Rattle.rc_reader.specs.ReadKeepsLaws.{spec_read, read_keeps, read_populated}
 use Rattle.rc_reader.specs.ReadingLaws.{goes_on, ends}
 use Rattle.rc_reader.specs.RulesLaws.{IsSpecLineTaken}
