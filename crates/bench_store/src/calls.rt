@@ -59,7 +59,6 @@ pub(crate) fn measure<R: Threads + Clock + Sync>(
 }
 
 /// Measures the calls of each thread on a new store.
-#[tactic(auto, using(crate::proofs::IdleLemmas::all_free))]
 fn measure_calls<R: Threads + Clock + Sync>(
     rt: &R,
     compiled: Compiled,

@@ -1,6 +1,6 @@
 //! How long turns at the row of locks take.
 
-ghost use Rattle.std.specs.Prelude.{◌+◌, ◌<◌, ◌≤◌, All, IfOk};
+ghost use Rattle.std.specs.Prelude.{◌<◌, ◌≤◌, All, IfOk};
 ghost use Rattle.rc_row.specs.Passes.{stripes_of};
 ghost use Rattle.bench_store.specs.Idle.{IsIdlePass};
 
@@ -60,7 +60,6 @@ pub(crate) fn measure_locks<R: Threads + Wait + Clock + Sync>(
 }
 
 /// A row, and its passes.
-#[tactic(auto, using(crate::proofs::IdleLemmas::all_idle))]
 fn row(alloc: Global, passes: u32) -> Result<(Row, Vec<Pass>), Failed>
     requires { (1 ≤ passes) × (passes ≤ 255) }
     ensures stripes { IfOk result (λ r. 8 ≤ stripes_of r.0) }
@@ -112,7 +111,7 @@ fn take_turns<R: Wait>(rt: &R, row: &Row, pass: &mut Pass, thread: usize, turns:
     };
     match turns.work {
         Work::LockOne => lock_one(rt, row, pass, low, turns.times),
-        Work::LockTwo => lock_two(rt, row, pass, low, turns.times),
+        Work::LockTwo => lock_two(rt, row, pass, (low, low + 1), turns.times),
         Work::ShareOne => {
             let _ = share_one(rt, row, pass, low, turns.times);
         }
@@ -130,17 +129,17 @@ fn lock_one<R: Wait>(rt: &R, row: &Row, pass: &mut Pass, stripe: u32, times: u32
     }
 }
 
-/// Locks the stripe and the next one.
-fn lock_two<R: Wait>(rt: &R, row: &Row, pass: &mut Pass, low: u32, times: u32)
+fn lock_two<R: Wait>(rt: &R, row: &Row, pass: &mut Pass, stripes: (u32, u32), times: u32)
     requires idle { IsIdlePass row.now pass.old }
-    requires stripe { low + 1 < stripes_of row.now }
+    requires stripes { (stripes.0 < stripes.1) × (stripes.1 < stripes_of row.now) }
 {
+    let (low, high) = stripes;
     for _ in 0..times {
         row.wait_lock(rt, pass, low);
-        row.wait_lock(rt, pass, low + 1);
-        row.unlock(pass, low + 1);
+        row.wait_lock(rt, pass, high);
+        row.unlock(pass, high);
         row.unlock(pass, low);
-        row.wake(low + 1);
+        row.wake(high);
         row.wake(low);
     }
 }
