@@ -1,6 +1,7 @@
 //! The rules that a line may break, and what it adds where it breaks none.
 
-ghost use Rattle.std.specs.Prelude.{◌≡◌, length, is_none, IfOk, IfSome};
+ghost use Rattle.std.specs.Prelude.{◌≡◌, ◌<◌, [], length, is_none, IfOk, IfSome};
+ghost use Rattle.std.specs.Option.{option_map_or};
 ghost use Rattle.std.specs.List.{list_any};
 ghost use Rattle.rc_text.specs.Words.{text_of};
 ghost use Rattle.rc_spec.specs.InRange.{IsInRange};
@@ -8,6 +9,7 @@ ghost use Rattle.rc_spec.specs.declared.spec.Spec.{Spec};
 ghost use Rattle.rc_work.specs.LineForms.{word_texts, form_text, round_line, end_line, call_line};
 ghost use Rattle.rc_work.specs.LineRules.{thread_of, raw_value, raw_values, is_too_large, is_wrong_kind, has_wrong_kind, after_form};
 ghost use Rattle.rc_work.specs.Answers.{TakesLine};
+ghost use Rattle.rc_work.specs.CallColumns.{columns_at};
 
 use crate::columns::columns_at;
 use crate::forms::Form;
@@ -16,7 +18,7 @@ use crate::raw::{Draft, RawTurn, RawValue, RawValues};
 use rc_reader::{LineFault, LineRule, number_among};
 use rc_spec::{ColKind, Spec};
 use rc_text::{Word, read_u64};
-use rc_tuple::Memory;
+use rc_tuple::{Cols, Memory};
 use rc_values::{MAX_LEN, Name64};
 use std::alloc::Global;
 
@@ -52,6 +54,28 @@ fn raw_value(alloc: Global, word: &Word<'_>) -> Result<Option<RawValue>, Memory>
     }
 }
 
+/// Whether a number has more than 64 bits, or a text more than 64 bytes.
+fn is_too_large(word: &Word<'_>) -> bool
+    ensures { result ≡ is_too_large (text_of word.now) }
+{
+    match word {
+        Word::Plain(word) => read_u64(word).is_err(),
+        Word::Quoted(text) => text.len() > MAX_LEN,
+    }
+}
+
+/// Whether some value is too large.
+fn has_too_large(words: &[Word<'_>]) -> bool
+    ensures { result ≡ list_any is_too_large (word_texts words.now) }
+{
+    for word in words {
+        if is_too_large(word) {
+            return true;
+        }
+    }
+    false
+}
+
 /// The values that words stand for, or `None` where one is too large.
 fn raw_values(alloc: Global, words: &[Word<'_>]) -> Result<Option<RawValues>, Memory>
     ensures large { IfOk result (λ values. is_none values ≡ list_any is_too_large (word_texts words.now)) }
@@ -65,6 +89,34 @@ fn raw_values(alloc: Global, words: &[Word<'_>]) -> Result<Option<RawValues>, Me
         values.push(value)?;
     }
     Ok(Some(values))
+}
+
+/// The values that words stand for where there are so many of them, or `None` where one is too large. Of another count none
+/// is kept, since a line may have millions of words that are no call's.
+fn call_values(alloc: Global, words: &[Word<'_>], count: usize) -> Result<Option<RawValues>, Memory>
+    ensures large { IfOk result (λ values. is_none values ≡ list_any is_too_large (word_texts words.now)) }
+    ensures values { length words.now ≡ count
+        → IfOk result (λ values. IfSome values (λ read. read ≡ raw_values (word_texts words.now))) }
+{
+    if words.len() == count {
+        return raw_values(alloc, words);
+    }
+    if has_too_large(words) {
+        return Ok(None);
+    }
+    Ok(Some(RawValues::new(alloc)))
+}
+
+/// The columns to which a call of the operation with this number gives values; none without an operation.
+fn columns_of(alloc: Global, spec: &Spec, number: Option<usize>) -> Result<Cols, Memory>
+    requires range { IsInRange spec.now }
+    requires known { IfSome number (λ n. n < length spec.now.ops) }
+    ensures { IfOk result (λ cols. cols ≡ option_map_or (columns_at spec.now) number []) }
+{
+    match number {
+        Some(number) => columns_at(alloc, spec, number),
+        None => Ok(Cols::new(alloc)),
+    }
 }
 
 /// Whether the value is none for a column of this kind.
@@ -129,7 +181,9 @@ fn add_call(
     let Some(thread) = thread_of(draft.threads, thread) else {
         return Err(LineFault::Broken(LineRule::S5));
     };
-    let Some(values) = raw_values(alloc, words)? else {
+    let number = number_among(spec.ops.list(), op);
+    let cols = columns_of(alloc, spec, number)?;
+    let Some(values) = call_values(alloc, words, cols.list().len())? else {
         return Err(LineFault::Broken(LineRule::S5));
     };
     if draft.rounds.calls() >= MAX_CALLS {
@@ -141,10 +195,9 @@ fn add_call(
     if draft.ended {
         return Err(LineFault::Broken(LineRule::S8));
     }
-    let Some(op) = number_among(spec.ops.list(), op) else {
+    let Some(op) = number else {
         return Err(LineFault::Broken(LineRule::W1));
     };
-    let cols = columns_at(alloc, spec, op)?;
     if words.len() != cols.list().len() {
         return Err(LineFault::Broken(LineRule::W2));
     }
