@@ -64,8 +64,8 @@ pub fn is_key(deps: &[Dep], all: ColSet, x: ColSet) -> bool
     determines(deps, x, all)
 }
 
-/// Whether the common columns of both sets determine one of them: so the join of the projections
-/// of a relation onto the two loses and adds no tuple (Heath's theorem).
+/// Whether the common columns of both sets determine one of them: then joining the projections onto
+/// the two of a relation that satisfies the dependencies gives it back (Heath's theorem).
 pub fn is_lossless(deps: &[Dep], left: ColSet, right: ColSet) -> bool
     ensures { IsTrue result ↔ (Follows deps.now (inter left right) left ⊎ Follows deps.now (inter left right) right) }
 {

@@ -26,8 +26,8 @@ use std::thread::Threads;
 /// How many calls a pass may make: more than any workload has.
 const MOST_CALLS: u64 = 1 << 48;
 
-/// Makes the calls of some rounds of so many threads, one round after another. After each, all passes learn what any has seen, so that what
-/// they commit next stands behind it.
+/// Makes the calls of some rounds of so many threads, one round after another. After each, all passes
+/// learn what any has seen, so that what they commit next stands behind it.
 fn run_rounds<R: Threads + Wait + Sync, G: Gate + Sync>(
     rt: &R,
     alloc: Global,
