@@ -1,6 +1,6 @@
 #!/bin/sh
-# Tries by hand the wrong bodies that the gate leaves out: each stands under an exact clause, by which any wrong body is
-# refused, so it tells little of the contract. Needed after a change of a definition, or of a contract's form.
+# Tries by hand the wrong bodies that the gate leaves out: most stand under an exact clause, by which any wrong body is
+# refused, so they tell little of the contract. Needed after a change of a definition, or of a contract's form.
 #
 #   checks/edits.sh [CRATE..]     those of these crates, of all where none is named
 #
