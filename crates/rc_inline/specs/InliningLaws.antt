@@ -1,5 +1,5 @@
 -- Inlining keeps what it need not change, and ends where nothing can be inlined.
-use Rattle.std.proofs.Common.{◌≡◌, ◌∙◌, ℕ, zero, suc, ◌+◌, ◌≤◌, Option, None, Some, ap, length, refl, sym, arith}
+use Rattle.std.proofs.Common.{◌≡◌, ◌∙◌, ℕ, zero, suc, ◌+◌, Option, None, Some, ap, length, refl, sym, arith}
 use Rattle.std.specs.List.{remove}
 use Rattle.std.specs.Option.{option_map_or}
 use Rattle.std.proofs.lemmas.List.{length-map}
@@ -47,25 +47,6 @@ named_in (suc n) spec named = go (first_inlinable spec) (λ f. named_in n (contr
 pub inlined_named : (spec : Spec) → IsWellNamed spec → IsWellNamed (inlined spec)
 unfolding inlined
 inlined_named spec named = named_in (length spec.edges) spec named
-
--- nothing can be inlined in what is left
-done_in : (n : ℕ) (spec : Spec) → length spec.edges ≤ n → first_inlinable (inlined_in n spec) ≡ None
-done_in zero spec few = none (first_inlinable spec) refl
-  where
-    none : (found : Option ℕ) → first_inlinable spec ≡ found → first_inlinable spec ≡ None
-    none None is = is
-    none (Some f) is = let fewer = contracted_shorter spec f is in absurd (omega (arith, fewer, few))
-done_in (suc n) spec few = go (first_inlinable spec) refl (λ f. done_in n (contracted spec f))
-  where
-    go : (found : Option ℕ) → first_inlinable spec ≡ found
-        → ((f : ℕ) → length (contracted spec f).edges ≤ n → first_inlinable (inlined_in n (contracted spec f)) ≡ None)
-        → first_inlinable (option_map_or (λ f. inlined_in n (contracted spec f)) found spec) ≡ None
-    go None is rest = is
-    go (Some f) is rest = let fewer = contracted_shorter spec f is in rest f (omega (arith, fewer, few))
-
-pub inlined_done : (spec : Spec) → first_inlinable (inlined spec) ≡ None
-unfolding inlined
-inlined_done spec = done_in (length spec.edges) spec (omega arith)
 
 -- ---- one contraction more
 
