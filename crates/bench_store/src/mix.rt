@@ -6,7 +6,7 @@ use crate::failed::Failed;
 use crate::random::Random;
 use crate::subject::Subject;
 use rc_reader::number_among;
-use rc_spec::{Call, Spec};
+use rc_spec::{Call, Ranges, Spec};
 use rc_tuple::{Memory, Tuple};
 use std::alloc::Global;
 
@@ -147,6 +147,7 @@ impl Mix {
             Some(number) if number < 256 => Ok(Call {
                 op: number as u8,
                 args: operation.args(alloc, edge)?,
+                ranges: Ranges::new(alloc),
             }),
             _ => Err(Failed),
         }

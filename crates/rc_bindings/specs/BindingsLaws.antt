@@ -1,6 +1,6 @@
 -- Laws of bindings.
-use Rattle.std.proofs.Common.{◌≡◌, ℕ, zero, suc, ◌+◌, ◌*◌, ◌<◌, ◌≤◌, List, [], ◌∷◌, ◌++◌, get_or, length, take, drop, refl, sym, ap, ◌∙◌, inl, inr, ◌⊎◌, true, false, cond, filter, map, subst, arith}
-use Rattle.std.proofs.lemmas.List.{append-nil, append_assoc, take-append-le, drop-append-le, drop-drop, take_all, length-append, length-drop, map-append}
+use Rattle.std.proofs.Common.{◌≡◌, ℕ, zero, suc, ◌+◌, ◌*◌, ◌<◌, ◌≤◌, List, [], ◌∷◌, ◌++◌, get_or, length, set, take, drop, refl, sym, ap, ◌∙◌, inl, inr, ◌⊎◌, true, false, cond, filter, map, subst, arith}
+use Rattle.std.proofs.lemmas.List.{append-nil, append_assoc, take-append-le, drop-append-le, drop-drop, drop-take, take-take, take_all, length-append, length-drop, length-take-le, map-append}
 use Rattle.std.proofs.Math.ListN.{drop_of_length-le}
 use Rattle.std.proofs.Math.Nat.{le-mul_of_pos_right, mul-le-mul_right, suc-mul, zero-mul}
 use Rattle.std.specs.declared.cmp.Ordering.{Ordering}
@@ -81,6 +81,78 @@ row_within w count registers at rows l =
     let more = mul-le-mul_right w (let k : suc at ≤ count = omega (arith, l) in k) in
     let step = suc-mul at w in
     omega (arith, whole, more, step)
+
+-- ---- rows laid over others
+
+pub take_first : {A : Type 0} (k : ℕ) (xs ys : List A) → length xs ≡ k → take k (xs ++ ys) ≡ xs
+take_first k xs ys e = take-append-le k xs ys (omega (arith, e)) ∙ take_all k xs (omega (arith, e))
+
+pub drop_first : {A : Type 0} (k : ℕ) (xs ys : List A) → length xs ≡ k → drop k (xs ++ ys) ≡ ys
+drop_first k xs ys e = drop-append-le k xs ys (omega (arith, e)) ∙ ap (λ l. l ++ ys) (drop_of_length-le xs (omega (arith, e)))
+
+-- only how long the registers are says whether they are rows
+pub rows_as_long : (w n : ℕ) (xs ys : List ℕ) → length ys ≡ length xs → AreRows w n xs → AreRows w n ys
+rows_as_long w zero xs [] e h = refl
+rows_as_long w zero xs (y ∷ ys) e h = absurd (let none : length xs ≡ 0 = ap length h in omega (arith, e, none))
+rows_as_long w (suc n) xs ys e h =
+    let a = length-drop w xs in
+    let b = length-drop w ys in
+    let l = h.0 in
+    (omega (arith, l, e), rows_as_long w n (drop w xs) (drop w ys) (omega (arith, a, b, e)) h.1)
+
+-- of a row and what is behind it
+module _ (w k j : ℕ) (xs : List ℕ) (is : k ≡ w + j) (within : k ≤ length xs) where
+  front_long : w ≤ length (take k xs)
+  front_long = let e = length-take-le k xs within in omega (arith, e, is)
+
+  take_of_take : take w (take k xs) ≡ take w xs
+  take_of_take = take-take w k xs (omega (arith, is))
+
+  drop_of_take : drop w (take k xs) ≡ take j (drop w xs)
+  drop_of_take = ap (λ n. drop w (take n xs)) is ∙ drop-take w j xs
+
+-- a row that is laid over another is the tuple in its place
+pub row_set : (cols : List ℕ) (w n : ℕ) (xs row : List ℕ) (to k : ℕ) → length row ≡ w → AreRows w n xs → to < n → k ≡ to * w
+    → tuples_in cols w n (take k xs ++ (row ++ drop (k + w) xs)) ≡ set (tuples_in cols w n xs) to (tuple_in cols row)
+row_set cols w zero xs row to k e rows l is = absurd (omega (arith, l))
+row_set cols w (suc n) xs row zero k e rows l is =
+    let none : k ≡ 0 = is ∙ zero-mul w in
+    let plain : 0 + w ≡ w = omega arith in
+    ap (λ j. tuples_in cols w (suc n) (take j xs ++ (row ++ drop (j + w) xs))) none
+    ∙ ap (λ j. tuples_in cols w (suc n) (row ++ drop j xs)) plain
+    ∙ (λ i. tuple_in cols (take_first w row (drop w xs) e i) ∷ tuples_in cols w n (drop_first w row (drop w xs) e i))
+row_set cols w (suc n) xs row (suc to) k e rows l is =
+    let j : ℕ = to * w in
+    let whole : k ≡ w + j = let step = suc-mul to w in omega (arith, is, step) in
+    let within : k ≤ length xs = let inside = row_within w (suc n) xs (suc to) rows l in omega (arith, is, inside) in
+    let long = front_long w k j xs whole within in
+    let behind : List ℕ = row ++ drop (k + w) xs in
+    let rest : drop (k + w) xs ≡ drop (j + w) (drop w xs) = sym (drop-drop (j + w) w xs ∙ ap (λ m. drop m xs) (omega (arith, whole))) in
+    let first : take w (take k xs ++ behind) ≡ take w xs = take-append-le w (take k xs) behind long ∙ take_of_take w k j xs whole within in
+    let others : drop w (take k xs ++ behind) ≡ take j (drop w xs) ++ (row ++ drop (j + w) (drop w xs)) =
+    drop-append-le w (take k xs) behind long ∙ (λ i. drop_of_take w k j xs whole within i ++ (row ++ rest i)) in
+    (λ i. tuple_in cols (first i) ∷ tuples_in cols w n (others i))
+    ∙ ap (λ ts. tuple_in cols (take w xs) ∷ ts) (row_set cols w n (drop w xs) row to j e rows.1 (omega (arith, l)) refl)
+
+-- the first rows, and nothing behind them
+pub first_rows : (w n count : ℕ) (xs : List ℕ) (k : ℕ) → AreRows w n xs → count ≤ n → k ≡ count * w → AreRows w count (take k xs)
+first_rows w n zero xs k rows l is = ap (λ j. take j xs) (is ∙ zero-mul w)
+first_rows w zero (suc count) xs k rows l is = absurd (omega (arith, l))
+first_rows w (suc n) (suc count) xs k rows l is =
+    let j : ℕ = count * w in
+    let whole : k ≡ w + j = let step = suc-mul count w in omega (arith, is, step) in
+    let within : k ≤ length xs = let inside = row_within w (suc n) xs count rows (omega (arith, l)) in omega (arith, whole, inside) in
+    (front_long w k j xs whole within, subst (AreRows w count) (sym (drop_of_take w k j xs whole within)) (first_rows w n count (drop w xs) j rows.1 (omega (arith, l)) refl))
+
+pub first_tuples : (cols : List ℕ) (w n count : ℕ) (xs : List ℕ) (k : ℕ) → AreRows w n xs → count ≤ n → k ≡ count * w → tuples_in cols w count (take k xs) ≡ take count (tuples_in cols w n xs)
+first_tuples cols w n zero xs k rows l is = refl
+first_tuples cols w zero (suc count) xs k rows l is = absurd (omega (arith, l))
+first_tuples cols w (suc n) (suc count) xs k rows l is =
+    let j : ℕ = count * w in
+    let whole : k ≡ w + j = let step = suc-mul count w in omega (arith, is, step) in
+    let within : k ≤ length xs = let inside = row_within w (suc n) xs count rows (omega (arith, l)) in omega (arith, whole, inside) in
+    (λ i. tuple_in cols (take_of_take w k j xs whole within i) ∷ tuples_in cols w count (drop_of_take w k j xs whole within i))
+    ∙ ap (λ ts. tuple_in cols (take w xs) ∷ ts) (first_tuples cols w n count (drop w xs) j rows.1 (omega (arith, l)) refl)
 
 -- ---- one more row
 
@@ -166,12 +238,6 @@ module _ (own held : List ℕ) (list : BindingList) (key kv extra xv : List ℕ)
       list.columns set.set.rising (λ k m. elim (takes.parts k m) [ inl h ↦ inl h | inr h ↦ inr (subst (In k) (sym columns) h) ]) takes.old_within within
 
 -- ---- rows one behind the other
-
-pub take_first : {A : Type 0} (k : ℕ) (xs ys : List A) → length xs ≡ k → take k (xs ++ ys) ≡ xs
-take_first k xs ys e = take-append-le k xs ys (omega (arith, e)) ∙ take_all k xs (omega (arith, e))
-
-pub drop_first : {A : Type 0} (k : ℕ) (xs ys : List A) → length xs ≡ k → drop k (xs ++ ys) ≡ ys
-drop_first k xs ys e = drop-append-le k xs ys (omega (arith, e)) ∙ ap (λ l. l ++ ys) (drop_of_length-le xs (omega (arith, e)))
 
 -- the first of some rows, and those behind it
 pub record HasFirst (cols : List ℕ) (w n : ℕ) (registers row rest : List ℕ) : Type 0 where

@@ -6,10 +6,11 @@ ghost use Rattle.rc_tuple.specs.ColSet.{IsColSet};
 ghost use Rattle.rc_tuple.specs.Tuple.{IsTuple, agree_on, cols_of, get, pick, project, tuple_cmp, value};
 ghost use Rattle.rc_spec.specs.InRange.{AreBelow, IsSetBelow};
 ghost use Rattle.rc_spec.specs.Plain.{row_cmp};
+ghost use Rattle.rc_spec.specs.Ranges.{in_ranges, is_within_range};
 ghost use Rattle.rc_spec.specs.Stripes.{hash_of, stripe_of};
 ghost use Rattle.rc_bindings.specs.Registers.{fits_all, register, tuple_in, values_of};
 
-use rc_spec::{Class, mix};
+use rc_spec::{Class, Range, mix};
 use rc_tuple::{ColSet, Cols, Memory, Tuple, Vals};
 use std::alloc::Global;
 use std::cmp::Ordering;
@@ -64,6 +65,26 @@ impl<'a> Binding<'a> {
         } else {
             0
         }
+    }
+
+    /// Whether the value at each range's column is between its bounds, where a column that the tuple hasn't counts as 0.
+    pub(crate) fn is_in_ranges(&self, ranges: &[Range]) -> bool
+        ensures { result ≡ in_ranges ranges.now self.now.tuple }
+    {
+        for range in ranges {
+            if !self.is_within(*range) {
+                return false;
+            }
+        }
+        true
+    }
+
+    /// Whether the value at the range's column is between its bounds.
+    fn is_within(&self, range: Range) -> bool
+        ensures { result ≡ is_within_range self.now.tuple range }
+    {
+        let value = self.value(range.col);
+        range.lo <= value && value <= range.hi
     }
 
     /// The stripe of the class on which the tuple falls, from 0, where the class has a stripe. A column that the tuple

@@ -1,17 +1,19 @@
 //! A list of bindings.
 
-ghost use Rattle.std.specs.Prelude.{◌≡◌, ℕ, List, ◌+◌, ◌<◌, ◌≤◌, ◌-◌, ◌*◌, ◌^◌, ◌==◌, ◌++◌, [], ◌∷◌, length, get_or, take, drop, IsTrue, OnOk, OnErr, IfOk, ◌↔◌};
+ghost use Rattle.std.specs.Prelude.{◌≡◌, ℕ, List, ◌+◌, ◌<◌, ◌≤◌, ◌-◌, ◌*◌, ◌^◌, ◌==◌, ◌++◌, [], ◌∷◌, length, get_or, set, filter, take, drop, IsTrue, OnOk, OnErr, IfOk, ◌↔◌};
 ghost use Rattle.std.specs.List.{flat_map};
 ghost use Rattle.std.specs.Vec.{vec_capacity, vec_len};
 ghost use Rattle.rc_tuple.specs.ColSet.{Within};
 ghost use Rattle.rc_tuple.specs.RisingSet.{In, IsRising, gather};
 ghost use Rattle.rc_tuple.specs.Tuple.{Pairs, cols_of, merges_of, project, tuple_cmp};
 ghost use Rattle.rc_spec.specs.InRange.{AreBelow, IsSetBelow};
+ghost use Rattle.rc_spec.specs.Ranges.{in_ranges};
 ghost use Rattle.rc_bindings.specs.Bindings.{HasMore, IsGivenBy, IsRowWith, TakesRows, given, key_and_extra, no_binding, with_tuples};
 ghost use Rattle.rc_bindings.specs.Registers.{all_written};
 
 use crate::Binding;
 use crate::binding::{compare, fits_values};
+use rc_spec::Range;
 use rc_tuple::{ColSet, Memory, Tuple, distinct};
 use std::alloc::Global;
 use std::marker::Model;
@@ -253,6 +255,41 @@ impl Bindings {
             self.push_projection(tuple)?;
         }
         Ok(())
+    }
+
+    /// Keeps the bindings that are between the bounds, in their order. One walk, in which the rows that stay move down: no
+    /// memory is taken.
+    pub fn keep_in_ranges(&mut self, ranges: &[Range])
+        ensures { self.new ≡ with_tuples self.old (filter (in_ranges ranges.now) self.old.tuples) }
+    {
+        let mut kept = 0;
+        for at in 0..self.len() {
+            if self.get(at).is_in_ranges(ranges) {
+                self.copy_row(at, kept);
+                kept += 1;
+            }
+        }
+        self.truncate(kept);
+    }
+
+    /// Lays the row at a place over that at another one, which isn't behind it.
+    fn copy_row(&mut self, from: usize, to: usize)
+        requires order { to ≤ from }
+        requires within { from < length self.old.tuples }
+        ensures { self.new ≡ with_tuples self.old (set self.old.tuples to (get_or self.old.tuples from [])) }
+    {
+        let start = from * self.width;
+        self.registers
+            .copy_within(start..start + self.width, to * self.width);
+    }
+
+    /// Forgets the bindings behind the first so many.
+    fn truncate(&mut self, count: usize)
+        requires { count ≤ length self.old.tuples }
+        ensures { self.new ≡ with_tuples self.old (take count self.old.tuples) }
+    {
+        self.registers.truncate(count * self.width);
+        self.count = count;
     }
 
     /// Whether each binding is below the next.

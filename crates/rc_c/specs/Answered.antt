@@ -6,9 +6,10 @@ use Rattle.std.specs.Prelude.{◌≡◌, ◌↔◌, ◌⊎◌, ◌∷◌, [], �
 use Rattle.std.specs.Borrow.{full_share}
 use Rattle.rc_row.specs.Passes.{PassSeen, spec_of}
 use Rattle.rc_embed.specs.declared.frame.Frame.{Frame}
+use Rattle.rc_embed.specs.declared.frame.Page.{Page}
 use Rattle.rc_embed.specs.declared.open_frame.OperationFrame.{OperationFrame}
 use Rattle.rc_embed.specs.Codes as codes
-use Rattle.rc_embed.specs.Frames.{AnswersCancel, AnswersRow}
+use Rattle.rc_embed.specs.Frames.{AnswersCancel, AnswersRow, AnswersRows}
 use Rattle.rc_embed.specs.OpenFrames.{AnswersOperation}
 use Rattle.rc_embed.specs.Opened.{OpenSeen}
 use Rattle.rc_embed.specs.Session.{SessionSeen}
@@ -29,6 +30,12 @@ pub record AnswersSameRow (old : SessionSeen) (before : Frame)
     (new : SessionSeen) (after : Frame) (code : ℕ) : Type 0 where
   pub same : new ≡ old
   pub row : AnswersRow old before after code
+
+-- the session is the same, and the page has the rows of its reply
+pub record AnswersSameRows (old : SessionSeen) (before : Page)
+    (new : SessionSeen) (after : Page) (code : ℕ) : Type 0 where
+  pub same : new ≡ old
+  pub rows : AnswersRows old before after code
 
 -- the store is the same, and the frame tells of the operation
 pub record AnswersSameOperation (old : OpenSeen) (before : OperationFrame)

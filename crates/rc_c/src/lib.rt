@@ -14,10 +14,10 @@ ghost use Rattle.rc_embed.specs.Session.{SessionSeen};
 ghost use Rattle.rc_embed.specs.contracts.opening.OpenStore as stores;
 ghost use Rattle.rc_embed.specs.contracts.session.Session as sessions;
 ghost use Rattle.rc_c.specs.Answered.{AnswersSameFrame, AnswersSameOperation, AnswersSameRow};
-ghost use Rattle.rc_c.specs.Answered.{AnswersSession, lies_again};
+ghost use Rattle.rc_c.specs.Answered.{AnswersSameRows, AnswersSession, lies_again};
 
 use rc_embed::{
-    DONE, Frame, MEMORY, OpenFrame, OpenStore, OperationFrame, Session, open_by, session_code,
+    DONE, Frame, MEMORY, OpenFrame, OpenStore, OperationFrame, Page, Session, open_by, session_code,
 };
 use std::alloc::Global;
 
@@ -179,6 +179,25 @@ pub unsafe extern "C" fn relc_row(session: *mut u8, frame: &mut Frame) -> u32
         (λ after. AnswersSameRow held frame.old after frame.new result)) }
 {
     row_on(&mut *(session as *mut Session), frame)
+}
+
+/// Copies several rows of the reply.
+fn rows_on(session: &mut Session, page: &mut Page) -> u32
+    ensures { AnswersSameRows session.old page.old session.new page.new result }
+{
+    session.rows_by(page)
+}
+
+/// Copies the rows from the one on that the page asks for, as many as it has room for, of the reply
+/// of the session at the pointer.
+#[unsafe(no_mangle)]
+pub unsafe extern "C" fn relc_rows(session: *mut u8, page: &mut Page) -> u32
+    ghost held: { SessionSeen }
+    requires* { sem 𝓛 (lies_at sessions.the_row full_share session held) }
+    ensures* { sem 𝓛 (lies_again sessions.the_row session
+        (λ after. AnswersSameRows held page.old after page.new result)) }
+{
+    rows_on(&mut *(session as *mut Session), page)
 }
 
 /// Learns what the frame tells of another session.

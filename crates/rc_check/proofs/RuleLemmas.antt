@@ -10,10 +10,11 @@ use Rattle.rc_tuple.specs.ColSetLaws.{within_from_test, test_from_within, rising
 use Rattle.rc_tuple.specs.declared.dep.Dep.{Dep}
 use Rattle.rc_spec.specs.declared.items.Op.{Op}
 use Rattle.rc_spec.specs.declared.items.OpKind.{OpKind}
-use Rattle.rc_spec.specs.declared.items.OpKind.TheVariants.{Query, Insert, Remove}
+use Rattle.rc_spec.specs.declared.items.OpKind.TheVariants.{Query, Insert, Remove, Update}
 use Rattle.rc_spec.specs.declared.lock.Mode.{Mode}
 use Rattle.rc_spec.specs.declared.spec.Spec.{Spec}
-use Rattle.rc_spec.specs.Calls.{all_columns, value_columns}
+use Rattle.rc_spec.specs.Calls.{GivesTuple, all_columns, value_columns}
+use Rattle.rc_spec.specs.Ranges.{range_columns}
 use Rattle.rc_spec.specs.DecompositionLaws.{at_found}
 use Rattle.rc_spec.specs.Placement.{class_at}
 use Rattle.rc_plan.specs.declared.statement.ReadMode.{ReadMode}
@@ -23,10 +24,13 @@ use Rattle.rc_plan.specs.declared.statement.Statement.TheVariants.{Lock, CheckDe
 use Rattle.rc_plan.specs.declared.statement.Which.{Which}
 use Rattle.rc_plan.specs.declared.statement.Which.TheVariants as which
 use Rattle.rc_plan.specs.Evaluation.{dep_at, no_dep}
-use Rattle.rc_plan.specs.PlanRules.{Progress, ChecksAreDone, Covers, FindsTuples, IsAtRisk, IsFindable, IsKeyBound, IsLocked, KeepsK2, KeepsK7, OutputsAreVisited, given_columns, pattern_columns}
+use Rattle.rc_plan.specs.PlanRules.{Progress, Covers, FindsTuples, IsAtRisk, IsFindable, IsKeyBound, IsLocked, IsQuery, KeepsK2, KeepsK7, OutputsAreVisited, TellsOld, pattern_columns}
 use Rattle.rc_check.specs.declared.progress.ProgressSets.{ProgressSets}
 use Rattle.rc_check.specs.Sets.{sets_of, keyed_classes, whole_classes, above, places_of_deps}
 use Rattle.rc_check.specs.SetsLaws.{in_gathered, in_keyed_classes, in_whole_classes, in_places_of_deps, below_above, above_below}
+
+pub some_same : (x y : List ℕ) → Some x ≡ Some y → x ≡ y
+some_same x y e = cc
 
 -- two equivalences, one after the other
 pub both_ways : {A B C : Type 0} → A ↔ B → B ↔ C → A ↔ C
@@ -148,19 +152,49 @@ pub tuples_found : (spec : Spec) (kind : OpKind) (cols visited : List ℕ) (b : 
 tuples_found spec kind cols visited b is all e =
     subst (λ (k : OpKind). (b ≡ true) ↔ FindsTuples spec k visited) (sym is) (within_test cols (all_columns spec) visited visited b e all refl)
 
-pub outputs_visited : (kind : OpKind) (outs cols visited : List ℕ) (b : Bool) → kind ≡ Query outs → cols ≡ gather nat_cmp outs → b ≡ is_within cols visited
+pub outputs_visited : (kind : OpKind) (outs ranges cols visited : List ℕ) (b : Bool) → kind ≡ Query outs ranges → cols ≡ gather nat_cmp outs → b ≡ is_within cols visited
     → (b ≡ true) ↔ OutputsAreVisited kind visited
-outputs_visited kind outs cols visited b is same e =
+outputs_visited kind outs ranges cols visited b is same e =
     let test = within_test cols (gather nat_cmp outs) visited visited b e same refl in
     subst (λ (k : OpKind). (b ≡ true) ↔ OutputsAreVisited k visited) (sym is) (
       (λ h c m. test.0 h c ((in_gathered outs c).1 m)),
       λ w. test.1 (λ c m. w c ((in_gathered outs c).0 m)),
     )
 
--- an insert's columns are all
-pub insert_given : (spec : Spec) (op : Op) → op.kind ≡ Insert → all_columns spec ≡ given_columns spec op
-insert_given spec op is =
-    sym (ap (λ k. gather nat_cmp (value_columns spec op.pattern k)) is ∙ gather-rising nat_cmp nat_order (all_columns spec) (rising_range 0 (length spec.columns)))
+pub ranges_visited : (kind : OpKind) (outs ranges cols visited : List ℕ) (b : Bool) → kind ≡ Query outs ranges → cols ≡ gather nat_cmp ranges → b ≡ is_within cols visited
+    → (b ≡ true) ↔ Within (range_columns kind) visited
+ranges_visited kind outs ranges cols visited b is same e =
+    let test = within_test cols (gather nat_cmp ranges) visited visited b e same refl in
+    subst (λ (k : OpKind). (b ≡ true) ↔ Within (range_columns k) visited) (sym is) (
+      (λ h c m. test.0 h c ((in_gathered ranges c).1 m)),
+      λ w. test.1 (λ c m. w c ((in_gathered ranges c).0 m)),
+    )
+
+-- but for a query no operation has range columns
+pub no_range : (kind : OpKind) → (IsQuery kind → ⊥) → (visited : List ℕ) → Within (range_columns kind) visited
+no_range (Query outs ranges) n visited = absurd (n tt)
+no_range Insert n visited = λ c m. absurd m
+no_range Remove n visited = λ c m. absurd m
+no_range Update n visited = λ c m. absurd m
+
+pub old_told : (op : Op) (kind : OpKind) (cols visited : List ℕ) (b : Bool) → kind ≡ Update → cols ≡ pattern_columns op → b ≡ is_within cols visited
+    → (b ≡ true) ↔ TellsOld op kind visited
+old_told op kind cols visited b is same e =
+    subst (λ (k : OpKind). (b ≡ true) ↔ TellsOld op k visited) (sym is) (within_test cols (pattern_columns op) visited visited b e same refl)
+
+-- where a call gives a tuple, its columns are all
+pub whole_given : (spec : Spec) (op : Op) (kind : OpKind) → GivesTuple kind → all_columns spec ≡ gather nat_cmp (value_columns spec op.pattern kind)
+whole_given spec op (Query outs ranges) g = absurd g
+whole_given spec op Insert g = sym (gather-rising nat_cmp nat_order (all_columns spec) (rising_range 0 (length spec.columns)))
+whole_given spec op Remove g = absurd g
+whole_given spec op Update g = sym (gather-rising nat_cmp nat_order (all_columns spec) (rising_range 0 (length spec.columns)))
+
+-- and else the pattern's
+pub pattern_given : (spec : Spec) (op : Op) (kind : OpKind) → (GivesTuple kind → ⊥) → pattern_columns op ≡ gather nat_cmp (value_columns spec op.pattern kind)
+pattern_given spec op (Query outs ranges) n = refl
+pattern_given spec op Insert n = absurd (n tt)
+pattern_given spec op Remove n = refl
+pattern_given spec op Update n = absurd (n tt)
 
 -- ---- K7
 
@@ -196,17 +230,17 @@ place_unchecked spec op p n pattern inside checked same l is test out none all =
     λ w. false≢true (sym out ∙ is ∙ test_from_within pattern (dep_at spec (n + 1)).left (subst (λ xs. Within xs (dep_at spec (n + 1)).left) (sym same) w)) in
     false≢true (sym none ∙ test.1 (all (n + 1) (omega arith) (omega arith) risk))
 
-pub checks_done : (spec : Spec) (op : Op) (p : Progress) (s : ProgressSets) (kind : OpKind) (b : Bool) → kind ≡ Insert → s ≡ sets_of p → s.absent ≡ true
-    → (b ≡ true) ↔ ((dep : ℕ) → 0 < dep → dep ≤ length spec.deps → IsAtRisk spec op dep → In dep p.checked) → (b ≡ true) ↔ ChecksAreDone spec op kind p
-checks_done spec op p s kind b is e absent test =
-    subst (λ (k : OpKind). (b ≡ true) ↔ ChecksAreDone spec op k p) (sym is)
-    ((λ h. (sym (ap (λ (z : ProgressSets). z.absent) e) ∙ absent, test.0 h)), λ k. test.1 k.1)
+pub checks_done : (spec : Spec) (op : Op) (p : Progress) (s : ProgressSets) (b : Bool) → s ≡ sets_of p → s.sought ≡ true
+    → (b ≡ true) ↔ ((dep : ℕ) → 0 < dep → dep ≤ length spec.deps → IsAtRisk spec op dep → In dep p.checked)
+    → (b ≡ true) ↔ ((p.sought ≡ true) × ((dep : ℕ) → 0 < dep → dep ≤ length spec.deps → IsAtRisk spec op dep → In dep p.checked))
+checks_done spec op p s b e sought test =
+    ((λ h. (sym (ap (λ (z : ProgressSets). z.sought) e) ∙ sought, test.0 h)), λ k. test.1 k.1)
 
-pub after_all_checked : (spec : Spec) (op : Op) (p : Progress) (s : ProgressSets) (x : Statement) (dep : ℕ) → s ≡ sets_of p → x ≡ CheckDep dep → s.absent ≡ true
+pub after_all_checked : (spec : Spec) (op : Op) (p : Progress) (s : ProgressSets) (x : Statement) (dep : ℕ) → s ≡ sets_of p → x ≡ CheckDep dep → s.sought ≡ true
     → (leb s.next_dep dep ≡ true) ↔ KeepsK7 spec op p x
-after_all_checked spec op p s x dep e is absent =
+after_all_checked spec op p s x dep e is sought =
     let next : s.next_dep ≡ above p.checked = ap (λ (k : ProgressSets). k.next_dep) e in
     subst (λ (y : Statement). (leb s.next_dep dep ≡ true) ↔ KeepsK7 spec op p y) (sym is) (
-      (λ h. (sym (ap (λ (z : ProgressSets). z.absent) e) ∙ absent, below_above p.checked dep (subst (λ n. n ≤ dep) next (leb-true s.next_dep dep h)))),
+      (λ h. (sym (ap (λ (z : ProgressSets). z.sought) e) ∙ sought, below_above p.checked dep (subst (λ n. n ≤ dep) next (leb-true s.next_dep dep h)))),
       λ k. le-leb s.next_dep dep (subst (λ n. n ≤ dep) (sym next) (above_below p.checked dep k.1)),
     )

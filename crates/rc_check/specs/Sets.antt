@@ -57,7 +57,7 @@ sets_of p = record {
   released = gather nat_cmp p.released;
   next_class = above (map (λ (lock : ℕ × Which). lock.0) p.locked);
   probe = p.probe;
-  absent = p.absent;
+  sought = p.sought;
   checked = gather nat_cmp (places_of_deps p.checked);
   next_dep = above p.checked;
 }

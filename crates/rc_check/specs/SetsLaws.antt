@@ -17,11 +17,6 @@ is_searching Phase.Searching = ((λ h. refl), λ h. refl)
 is_searching Phase.Decided = ((λ h. absurd cc), λ h. absurd cc)
 is_searching Phase.Committed = ((λ h. absurd cc), λ h. absurd cc)
 
-pub is_decided : (phase : Phase) → (stage_of phase ≡ Decided) ↔ (phase ≡ Phase.Decided)
-is_decided Phase.Searching = ((λ h. absurd cc), λ h. absurd cc)
-is_decided Phase.Decided = ((λ h. refl), λ h. refl)
-is_decided Phase.Committed = ((λ h. absurd cc), λ h. absurd cc)
-
 pub is_committed : (phase : Phase) → (stage_of phase ≡ Committed) ↔ (phase ≡ Phase.Committed)
 is_committed Phase.Searching = ((λ h. absurd cc), λ h. absurd cc)
 is_committed Phase.Decided = ((λ h. absurd cc), λ h. absurd cc)
@@ -84,17 +79,6 @@ whole_in (lock ∷ locks) n (inr m) = with_whole_later lock.1 lock.0 n (whole_cl
 pub in_whole_classes : (locks : List (ℕ × Which)) (n : ℕ) → In n (whole_classes locks) ↔ In (n, which.All) locks
 in_whole_classes locks n = (in_whole locks n, whole_in locks n)
 
--- a class is locked in one choice or the other
-pub is_locked_as : (p : Progress) (c : ℕ) → IsLocked p c ↔ (In c (keyed_classes p.locked) ⊎ In c (whole_classes p.locked))
-is_locked_as p c = (
-  (λ h. go h.0 h.1),
-  λ h. elim h [ inl m ↦ (which.Keyed, in_keyed p.locked c m) | inr m ↦ (which.All, in_whole p.locked c m) ],
-)
-  where
-    go : (choice : Which) → In (c, choice) p.locked → In c (keyed_classes p.locked) ⊎ In c (whole_classes p.locked)
-    go which.Keyed m = inl (keyed_in p.locked c m)
-    go which.All m = inr (whole_in p.locked c m)
-
 -- ---- the number above all
 
 pub below_above : (ns : List ℕ) (limit : ℕ) → above ns ≤ limit → (n : ℕ) → In n ns → n < limit
@@ -134,8 +118,3 @@ places_in (dep ∷ deps) n (inr m) = with_place_later dep n (places_of_deps deps
 
 pub in_places_of_deps : (deps : List ℕ) (n : ℕ) → In n (places_of_deps deps) ↔ In (n + 1) deps
 in_places_of_deps deps n = (in_places deps n, places_in deps n)
-
--- the place of a known dependency
-pub place_of_dep : (dep : ℕ) (places : List ℕ) → 0 < dep → with_place dep places ≡ (dep - 1) ∷ places
-place_of_dep zero places l = absurd (omega arith)
-place_of_dep (suc k) places l = ap (λ n. n ∷ places) (let e : k ≡ suc k - 1 = omega arith in e)

@@ -44,7 +44,7 @@ fn keeps(
         PlanRule::K1 => keeps_k1(&op.kind, before, statement),
         PlanRule::K2 => keeps_k2(before, statement),
         PlanRule::K3 => keeps_k3(accepted, before, statement),
-        PlanRule::K4 => keeps_k4(accepted, before, statement),
+        PlanRule::K4 => keeps_k4(accepted, op, before, statement),
         PlanRule::K5 => keeps_k5(spec, before, statement),
         PlanRule::K6 => keeps_k6(spec, op, before, statement),
         PlanRule::K7 => keeps_k7(spec, op, before, statement),

@@ -2,15 +2,17 @@
 
 ghost use Rattle.std.specs.Prelude.{◌≡◌, ℕ, ◌<◌, ◌↔◌, length, IsTrue};
 ghost use Rattle.rc_tuple.specs.RisingSet.{In};
+ghost use Rattle.rc_tuple.specs.ColSet.{Within};
+ghost use Rattle.rc_spec.specs.InRange.{IsOpAmong};
 ghost use Rattle.rc_spec.specs.Placement.{class_at, class_of};
 ghost use Rattle.rc_plan.specs.declared.statement.Which.{Which};
 ghost use Rattle.rc_plan.specs.declared.statement.Which.TheVariants as which;
-ghost use Rattle.rc_plan.specs.PlanRules.{Progress, Covers, IsKeyBound, IsKnown, IsLocked, KeepsK2, KeepsK3, KeepsK4};
+ghost use Rattle.rc_plan.specs.PlanRules.{Progress, Covers, CoversOld, IsKeyBound, IsKnown, IsLocked, KeepsK2, KeepsK3, KeepsK4, pattern_columns};
 ghost use Rattle.rc_check.specs.Sets.{sets_of};
 
-use crate::progress::ProgressSets;
+use crate::progress::{ProgressSets, pattern_of};
 use rc_plan::{Statement, Which};
-use rc_spec::{Accepted, Spec};
+use rc_spec::{Accepted, Op, OpKind, Spec};
 use rc_tuple::ColSet;
 
 /// Whether a Lock's class is after every class locked before (K2).
@@ -91,12 +93,67 @@ fn all_are_locked(accepted: &Accepted, before: &ProgressSets) -> bool
     true
 }
 
+/// Whether the pattern has the columns of a class that is locked keyed.
+fn has_old_stripe(spec: &Spec, before: &ProgressSets, class: u8, pattern: ColSet) -> bool
+    requires { class < length spec.now.classes }
+    ensures { (p : Progress) → before.now ≡ sets_of p
+        → IsTrue result ↔ (In (class, which.Keyed) p.locked → Within (class_at spec.now class).cols pattern) }
+{
+    if before.keyed.has(class) {
+        return striping(spec, class).within(pattern);
+    }
+    true
+}
+
+/// Whether the pattern has the columns of each class that has an edge and is locked keyed.
+fn has_old_stripes(accepted: &Accepted, op: &Op, before: &ProgressSets) -> bool
+    requires { IsOpAmong (length accepted.now.columns) op.now }
+    ensures { (p : Progress) → before.now ≡ sets_of p
+        → IsTrue result ↔ ((e : ℕ) → e < length accepted.now.edges → In (class_of accepted.now e, which.Keyed) p.locked
+        → Within (class_at accepted.now (class_of accepted.now e)).cols (pattern_columns op.now)) }
+{
+    let spec = accepted.spec();
+    let pattern = pattern_of(spec, op);
+    for edge in 0..spec.edges.list().len() as u8 {
+        if !has_old_stripe(spec, before, accepted.class_of(edge), pattern) {
+            return false;
+        }
+    }
+    true
+}
+
+/// Whether an update's locks cover the rows of the old tuple.
+fn covers_old(accepted: &Accepted, op: &Op, before: &ProgressSets) -> bool
+    requires { IsOpAmong (length accepted.now.columns) op.now }
+    ensures { (p : Progress) → before.now ≡ sets_of p → IsTrue result ↔ CoversOld accepted.now op.now op.now.kind p }
+{
+    match op.kind {
+        OpKind::Update => has_old_stripes(accepted, op, before),
+        OpKind::Query { .. } | OpKind::Insert | OpKind::Remove => true,
+    }
+}
+
+/// Whether the locks cover all rows that a write changes.
+fn covers_write(accepted: &Accepted, op: &Op, before: &ProgressSets) -> bool
+    requires { IsOpAmong (length accepted.now.columns) op.now }
+    ensures { (p : Progress) → before.now ≡ sets_of p
+        → IsTrue result ↔ (((e : ℕ) → e < length accepted.now.edges → IsLocked p (class_of accepted.now e)) × CoversOld accepted.now op.now op.now.kind p) }
+{
+    all_are_locked(accepted, before) && covers_old(accepted, op, before)
+}
+
 /// Whether the locks cover a write (K4).
-pub(crate) fn keeps_k4(accepted: &Accepted, before: &ProgressSets, statement: &Statement) -> bool
-    ensures { (p : Progress) → before.now ≡ sets_of p → IsTrue result ↔ KeepsK4 accepted.now p statement.now }
+pub(crate) fn keeps_k4(
+    accepted: &Accepted,
+    op: &Op,
+    before: &ProgressSets,
+    statement: &Statement,
+) -> bool
+    requires { IsOpAmong (length accepted.now.columns) op.now }
+    ensures { (p : Progress) → before.now ≡ sets_of p → IsTrue result ↔ KeepsK4 accepted.now op.now p statement.now }
 {
     match *statement {
-        Statement::Apply => all_are_locked(accepted, before),
+        Statement::Apply => covers_write(accepted, op, before),
         _ => true,
     }
 }

@@ -2,7 +2,8 @@
 
 ghost use Rattle.std.specs.Prelude.{◌≡◌, ◌↔◌, IsTrue, None};
 ghost use Rattle.rc_tuple.specs.RisingSet.{In};
-ghost use Rattle.rc_plan.specs.PlanRules.{Phase, Progress, HasLockMode, HasProbed, IsInsert, IsLocked, IsQuery, KeepsK1, MayApply, MayRead};
+ghost use Rattle.rc_spec.specs.Calls.{GivesTuple};
+ghost use Rattle.rc_plan.specs.PlanRules.{Phase, Progress, HasLockMode, HasProbed, IsInsert, IsLocked, IsQuery, IsUpdate, KeepsK1, MayApply, MayRead};
 ghost use Rattle.rc_check.specs.Sets.{sets_of};
 
 use crate::progress::{ProgressSets, Stage};
@@ -15,7 +16,7 @@ fn has_lock_mode(kind: &OpKind, mode: Mode) -> bool
 {
     match kind {
         OpKind::Query { .. } => true,
-        OpKind::Insert | OpKind::Remove => mode == Mode::Exclusive,
+        OpKind::Insert | OpKind::Remove | OpKind::Update => mode == Mode::Exclusive,
     }
 }
 
@@ -23,6 +24,19 @@ fn is_insert(kind: &OpKind) -> bool
     ensures { IsTrue result ↔ IsInsert kind.now }
 {
     matches!(kind, OpKind::Insert)
+}
+
+fn is_update(kind: &OpKind) -> bool
+    ensures { IsTrue result ↔ IsUpdate kind.now }
+{
+    matches!(kind, OpKind::Update)
+}
+
+/// Whether a call of the operation gives a whole tuple.
+pub(crate) fn gives_tuple(kind: &OpKind) -> bool
+    ensures { IsTrue result ↔ GivesTuple kind.now }
+{
+    matches!(kind, OpKind::Insert | OpKind::Update)
 }
 
 fn is_query(kind: &OpKind) -> bool
@@ -38,23 +52,23 @@ fn has_probed(before: &ProgressSets) -> bool
     before.probe.is_some()
 }
 
-/// Whether rows may be read: an insert reads behind a Probe.
+/// Whether rows may be read: an insert and an update read behind a Probe.
 fn may_read(kind: &OpKind, before: &ProgressSets) -> bool
     ensures { (p : Progress) → before.now ≡ sets_of p → IsTrue result ↔ MayRead kind.now p }
 {
     match kind {
-        OpKind::Insert => has_probed(before),
+        OpKind::Insert | OpKind::Update => has_probed(before),
         OpKind::Query { .. } | OpKind::Remove => true,
     }
 }
 
-/// Whether a write may come: a query has none, and an insert's stands behind a Probe.
+/// Whether a write may come: a query has none, and an insert's and an update's stand behind a Probe.
 fn may_apply(kind: &OpKind, before: &ProgressSets) -> bool
     ensures { (p : Progress) → before.now ≡ sets_of p → IsTrue result ↔ MayApply kind.now p }
 {
     match kind {
         OpKind::Query { .. } => false,
-        OpKind::Insert => has_probed(before),
+        OpKind::Insert | OpKind::Update => has_probed(before),
         OpKind::Remove => true,
     }
 }
@@ -66,11 +80,25 @@ fn may_lock(before: &ProgressSets) -> bool
     before.is_searching() && before.probe.is_none()
 }
 
-/// Whether an insert's checks may come: behind a Probe, before the write.
-fn may_check(kind: &OpKind, before: &ProgressSets) -> bool
+/// Whether CheckAbsent may come: of an insert, behind a Probe.
+fn may_be_absent(kind: &OpKind, before: &ProgressSets) -> bool
     ensures { (p : Progress) → before.now ≡ sets_of p → IsTrue result ↔ (IsInsert kind.now × HasProbed p) }
 {
     is_insert(kind) && has_probed(before)
+}
+
+/// Whether CheckFound may come: of an update, behind a Probe.
+fn may_be_found(kind: &OpKind, before: &ProgressSets) -> bool
+    ensures { (p : Progress) → before.now ≡ sets_of p → IsTrue result ↔ (IsUpdate kind.now × HasProbed p) }
+{
+    is_update(kind) && has_probed(before)
+}
+
+/// Whether a dependency's check may come: of an insert or an update, behind a Probe.
+fn may_check(kind: &OpKind, before: &ProgressSets) -> bool
+    ensures { (p : Progress) → before.now ≡ sets_of p → IsTrue result ↔ (GivesTuple kind.now × HasProbed p) }
+{
+    gives_tuple(kind) && has_probed(before)
 }
 
 /// Whether the class is locked and not released.
@@ -86,9 +114,10 @@ pub(crate) fn keeps_k1(kind: &OpKind, before: &ProgressSets, statement: &Stateme
 {
     match *statement {
         Statement::Lock { mode, .. } => may_lock(before) && has_lock_mode(kind, mode),
-        Statement::Probe { .. } => before.is_searching() && is_insert(kind),
+        Statement::Probe { .. } => before.is_searching() && gives_tuple(kind),
         Statement::Read { .. } => before.is_searching() && may_read(kind, before),
-        Statement::CheckAbsent => before.is_searching() && may_check(kind, before),
+        Statement::CheckAbsent => before.is_searching() && may_be_absent(kind, before),
+        Statement::CheckFound => before.is_searching() && may_be_found(kind, before),
         Statement::CheckDep { .. } => before.is_searching() && may_check(kind, before),
         Statement::Apply => before.is_searching() && may_apply(kind, before),
         Statement::Emit => before.is_searching() && is_query(kind),

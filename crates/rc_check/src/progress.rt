@@ -8,8 +8,9 @@ ghost use Rattle.rc_spec.specs.InRange.{IsInRange, IsOpAmong};
 ghost use Rattle.rc_plan.specs.PlanRules.{Phase, Progress, IsKnown, IsLocked, IsComplete, after, at_start, given_columns, pattern_columns};
 ghost use Rattle.rc_check.specs.Sets.{sets_of};
 
+use crate::phases::gives_tuple;
 use rc_plan::{Statement, Which};
-use rc_spec::{Op, OpKind, Spec};
+use rc_spec::{Op, Spec};
 use rc_tuple::ColSet;
 
 /// A set of node numbers, which are below 16. The set takes numbers below 32.
@@ -52,8 +53,8 @@ pub(crate) struct ProgressSets {
     pub(crate) next_class: u8,
     /// The columns of the last Probe.
     pub(crate) probe: Option<ColSet>,
-    /// Whether CheckAbsent has come.
-    pub(crate) absent: bool,
+    /// Whether CheckAbsent or CheckFound has come.
+    pub(crate) sought: bool,
     /// The dependencies checked, by their places in the list.
     pub(crate) checked: DepSet,
     /// The least dependency above all that are checked.
@@ -69,15 +70,16 @@ pub(crate) fn pattern_of(spec: &Spec, op: &Op) -> ColSet
     ColSet::from_list(op.pattern.list())
 }
 
-/// The columns of a call's tuple: an insert has all, a query and a remove have the pattern's.
+/// The columns of a call's tuple: an insert and an update have all, a query and a remove have the pattern's.
 fn columns_given(spec: &Spec, op: &Op) -> ColSet
     requires range { IsInRange spec.now }
     requires known { IsOpAmong (length spec.now.columns) op.now }
     ensures { result ≡ given_columns spec.now op.now }
 {
-    match op.kind {
-        OpKind::Insert => spec.all_columns(),
-        OpKind::Query { .. } | OpKind::Remove => pattern_of(spec, op),
+    if gives_tuple(&op.kind) {
+        spec.all_columns()
+    } else {
+        pattern_of(spec, op)
     }
 }
 
@@ -98,7 +100,7 @@ impl ProgressSets {
             released: ClassSet::empty(),
             next_class: 0,
             probe: None,
-            absent: false,
+            sought: false,
             checked: DepSet::empty(),
             next_dep: 0,
         }
@@ -159,8 +161,8 @@ impl ProgressSets {
                 ..self
             },
             Statement::Read { edge, .. } => { self.after_read(spec, spec.edge(edge).to) }
-            Statement::CheckAbsent => ProgressSets {
-                absent: true,
+            Statement::CheckAbsent | Statement::CheckFound => ProgressSets {
+                sought: true,
                 ..self
             },
             Statement::CheckDep { dep } => ProgressSets {
@@ -202,6 +204,16 @@ impl ProgressSets {
         ensures { (p : Progress) → self.now ≡ sets_of p → IsTrue result ↔ IsLocked p class }
     {
         self.keyed.has(class) || self.whole.has(class)
+    }
+
+    /// Whether the last Probe has these columns.
+    pub(crate) fn has_probed_for(&self, cols: ColSet) -> bool
+        ensures { (p : Progress) → self.now ≡ sets_of p → IsTrue result ↔ (p.probe ≡ Some cols) }
+    {
+        match self.probe {
+            Some(probe) => probe.equals(cols),
+            None => false,
+        }
     }
 
     /// Whether the last Probe has these columns, and they are visited.

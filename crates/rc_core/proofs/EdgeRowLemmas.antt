@@ -1,5 +1,5 @@
 -- Rows of edges: gathered one after another, and counts raised edge by edge.
-use Rattle.std.proofs.Common.{◌≡◌, ℕ, suc, ◌+◌, ◌<◌, Bool, true, false, List, [], ◌∷◌, ◌++◌, length, take, get_or, cond, sym, refl, ap, ◌∙◌, inl, inr, arith}
+use Rattle.std.proofs.Common.{◌≡◌, ℕ, zero, suc, pred, ◌+◌, ◌<◌, Bool, true, false, List, [], ◌∷◌, ◌++◌, length, take, get_or, cond, sym, refl, subst, ap, ◌∙◌, inl, inr, arith}
 use Rattle.std.specs.List.{flat_map, range_with_len}
 use Rattle.std.proofs.lemmas.List.{append_assoc, take_more, flat_map_more}
 use Rattle.rc_tuple.specs.RisingSet.{In, put, gather}
@@ -47,6 +47,21 @@ small_more e t m ws some small w h = elim (in_with_count e t (suc (count_at e t 
   | inl q ↦ (let is : w.2 ≡ suc (count_at e t ws) = ap (λ (x : EdgeRow). x.2) q.0 in let l = count_below e t m ws some small in omega arith)
   | inr q ↦ (let l = small w q.0 in omega arith)
 ]
+
+-- what is lowered stays small
+pred_below : (n m : ℕ) → n < m → pred n < m
+pred_below zero m l = l
+pred_below (suc n) m l = omega (arith, l)
+
+lowered_small : (e : ℕ) (t : Pairs) (m : ℕ) (ws : List EdgeRow) → 0 < m → ((w : EdgeRow) → In w ws → w.2 < m) → (w : EdgeRow) → In w (lowered e t ws) → w.2 < m
+lowered_small e t m ws some small w h = elim (in_with_count e t (pred (count_at e t ws)) ws w h) [
+  | inl q ↦ subst (λ n. n < m) (sym (ap (λ (x : EdgeRow). x.2) q.0)) (pred_below (count_at e t ws) m (count_below e t m ws some small))
+  | inr q ↦ small w q.0
+]
+
+pub all_lowered_small : (spec : Spec) (t : Pairs) (es : List ℕ) (m : ℕ) (ws : List EdgeRow) → 0 < m → ((w : EdgeRow) → In w ws → w.2 < m) → (w : EdgeRow) → In w (all_lowered spec t es ws) → w.2 < m
+all_lowered_small spec t [] m ws some small = small
+all_lowered_small spec t (e ∷ es) m ws some small = all_lowered_small spec t es m (lowered e (row_in spec t e) ws) some (lowered_small e (row_in spec t e) m ws some small)
 
 zero_more : (n : ℕ) → n ≡ 0 + n
 zero_more n = omega arith

@@ -8,7 +8,7 @@ use Rattle.std.specs.List.{list_any, list_all}
 use Rattle.std.proofs.lemmas.Bool.{false≢true}
 use Rattle.rc_tuple.specs.RisingSet.{In}
 use Rattle.rc_plan.specs.declared.statement.Statement.{Statement}
-use Rattle.rc_plan.specs.declared.statement.Statement.TheVariants.{Lock, Probe, Read, CheckAbsent, CheckDep, Apply, Emit, Commit, Release}
+use Rattle.rc_plan.specs.declared.statement.Statement.TheVariants.{Lock, Probe, Read, CheckAbsent, CheckFound, CheckDep, Apply, Emit, Commit, Release}
 use Rattle.rc_plan.specs.Compiled.{SpecWithPlans, plan_at}
 use Rattle.rc_rel.specs.declared.entry.Step.{Step}
 use Rattle.rc_core.specs.declared.state.PassState.{PassState}
@@ -50,6 +50,7 @@ class_found spec p plan (Lock c which mode) m e = (c, which, mode, m, (band_of_c
 class_found spec p plan (Probe cols) m e = absurd (false≢true e)
 class_found spec p plan (Read i mode) m e = absurd (false≢true e)
 class_found spec p plan CheckAbsent m e = absurd (false≢true e)
+class_found spec p plan CheckFound m e = absurd (false≢true e)
 class_found spec p plan (CheckDep dep) m e = absurd (false≢true e)
 class_found spec p plan Apply m e = absurd (false≢true e)
 class_found spec p plan Emit m e = absurd (false≢true e)

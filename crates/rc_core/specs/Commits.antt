@@ -10,7 +10,7 @@ use Rattle.rc_spec.specs.declared.spec.Spec.{Spec}
 use Rattle.rc_spec.specs.Calls.{all_columns}
 use Rattle.rc_spec.specs.Fragments.{EdgeRow, rows_on}
 use Rattle.rc_plan.specs.declared.statement.Statement.{Statement}
-use Rattle.rc_plan.specs.declared.statement.Statement.TheVariants.{Lock, Probe, Read, CheckAbsent, CheckDep, Apply, Emit, Commit, Release}
+use Rattle.rc_plan.specs.declared.statement.Statement.TheVariants.{Lock, Probe, Read, CheckAbsent, CheckFound, CheckDep, Apply, Emit, Commit, Release}
 use Rattle.rc_plan.specs.Compiled.{SpecWithPlans, plan_at}
 use Rattle.rc_plan.specs.StripeLocks.{StripeLock, band}
 use Rattle.rc_plan.specs.Turns.{AllAreHeld, eval_replies}
@@ -54,6 +54,7 @@ locks_class_of spec p (Lock c which mode) = has (band spec c) p
 locks_class_of spec p (Probe cols) = false
 locks_class_of spec p (Read e mode) = false
 locks_class_of spec p CheckAbsent = false
+locks_class_of spec p CheckFound = false
 locks_class_of spec p (CheckDep dep) = false
 locks_class_of spec p Apply = false
 locks_class_of spec p Emit = false

@@ -94,6 +94,7 @@ fn rows_if(run: Run, locks: &[StripeLock], reply: &Reply) -> Option<Vec<CountedR
     let Run {
         bindings: _,
         named,
+        old: _,
         reply: found,
         rows,
     } = run;

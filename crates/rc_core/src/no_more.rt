@@ -70,6 +70,7 @@ fn is_named(locks: &[StripeLock], run: Run) -> bool
     let Run {
         bindings: _,
         named,
+        old: _,
         reply: _,
         rows: _,
     } = run;
@@ -153,6 +154,7 @@ fn locks_class_of(spec: &Spec, stripe: u32, statement: &Statement) -> bool
         Statement::Probe { .. }
         | Statement::Read { .. }
         | Statement::CheckAbsent
+        | Statement::CheckFound
         | Statement::CheckDep { .. }
         | Statement::Apply
         | Statement::Emit

@@ -12,7 +12,7 @@ use Rattle.rc_spec.specs.Placement.{class_at, class_of, op_at}
 use Rattle.rc_spec.specs.RefusalText.{no_column}
 use Rattle.rc_spec.specs.Stripes.{band_start}
 use Rattle.rc_plan.specs.declared.statement.Statement.{Statement}
-use Rattle.rc_plan.specs.declared.statement.Statement.TheVariants.{Lock, Probe, Read, CheckAbsent, CheckDep, Apply, Emit, Commit, Release}
+use Rattle.rc_plan.specs.declared.statement.Statement.TheVariants.{Lock, Probe, Read, CheckAbsent, CheckFound, CheckDep, Apply, Emit, Commit, Release}
 use Rattle.rc_plan.specs.PlanText.{column_text, statement_text}
 
 -- ---- words
@@ -60,6 +60,7 @@ reads e (Lock c choice mode) = false
 reads e (Probe cols) = false
 reads e (Read edge mode) = edge == e
 reads e CheckAbsent = false
+reads e CheckFound = false
 reads e (CheckDep dep) = false
 reads e Apply = false
 reads e Emit = false

@@ -181,13 +181,3 @@ pub get-current : (m : Rows) (q : Values) → fin.get (current m) q ≡ found m 
 get-current m q = get-keep present m q
 
 -- ---- the one key
-
--- a row added at the only key leaves it the only one
-pub HasNoOther-insert : (old new : Rows) (key : Values) (c : Counted) → new ≡ fin.insert old key c → HasNoOther old key → HasNoOther new key
-HasNoOther-insert old new key c is h other there =
-    go (values_eq other key) refl
-    (subst IsSome (ap (λ z. found z other) is ∙ ap (option_and_then present) (get-insert total old key c other)) there)
-  where
-    go : (b : Bool) → values_eq other key ≡ b → IsSome (option_and_then present (cond b (Some c) (fin.get old other))) → other ≡ key
-    go true t s = same_from_test other key t
-    go false t s = h other s

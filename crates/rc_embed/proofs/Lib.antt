@@ -1,5 +1,6 @@
 pub mod AskedLemmas
 pub mod CopyLemmas
+pub mod RowsLemmas
 pub mod NumberLemmas
 pub mod SendLemmas
 pub mod SessionLemmas

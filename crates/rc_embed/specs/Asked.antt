@@ -1,23 +1,17 @@
 -- What a caller asks for: an operation by its number, with plain numbers as values.
 use Rattle.std.specs.Prelude.{◌≡◌, ℕ, ◌<◌, List, length, map, Option}
 use Rattle.std.specs.List.{range_with_len, slice_get}
-use Rattle.rc_tuple.specs.Tuple.{tuple_of}
-use Rattle.rc_spec.specs.declared.call.Call.{Call}
 use Rattle.rc_spec.specs.declared.spec.Spec.{Spec}
-use Rattle.rc_work.specs.CallColumns.{columns_at}
-
--- the call of an operation with these values, in the order of its columns
-abbrev pub call_of : Spec → ℕ → List ℕ → Call
-call_of spec op values = record { op = op; args = tuple_of (columns_at spec op) values }
+use Rattle.rc_work.specs.CallColumns.{written_columns_at}
 
 -- the operation is one of the specification's, and there is a value for each of its columns
 pub record TakesValues (spec : Spec) (op : ℕ) (values : List ℕ) : Type 0 where
   pub known : op < length spec.ops
-  pub count : length values ≡ length (columns_at spec op)
+  pub count : length values ≡ length (written_columns_at spec op)
 
--- the columns of each operation's values, by its number
+-- the columns of each operation's values, by its number, a range column twice
 abbrev pub columns_of_all : Spec → List (List ℕ)
-columns_of_all spec = map (columns_at spec) (range_with_len 0 (length spec.ops))
+columns_of_all spec = map (written_columns_at spec) (range_with_len 0 (length spec.ops))
 
 -- those of the operation with this number, where there is one
 abbrev pub known_columns : Spec → ℕ → Option (List ℕ)

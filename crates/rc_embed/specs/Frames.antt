@@ -1,19 +1,20 @@
 -- Frames, by which callers in other languages ask and are told.
-use Rattle.std.specs.Prelude.{◌≡◌, ◌⊎◌, ℕ, ◌<◌, ◌≤◌, List, ◌++◌, length, take, drop}
+use Rattle.std.specs.Prelude.{◌≡◌, ◌⊎◌, ℕ, ◌<◌, ◌≤◌, ◌==◌, List, ◌++◌, length, take, drop, if◌then◌else◌}
 use Rattle.std.specs.Prelude.{Option, Some, None, IfSome}
 use Rattle.std.specs.List.{slice_get}
 use Rattle.rc_spec.specs.declared.call.Reply.{Reply}
 use Rattle.rc_spec.specs.declared.call.Reply.TheVariants.{Rows, Many, Inserted, Present}
-use Rattle.rc_spec.specs.declared.call.Reply.TheVariants.{Conflict, Removed, Absent}
+use Rattle.rc_spec.specs.declared.call.Reply.TheVariants.{Conflict, Removed, Updated, Absent}
 use Rattle.rc_spec.specs.declared.lock.Found.{Found}
 use Rattle.rc_spec.specs.declared.lock.Found.TheVariants as finds
 use Rattle.rc_embed.specs.declared.fault.CallFault.{CallFault}
 use Rattle.rc_embed.specs.declared.fault.CallFault.TheVariants as faults
 use Rattle.rc_embed.specs.declared.frame.Frame.{Frame}
+use Rattle.rc_embed.specs.declared.frame.Page.{Page}
 use Rattle.rc_embed.specs.declared.session.Position.{Position}
 use Rattle.rc_embed.specs.Codes as codes
 use Rattle.rc_embed.specs.Refused.{HasCallCause, fault_for}
-use Rattle.rc_embed.specs.Replies.{rows_told}
+use Rattle.rc_embed.specs.Replies.{AreCopied, rows_told}
 use Rattle.rc_embed.specs.Session.{HasCalled, HasCancelled, HasCommitted, HasLearned, HasPrepared}
 use Rattle.rc_embed.specs.Session.{IsIdle, IsUnchanged, IsUnseenBy, SessionSeen, reply_of}
 
@@ -34,6 +35,7 @@ kind_code Present = 3
 kind_code (Conflict n) = 4
 kind_code (Removed t) = 5
 kind_code Absent = 6
+kind_code (Updated t) = 7
 
 -- the number of rows, or of the dependency that would be broken
 abbrev pub number_in : Reply → ℕ
@@ -43,6 +45,7 @@ number_in Inserted = 0
 number_in Present = 0
 number_in (Conflict n) = n
 number_in (Removed t) = 1
+number_in (Updated t) = 1
 number_in Absent = 0
 
 -- the values that a frame asks with
@@ -177,3 +180,15 @@ IsRowTold (Some row) before after code =
 abbrev pub AnswersRow : SessionSeen → Frame → Frame → ℕ → Type 0
 AnswersRow session before after code =
     IsRowTold (slice_get (rows_told (reply_of session)) before.row) before after code
+
+-- where no row was copied, there is none from that one on, or no room for it
+abbrev pub rows_code : ℕ → ℕ
+rows_code count = if count == 0 then codes.no_row else codes.done
+
+-- The rows of the session's reply from the one on that the page asks for stand over its first
+-- cells, one behind the other, as many as there is room for, and it tells how many.
+pub record AnswersRows (session : SessionSeen) (before after : Page) (code : ℕ) : Type 0 where
+  pub asked : after.row ≡ before.row
+  pub rows : AreCopied (drop before.row (rows_told (reply_of session))) before.cells after.cells
+      after.rows
+  pub code_is : code ≡ rows_code after.rows

@@ -1,5 +1,5 @@
 -- Frames by which stores are opened and operations looked up.
-use Rattle.std.specs.Prelude.{◌≡◌, ℕ, ◌<◌, ◌≤◌, List, [], ◌++◌, length, take, Option, Some, None}
+use Rattle.std.specs.Prelude.{◌≡◌, ℕ, ◌<◌, ◌≤◌, ◌==◌, List, [], ◌++◌, length, take, Option, Some, None, if◌then◌else◌}
 use Rattle.std.specs.Prelude as text
 use Rattle.rc_maps.specs.declared.seed.Seed.{Seed}
 use Rattle.rc_spec.specs.declared.items.OpKind.{OpKind}
@@ -12,7 +12,7 @@ use Rattle.rc_spec.specs.RefusalText.{refusal_text}
 use Rattle.rc_reader.specs.declared.refusal.LineRule.{LineRule}
 use Rattle.rc_reader.specs.Names.{number_among}
 use Rattle.rc_reader.specs.RuleText.{rule_text}
-use Rattle.rc_work.specs.CallColumns.{columns_at}
+use Rattle.rc_work.specs.CallColumns.{written_columns_at}
 use Rattle.rc_embed.specs.declared.fault.OpenFault.{OpenFault}
 use Rattle.rc_embed.specs.declared.fault.OpenFault.TheVariants.{Memory, Options, TooLong, Line}
 use Rattle.rc_embed.specs.declared.fault.OpenFault.TheVariants.{Rule}
@@ -26,9 +26,13 @@ use Rattle.rc_embed.specs.Opened.{IsOpened, IsRefusedFor, OpenSeen}
 
 -- ---- stores
 
+-- the most rows of a reply that a frame asks for; 0 asks for no limit
+abbrev pub rows_asked : ℕ → Option ℕ
+rows_asked rows = if rows == 0 then None else Some rows
+
 -- what a frame asks for, with a seed, of which no clause depends
 abbrev pub options_asked : OpenFrame → Seed → asked.Options
-options_asked frame seed = record { passes = frame.passes; limit = frame.limit; seed = seed }
+options_asked frame seed = record { passes = frame.passes; limit = frame.limit; rows = rows_asked frame.rows; seed = seed }
 
 -- the code of a fault
 abbrev pub open_code : OpenFault → ℕ
@@ -82,6 +86,7 @@ pub record HasRefusal (text : List ℕ) (frame : OpenFrame) : Type 0 where
 pub record KeepsAsked (before after : OpenFrame) : Type 0 where
   pub passes : after.passes ≡ before.passes
   pub limit : after.limit ≡ before.limit
+  pub rows : after.rows ≡ before.rows
   pub seed : after.seed ≡ before.seed
 
 -- the text gives a specification that keeps all rules, and this is a new store of it, as the frame
@@ -106,23 +111,25 @@ pub record IsRefusedBy (text : List ℕ) (before after : OpenFrame) (code : ℕ)
 -- ---- operations
 
 abbrev pub op_kind_code : OpKind → ℕ
-op_kind_code (kinds.Query outs) = 0
+op_kind_code (kinds.Query outs ranges) = 0
 op_kind_code kinds.Insert = 1
 op_kind_code kinds.Remove = 2
+op_kind_code kinds.Update = 3
 
 -- how many values a row of the reply has
 abbrev pub row_width : Spec → OpKind → ℕ
-row_width spec (kinds.Query outs) = length outs
+row_width spec (kinds.Query outs ranges) = length outs
 row_width spec kinds.Insert = 0
 row_width spec kinds.Remove = length spec.columns
+row_width spec kinds.Update = length spec.columns
 
 -- the frame tells of the operation with this number
 pub record TellsOperation (spec : Spec) (op : ℕ) (frame : OperationFrame) : Type 0 where
   pub number : frame.op ≡ op
   pub kind : frame.kind ≡ op_kind_code (op_at spec op).kind
-  pub count : frame.count ≡ length (columns_at spec op)
+  pub count : frame.count ≡ length (written_columns_at spec op)
   pub width : frame.width ≡ row_width spec (op_at spec op).kind
-  pub columns : take frame.count frame.columns ≡ columns_at spec op
+  pub columns : take frame.count frame.columns ≡ written_columns_at spec op
 
 -- the name that is asked for stays
 pub record KeepsName (before after : OperationFrame) : Type 0 where

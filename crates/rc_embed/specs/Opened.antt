@@ -1,5 +1,5 @@
 -- What opening a store answers, and what it hands out.
-use Rattle.std.specs.Prelude.{◌≡◌, ℕ, ◌<◌, ◌≤◌, ◌^◌, List, ◌∷◌, None, Result, Ok, Err, length}
+use Rattle.std.specs.Prelude.{◌≡◌, ℕ, ◌-◌, ◌<◌, ◌≤◌, ◌^◌, List, ◌∷◌, None, Result, Ok, Err, IfSome, length, unwrap_or}
 use Rattle.rc_spec.specs.declared.spec.Spec.{Spec}
 use Rattle.rc_spec.specs.declared.refusal.Refusal.{Refusal}
 use Rattle.rc_spec.specs.Acceptance.{IsAccepted, IsFirstBroken, IsItemOf}
@@ -24,42 +24,62 @@ pub record OpenSeen : Type 0 where
   pub store : StoreSeen
   pub passes : List PassSeen
 
--- the passes and the limit are in their ranges
+-- 1 to 2^32 - 1 rows
+abbrev pub AreRowsInBounds : ℕ → Type 0
+AreRowsInBounds rows = (1 ≤ rows) × (rows < 2 ^ 32)
+
+-- the passes, the limit and the rows, where these are limited, are in their ranges
 pub record AreInBounds (options : asked.Options) : Type 0 where
   pub some : 1 ≤ options.passes
   pub passes : options.passes ≤ 255
   pub limited : 1 ≤ options.limit
   pub limit : options.limit ≤ 2 ^ 48
+  pub rows : IfSome options.rows AreRowsInBounds
+
+-- the most rows that a query answers one by one: as is asked, or else no limit
+abbrev pub most_rows_asked : asked.Options → ℕ
+most_rows_asked options = unwrap_or options.rows (2 ^ 64 - 1)
+
+-- the specification with as many rows as is asked
+abbrev pub spec_asked : asked.Options → Spec → Spec
+spec_asked options spec = record spec { most_rows = most_rows_asked options }
 
 -- each operation has its planned plan
 abbrev pub ArePlannedOf : SpecWithPlans → Type 0
 ArePlannedOf compiled = (op : ℕ) → op < length compiled.spec.ops
     → IsPlanned compiled.spec (op_at compiled.spec op) (plan_at compiled.plans op)
 
--- A new store of the specification with its singletons inlined, whose operations have their
--- planned plans, with all of its passes, by number. None of them has made a call, and none keeps
+-- A new store of the specification with its singletons inlined, which keeps the most rows of a reply, whose operations
+-- have their planned plans, with all of its passes, by number. None of them has made a call, and none keeps
 -- its entries.
 pub record IsStoreOf (spec : Spec) (options : asked.Options) (opened : OpenSeen) : Type 0 where
   pub of_spec : rows.spec_of opened.store.row ≡ inlined spec
+  pub most_rows : (rows.spec_of opened.store.row).most_rows ≡ spec.most_rows
   pub planned : ArePlannedOf (compiled_of opened.store.row)
   pub counts : opened.store.row.keeping ≡ Counts
   pub number : opened.store.row.key.passes ≡ options.passes
   pub limit : opened.store.limit ≡ options.limit
   pub passes : opened.passes ≡ new_passes opened.store.row
 
--- the text gives an accepted specification, and this is a new store of it
+-- the text gives the specification, but for the most rows of a reply, which are as is asked
+pub record IsAskedBy (text : List ℕ) (options : asked.Options) (spec : Spec) : Type 0 where
+  pub written : Spec
+  pub read : spec_of text ≡ Ok written
+  pub is : spec ≡ spec_asked options written
+
+-- The text gives an accepted specification, and this is a new store of it, with the most rows of a reply that are asked for.
 pub record IsOpened (text : List ℕ) (options : asked.Options) (opened : OpenSeen) : Type 0 where
   pub spec : Spec
   pub allowed : AreInBounds options
   pub short : length text ≤ 2 ^ 24
-  pub read : spec_of text ≡ Ok spec
+  pub from : IsAskedBy text options spec
   pub accepted : IsAccepted spec
   pub store : IsStoreOf spec options opened
 
 -- the text gives a specification that isn't accepted, and this is the first rule that it breaks,
 -- with the first item that breaks it
-pub record IsRuleOf (text : List ℕ) (spec : Spec) (refusal : Refusal) : Type 0 where
-  pub read : spec_of text ≡ Ok spec
+pub record IsRuleOf (text : List ℕ) (options : asked.Options) (spec : Spec) (refusal : Refusal) : Type 0 where
+  pub from : IsAskedBy text options spec
   pub first : IsFirstBroken spec refusal
   pub item : IsItemOf spec refusal.item
 
@@ -73,16 +93,24 @@ IsRefusedFor text options (Line rule line) =
     AreInBounds options × (length text ≤ 2 ^ 24)
     × (spec_of text ≡ Err (record { rule = rule; line = line }))
 IsRefusedFor text options (Rule spec refusal) =
-    AreInBounds options × (length text ≤ 2 ^ 24) × IsRuleOf text spec refusal
+    AreInBounds options × (length text ≤ 2 ^ 24) × IsRuleOf text options spec refusal
+
+-- why a specification isn't read
+abbrev pub IsUnreadFor : List ℕ → OpenFault → Type 0
+IsUnreadFor text Memory = Unit {0}
+IsUnreadFor text Options = ⊥
+IsUnreadFor text TooLong = ⊥
+IsUnreadFor text (Line rule line) = spec_of text ≡ Err (record { rule = rule; line = line })
+IsUnreadFor text (Rule spec refusal) = ⊥
 
 -- what reading an accepted specification answers
-abbrev pub ReadsAccepted : List ℕ → Result Spec OpenFault → Type 0
-ReadsAccepted text (Ok spec) = (spec_of text ≡ Ok spec) × IsAccepted spec
-ReadsAccepted text (Err Memory) = Unit {0}
-ReadsAccepted text (Err Options) = ⊥
-ReadsAccepted text (Err TooLong) = ⊥
-ReadsAccepted text (Err (Line rule line)) = spec_of text ≡ Err (record { rule = rule; line = line })
-ReadsAccepted text (Err (Rule spec refusal)) = IsRuleOf text spec refusal
+abbrev pub ReadsAccepted : List ℕ → asked.Options → Result Spec OpenFault → Type 0
+ReadsAccepted text options (Ok spec) = IsAskedBy text options spec × IsAccepted spec
+ReadsAccepted text options (Err Memory) = Unit {0}
+ReadsAccepted text options (Err Options) = ⊥
+ReadsAccepted text options (Err TooLong) = ⊥
+ReadsAccepted text options (Err (Line rule line)) = spec_of text ≡ Err (record { rule = rule; line = line })
+ReadsAccepted text options (Err (Rule spec refusal)) = IsRuleOf text options spec refusal
 
 -- a session of the store with this pass: no call is prepared, and none was made
 abbrev pub new_session : StoreSeen → PassSeen → SessionSeen

@@ -1,4 +1,4 @@
--- What an open store has to do with the specification that its text gives.
+-- What an open store has to do with the specification that its text gives, with the most rows of a reply that were asked for.
 use Rattle.std.proofs.Common.{◌≡◌, ◌↔◌, ℕ, List, [], ◌∷◌, length, ap, ◌∙◌, refl, subst, sym}
 use Rattle.rc_tuple.specs.Tuple.{Pairs}
 use Rattle.rc_spec.specs.declared.call.Call.{Call}
@@ -16,7 +16,7 @@ use Rattle.rc_instance.specs.Instance.{IsOfRelation}
 use Rattle.rc_row.specs.Passes.{PassSeen, spec_of}
 use Rattle.rc_store.specs.Closed.{ClosedSeen, HasClosed}
 use Rattle.rc_embed.specs.declared.opening.Options as asked
-use Rattle.rc_embed.specs.Opened.{IsOpened, OpenSeen}
+use Rattle.rc_embed.specs.Opened.{IsOpened, OpenSeen, most_rows_asked}
 
 -- ---- histories by two specifications of one schema
 
@@ -62,6 +62,10 @@ module _ (text : List ℕ) (options : asked.Options) (opened : OpenSeen)
     (is : IsOpened text options opened) where
   abbrev store_spec : Spec
   store_spec = spec_of opened.store.row
+
+  -- a query answers as many rows one by one as was asked
+  pub opened_rows : store_spec.most_rows ≡ most_rows_asked options
+  opened_rows = is.store.most_rows ∙ ap (λ (s : Spec). s.most_rows) is.from.is
 
   -- it has the schema of the text's
   pub opened_schema : HasItsSchema is.spec store_spec

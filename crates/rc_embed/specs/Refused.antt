@@ -8,7 +8,7 @@ use Rattle.rc_store.specs.Busy.{IsBusy}
 use Rattle.rc_store.specs.Store.{StoreSeen}
 use Rattle.rc_store.specs.declared.receipt.TryFault.{TryFault}
 use Rattle.rc_store.specs.declared.receipt.TryFault.TheVariants as tries
-use Rattle.rc_work.specs.CallColumns.{columns_at}
+use Rattle.rc_work.specs.CallColumns.{written_columns_at}
 use Rattle.rc_embed.specs.declared.fault.CallFault.{CallFault}
 use Rattle.rc_embed.specs.declared.fault.CallFault.TheVariants.{Memory, Busy, Spent}
 use Rattle.rc_embed.specs.declared.fault.CallFault.TheVariants.{UnknownOperation, Values, Prepared}
@@ -27,7 +27,7 @@ call_fault tries.Spent = Spent
 abbrev pub fault_by : StoreSeen → PassSeen → ℕ → ℕ → Option CallFault
 fault_by store pass op count =
     if nat_lt op (length (spec_of store.row).ops)
-    then (if count == length (columns_at (spec_of store.row) op)
+    then (if count == length (written_columns_at (spec_of store.row) op)
     then (if length (core_of pass).own == store.limit then Some Spent else None)
     else Some Values)
     else Some UnknownOperation

@@ -12,7 +12,7 @@ use Rattle.rc_store.specs.declared.receipt.Receipt.{Receipt}
 use Rattle.rc_embed.specs.declared.session.Position.{Position}
 use Rattle.rc_embed.specs.declared.session.State.{State}
 use Rattle.rc_embed.specs.declared.session.State.TheVariants.{Idle, Prepared, Moving}
-use Rattle.rc_embed.specs.Asked.{call_of}
+use Rattle.rc_work.specs.CallColumns.{call_of}
 
 -- a session: its store, what it does, and the reply of the last call that it made
 pub record SessionSeen : Type 0 where

@@ -9,9 +9,10 @@ use crate::session::{Position, Session, State};
 use rc_store::Receipt;
 
 impl Session {
-    /// Calls the operation with this number with these values, in the order of its columns, and
-    /// waits for nobody. The call stands once in the history of all calls, with the reply that the
-    /// session then has. (PLDI 2012, serializable transactions.)
+    /// Calls the operation with this number with these values, in the order of its columns, with a
+    /// lower and an upper bound for each range column, and waits for nobody. The call stands once
+    /// in the history of all calls, with the reply that the session then has. (PLDI 2012,
+    /// serializable transactions.)
     ///
     /// `Prepared`, `UnknownOperation`, `Values` and `Spent` come exactly where the call has that
     /// fault, and before all else; in that order. `Busy` comes only where another session held a

@@ -15,7 +15,8 @@ use rc_tuple::Memory;
 pub enum OpenFault {
     /// Memory was wanted.
     Memory,
-    /// There are not 1 to 255 passes, or not 1 to 2^48 calls.
+    /// There are not 1 to 255 passes, not 1 to 2^48 calls, or not 1 to 2^32 - 1 rows where these
+    /// are limited.
     Options,
     /// The text is longer than 2^24 bytes.
     TooLong,

@@ -2,7 +2,7 @@
 
 ghost use Rattle.std.specs.Prelude.{◌≡◌};
 ghost use Rattle.rc_embed.specs.Frames.{AnswersBegin, AnswersCall, AnswersCancel, AnswersCommit};
-ghost use Rattle.rc_embed.specs.Frames.{AnswersLearn, AnswersRow, call_code, kind_code, number_in};
+ghost use Rattle.rc_embed.specs.Frames.{AnswersLearn, AnswersRow, AnswersRows, call_code, kind_code, number_in};
 ghost use Rattle.rc_embed.specs.Frames.{with_fault, with_place, with_reply};
 ghost use Rattle.rc_embed.specs.Session.{reply_of};
 
@@ -13,8 +13,12 @@ use crate::fault::{CallFault, LearnFault, NotPrepared};
 use crate::session::{Position, Session};
 use rc_spec::{Found, Reply};
 
-/// The most columns, and so the most values of a call or of a row.
-pub const MAX_VALUES: usize = 32;
+/// The most values of a call: of a query those of its pattern, and a lower and an upper bound of
+/// each range column, which are 32 columns at most.
+pub const MAX_VALUES: usize = 64;
+
+/// The most values of a row: one of each column.
+pub const MAX_CELLS: usize = 32;
 
 /// What a caller asks of a session, and what it is told. The caller owns it, and may use it again
 /// and again.
@@ -25,7 +29,7 @@ pub struct Frame {
     pub op: u32,
     /// Asked: how many values there are.
     pub count: u32,
-    /// Asked: the values, in the order of the operation's columns.
+    /// Asked: the values, in the order of the operation's columns, with two for a range column.
     pub values: [u64; MAX_VALUES],
     /// Told: the kind of the reply.
     pub kind: u32,
@@ -48,7 +52,22 @@ pub struct Frame {
     /// Told: how many values the row has.
     pub width: u64,
     /// Told: the row's values.
-    pub cells: [u64; MAX_VALUES],
+    pub cells: [u64; MAX_CELLS],
+}
+
+/// The most values of several rows that are told at once.
+pub const MAX_PAGE: usize = 1024;
+
+/// Several rows of a reply at once. The caller owns it, and may use it again and again.
+#[repr(C)]
+#[derive(Drop)]
+pub struct Page {
+    /// Asked: the first of the rows.
+    pub row: u64,
+    /// Told: how many rows there are.
+    pub rows: u64,
+    /// Told: the rows' values, one row behind the other.
+    pub cells: [u64; MAX_PAGE],
 }
 
 /// The code of a fault.
@@ -80,6 +99,7 @@ fn kind_of(reply: &Reply) -> u32
         Reply::Conflict(_) => 4,
         Reply::Removed(_) => 5,
         Reply::Absent => 6,
+        Reply::Updated(_) => 7,
     }
 }
 
@@ -91,7 +111,7 @@ fn number_of(reply: &Reply) -> u64
         Reply::Rows(rows) => rows.len() as u64,
         Reply::Many(number) => *number,
         Reply::Conflict(number) => *number as u64,
-        Reply::Removed(_) => 1,
+        Reply::Removed(_) | Reply::Updated(_) => 1,
         Reply::Inserted | Reply::Present | Reply::Absent => 0,
     }
 }
@@ -229,5 +249,15 @@ impl Session {
             }
             None => NO_ROW,
         }
+    }
+
+    /// Copies the rows of the reply from the one on that the page asks for into its cells, one
+    /// behind the other, as many as there is room for, and tells it how many.
+    pub fn rows_by(&self, page: &mut Page) -> u32
+        ensures { AnswersRows self.now page.old page.new result }
+    {
+        let count = self.copy_rows(page.row as usize, &mut page.cells);
+        page.rows = count as u64;
+        if count == 0 { NO_ROW } else { DONE }
     }
 }

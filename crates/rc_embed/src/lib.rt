@@ -21,7 +21,7 @@ mod telling;
 pub use closing::CloseBack;
 pub use codes::{DONE, MEMORY};
 pub use fault::{CallFault, LearnFault, NotPrepared, OpenFault, SessionFault};
-pub use frame::{Frame, MAX_VALUES};
+pub use frame::{Frame, MAX_CELLS, MAX_PAGE, MAX_VALUES, Page};
 pub use laws::{sessions_are_send, stores_are_send};
 pub use open_frame::{OpenFrame, OperationFrame, open_by, session_code};
 pub use opening::{OpenStore, Options, open};

@@ -4,7 +4,8 @@ ghost use Rattle.std.specs.Prelude.{◌≡◌, IfErr, IfOk};
 ghost use Rattle.rc_row.specs.Passes.{spec_of};
 ghost use Rattle.rc_embed.specs.OpenFrames.{AnswersOperation, BreaksRule, HasItem, HasRefusal};
 ghost use Rattle.rc_embed.specs.OpenFrames.{IsOpenedBy, IsRefusedBy, KeepsAsked, fault_text, line_text};
-ghost use Rattle.rc_embed.specs.OpenFrames.{op_kind_code, open_code, row_width, session_code};
+ghost use Rattle.rc_embed.specs.OpenFrames.{op_kind_code, open_code, row_width, rows_asked};
+ghost use Rattle.rc_embed.specs.OpenFrames.{session_code};
 
 use crate::codes::{DONE, LINE, MEMORY, NONE_LEFT, OPERATION, OPTIONS, RULE, TOO_LONG};
 use crate::fault::{OpenFault, SessionFault};
@@ -30,6 +31,9 @@ pub struct OpenFrame {
     pub length: u32,
     /// Asked: how many calls each session may make, 1 to 2^48.
     pub limit: u64,
+    /// Asked: the most rows that a query answers one by one, 1 to 2^32 - 1, or 0 for no limit; of
+    /// more it answers their number.
+    pub rows: u64,
     /// Asked: the secret of the store's hash tables, two numbers drawn at random and told to
     /// nobody, where who chooses the values isn't trusted.
     pub seed: [u64; 2],
@@ -100,6 +104,13 @@ impl OpenFrame {
     }
 }
 
+/// The most rows that a frame asks for, where it asks for a limit.
+fn rows_asked(rows: u64) -> Option<u64>
+    ensures { result ≡ rows_asked rows }
+{
+    if rows == 0 { None } else { Some(rows) }
+}
+
 /// Opens a store by the text, as the frame asks, or tells the frame why not and answers the code.
 /// Where memory is wanted for the refusal, that is the code.
 pub fn open_by(alloc: Global, text: &[u8], frame: &mut OpenFrame) -> Result<OpenStore, u32>
@@ -112,6 +123,7 @@ pub fn open_by(alloc: Global, text: &[u8], frame: &mut OpenFrame) -> Result<Open
     let options = Options {
         passes: frame.passes,
         limit: frame.limit,
+        rows: rows_asked(frame.rows),
         seed: Seed::new(frame.seed[0], frame.seed[1]),
     };
     match open(alloc, text, options) {
@@ -131,7 +143,7 @@ pub struct OperationFrame {
     pub length: u32,
     /// Told: the number by which it is called.
     pub op: u32,
-    /// Told: 0 for a query, 1 for an insert, 2 for a remove.
+    /// Told: 0 for a query, 1 for an insert, 2 for a remove, 3 for an update.
     pub kind: u32,
     /// Told: how many values a call gives.
     pub count: u32,
@@ -140,7 +152,7 @@ pub struct OperationFrame {
     /// Asked: the bytes of the name.
     pub name: [u8; MAX_NAME],
     /// Told: the columns of the values that a call gives, by their numbers, in the order in which
-    /// it gives them.
+    /// it gives them, a range column twice.
     pub columns: [u8; MAX_VALUES],
 }
 
@@ -152,9 +164,10 @@ fn kind_of(op: &Op) -> u32
     ensures { result ≡ op_kind_code op.now.kind }
 {
     match &op.kind {
-        OpKind::Query { outs: _ } => 0,
+        OpKind::Query { .. } => 0,
         OpKind::Insert => 1,
         OpKind::Remove => 2,
+        OpKind::Update => 3,
     }
 }
 
@@ -163,9 +176,9 @@ fn width_of(spec: &Spec, op: &Op) -> usize
     ensures { result ≡ row_width spec.now op.now.kind }
 {
     match &op.kind {
-        OpKind::Query { outs } => outs.list().len(),
+        OpKind::Query { outs, ranges: _ } => outs.list().len(),
         OpKind::Insert => 0,
-        OpKind::Remove => spec.columns.list().len(),
+        OpKind::Remove | OpKind::Update => spec.columns.list().len(),
     }
 }
 

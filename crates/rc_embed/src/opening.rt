@@ -3,14 +3,15 @@
 ghost use Rattle.std.specs.Prelude.{◌≡◌, ◌<◌, ◌≤◌, ◌^◌, ◌↔◌, [], Err, IfErr, IfOk, IfSome, IsTrue};
 ghost use Rattle.std.specs.Prelude.{length, option_copied};
 ghost use Rattle.std.specs.Arc.{arc_value};
-ghost use Rattle.rc_spec.specs.InRange.{IsInRange};
+ghost use Rattle.rc_spec.specs.InRange.{HasColumnAndNode, IsInRange};
 ghost use Rattle.rc_spec.specs.Names.{IsWellNamed, op_names};
 ghost use Rattle.rc_reader.specs.Names.{number_among};
 ghost use Rattle.rc_row.specs.Passes.{spec_of};
 ghost use Rattle.rc_store.specs.Store.{IsFree};
 ghost use Rattle.rc_embed.specs.Asked.{columns_of_all, known_columns};
-ghost use Rattle.rc_embed.specs.Opened.{AreInBounds, HasDealt, IsOpened, IsRefusedFor, IsStoreOf};
-ghost use Rattle.rc_embed.specs.Opened.{ReadsAccepted, new_session};
+ghost use Rattle.rc_embed.specs.Opened.{AreInBounds, AreRowsInBounds, HasDealt, IsAskedBy};
+ghost use Rattle.rc_embed.specs.Opened.{IsOpened, IsRefusedFor, IsStoreOf, IsUnreadFor, ReadsAccepted};
+ghost use Rattle.rc_embed.specs.Opened.{most_rows_asked, new_session};
 ghost use Rattle.rc_embed.specs.declared.fault.OpenFault.TheVariants as faults;
 ghost use Rattle.rc_embed.specs.declared.fault.SessionFault.TheVariants as session_faults;
 
@@ -23,10 +24,10 @@ use rc_mutate::compile;
 use rc_place::{AcceptFault, accept};
 use rc_reader::{ReadRefusal, number_among, read_spec_only};
 use rc_row::{Keeping, Pass};
-use rc_spec::{Accepted, Call, Spec};
+use rc_spec::{Accepted, Call, Ranges, Spec};
 use rc_store::{Quiet, Store};
 use rc_tuple::{Cols, Memory, Tuple};
-use rc_work::columns_at;
+use rc_work::written_columns_at;
 use std::alloc::{AllocFailed, Global};
 use std::marker::Model;
 use std::sync::Arc;
@@ -41,17 +42,44 @@ pub struct Options {
     pub passes: u32,
     /// How many calls each may make, 1 to 2^48.
     pub limit: u64,
+    /// The most rows that a query answers one by one, 1 to 2^32 - 1; of more it answers their
+    /// number. `None` sets no limit.
+    pub rows: Option<u64>,
     /// The secret of the store's hash tables: two numbers drawn at random, and told to nobody,
     /// where who chooses the values isn't trusted.
     pub seed: Seed,
 }
 
 impl Options {
-    /// Whether the passes and the limit are in their ranges.
+    /// Whether the passes, the limit and the rows are in their ranges.
     fn are_in_bounds(self) -> bool
         ensures { IsTrue result ↔ AreInBounds self }
     {
-        1 <= self.passes && self.passes <= 255 && 1 <= self.limit && self.limit <= 1 << 48
+        1 <= self.passes
+            && self.passes <= 255
+            && 1 <= self.limit
+            && self.limit <= 1 << 48
+            && are_rows_in_bounds(self.rows)
+    }
+
+    /// The most rows that a query answers one by one, as the specification has them.
+    fn most_rows(self) -> u64
+        ensures { result ≡ most_rows_asked self }
+    {
+        match self.rows {
+            Some(rows) => rows,
+            None => u64::MAX,
+        }
+    }
+}
+
+/// Whether the rows, where they are limited, are 1 to 2^32 - 1.
+fn are_rows_in_bounds(rows: Option<u64>) -> bool
+    ensures { IsTrue result ↔ IfSome rows AreRowsInBounds }
+{
+    match rows {
+        Some(rows) => 1 <= rows && rows < 1 << 32,
+        None => true,
     }
 }
 
@@ -78,9 +106,9 @@ impl Model for OpenStore {
     ghost invariant = { IsWholeOpen };
 }
 
-/// Opens a store with no tuple by the text of its specification, with its singletons inlined, for so
-/// many sessions. Costs what reading, inlining and planning cost, and for each session room for a
-/// fragment of each stripe.
+/// Opens a store with no tuple by the text of its specification, with its singletons inlined, for
+/// so many sessions. Its queries answer one by one as many rows as the options say. Costs what
+/// reading, inlining and planning cost, and for each session room for a fragment of each stripe.
 pub fn open(alloc: Global, text: &[u8], options: Options) -> Result<OpenStore, OpenFault>
     ensures opened { IfOk result (IsOpened text.now options) }
     ensures refused { IfErr result (IsRefusedFor text.now options) }
@@ -91,21 +119,37 @@ pub fn open(alloc: Global, text: &[u8], options: Options) -> Result<OpenStore, O
     if text.len() > MAX_TEXT {
         return Err(OpenFault::TooLong);
     }
-    let accepted = read_accepted(alloc, text)?;
+    let accepted = read_accepted(alloc, text, options)?;
     open_accepted(alloc, accepted, options)
 }
 
-/// Reads a specification that stands alone, and tests its rules.
-fn read_accepted(alloc: Global, text: &[u8]) -> Result<Accepted, OpenFault>
+/// Reads a specification that stands alone, which has then the most rows of a reply that are asked
+/// for.
+fn read_asked(alloc: Global, text: &[u8], options: Options) -> Result<Spec, OpenFault>
     requires { length text.now ≤ 2 ^ 24 }
-    ensures reads { ReadsAccepted text.now result }
+    ensures read { IfOk result (IsAskedBy text.now options) }
+    ensures range { IfOk result IsInRange }
+    ensures named { IfOk result IsWellNamed }
+    ensures populated { IfOk result HasColumnAndNode }
+    ensures unread { IfErr result (IsUnreadFor text.now) }
+{
+    match read_spec_only(alloc, text) {
+        Ok(mut spec) => {
+            spec.most_rows = options.most_rows();
+            Ok(spec)
+        }
+        Err(ReadRefusal::Memory) => Err(OpenFault::Memory),
+        Err(ReadRefusal::Line { rule, line }) => Err(OpenFault::Line { rule, line }),
+    }
+}
+
+/// Reads it so, and tests its rules.
+fn read_accepted(alloc: Global, text: &[u8], options: Options) -> Result<Accepted, OpenFault>
+    requires { length text.now ≤ 2 ^ 24 }
+    ensures reads { ReadsAccepted text.now options result }
     ensures named { IfOk result IsWellNamed }
 {
-    let spec = match read_spec_only(alloc, text) {
-        Ok(spec) => spec,
-        Err(ReadRefusal::Memory) => return Err(OpenFault::Memory),
-        Err(ReadRefusal::Line { rule, line }) => return Err(OpenFault::Line { rule, line }),
-    };
+    let spec = read_asked(alloc, text, options)?;
     match accept(alloc, spec) {
         Ok(accepted) => Ok(accepted),
         Err(AcceptFault::Memory) => Err(OpenFault::Memory),
@@ -130,6 +174,7 @@ fn open_accepted(
     let Options {
         passes,
         limit,
+        rows: _,
         seed,
     } = options;
     let (store, dealt) = Store::build(
@@ -157,21 +202,21 @@ fn open_accepted(
     }
 }
 
-/// The columns of each operation's values, by its number.
+/// The columns of each operation's values, by its number, a range column twice.
 fn all_columns(alloc: Global, spec: &Spec) -> Result<Vec<Cols>, Memory>
     requires { length spec.now.columns ≤ 32 }
     ensures { IfOk result (λ columns. columns.items ≡ columns_of_all spec.now) }
 {
     let mut columns = Vec::new(alloc);
     for op in 0..spec.ops.list().len() {
-        columns.push(columns_at(alloc, spec, op)?)?;
+        columns.push(written_columns_at(alloc, spec, op)?)?;
     }
     Ok(columns)
 }
 
 impl OpenStore {
-    /// The store's specification: that of its text with its singletons inlined, some of whose nodes and
-    /// edges have other numbers.
+    /// The store's specification: that of its text with its singletons inlined, some of whose nodes
+    /// and edges have other numbers.
     pub fn spec(&self) -> &Spec
         ensures value { result.now ≡ spec_of self.now.store.row }
         ensures range { IsInRange (spec_of self.now.store.row) }
@@ -192,8 +237,9 @@ impl OpenStore {
         }
     }
 
-    /// The columns of the values of an operation, in the order in which a call gives them; `None`
-    /// exactly where no operation has the number.
+    /// The columns of the values of an operation, in the order in which a call gives them; a range
+    /// column stands twice, for its lower and its upper bound. `None` exactly where no operation
+    /// has the number.
     pub fn columns(&self, op: u32) -> Option<&[u8]>
         ensures { option_copied result ≡ known_columns (spec_of self.now.store.row) op }
     {
@@ -246,6 +292,7 @@ fn session_of(
         call: Call {
             op: 0,
             args: Tuple::empty(alloc),
+            ranges: Ranges::new(alloc),
         },
         last: None,
     };

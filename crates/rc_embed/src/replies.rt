@@ -1,29 +1,29 @@
 //! Replies, row by row.
 
-ghost use Rattle.std.specs.Prelude.{◌≡◌, length};
+ghost use Rattle.std.specs.Prelude.{◌≡◌, ◌≤◌, [], ◌∷◌, drop, length};
 ghost use Rattle.std.specs.List.{slice_get};
-ghost use Rattle.rc_embed.specs.Replies.{IsCopied, IsCopiedIf, rows_told, values_of};
+ghost use Rattle.rc_embed.specs.Replies.{AreCopied, IsCopied, IsCopiedAt, IsCopiedIf, rows_told, values_of};
 ghost use Rattle.rc_embed.specs.Session.{reply_of};
 
 use crate::session::Session;
-use rc_spec::Reply;
+use rc_spec::{Reply, RowList};
 use rc_tuple::Tuple;
 
 impl Session {
     /// How many rows the session's reply has: those of a query that tells them, or one for the
-    /// tuple that was removed.
+    /// tuple that was removed, or in whose place another came.
     pub fn row_count(&self) -> usize
         ensures { result ≡ length (rows_told (reply_of self.now)) }
     {
         match self.reply() {
             Some(Reply::Rows(rows)) => rows.len(),
-            Some(Reply::Removed(_)) => 1,
+            Some(Reply::Removed(_) | Reply::Updated(_)) => 1,
             _ => 0,
         }
     }
 
-    /// Copies the row with this number, counted from 0, over the first places of `out`, and
-    /// answers how many values it has; the values of a removed tuple are in the order of its
+    /// Copies the row with this number, counted from 0, over the first places of `out`, and answers
+    /// how many values it has; the values of a tuple that was there before are in the order of its
     /// columns. `None`, with `out` as before, exactly where the reply has no such row, or `out` no
     /// room for it.
     pub fn copy_row(&self, at: usize, out: &mut [u64]) -> Option<usize>
@@ -31,9 +31,64 @@ impl Session {
     {
         match self.reply() {
             Some(Reply::Rows(rows)) => copy_over(rows.get(at)?, out),
-            Some(Reply::Removed(tuple)) if at == 0 => copy_tuple(tuple, out),
+            Some(Reply::Removed(tuple) | Reply::Updated(tuple)) if at == 0 => {
+                copy_tuple(tuple, out)
+            }
             _ => None,
         }
+    }
+
+    /// Copies the rows from this number on, counted from 0, over the first places of `out`, one
+    /// behind the other, as many as there is room for, and answers how many. Behind them `out` is
+    /// as before.
+    pub fn copy_rows(&self, from: usize, out: &mut [u64]) -> usize
+        ensures { AreCopied (drop from (rows_told (reply_of self.now))) out.old out.new result }
+    {
+        match self.reply() {
+            Some(Reply::Rows(rows)) => copy_list(rows, from, out),
+            Some(Reply::Removed(tuple) | Reply::Updated(tuple)) if from == 0 => copy_one(
+                tuple, out,
+            ),
+            _ => 0,
+        }
+    }
+}
+
+/// Copies the rows of a list from this number on, as many as there is room for, and answers how
+/// many.
+fn copy_list(rows: &RowList, from: usize, out: &mut [u64]) -> usize
+    ensures { AreCopied (drop from rows.now) out.old out.new result }
+{
+    let mut count = 0;
+    let mut filled = 0;
+    for at in from..rows.len() {
+        let Some(end) = copy_at(rows.row(at), filled, out) else {
+            return count;
+        };
+        filled = end;
+        count += 1;
+    }
+    count
+}
+
+/// Copies a row over the places from `start` on, and answers where it ends; `None` exactly where
+/// there is no room for it.
+fn copy_at(row: &[u64], start: usize, out: &mut [u64]) -> Option<usize>
+    requires { start ≤ length out.old }
+    ensures { IsCopiedAt row.now start out.old out.new result }
+{
+    let width = copy_over(row, &mut out[start..])?;
+    Some(start + width)
+}
+
+/// Copies the values of a tuple, where there is room for them, and answers whether there is: 1 or
+/// 0.
+fn copy_one(tuple: &Tuple, out: &mut [u64]) -> usize
+    ensures { AreCopied (values_of tuple.now ∷ []) out.old out.new result }
+{
+    match copy_tuple(tuple, out) {
+        Some(_) => 1,
+        None => 0,
     }
 }
 

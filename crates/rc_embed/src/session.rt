@@ -118,7 +118,7 @@ impl Session {
     /// because the session is spent.
     pub(crate) fn fault_for(&self, op: u32, count: usize) -> Option<CallFault>
         ensures fault { result ≡ fault_for self.now op count }
-        ensures few { result ≡ None → count ≤ 32 }
+        ensures few { result ≡ None → count ≤ 64 }
     {
         let State::Idle(pass) = &self.state else {
             return Some(CallFault::Prepared);

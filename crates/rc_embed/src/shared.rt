@@ -5,12 +5,13 @@ ghost use Rattle.rc_spec.specs.Calls.{Fits};
 ghost use Rattle.rc_spec.specs.InRange.{IsInRange};
 ghost use Rattle.rc_spec.specs.Names.{IsWellNamed};
 ghost use Rattle.rc_row.specs.Passes.{spec_of};
-ghost use Rattle.rc_work.specs.CallColumns.{columns_at};
-ghost use Rattle.rc_embed.specs.Asked.{TakesValues, call_of};
+ghost use Rattle.rc_work.specs.CallColumns.{call_of, written_columns_at};
+ghost use Rattle.rc_embed.specs.Asked.{TakesValues};
 
 use rc_spec::{Call, Spec};
 use rc_store::{Quiet, Store};
 use rc_tuple::{Cols, Memory};
+use rc_work::refill_call;
 use std::marker::Model;
 
 /// A store, and the columns of each operation's values, which are looked up once.
@@ -52,28 +53,26 @@ impl Shared {
         self.limit
     }
 
-    /// The columns of the values of an operation.
+    /// The columns of the values of an operation, a range column twice.
     pub(crate) fn columns(&self, op: u32) -> &[u8]
         requires { op < length (spec_of self.now.row).ops }
-        ensures value { result.now ≡ columns_at (spec_of self.now.row) op }
-        ensures few { length result.now ≤ 32 }
+        ensures value { result.now ≡ written_columns_at (spec_of self.now.row) op }
+        ensures few { length result.now ≤ 64 }
     {
         self.columns[op as usize].list()
     }
 
-    /// Makes the call that of an operation with values that it takes, in the memory that the call has. Memory is
-    /// taken, and wanted, only where it had room for fewer values.
+    /// Makes the call that of an operation with values that it takes, its tuple in the memory that
+    /// the call has. Memory is taken, and wanted, only where it had room for fewer values, and for
+    /// the bounds of an operation with range columns.
     pub(crate) fn refill_call(&self, call: &mut Call, op: u32, values: &[u64]) -> Result<(), Memory>
         requires { TakesValues (spec_of self.now.row) op values.now }
         ensures call { OnOk result (call.new ≡ call_of (spec_of self.now.row) op values.now) }
         ensures fits { OnOk result (Fits (spec_of self.now.row) call.new) }
     {
-        // A call of `spec` tells the check its range and its names.
-        let _ = self.spec();
-        call.args.refill(self.columns(op), values)?;
-        // A call of `pairs` tells the check that they are a tuple.
-        let _ = call.args.pairs();
-        call.op = op as u8;
+        let spec = self.spec();
+        let number = op as u8;
+        refill_call(call, spec, number, self.columns(op), values)?;
         Ok(())
     }
 }

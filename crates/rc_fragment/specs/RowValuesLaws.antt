@@ -38,10 +38,6 @@ values_of-zip [] (v ∷ vals) e = absurd (omega arith)
 values_of-zip (c ∷ cols) [] e = absurd (omega arith)
 values_of-zip (c ∷ cols) (v ∷ vals) e = ap (λ l. v ∷ l) (values_of-zip cols vals (omega arith))
 
--- a projection that has these values by its columns
-pub values_from_zip : (cols vals : List ℕ) (t : Pairs) → length vals ≡ length cols → project cols t ≡ zip cols vals → values_at cols t ≡ vals
-values_from_zip cols vals t l e = ap (map (λ (p : ℕ × ℕ). p.1)) e ∙ values_of-zip cols vals l
-
 pub zip_from_values : (columns cols vals : List ℕ) (t : Pairs) → IsRising nat_cmp columns → IsRising nat_cmp cols → Within cols columns → cols_of t ≡ columns → values_at cols t ≡ vals → project cols t ≡ zip cols vals
 zip_from_values columns cols vals t r s w over e = sym (zip_values columns cols t r s w over) ∙ ap (zip cols) e
 

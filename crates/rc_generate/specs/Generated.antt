@@ -16,13 +16,13 @@ number_at seed (suc n) = next_number (number_at seed n)
 
 -- ins, del and succ of the sample
 abbrev pub insert_call : ℕ → ℕ → ℕ → Call
-insert_call src dst weight = record { op = 0; args = (0, src) ∷ (1, dst) ∷ (2, weight) ∷ [] }
+insert_call src dst weight = record { op = 0; args = (0, src) ∷ (1, dst) ∷ (2, weight) ∷ []; ranges = [] }
 
 abbrev pub remove_call : ℕ → ℕ → Call
-remove_call src dst = record { op = 1; args = (0, src) ∷ (1, dst) ∷ [] }
+remove_call src dst = record { op = 1; args = (0, src) ∷ (1, dst) ∷ []; ranges = [] }
 
 abbrev pub query_call : ℕ → Call
-query_call src = record { op = 2; args = (0, src) ∷ [] }
+query_call src = record { op = 2; args = (0, src) ∷ []; ranges = [] }
 
 -- the call of a kind from 0 to 7: of eight kinds four insert, two query and two remove
 abbrev pub call_of_kind : ℕ → ℕ → ℕ → ℕ → Call

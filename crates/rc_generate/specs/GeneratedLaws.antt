@@ -2,6 +2,7 @@
 use Rattle.std.proofs.Common.{◌≡◌, ℕ, ◌+◌, ◌*◌, ◌/◌, ◌%◌, ◌^◌, ◌<◌, ◌≤◌, Bool, true, false, cond, nat_le, List, [], ◌∷◌, length, refl, sym, ◌∙◌, subst, arith}
 use Rattle.std.specs.List.{AllByRecursion, range_with_len, zip}
 use Rattle.std.proofs.lemmas.List.{append-nil, length-map}
+use Rattle.std.proofs.lemmas.List.Elements.{All-nil}
 use Rattle.std.proofs.lemmas.List.FromFn.{length-map-range_with_len}
 use Rattle.rc_tuple.specs.RisingSetLaws.{in_map, in_each, each_in}
 use Rattle.rc_tuple.specs.ColSet.{IsColSet}
@@ -10,6 +11,7 @@ use Rattle.rc_tuple.specs.Tuple.{IsTuple}
 use Rattle.rc_tuple.specs.TupleLaws.{IsTuple-zip}
 use Rattle.rc_spec.specs.declared.call.Call.{Call}
 use Rattle.rc_spec.specs.Calls.{Fits}
+use Rattle.rc_spec.specs.Ranges.{IsBounded}
 use Rattle.rc_rel.specs.declared.entry.Entry.{Entry}
 use Rattle.rc_rel.specs.History.{own, steps_of, replay}
 use Rattle.rc_work.specs.declared.work.Turn.{Turn}
@@ -42,9 +44,9 @@ right_of_kind : (kind src dst weight thread : ℕ) → src < 2 ^ 64 → dst < 2 
 right_of_kind kind src dst weight thread h k l e = go (nat_le kind 3) (nat_le kind 5)
   where
     go : (a b : Bool) → IsRight thread (cond a (insert_call src dst weight) (cond b (query_call src) (remove_call src dst)))
-    go true b = record { fits = (_, record { known = refl; tuple = tuple_of_first 3 (src ∷ dst ∷ weight ∷ []) (omega arith) refl (h, (k, (l, tt))); columns = refl }); shard = e }
-    go false true = record { fits = (_, record { known = refl; tuple = tuple_of_first 1 (src ∷ []) (omega arith) refl (h, tt); columns = refl }); shard = e }
-    go false false = record { fits = (_, record { known = refl; tuple = tuple_of_first 2 (src ∷ dst ∷ []) (omega arith) refl (h, (k, tt)); columns = refl }); shard = e }
+    go true b = record { fits = (_, record { known = refl; tuple = tuple_of_first 3 (src ∷ dst ∷ weight ∷ []) (omega arith) refl (h, (k, (l, tt))); columns = refl; ranges = refl; bounds = All-nil IsBounded }); shard = e }
+    go false true = record { fits = (_, record { known = refl; tuple = tuple_of_first 1 (src ∷ []) (omega arith) refl (h, tt); columns = refl; ranges = refl; bounds = All-nil IsBounded }); shard = e }
+    go false false = record { fits = (_, record { known = refl; tuple = tuple_of_first 2 (src ∷ dst ∷ []) (omega arith) refl (h, (k, tt)); columns = refl; ranges = refl; bounds = All-nil IsBounded }); shard = e }
 
 right_by : (place x : ℕ) → IsRight (place % 4) (call_by (place % 4) x)
 right_by place x =
@@ -122,5 +124,5 @@ generated_runs_are_small seed calls history run =
     length_as_one_thread sample_graph (generated_calls seed calls) history (generated_as_one_thread seed calls history run) in
     let turns : length (generated_calls seed calls) ≡ length (generated_turns seed calls) = length-map (generated_turns seed calls) (λ (t : Turn). t.call) in
     let places : length (generated_turns seed calls) ≡ calls = length-map-range_with_len (turn_at seed) 0 calls in
-    let rows : counted rows_in (steps_of history) ≤ 256 * length (steps_of history) = rows_are_few sample_graph history run.legal in
+    let rows : counted rows_in (steps_of history) ≤ length (steps_of history) * 256 = rows_are_few sample_graph history run.legal in
     (steps ∙ turns ∙ places, omega (arith, steps, turns, places, rows))

@@ -21,6 +21,7 @@ sample_graph = record {
   ops =
       record { name = codes "ins"; pattern = 0 ∷ 1 ∷ []; kind = Insert }
       ∷ record { name = codes "del"; pattern = 0 ∷ 1 ∷ []; kind = Remove }
-      ∷ record { name = codes "succ"; pattern = 0 ∷ []; kind = Query (1 ∷ 2 ∷ []) }
-      ∷ record { name = codes "find"; pattern = 0 ∷ 1 ∷ []; kind = Query (2 ∷ []) } ∷ [];
+      ∷ record { name = codes "succ"; pattern = 0 ∷ []; kind = Query (1 ∷ 2 ∷ []) [] }
+      ∷ record { name = codes "find"; pattern = 0 ∷ 1 ∷ []; kind = Query (2 ∷ []) [] } ∷ [];
+  most_rows = 256;
 }

@@ -128,17 +128,17 @@ outs_of_two = record { some = λ e. absurd cc; distinct = (λ m. elim m [ inl e 
 outs_of_one : AreOuts (2 ∷ [])
 outs_of_one = record { some = λ e. absurd cc; distinct = (λ m. absurd m, tt) }
 
-same_outs : (xs ys : List ℕ) → Query xs ≡ Query ys → xs ≡ ys
-same_outs xs ys e = cc
+same_outs : (xs ys ranges : List ℕ) → Query xs [] ≡ Query ys ranges → xs ≡ ys
+same_outs xs ys ranges e = cc
 
 sample_ops_are_kept : (n : ℕ) → n < 4 → KeepsO sample_graph (op_at sample_graph n)
 sample_ops_are_kept = at_each (λ n. KeepsO sample_graph (op_at sample_graph n)) 4 (
-  record { o1 = λ k e. absurd cc; o2 = λ k. absurd cc; o3 = λ outs k. absurd cc },
+  record { o1 = λ k e. absurd cc; o2 = λ k. absurd k; o3 = λ outs ranges k. absurd cc },
   (
-    record { o1 = λ k e. absurd cc; o2 = λ k. all_follow; o3 = λ outs k. absurd cc },
+    record { o1 = λ k e. absurd cc; o2 = λ k. all_follow; o3 = λ outs ranges k. absurd cc },
     (
-      record { o1 = λ k e. absurd cc; o2 = λ k. absurd cc; o3 = λ outs k. subst AreOuts (same_outs (1 ∷ 2 ∷ []) outs k) outs_of_two },
-      (record { o1 = λ k e. absurd cc; o2 = λ k. absurd cc; o3 = λ outs k. subst AreOuts (same_outs (2 ∷ []) outs k) outs_of_one }, tt),
+      record { o1 = λ k e. absurd cc; o2 = λ k. absurd k; o3 = λ outs ranges k. subst AreOuts (same_outs (1 ∷ 2 ∷ []) outs ranges k) outs_of_two },
+      (record { o1 = λ k e. absurd cc; o2 = λ k. absurd k; o3 = λ outs ranges k. subst AreOuts (same_outs (2 ∷ []) outs ranges k) outs_of_one }, tt),
     ),
   ),
 )

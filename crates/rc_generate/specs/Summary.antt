@@ -3,7 +3,7 @@ use Rattle.std.specs.Prelude.{ℕ, ◌+◌, ◌<◌, ◌^◌, List, [], length, 
 use Rattle.rc_tuple.specs.Tuple.{Pairs}
 use Rattle.rc_spec.specs.declared.call.Call.{Call}
 use Rattle.rc_spec.specs.declared.call.Reply.{Reply}
-use Rattle.rc_spec.specs.declared.call.Reply.TheVariants.{Rows, Many, Inserted, Present, Conflict, Removed, Absent}
+use Rattle.rc_spec.specs.declared.call.Reply.TheVariants.{Rows, Many, Inserted, Present, Conflict, Removed, Updated, Absent}
 use Rattle.rc_spec.specs.declared.spec.Spec.{Spec}
 use Rattle.rc_rel.specs.declared.entry.Step.{Step}
 use Rattle.rc_rel.specs.declared.entry.Entry.{Entry}
@@ -31,6 +31,10 @@ one_conflict _ = 0
 abbrev pub one_removed : Reply → ℕ
 one_removed (Removed tuple) = 1
 one_removed _ = 0
+
+abbrev pub one_updated : Reply → ℕ
+one_updated (Updated tuple) = 1
+one_updated _ = 0
 
 abbrev pub one_absent : Reply → ℕ
 one_absent Absent = 1

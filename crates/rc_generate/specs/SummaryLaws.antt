@@ -10,18 +10,20 @@ use Rattle.rc_tuple.specs.RisingSet.{put}
 use Rattle.rc_tuple.specs.Tuple.{Pairs, agree_on, matches, tuple_cmp}
 use Rattle.rc_spec.specs.declared.call.Call.{Call}
 use Rattle.rc_spec.specs.declared.call.Reply.{Reply}
-use Rattle.rc_spec.specs.declared.call.Reply.TheVariants.{Rows, Many, Inserted, Present, Conflict, Removed, Absent}
+use Rattle.rc_spec.specs.declared.call.Reply.TheVariants.{Rows, Many, Inserted, Present, Conflict, Removed, Updated, Absent}
 use Rattle.rc_spec.specs.declared.items.Op.{Op}
 use Rattle.rc_spec.specs.declared.items.OpKind.{OpKind}
-use Rattle.rc_spec.specs.declared.items.OpKind.TheVariants.{Query, Insert, Remove}
+use Rattle.rc_spec.specs.declared.items.OpKind.TheVariants.{Query, Insert, Remove, Update}
+use Rattle.rc_spec.specs.declared.range.Range.{Range}
 use Rattle.rc_spec.specs.declared.spec.Spec.{Spec}
-use Rattle.rc_spec.specs.Plain.{Outcome, rows_of, first_broken_dependency, inserted_unless, removed_first, plain_by, plain_at, plain}
+use Rattle.rc_spec.specs.Plain.{Outcome, rows_of, first_broken_dependency, inserted_unless, without, removed_first, updated_unless, updated_first, plain_by, plain_at, plain}
+use Rattle.rc_spec.specs.Ranges.{is_asked}
 use Rattle.rc_rel.specs.declared.entry.Step.{Step}
 use Rattle.rc_rel.specs.declared.entry.Entry.{Entry}
 use Rattle.rc_rel.specs.History.{steps_of, IsLegal, AreLegalFrom, after_steps, replay, calls_of}
 use Rattle.rc_generate.specs.declared.summary.Summary.{Summary}
 use Rattle.rc_generate.specs.Shards.{IsAsOneThread, plain_steps, after_calls}
-use Rattle.rc_generate.specs.Summary.{one_call, one_inserted, one_present, one_conflict, one_removed, one_absent, one_query, rows_in, one_many, counted, summary_of, summary, one_thread_summary}
+use Rattle.rc_generate.specs.Summary.{one_call, one_inserted, one_present, one_conflict, one_removed, one_updated, one_absent, one_query, rows_in, one_many, counted, summary_of, summary, one_thread_summary}
 use Rattle.rc_generate.specs.ShardLaws.{legal_are_plain, calls_of_plain}
 
 same_counted : (count : Reply → ℕ) (xs ys : List Step) → IsPermutation xs ys → counted count xs ≡ counted count ys
@@ -60,13 +62,14 @@ summaries_are_of_calls spec history legal = ap (λ (xs : List Step). summary_of 
 -- ---- the kinds of replies
 
 -- a reply is of one kind
-one_kind : (r : Reply) → one_inserted r + one_present r + one_conflict r + one_removed r + one_absent r + one_query r ≡ 1
+one_kind : (r : Reply) → one_inserted r + one_present r + one_conflict r + one_removed r + one_updated r + one_absent r + one_query r ≡ 1
 one_kind (Rows rows) = refl
 one_kind (Many n) = refl
 one_kind Inserted = refl
 one_kind Present = refl
 one_kind (Conflict n) = refl
 one_kind (Removed t) = refl
+one_kind (Updated t) = refl
 one_kind Absent = refl
 
 many_is_query : (r : Reply) → one_many r ≤ one_query r
@@ -76,13 +79,14 @@ many_is_query Inserted = omega arith
 many_is_query Present = omega arith
 many_is_query (Conflict n) = omega arith
 many_is_query (Removed t) = omega arith
+many_is_query (Updated t) = omega arith
 many_is_query Absent = omega arith
 
 pub counted-cons : (count : Reply → ℕ) (s : Step) (steps : List Step) → counted count (s ∷ steps) ≡ count s.reply + counted count steps
 counted-cons count s steps = sum_by-cons (λ (x : Step). count x.reply) s steps
 
 pub kinds_of_steps : (steps : List Step)
-    → counted one_inserted steps + counted one_present steps + counted one_conflict steps + counted one_removed steps + counted one_absent steps + counted one_query steps ≡ length steps
+    → counted one_inserted steps + counted one_present steps + counted one_conflict steps + counted one_removed steps + counted one_updated steps + counted one_absent steps + counted one_query steps ≡ length steps
 kinds_of_steps [] = refl
 kinds_of_steps (s ∷ steps) =
     let one = one_kind s.reply in
@@ -93,7 +97,8 @@ kinds_of_steps (s ∷ steps) =
     let d = counted-cons one_removed s steps in
     let e = counted-cons one_absent s steps in
     let f = counted-cons one_query s steps in
-    omega (arith, one, others, a, b, c, d, e, f)
+    let g = counted-cons one_updated s steps in
+    omega (arith, one, others, a, b, c, d, e, f, g)
 
 pub calls_of_steps : (steps : List Step) → counted one_call steps ≡ length steps
 calls_of_steps [] = refl
@@ -108,9 +113,10 @@ many_of_steps (s ∷ steps) =
     let b = counted-cons one_query s steps in
     omega (arith, one, others, a, b)
 
--- the calls of a summary are those of each kind together, and there are as many as steps; those with many rows are queries
+-- the calls of a summary are those of each kind together, and updates, for which it has no count; there are as many as steps; those
+-- with many rows are queries
 pub record AddsUp (history : List Entry) (s : Summary) : Type 0 where
-  pub kinds : s.inserted + s.present + s.conflict + s.removed + s.absent + s.queries ≡ s.calls
+  pub kinds : s.inserted + s.present + s.conflict + s.removed + counted one_updated (steps_of history) + s.absent + s.queries ≡ s.calls
   pub calls : s.calls ≡ length (steps_of history)
   pub many : s.many ≤ s.queries
 
@@ -126,41 +132,55 @@ summaries_add_up history tuples = record {
 
 -- ---- how large the counts are
 
-rows_below : (rows : List (List ℕ)) (b : Bool) → nat_le (length rows) 256 ≡ b → rows_in (cond b (Rows rows) (Many (length rows))) ≤ 256
-rows_below rows true e = leb-true (length rows) 256 e
-rows_below rows false e = omega arith
+rows_below : (most : ℕ) (rows : List (List ℕ)) (b : Bool) → nat_le (length rows) most ≡ b → rows_in (cond b (Rows rows) (Many (length rows))) ≤ most
+rows_below most rows true e = leb-true (length rows) most e
+rows_below most rows false e = omega arith
 
 rows_inserted : (b : Bool) (broken : Option ℕ) (w r : List Pairs)
-    → rows_in (cond b (let o : Outcome = record { reply = Present; relation = r } in o) (inserted_unless broken w r)).reply ≤ 256
-rows_inserted true broken w r = omega arith
-rows_inserted false None w r = omega arith
-rows_inserted false (Some n) w r = omega arith
+    → rows_in (cond b (let o : Outcome = record { reply = Present; relation = r } in o) (inserted_unless broken w r)).reply ≡ 0
+rows_inserted true broken w r = refl
+rows_inserted false None w r = refl
+rows_inserted false (Some n) w r = refl
 
-rows_removed : (found r : List Pairs) → rows_in (removed_first found r).reply ≤ 256
-rows_removed [] r = omega arith
-rows_removed (t ∷ ts) r = omega arith
+rows_removed : (found r : List Pairs) → rows_in (removed_first found r).reply ≡ 0
+rows_removed [] r = refl
+rows_removed (t ∷ ts) r = refl
 
-rows_by : (kind : OpKind) (pattern : List ℕ) (deps : List Dep) (args : Pairs) (r : List Pairs) → rows_in (plain_by kind pattern deps args r).reply ≤ 256
-rows_by (Query outs) pattern deps args r =
-    let rows : List (List ℕ) = rows_of outs (filter (matches args) r) in rows_below rows (nat_le (length rows) 256) refl
-rows_by Insert pattern deps args r = rows_inserted (list_any (agree_on pattern args) r) (first_broken_dependency 1 deps (put tuple_cmp args r)) (put tuple_cmp args r) r
-rows_by Remove pattern deps args r = rows_removed (filter (matches args) r) r
+rows_unless : (broken : Option ℕ) (old : Pairs) (w r : List Pairs) → rows_in (updated_unless broken old w r).reply ≡ 0
+rows_unless None old w r = refl
+rows_unless (Some n) old w r = refl
 
-rows_at : (op : Option Op) (deps : List Dep) (args : Pairs) (r : List Pairs) → rows_in (plain_at op deps args r).reply ≤ 256
-rows_at (Some op) deps args r = rows_by op.kind op.pattern deps args r
-rows_at None deps args r = omega arith
+rows_updated : (found : List Pairs) (deps : List Dep) (args : Pairs) (r : List Pairs) → rows_in (updated_first found deps args r).reply ≡ 0
+rows_updated [] deps args r = refl
+rows_updated (old ∷ others) deps args r =
+    rows_unless (first_broken_dependency 1 deps (put tuple_cmp args (without old r))) old (put tuple_cmp args (without old r)) r
 
-rows_few_from : (spec : Spec) (r : List Pairs) (steps : List Step) → AreLegalFrom spec r steps → counted rows_in steps ≤ 256 * length steps
+rows_by : (most : ℕ) (kind : OpKind) (pattern : List ℕ) (deps : List Dep) (args : Pairs) (ranges : List Range) (r : List Pairs)
+    → rows_in (plain_by most kind pattern deps args ranges r).reply ≤ most
+rows_by most (Query outs cols) pattern deps args ranges r =
+    let rows : List (List ℕ) = rows_of outs (filter (is_asked args ranges) r) in rows_below most rows (nat_le (length rows) most) refl
+rows_by most Insert pattern deps args ranges r =
+    omega (arith, rows_inserted (list_any (agree_on pattern args) r) (first_broken_dependency 1 deps (put tuple_cmp args r)) (put tuple_cmp args r) r)
+rows_by most Remove pattern deps args ranges r = omega (arith, rows_removed (filter (matches args) r) r)
+rows_by most Update pattern deps args ranges r = omega (arith, rows_updated (filter (agree_on pattern args) r) deps args r)
+
+rows_at : (most : ℕ) (op : Option Op) (deps : List Dep) (args : Pairs) (ranges : List Range) (r : List Pairs)
+    → rows_in (plain_at most op deps args ranges r).reply ≤ most
+rows_at most (Some op) deps args ranges r = rows_by most op.kind op.pattern deps args ranges r
+rows_at most None deps args ranges r = omega arith
+
+rows_few_from : (spec : Spec) (r : List Pairs) (steps : List Step) → AreLegalFrom spec r steps → counted rows_in steps ≤ length steps * spec.most_rows
 rows_few_from spec r [] legal = omega arith
 rows_few_from spec r (s ∷ steps) legal =
-    let here : rows_in s.reply ≤ 256 = subst (λ (p : Reply). rows_in p ≤ 256) (sym legal.0) (rows_at (slice_get spec.ops s.call.op) spec.deps s.call.args r) in
-    let rest : counted rows_in steps ≤ 256 * length steps = rows_few_from spec (plain spec r s.call).relation steps legal.1 in
+    let here : rows_in s.reply ≤ spec.most_rows =
+    subst (λ (p : Reply). rows_in p ≤ spec.most_rows) (sym legal.0) (rows_at spec.most_rows (slice_get spec.ops s.call.op) spec.deps s.call.args s.call.ranges r) in
+    let rest : counted rows_in steps ≤ length steps * spec.most_rows = rows_few_from spec (plain spec r s.call).relation steps legal.1 in
     let all = counted-cons rows_in s steps in
     omega (arith, here, rest, all)
 
--- the replies of a legal history list at most 256 rows for each step
+-- the replies of a legal history list for each step at most as many rows as the specification says
 abbrev pub RowsAreFew : Type 0
-RowsAreFew = (spec : Spec) (history : List Entry) → IsLegal spec history → counted rows_in (steps_of history) ≤ 256 * length (steps_of history)
+RowsAreFew = (spec : Spec) (history : List Entry) → IsLegal spec history → counted rows_in (steps_of history) ≤ length (steps_of history) * spec.most_rows
 
 pub rows_are_few : RowsAreFew
 rows_are_few spec history legal = rows_few_from spec [] (steps_of history) legal

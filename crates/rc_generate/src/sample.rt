@@ -9,8 +9,8 @@ ghost use Rattle.rc_spec.specs.Names.{IsWellNamed};
 ghost use Rattle.rc_generate.specs.Sample.{sample_graph};
 
 use rc_spec::{
-    Class, Classes, ColKind, Column, Columns, Deps, Edge, EdgeKind, Edges, Name, Node, Nodes, Op,
-    OpKind, Ops, Place, Places, Spec,
+    Class, Classes, ColKind, Column, Columns, Deps, Edge, EdgeKind, Edges, MAX_ROWS, Name, Node,
+    Nodes, Op, OpKind, Ops, Place, Places, Spec,
 };
 use rc_tuple::{ColSet, Cols, Dep, Memory};
 use std::alloc::Global;
@@ -174,10 +174,13 @@ fn op(alloc: Global, name: &[u8], pattern: &[u8], kind: OpKind) -> Result<Op, Me
 
 /// A query of these outputs.
 fn query(alloc: Global, name: &[u8], pattern: &[u8], outs: &[u8]) -> Result<Op, Memory>
-    ensures { IfOk result (λ op. op ≡ record { name = name.now; pattern = pattern.now; kind = Query outs.now }) }
+    ensures { IfOk result (λ op. op ≡ record { name = name.now; pattern = pattern.now; kind = Query outs.now [] }) }
 {
-    let outs = Cols::from_slice(alloc, outs)?;
-    op(alloc, name, pattern, OpKind::Query { outs })
+    let kind = OpKind::Query {
+        outs: Cols::from_slice(alloc, outs)?,
+        ranges: Cols::new(alloc),
+    };
+    op(alloc, name, pattern, kind)
 }
 
 fn ops(alloc: Global) -> Result<Ops, Memory>
@@ -209,5 +212,6 @@ pub fn sample_spec(alloc: Global) -> Result<Spec, Memory>
         classes: classes(alloc)?,
         places: places(alloc)?,
         ops: ops(alloc)?,
+        most_rows: MAX_ROWS,
     })
 }

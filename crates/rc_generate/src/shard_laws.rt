@@ -35,12 +35,13 @@ pub fn histories_exist()
     ensures { HistoriesExist }
 {}
 
-/// The calls of a summary are those of each kind together, and there are as many as steps; those with many rows are queries.
+/// The calls of a summary are those of each kind together, and updates, for which it has no count; there are as many as
+/// steps; those with many rows are queries.
 pub fn summaries_add_up()
     ensures { SummariesAddUp }
 {}
 
-/// The replies of a legal history list at most 256 rows for each step.
+/// The replies of a legal history list for each step at most as many rows as the specification says.
 pub fn rows_are_few()
     ensures { RowsAreFew }
 {}

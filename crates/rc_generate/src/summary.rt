@@ -8,7 +8,7 @@ use rc_rel::{Entry, Step};
 use rc_spec::Reply;
 use rc_tuple::Tuple;
 
-/// The summary of a history: how many replies there are of each kind.
+/// The summary of a history: how many replies there are of each kind. For updates that found a tuple it has no count.
 #[derive(Clone, Copy, Debug, PartialEq, Eq)]
 pub struct Summary {
     /// All calls.
@@ -17,11 +17,11 @@ pub struct Summary {
     pub inserted: u64,
     /// Inserts that found a tuple with the same pattern values.
     pub present: u64,
-    /// Inserts that would have broken a dependency.
+    /// Inserts and updates that would have broken a dependency.
     pub conflict: u64,
     /// Removes that took a tuple out.
     pub removed: u64,
-    /// Removes that found no tuple.
+    /// Removes and updates that found no tuple.
     pub absent: u64,
     /// Queries.
     pub queries: u64,
@@ -71,6 +71,8 @@ impl Summary {
             Reply::Present => self.present += 1,
             Reply::Conflict(_) => self.conflict += 1,
             Reply::Removed(_) => self.removed += 1,
+            // An update adds to the calls alone.
+            Reply::Updated(_) => {}
             Reply::Absent => self.absent += 1,
         }
     }

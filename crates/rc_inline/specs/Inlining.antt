@@ -19,3 +19,4 @@ pub record HasItsSchema (spec other : Spec) : Type 0 where
   pub deps : other.deps ≡ spec.deps
   pub classes : other.classes ≡ spec.classes
   pub ops : other.ops ≡ spec.ops
+  pub most_rows : other.most_rows ≡ spec.most_rows

@@ -22,13 +22,13 @@ contracted_shorter spec f found =
 
 -- the columns, the dependencies, the operations and the lock classes stay
 schema_in : (n : ℕ) (spec : Spec) → HasItsSchema spec (inlined_in n spec)
-schema_in zero spec = record { columns = refl; deps = refl; classes = refl; ops = refl }
+schema_in zero spec = record { columns = refl; deps = refl; classes = refl; ops = refl; most_rows = refl }
 schema_in (suc n) spec = go (first_inlinable spec) (λ f. schema_in n (contracted spec f))
   where
     go : (found : Option ℕ) → ((f : ℕ) → HasItsSchema (contracted spec f) (inlined_in n (contracted spec f)))
         → HasItsSchema spec (option_map_or (λ f. inlined_in n (contracted spec f)) found spec)
-    go None rest = record { columns = refl; deps = refl; classes = refl; ops = refl }
-    go (Some f) rest = let same = rest f in record { columns = same.columns; deps = same.deps; classes = same.classes; ops = same.ops }
+    go None rest = record { columns = refl; deps = refl; classes = refl; ops = refl; most_rows = refl }
+    go (Some f) rest = let same = rest f in record { columns = same.columns; deps = same.deps; classes = same.classes; ops = same.ops; most_rows = same.most_rows }
 
 pub inlined_schema : (spec : Spec) → HasItsSchema spec (inlined spec)
 unfolding inlined

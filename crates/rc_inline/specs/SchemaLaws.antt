@@ -6,24 +6,25 @@ use Rattle.rc_tuple.specs.RisingSet.{gather}
 use Rattle.rc_tuple.specs.Tuple.{Pairs}
 use Rattle.rc_spec.specs.declared.call.Call.{Call}
 use Rattle.rc_spec.specs.declared.items.OpKind.{OpKind}
-use Rattle.rc_spec.specs.declared.items.OpKind.TheVariants.{Query, Insert, Remove}
+use Rattle.rc_spec.specs.declared.items.OpKind.TheVariants.{Query, Insert, Remove, Update}
 use Rattle.rc_spec.specs.declared.spec.Spec.{Spec}
 use Rattle.rc_spec.specs.Calls.{Fits, value_columns}
 use Rattle.rc_spec.specs.Plain.{plain, plain_at}
 use Rattle.rc_inline.specs.Inlining.{HasItsSchema}
 
 pub schema_sym : (spec other : Spec) → HasItsSchema spec other → HasItsSchema other spec
-schema_sym spec other same = record { columns = sym same.columns; deps = sym same.deps; classes = sym same.classes; ops = sym same.ops }
+schema_sym spec other same = record { columns = sym same.columns; deps = sym same.deps; classes = sym same.classes; ops = sym same.ops; most_rows = sym same.most_rows }
 
 module _ (spec other : Spec) (same : HasItsSchema spec other) where
   -- a call's plain step is the same
   pub plain_same : (r : List Pairs) (call : Call) → plain other r call ≡ plain spec r call
-  plain_same r call = λ i. plain_at (slice_get (same.ops i) call.op) (same.deps i) call.args r
+  plain_same r call = λ i. plain_at (same.most_rows i) (slice_get (same.ops i) call.op) (same.deps i) call.args call.ranges r
 
   pub value_columns_same : (pattern : List ℕ) (kind : OpKind) → value_columns other pattern kind ≡ value_columns spec pattern kind
-  value_columns_same pattern (Query outs) = refl
+  value_columns_same pattern (Query outs ranges) = refl
   value_columns_same pattern Insert = λ i. range_with_len 0 (length (same.columns i))
   value_columns_same pattern Remove = refl
+  value_columns_same pattern Update = λ i. range_with_len 0 (length (same.columns i))
 
   -- and a call that fits the other fits this
   pub fits_same : (call : Call) → Fits other call → Fits spec call
@@ -33,5 +34,7 @@ module _ (spec other : Spec) (same : HasItsSchema spec other) where
       known = ap (λ ops. slice_get ops call.op) (sym same.ops) ∙ fits.known;
       tuple = fits.tuple;
       columns = fits.columns ∙ ap (gather nat_cmp) (value_columns_same op.pattern op.kind);
+      ranges = fits.ranges;
+      bounds = fits.bounds;
     },
   )

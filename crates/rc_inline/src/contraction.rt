@@ -79,6 +79,7 @@ pub(crate) fn contracted(spec: Spec, edge: u8) -> Spec
         classes: spec.classes,
         places: Places::from_vec(places),
         ops: spec.ops,
+        most_rows: spec.most_rows,
     }
 }
 

@@ -14,10 +14,6 @@ append-append : (o : Option (List ℕ)) (xs ys : List ℕ) → append_known (app
 append-append None xs ys = refl
 append-append (Some zs) xs ys = ap Some (append_assoc zs xs ys)
 
-pub takes_none : (o : Option (List ℕ)) → Takes o [] o
-takes_none None = refl
-takes_none (Some xs) = refl
-
 pub takes_more : (a b c : Option (List ℕ)) (xs ys : List ℕ) → Takes a xs b → Takes b ys c → Takes a (xs ++ ys) c
 takes_more a b c xs ys first then_ = first ∙ ap (prepend_known xs) then_ ∙ prepend-prepend xs ys c
 

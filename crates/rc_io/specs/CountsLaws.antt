@@ -10,7 +10,3 @@ rose_later a b c up (inr last) = inr last
 pub rose_earlier : (a b c : ℕ) → a ≤ b → Rose a b → b ≤ c → Rose a c
 rose_earlier a b c up (inl above) more = inl (omega arith)
 rose_earlier a b c up (inr last) more = grind arith
-
--- a rise between two moments of a run
-pub rose_within : (a b c d : ℕ) → a ≤ b → b ≤ c → Rose b c → c ≤ d → Rose a d
-rose_within a b c d before up rise after = rose_earlier a c d (omega arith) (rose_later a b c before rise) after

@@ -1,5 +1,5 @@
 -- A change of rows on held stripes is the change of all rows, and ends a run as evaluation does.
-use Rattle.std.specs.Prelude.{◌≡◌, ℕ, suc, pred, ◌<◌, ◌==◌, ◌⊎◌, Bool, true, false, List, [], ◌∷◌, Some, cond, length}
+use Rattle.std.specs.Prelude.{◌≡◌, ℕ, suc, pred, ◌<◌, ◌==◌, ◌⊎◌, Bool, true, false, List, [], ◌∷◌, Option, Some, cond, length}
 use Rattle.std.specs.Ordering.{nat_cmp}
 use Rattle.std.proofs.Common.{inl, inr, refl, sym, ap, subst, ◌∙◌, arith}
 use Rattle.std.proofs.lemmas.Bool.{and_parts, eq-eqb, eqb-true, false≢true}
@@ -33,7 +33,7 @@ use Rattle.rc_machine.specs.Run.{IsAt}
 use Rattle.rc_machine.proofs.ApplyLemmas.{Change, IsSameFrom, LeavesOthers, goes_to}
 use Rattle.rc_machine.proofs.CheckStepLemmas.{evaluated}
 use Rattle.rc_machine.proofs.RunLemmas.{has_evaluated, has_served, serves, stripes_named}
-use Rattle.rc_plan.specs.Search.{searching}
+use Rattle.rc_plan.specs.Search.{updating}
 
 -- ---- the rows of one stripe
 
@@ -193,7 +193,7 @@ pub stripes_kept : (change : Change) (spec : Spec) (t : Pairs) (edges : List ℕ
 stripes_kept change spec t edges held = sym (stripes_named (all_changed change spec t edges held)) ∙ ap stripes_of (locks_kept change spec t edges held) ∙ stripes_named held
 
 -- a relation's part on one of some stripes
-part_of : (spec : Spec) (r : List Pairs) (stripes : List ℕ) (stripe : ℕ) → In stripe stripes → on_stripes spec (stripe ∷ []) (rows_on spec r stripes) ≡ fragment_of spec r stripe
+pub part_of : (spec : Spec) (r : List Pairs) (stripes : List ℕ) (stripe : ℕ) → In stripe stripes → on_stripes spec (stripe ∷ []) (rows_on spec r stripes) ≡ fragment_of spec r stripe
 part_of spec r stripes stripe m =
     filter-filter (λ w. has (stripe ∷ []) (row_stripe spec w)) (λ w. has stripes (row_stripe spec w))
     (λ w h. has_in stripes (row_stripe spec w) (elim (in_has (stripe ∷ []) (row_stripe spec w) h) [ inl q ↦ subst (λ z. In z stripes) (sym q) m | inr z ↦ absurd z ])) (all_rows spec r)
@@ -201,9 +201,9 @@ part_of spec r stripes stripe m =
 -- ---- a run that ends with a change
 
 module _ (spec : Spec) (sealed : IsSealed spec) (plan : List Statement) (call : Call) (fits : Fits spec call) (planned : IsPlanOf spec call.op plan) (change : Change) (leaves : LeavesOthers change) (local : IsLocal change)
-    (x : Statement) (rest : List Statement) (bs : List Pairs) (held : List HeldStripe) (at : IsAt spec plan call (x ∷ rest) bs held) (answer : Reply) (t : Pairs)
-    (f : (rows : List EdgeRow) → run_one spec (op_at spec call.op) call (searching bs (locks_of held) rows) x
-    ≡ record { bindings = bs; named = locks_of held; reply = Some answer; rows = all_done change spec t (edge_numbers spec) rows }) where
+    (x : Statement) (rest : List Statement) (bs : List Pairs) (old : Option Pairs) (held : List HeldStripe) (at : IsAt spec plan call (x ∷ rest) bs old held) (answer : Reply) (t : Pairs)
+    (f : (rows : List EdgeRow) → run_one spec (op_at spec call.op) call (updating old bs (locks_of held) rows) x
+    ≡ record { bindings = bs; named = locks_of held; old = old; reply = Some answer; rows = all_done change spec t (edge_numbers spec) rows }) where
   new : List HeldStripe
   new = all_changed change spec t (edge_numbers spec) held
 
@@ -226,8 +226,8 @@ module _ (spec : Spec) (sealed : IsSealed spec) (plan : List Statement) (call : 
   }
 
   ends : (r : List Pairs) → AreOfRelation spec held r → eval spec plan call (rows_on spec r (stripes_held held))
-      ≡ record { bindings = bs; named = locks_of held; reply = Some answer; rows = all_done change spec t (edge_numbers spec) (rows_on spec r (stripes_held held)) }
-  ends = evaluated spec sealed plan call fits x rest bs held at answer (all_done change spec t (edge_numbers spec)) f
+      ≡ record { bindings = bs; named = locks_of held; old = old; reply = Some answer; rows = all_done change spec t (edge_numbers spec) (rows_on spec r (stripes_held held)) }
+  ends = evaluated spec sealed plan call fits x rest bs old held at answer (all_done change spec t (edge_numbers spec)) f
 
   named : (r : List Pairs) → AreOfRelation spec (all_changed change spec t (edge_numbers spec) held) r
       → (eval spec plan call (rows_on spec r (stripes_held (all_changed change spec t (edge_numbers spec) held)))).named ≡ locks_of (all_changed change spec t (edge_numbers spec) held)

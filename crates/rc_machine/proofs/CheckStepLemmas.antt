@@ -1,21 +1,21 @@
--- How a run of an insert stands after a Probe and after a check, and how a run ends.
-use Rattle.std.specs.Prelude.{◌≡◌, ℕ, Bool, true, false, List, [], ◌∷◌, None, Some, cond, length}
+-- How a run of an insert or of an update stands after a Probe and after a check, and how a run ends.
+use Rattle.std.specs.Prelude.{◌≡◌, ℕ, Bool, true, false, List, [], ◌∷◌, Option, Some, cond}
 use Rattle.std.specs.Ordering.{nat_cmp}
 use Rattle.std.proofs.Common.{inl, inr, refl, sym, ap, subst, ◌∙◌}
-use Rattle.rc_tuple.specs.RisingSet.{In, IsRising, gather}
-use Rattle.rc_tuple.specs.RisingSetLaws.{gather-rising, nat_order, rising_filter}
+use Rattle.rc_tuple.specs.RisingSet.{In, IsRising}
+use Rattle.rc_tuple.specs.RisingSetLaws.{rising_filter}
 use Rattle.rc_tuple.specs.ColSet.{Within, has}
-use Rattle.rc_tuple.specs.ColSetLaws.{rising_range}
 use Rattle.rc_tuple.specs.Tuple.{Pairs, cols_of, pair_cmp, project}
 use Rattle.rc_tuple.specs.TupleLaws.{fewer_cols, rising_cols, rising_cols-project}
 use Rattle.rc_spec.specs.declared.call.Call.{Call}
 use Rattle.rc_spec.specs.declared.call.Reply.{Reply}
 use Rattle.rc_spec.specs.declared.call.Reply.TheVariants.{Conflict, Present}
 use Rattle.rc_spec.specs.declared.items.OpKind.{OpKind}
-use Rattle.rc_spec.specs.declared.items.OpKind.TheVariants.{Query, Insert, Remove}
+use Rattle.rc_spec.specs.declared.items.Op.{Op}
+use Rattle.rc_spec.specs.declared.items.OpKind.TheVariants.{Query, Insert, Remove, Update}
 use Rattle.rc_spec.specs.declared.spec.Spec.{Spec}
 use Rattle.rc_spec.specs.Acceptance.{IsSealed}
-use Rattle.rc_spec.specs.Calls.{Fits, all_columns, value_columns, FitsAt}
+use Rattle.rc_spec.specs.Calls.{Fits, GivesTuple, all_columns}
 use Rattle.rc_spec.specs.Fragments.{EdgeRow, rows_on}
 use Rattle.rc_spec.specs.Placement.{op_at}
 use Rattle.rc_fragment.specs.Holder.{AreOfRelation, HeldStripe}
@@ -25,31 +25,26 @@ use Rattle.rc_plan.specs.declared.statement.Which.{Which}
 use Rattle.rc_plan.specs.declared.statement.Which.TheVariants as which
 use Rattle.rc_plan.specs.Compiled.{IsPlanOf}
 use Rattle.rc_plan.specs.Evaluation.{RunState, eval, run, run_one, some_differs, some_left}
-use Rattle.rc_plan.specs.InsertLaws.{probe_searching}
-use Rattle.rc_plan.specs.PlanRules.{IsInsert, KeepsAll, Progress, after}
+use Rattle.rc_plan.specs.ProbeLaws.{probe_searching}
+use Rattle.rc_plan.specs.PlanRules.{IsInsert, IsUpdate, KeepsAll, Progress, after}
 use Rattle.rc_plan.specs.RunLaws.{run-replied}
 use Rattle.rc_plan.specs.StripeLocks.{StripeLock, stripes_of}
 use Rattle.rc_machine.specs.Machine.{HasEvaluated, HasServed, locks_of, stripes_held}
 use Rattle.rc_machine.specs.Run.{IsAt, IsOn, IsClassTaken}
 use Rattle.rc_machine.proofs.RunLemmas.{has_evaluated, has_served, unchanged_rows}
-use Rattle.rc_plan.specs.Search.{IsSearching, searching}
-use Rattle.rc_spec.specs.CallsLaws.{fits_at_op}
+use Rattle.rc_plan.specs.Search.{IsSearching, updating}
+use Rattle.rc_plan.specs.UpdateLaws.{IsOld}
+use Rattle.rc_spec.specs.CallsLaws.{fits_at_op, tuple_columns}
 
-whole_by : (spec : Spec) (t : Pairs) (pattern : List ℕ) (kind : OpKind) → IsInsert kind → cols_of t ≡ gather nat_cmp (value_columns spec pattern kind) → cols_of t ≡ all_columns spec
-whole_by spec t pattern (Query outs) i e = absurd i
-whole_by spec t pattern Insert i e = e ∙ gather-rising nat_cmp nat_order (all_columns spec) (rising_range 0 (length spec.columns))
-whole_by spec t pattern Remove i e = absurd i
-
--- an insert's tuple has all columns
-pub whole_tuple : (spec : Spec) (call : Call) → Fits spec call → IsInsert (op_at spec call.op).kind → cols_of call.args ≡ all_columns spec
+-- an insert's tuple has all columns, and an update's
+pub whole_tuple : (spec : Spec) (call : Call) → Fits spec call → GivesTuple (op_at spec call.op).kind → cols_of call.args ≡ all_columns spec
 whole_tuple spec call fits i =
-    let at : FitsAt spec call (op_at spec call.op) = fits_at_op spec call fits in
-    whole_by spec call.args (op_at spec call.op).pattern (op_at spec call.op).kind i at.columns
+    tuple_columns spec call (op_at spec call.op) (fits_at_op spec call fits) i
 
 module _ (spec : Spec) (sealed : IsSealed spec) (plan : List Statement) (call : Call) (fits : Fits spec call) where
   -- ---- Probe
 
-  module _ (xs : List ℕ) (rest : List Statement) (bs : List Pairs) (held : List HeldStripe) (at : IsAt spec plan call (Probe xs ∷ rest) bs held) where
+  module _ (xs : List ℕ) (rest : List Statement) (bs : List Pairs) (old : Option Pairs) (held : List HeldStripe) (at : IsAt spec plan call (Probe xs ∷ rest) bs old held) where
     t : Pairs
     t = call.args
 
@@ -69,16 +64,17 @@ module _ (spec : Spec) (sealed : IsSealed spec) (plan : List Statement) (call : 
     taken_now c which.Keyed g = λ cover. cover
     taken_now c which.All g = g
 
-    probe_on : (r : List Pairs) → IsOn spec r (op_at spec call.op).kind call.args at.progress bs (locks_of held)
-        → IsOn spec r (op_at spec call.op).kind call.args (after spec at.progress (Probe xs)) (project xs call.args ∷ []) (locks_of held)
+    probe_on : (r : List Pairs) → IsOn spec r (op_at spec call.op) call.args at.progress bs old (locks_of held)
+        → IsOn spec r (op_at spec call.op) call.args (after spec at.progress (Probe xs)) (project xs call.args ∷ []) old (locks_of held)
     probe_on r o = record {
       sought = project xs call.args;
       rising = rising_filter pair_cmp (λ (q : ℕ × ℕ). has xs q.0) call.args (rising_cols call.args rises);
       inside = λ c m. subst (In c) over (fewer_cols xs call.args c m);
-      search = probe_searching spec r call.args rises over at.progress (locks_of held) xs o.search.phase known (o.insert keeps.k1.1).named;
+      search = probe_searching spec r call.args rises over at.progress (locks_of held) xs o.search.phase known (o.tuple keeps.k1.1).named;
       taken = λ x m. taken_now x.0 x.1 (o.taken x m);
-      insert = λ i. record { begun = λ e. absurd (let g : Some xs ≡ None = e in cc); named = (o.insert i).named };
+      tuple = λ i. record { probing = inr (xs, refl, refl); named = (o.tuple i).named };
       no_probe = λ n. absurd (n keeps.k1.1);
+      found = o.found;
     }
 
     -- the run after a Probe
@@ -86,7 +82,7 @@ module _ (spec : Spec) (sealed : IsSealed spec) (plan : List Statement) (call : 
     pub probe_within : Within xs (cols_of call.args)
     probe_within c m = subst (In c) (sym over) (at.known (Probe xs) (inl refl) c m)
 
-    pub probe_step : IsAt spec plan call rest (project xs call.args ∷ []) held
+    pub probe_step : IsAt spec plan call rest (project xs call.args ∷ []) old held
     probe_step = record {
       progress = after spec at.progress (Probe xs);
       keeps = at.keeps.1;
@@ -103,27 +99,35 @@ module _ (spec : Spec) (sealed : IsSealed spec) (plan : List Statement) (call : 
   -- ---- checks
 
   -- what is known of the search doesn't speak of the checks
-  check_search : (r : List Pairs) (s : Pairs) (p : Progress) (bs : List Pairs) (ns : List StripeLock) (absent : Bool) (checked : List ℕ) → IsSearching spec r s p bs ns → IsSearching spec r s (record p { absent = absent; checked = checked }) bs ns
+  check_search : (r : List Pairs) (s : Pairs) (p : Progress) (bs : List Pairs) (ns : List StripeLock) (absent : Bool) (checked : List ℕ) → IsSearching spec r s p bs ns → IsSearching spec r s (record p { sought = absent; checked = checked }) bs ns
   check_search r s p bs ns absent checked f = record { phase = f.phase; within = f.within; reached = f.reached; rising = f.rising; columns = f.columns; nodes = f.nodes; guards = f.guards }
 
-  same_taken : (p : Progress) (ns : List StripeLock) (absent : Bool) (checked : List ℕ) (c : ℕ) (choice : Which) → IsClassTaken spec p (stripes_of ns) c choice → IsClassTaken spec (record p { absent = absent; checked = checked }) (stripes_of ns) c choice
+  same_taken : (p : Progress) (ns : List StripeLock) (absent : Bool) (checked : List ℕ) (c : ℕ) (choice : Which) → IsClassTaken spec p (stripes_of ns) c choice → IsClassTaken spec (record p { sought = absent; checked = checked }) (stripes_of ns) c choice
   same_taken p ns absent checked c which.Keyed g = g
   same_taken p ns absent checked c which.All g = g
 
-  check_on : (r : List Pairs) (kind : OpKind) (p : Progress) (bs : List Pairs) (ns : List StripeLock) (absent : Bool) (checked : List ℕ) → IsOn spec r kind call.args p bs ns → IsOn spec r kind call.args (record p { absent = absent; checked = checked }) bs ns
-  check_on r kind p bs ns absent checked o = record {
+  pub check_on : (r : List Pairs) (op : Op) (p : Progress) (bs : List Pairs) (old new : Option Pairs) (ns : List StripeLock) (sought : Bool) (checked : List ℕ) → IsOn spec r op call.args p bs old ns
+      → (IsUpdate op.kind → sought ≡ true → (o : Pairs) × (new ≡ Some o) × IsOld r call.args op.pattern o) → IsOn spec r op call.args (record p { sought = sought; checked = checked }) bs new ns
+  check_on r op p bs old new ns sought checked o found = record {
     sought = o.sought;
     rising = o.rising;
     inside = o.inside;
-    search = check_search r o.sought p bs ns absent checked o.search;
-    taken = λ x m. same_taken p ns absent checked x.0 x.1 (o.taken x m);
-    insert = λ i. record { begun = (o.insert i).begun; named = (o.insert i).named };
+    search = check_search r o.sought p bs ns sought checked o.search;
+    taken = λ x m. same_taken p ns sought checked x.0 x.1 (o.taken x m);
+    tuple = λ i. record { probing = (o.tuple i).probing; named = (o.tuple i).named };
     no_probe = o.no_probe;
+    found = found;
   }
 
+  insert_no_update : (kind : OpKind) → IsInsert kind → IsUpdate kind → ⊥
+  insert_no_update (Query outs ranges) i u = u
+  insert_no_update Insert i u = u
+  insert_no_update Remove i u = u
+  insert_no_update Update i u = i
+
   -- the run after a check for a tuple where no binding is left
-  pub absent_step : (rest : List Statement) (bs : List Pairs) (held : List HeldStripe) → IsAt spec plan call (CheckAbsent ∷ rest) bs held → some_left bs ≡ false → IsAt spec plan call rest bs held
-  absent_step rest bs held at e = record {
+  pub absent_step : (rest : List Statement) (bs : List Pairs) (old : Option Pairs) (held : List HeldStripe) → IsAt spec plan call (CheckAbsent ∷ rest) bs old held → some_left bs ≡ false → IsAt spec plan call rest bs old held
+  absent_step rest bs old held at e = record {
     progress = after spec at.progress CheckAbsent;
     keeps = at.keeps.1;
     known = λ x m. at.known x (inr m);
@@ -132,14 +136,14 @@ module _ (spec : Spec) (sealed : IsSealed spec) (plan : List Statement) (call : 
     classes = at.classes;
     modes = at.modes;
     columns_rise = at.columns_rise;
-    on = λ r a. check_on r (op_at spec call.op).kind at.progress bs (locks_of held) true at.progress.checked (at.on r a);
+    on = λ r a. check_on r (op_at spec call.op) at.progress bs old old (locks_of held) true at.progress.checked (at.on r a) (λ u e. absurd (insert_no_update (op_at spec call.op).kind at.keeps.0.k1.1 u));
     runs = λ r a stripes w. at.runs r a stripes w
-        ∙ ap (λ b. run spec (op_at spec call.op) call rest (cond b (record { bindings = bs; named = locks_of held; reply = Some Present; rows = rows_on spec r stripes }) (searching bs (locks_of held) (rows_on spec r stripes)))) e;
+        ∙ ap (λ b. run spec (op_at spec call.op) call rest (cond b (record { bindings = bs; named = locks_of held; old = old; reply = Some Present; rows = rows_on spec r stripes }) (updating old bs (locks_of held) (rows_on spec r stripes)))) e;
   }
 
   -- and after the check of a dependency that no binding breaks
-  pub dep_step : (dep : ℕ) (rest : List Statement) (bs : List Pairs) (held : List HeldStripe) → IsAt spec plan call (CheckDep dep ∷ rest) bs held → some_differs spec dep call.args bs ≡ false → IsAt spec plan call rest bs held
-  dep_step dep rest bs held at e = record {
+  pub dep_step : (dep : ℕ) (rest : List Statement) (bs : List Pairs) (old : Option Pairs) (held : List HeldStripe) → IsAt spec plan call (CheckDep dep ∷ rest) bs old held → some_differs spec (op_at spec call.op) dep call.args bs ≡ false → IsAt spec plan call rest bs old held
+  dep_step dep rest bs old held at e = record {
     progress = after spec at.progress (CheckDep dep);
     keeps = at.keeps.1;
     known = λ x m. at.known x (inr m);
@@ -148,27 +152,27 @@ module _ (spec : Spec) (sealed : IsSealed spec) (plan : List Statement) (call : 
     classes = at.classes;
     modes = at.modes;
     columns_rise = at.columns_rise;
-    on = λ r a. check_on r (op_at spec call.op).kind at.progress bs (locks_of held) at.progress.absent (dep ∷ at.progress.checked) (at.on r a);
+    on = λ r a. check_on r (op_at spec call.op) at.progress bs old old (locks_of held) at.progress.sought (dep ∷ at.progress.checked) (at.on r a) (at.on r a).found;
     runs = λ r a stripes w. at.runs r a stripes w
-        ∙ ap (λ b. run spec (op_at spec call.op) call rest (cond b (record { bindings = bs; named = locks_of held; reply = Some (Conflict dep); rows = rows_on spec r stripes }) (searching bs (locks_of held) (rows_on spec r stripes)))) e;
+        ∙ ap (λ b. run spec (op_at spec call.op) call rest (cond b (record { bindings = bs; named = locks_of held; old = old; reply = Some (Conflict dep); rows = rows_on spec r stripes }) (updating old bs (locks_of held) (rows_on spec r stripes)))) e;
   }
 
   -- ---- ends
 
   -- a run whose next statement gives the reply, and may change the rows
-  pub evaluated : (x : Statement) (rest : List Statement) (bs : List Pairs) (held : List HeldStripe) (at : IsAt spec plan call (x ∷ rest) bs held) (answer : Reply) (change : List EdgeRow → List EdgeRow)
-      → ((rows : List EdgeRow) → run_one spec (op_at spec call.op) call (searching bs (locks_of held) rows) x ≡ record { bindings = bs; named = locks_of held; reply = Some answer; rows = change rows })
+  pub evaluated : (x : Statement) (rest : List Statement) (bs : List Pairs) (old : Option Pairs) (held : List HeldStripe) (at : IsAt spec plan call (x ∷ rest) bs old held) (answer : Reply) (change : List EdgeRow → List EdgeRow)
+      → ((rows : List EdgeRow) → run_one spec (op_at spec call.op) call (updating old bs (locks_of held) rows) x ≡ record { bindings = bs; named = locks_of held; old = old; reply = Some answer; rows = change rows })
       → (r : List Pairs) → AreOfRelation spec held r
-      → eval spec plan call (rows_on spec r (stripes_held held)) ≡ record { bindings = bs; named = locks_of held; reply = Some answer; rows = change (rows_on spec r (stripes_held held)) }
-  evaluated x rest bs held at answer change f r a =
+      → eval spec plan call (rows_on spec r (stripes_held held)) ≡ record { bindings = bs; named = locks_of held; old = old; reply = Some answer; rows = change (rows_on spec r (stripes_held held)) }
+  evaluated x rest bs old held at answer change f r a =
       at.runs r a (stripes_held held) (λ c m. m) ∙ ap (run spec (op_at spec call.op) call rest) (f (rows_on spec r (stripes_held held)))
-      ∙ run-replied spec (op_at spec call.op) call rest bs (locks_of held) answer (change (rows_on spec r (stripes_held held)))
+      ∙ run-replied spec (op_at spec call.op) call rest bs (locks_of held) old answer (change (rows_on spec r (stripes_held held)))
 
-  module _ (planned : IsPlanOf spec call.op plan) (x : Statement) (rest : List Statement) (bs : List Pairs) (held : List HeldStripe) (at : IsAt spec plan call (x ∷ rest) bs held) (answer : Reply)
-      (f : (rows : List EdgeRow) → run_one spec (op_at spec call.op) call (searching bs (locks_of held) rows) x ≡ record { bindings = bs; named = locks_of held; reply = Some answer; rows = rows }) where
+  module _ (planned : IsPlanOf spec call.op plan) (x : Statement) (rest : List Statement) (bs : List Pairs) (old : Option Pairs) (held : List HeldStripe) (at : IsAt spec plan call (x ∷ rest) bs old held) (answer : Reply)
+      (f : (rows : List EdgeRow) → run_one spec (op_at spec call.op) call (updating old bs (locks_of held) rows) x ≡ record { bindings = bs; named = locks_of held; old = old; reply = Some answer; rows = rows }) where
     ends : (r : List Pairs) → AreOfRelation spec held r
-        → eval spec plan call (rows_on spec r (stripes_held held)) ≡ record { bindings = bs; named = locks_of held; reply = Some answer; rows = rows_on spec r (stripes_held held) }
-    ends = evaluated x rest bs held at answer (λ rows. rows) f
+        → eval spec plan call (rows_on spec r (stripes_held held)) ≡ record { bindings = bs; named = locks_of held; old = old; reply = Some answer; rows = rows_on spec r (stripes_held held) }
+    ends = evaluated x rest bs old held at answer (λ rows. rows) f
 
     -- a statement that replies and changes nothing ends a run as evaluation does
     pub ends_evaluated : (r : List Pairs) → AreOfRelation spec held r → HasEvaluated spec plan call held answer

@@ -24,7 +24,8 @@ use Rattle.rc_spec.specs.declared.items.OpKind.TheVariants.{Insert, Remove}
 use Rattle.rc_spec.specs.declared.lock.Mode.TheVariants.{Exclusive}
 use Rattle.rc_spec.specs.declared.spec.Spec.{Spec}
 use Rattle.rc_spec.specs.Acceptance.{IsSealed}
-use Rattle.rc_spec.specs.Calls.{Fits, all_columns}
+use Rattle.rc_spec.specs.declared.range.Range.{Range}
+use Rattle.rc_spec.specs.Calls.{Fits, GivesTuple, all_columns}
 use Rattle.rc_spec.specs.Contents.{how_many}
 use Rattle.rc_spec.specs.ContentsLaws.{target_within}
 use Rattle.rc_spec.specs.CountedRows.{row_in}
@@ -36,7 +37,6 @@ use Rattle.rc_spec.specs.HeathLaws.{IsReached}
 use Rattle.rc_spec.specs.Placement.{class_at, class_of, no_op, op_at}
 use Rattle.rc_spec.specs.Plain.{Outcome, first_broken_dependency, inserted_unless, plain, plain_by}
 use Rattle.rc_spec.specs.PlainLaws.{plain-known, plain_satisfies}
-use Rattle.rc_spec.specs.Stripes.{physical_stripe}
 use Rattle.rc_fragment.specs.declared.shape.EdgeShape.{EdgeShape}
 use Rattle.rc_fragment.specs.Fragment.{HasShape, IsThere, edge_table, shape_of}
 use Rattle.rc_fragment.specs.Holder.{AreKeyed, AreOfRelation, HeldStripe}
@@ -44,13 +44,13 @@ use Rattle.rc_fragment.specs.HolderLaws.{readable_law}
 use Rattle.rc_plan.specs.declared.statement.Statement.{Statement}
 use Rattle.rc_plan.specs.declared.statement.Statement.TheVariants.{Apply}
 use Rattle.rc_plan.specs.declared.statement.Which.{Which}
-use Rattle.rc_plan.specs.declared.statement.Which.TheVariants as which
 use Rattle.rc_plan.specs.MatchLaws.{all_seen_match}
-use Rattle.rc_plan.specs.PlanRules.{FindsTuples, IsInsert, IsQuery, KeepsAll}
+use Rattle.rc_plan.specs.ProbeLaws.{tuple_is_named}
+use Rattle.rc_plan.specs.PlanRules.{FindsTuples, IsQuery, KeepsAll}
 use Rattle.rc_plan.specs.RemoveLaws.{covered_without_probe}
 use Rattle.rc_plan.specs.RunLaws.{cols_of-project}
-use Rattle.rc_plan.specs.StripeLocks.{stripes_of, AreIn}
-use Rattle.rc_plan.specs.StripeLocksLaws.{physical_stripe-agreeing, striping_in_target}
+use Rattle.rc_plan.specs.StripeLocks.{AreIn}
+use Rattle.rc_plan.specs.StripeLocksLaws.{striping_in_target}
 use Rattle.rc_machine.specs.Apply.{AreAddable, AreAllThere, AreExclusive, stripe_in}
 use Rattle.rc_machine.specs.Machine.{locks_of, stripes_held}
 use Rattle.rc_machine.specs.Run.{IsAt, IsOn}
@@ -58,12 +58,11 @@ use Rattle.rc_machine.proofs.CheckStepLemmas.{whole_tuple}
 use Rattle.rc_machine.proofs.ReadLemmas.{shape_in_table}
 use Rattle.rc_machine.proofs.ReadStepLemmas.{good_stripes}
 use Rattle.rc_machine.proofs.RunLemmas.{stripes_named}
-use Rattle.rc_plan.specs.NamedStripes.{HasNamed}
 
 -- ---- stripes held for a change
 
 -- rows that fall on held stripes fall on stripes held for a change
-exclusive_from : (spec : Spec) (t : Pairs) (held : List HeldStripe) → AllHeld spec (stripes_held held) t → AreIn Exclusive (locks_of held) → AreExclusive spec t held
+pub exclusive_from : (spec : Spec) (t : Pairs) (held : List HeldStripe) → AllHeld spec (stripes_held held) t → AreIn Exclusive (locks_of held) → AreExclusive spec t held
 exclusive_from spec t held named modes e l =
     let q : (h : HeldStripe) × In h held × (stripe_in spec t e ≡ h.stripe) = in_map (λ (h : HeldStripe). h.stripe) (stripe_in spec t e) held (named e l) in
     (q.0, q.1, sym q.2, modes (q.0.stripe, q.0.mode) (map_in (λ (h : HeldStripe). (h.stripe, h.mode)) q.0 held q.1))
@@ -123,10 +122,49 @@ module _ (spec : Spec) (sealed : IsSealed spec) (r : List Pairs) (i : IsRelation
       (fragments_in spec both (row_stripe spec v ∷ []) v (all_rows_in spec both e u l (put_old tuple_cmp tuple_order u t (u ∷ []) (inl refl))) (inl refl))
       (fragments_in spec both (row_stripe spec w ∷ []) w (all_rows_in spec both e t l (put_new tuple_cmp tuple_order t (u ∷ []))) (inl refl))
 
+-- ---- what can be changed over unchanged stripes of a relation
+
+module _ (spec : Spec) (sealed : IsSealed spec) (r : List Pairs) (held : List HeldStripe) (same : (h : HeldStripe) → In h held → h.now ≡ h.taken) (a : AreOfRelation spec held r) where
+  -- where a relation with one tuple more satisfies the dependencies, its rows can be added
+  pub addable_at : (t : Pairs) → cols_of t ≡ all_columns spec → IsTuple t → Satisfies (put tuple_cmp t r) spec.deps → AreAddable spec t held
+  addable_at t over tuple sat e l h m s =
+      let source : (u : Pairs) → IsThere h.now e u → (x : Pairs) × In x r × (u ≡ project (bound spec (edge_at spec e).to) x) = λ u n.
+      (in_all_rows spec r (e, u, n.0) (in_fragments spec r (h.stripe ∷ []) (e, u, n.0) (subst (λ (z : List EdgeRow). In (e, u, n.0) z) (same h m ∙ a.rows h m) n.1)).0).projected in
+      let shape_is : (shape : EdgeShape) → HasShape (edge_table spec) e shape → shape_of spec (edge_at spec e) ≡ shape = λ shape has.
+      (let q : Some (shape_of spec (edge_at spec e)) ≡ Some shape = sym (shape_in_table spec e l) ∙ has in cc) in
+      record {
+        small = λ w n q. ((good_stripes spec sealed held same r a h m).counted w n).1;
+        alone = λ shape has u n p q.
+            let x : (x : Pairs) × In x r × (u ≡ project (bound spec (edge_at spec e).to) x) = source u n in
+            let keyed_two : AreKeyed spec (e, project (bound spec (edge_at spec e).to) x.0, how_many (bound spec (edge_at spec e).to) (put tuple_cmp t (x.0 ∷ [])) (project (bound spec (edge_at spec e).to) x.0))
+            (e, project (bound spec (edge_at spec e).to) t, how_many (bound spec (edge_at spec e).to) (put tuple_cmp t (x.0 ∷ [])) (project (bound spec (edge_at spec e).to) t)) =
+            keyed spec sealed r a.relation t over tuple sat e l x.0 x.1 in
+            let is : shape_of spec (edge_at spec e) ≡ shape = shape_is shape has in
+            x.2 ∙ ap (λ (z : EdgeRow). z.1) (keyed_two.by_key refl
+            (subst (λ (z : EdgeShape). project z.source (project (bound spec (edge_at spec e).to) x.0) ≡ project z.source (row_in spec t e)) (sym is) (subst (λ z. project shape.source z ≡ project shape.source (row_in spec t e)) x.2 p))
+            (subst (λ (z : EdgeShape). project z.key (project (bound spec (edge_at spec e).to) x.0) ≡ project z.key (row_in spec t e)) (sym is) (subst (λ z. project shape.key z ≡ project shape.key (row_in spec t e)) x.2 q)));
+        single = λ shape has kind u n p.
+            let x : (x : Pairs) × In x r × (u ≡ project (bound spec (edge_at spec e).to) x) = source u n in
+            let keyed_two : AreKeyed spec (e, project (bound spec (edge_at spec e).to) x.0, how_many (bound spec (edge_at spec e).to) (put tuple_cmp t (x.0 ∷ [])) (project (bound spec (edge_at spec e).to) x.0))
+            (e, project (bound spec (edge_at spec e).to) t, how_many (bound spec (edge_at spec e).to) (put tuple_cmp t (x.0 ∷ [])) (project (bound spec (edge_at spec e).to) t)) =
+            keyed spec sealed r a.relation t over tuple sat e l x.0 x.1 in
+            let is : shape_of spec (edge_at spec e) ≡ shape = shape_is shape has in
+            ap (project shape.key) (x.2 ∙ ap (λ (z : EdgeRow). z.1) (keyed_two.single refl (subst (λ (z : EdgeShape). z.kind ≡ Singleton) (sym is) kind)
+            (subst (λ (z : EdgeShape). project z.source (project (bound spec (edge_at spec e).to) x.0) ≡ project z.source (row_in spec t e)) (sym is) (subst (λ z. project shape.source z ≡ project shape.source (row_in spec t e)) x.2 p))));
+      }
+
+  -- the rows of a tuple are there
+  pub there_at : (b : Pairs) → In b r → AreAllThere spec b held
+  there_at b inside e l h n s = (
+    how_many (bound spec (edge_at spec e).to) r (project (bound spec (edge_at spec e).to) b),
+    subst (λ (z : List EdgeRow). In (e, row_in spec b e, how_many (bound spec (edge_at spec e).to) r (project (bound spec (edge_at spec e).to) b)) z) (sym (same h n ∙ a.rows h n))
+        (fragments_in spec r (h.stripe ∷ []) (e, row_in spec b e, how_many (bound spec (edge_at spec e).to) r (project (bound spec (edge_at spec e).to) b)) (all_rows_in spec r e b l inside) (inl (sym s))),
+  )
+
 -- ---- an insert that is answered Inserted
 
-inserted_by : (pattern : List ℕ) (deps : List Dep) (t : Pairs) (r : List Pairs) → (plain_by Insert pattern deps t r).reply ≡ Inserted → (plain_by Insert pattern deps t r).relation ≡ put tuple_cmp t r
-inserted_by pattern deps t r e = go (list_any (agree_on pattern t) r) (first_broken_dependency 1 deps (put tuple_cmp t r)) e
+inserted_by : (most : ℕ) (pattern : List ℕ) (deps : List Dep) (t : Pairs) (ranges : List Range) (r : List Pairs) → (plain_by most Insert pattern deps t ranges r).reply ≡ Inserted → (plain_by most Insert pattern deps t ranges r).relation ≡ put tuple_cmp t r
+inserted_by most pattern deps t ranges r e = go (list_any (agree_on pattern t) r) (first_broken_dependency 1 deps (put tuple_cmp t r)) e
   where
     go : (b : Bool) (o : Option ℕ) → (cond b (record { reply = Present; relation = r }) (inserted_unless o (put tuple_cmp t r) r)).reply ≡ Inserted
         → (cond b (record { reply = Present; relation = r }) (inserted_unless o (put tuple_cmp t r) r)).relation ≡ put tuple_cmp t r
@@ -134,26 +172,22 @@ inserted_by pattern deps t r e = go (list_any (agree_on pattern t) r) (first_bro
     go false None e = refl
     go false (Some n) e = absurd (let q : Conflict n ≡ Inserted = e in cc)
 
-inserted_kind : (kind : OpKind) (pattern : List ℕ) (deps : List Dep) (t : Pairs) (r : List Pairs) → kind ≡ Insert → (plain_by kind pattern deps t r).reply ≡ Inserted → (plain_by kind pattern deps t r).relation ≡ put tuple_cmp t r
-inserted_kind kind pattern deps t r k e =
-    ap (λ z. (plain_by z pattern deps t r).relation) k ∙ inserted_by pattern deps t r (sym (ap (λ z. (plain_by z pattern deps t r).reply) k) ∙ e)
+inserted_kind : (most : ℕ) (kind : OpKind) (pattern : List ℕ) (deps : List Dep) (t : Pairs) (ranges : List Range) (r : List Pairs) → kind ≡ Insert → (plain_by most kind pattern deps t ranges r).reply ≡ Inserted → (plain_by most kind pattern deps t ranges r).relation ≡ put tuple_cmp t r
+inserted_kind most kind pattern deps t ranges r k e =
+    ap (λ z. (plain_by most z pattern deps t ranges r).relation) k ∙ inserted_by most pattern deps t ranges r (sym (ap (λ z. (plain_by most z pattern deps t ranges r).reply) k) ∙ e)
 
 -- the relation after an insert that is answered Inserted
 pub inserted_relation : (spec : Spec) (call : Call) → (fits : Fits spec call) → (op_at spec call.op).kind ≡ Insert → (r : List Pairs) → (plain spec r call).reply ≡ Inserted → (plain spec r call).relation ≡ put tuple_cmp call.args r
 inserted_relation spec call fits k r e =
     let is_op : op_at spec call.op ≡ fits.0 = get_or_from_slice_get spec.ops call.op fits.0 no_op fits.1.known in
-    let known : plain spec r call ≡ plain_by fits.0.kind fits.0.pattern spec.deps call.args r = plain-known spec r call fits.0 fits.1.known in
+    let known : plain spec r call ≡ plain_by spec.most_rows fits.0.kind fits.0.pattern spec.deps call.args call.ranges r = plain-known spec r call fits.0 fits.1.known in
     ap (λ (z : Outcome). z.relation) known
-    ∙ inserted_kind fits.0.kind fits.0.pattern spec.deps call.args r (ap (λ (z : Op). z.kind) (sym is_op) ∙ k) (sym (ap (λ (z : Outcome). z.reply) known) ∙ e)
+    ∙ inserted_kind spec.most_rows fits.0.kind fits.0.pattern spec.deps call.args call.ranges r (ap (λ (z : Op). z.kind) (sym is_op) ∙ k) (sym (ap (λ (z : Outcome). z.reply) known) ∙ e)
 
 -- ---- an insert
 
-tuple_named : (spec : Spec) (t : Pairs) (stripes : List ℕ) (c : ℕ) (choice : Which) → HasNamed spec t stripes c choice → In (physical_stripe spec c t) stripes
-tuple_named spec t stripes c which.Keyed h = h
-tuple_named spec t stripes c which.All h = h t
-
-pub is_insert : (kind : OpKind) → kind ≡ Insert → IsInsert kind
-is_insert kind k = subst IsInsert (sym k) tt
+pub is_insert : (kind : OpKind) → kind ≡ Insert → GivesTuple kind
+is_insert kind k = subst GivesTuple (sym k) tt
 
 insert_no_query : (kind : OpKind) → kind ≡ Insert → IsQuery kind → ⊥
 insert_no_query kind k h = subst IsQuery k h
@@ -161,66 +195,34 @@ insert_no_query kind k h = subst IsQuery k h
 remove_no_query : (kind : OpKind) → kind ≡ Remove → IsQuery kind → ⊥
 remove_no_query kind k h = subst IsQuery k h
 
-remove_no_insert : (kind : OpKind) → kind ≡ Remove → IsInsert kind → ⊥
-remove_no_insert kind k h = subst IsInsert k h
+remove_no_insert : (kind : OpKind) → kind ≡ Remove → GivesTuple kind → ⊥
+remove_no_insert kind k h = subst GivesTuple k h
 
-module _ (spec : Spec) (sealed : IsSealed spec) (plan : List Statement) (call : Call) (fits : Fits spec call) (rest : List Statement) (bs : List Pairs) (held : List HeldStripe) (at : IsAt spec plan call (Apply ∷ rest) bs held)
+module _ (spec : Spec) (sealed : IsSealed spec) (plan : List Statement) (call : Call) (fits : Fits spec call) (rest : List Statement) (bs : List Pairs) (old : Option Pairs) (held : List HeldStripe) (at : IsAt spec plan call (Apply ∷ rest) bs old held)
     (r : List Pairs) (a : AreOfRelation spec held r) where
   keeps : KeepsAll spec (op_at spec call.op) at.progress Apply
   keeps = at.keeps.0
 
-  o : IsOn spec r (op_at spec call.op).kind call.args at.progress bs (locks_of held)
+  o : IsOn spec r (op_at spec call.op) call.args at.progress bs old (locks_of held)
   o = at.on r a
 
   now_is : (h : HeldStripe) → In h held → h.now ≡ fragment_of spec r h.stripe
   now_is h m = at.unchanged h m ∙ a.rows h m
 
-  insert_named : (op_at spec call.op).kind ≡ Insert → AllHeld spec (stripes_held held) call.args
-  insert_named k e l =
-      let over : cols_of call.args ≡ all_columns spec = whole_tuple spec call fits (is_insert (op_at spec call.op).kind k) in
-      let q : (choice : Which) × In (class_of spec e, choice) at.progress.locked = keeps.k4 e l in
-      let n : In (physical_stripe spec (class_of spec e) call.args) (stripes_of (locks_of held)) =
-      tuple_named spec call.args (stripes_of (locks_of held)) (class_of spec e) q.0 ((o.insert (is_insert (op_at spec call.op).kind k)).named (class_of spec e, q.0) q.1) in
-      let in_to : Within (class_at spec (class_of spec e)).cols (target_columns spec e) = striping_in_target spec sealed.accepted.adequate sealed.accepted.placed e l in
-      let in_t : Within (class_at spec (class_of spec e)).cols (cols_of call.args) = λ c m. subst (In c) (sym over) (target_within spec sealed.in_range e l c (in_to c m)) in
-      let in_row : Within (class_at spec (class_of spec e)).cols (cols_of (row_in spec call.args e)) = λ c m. cols_of-project (target_columns spec e) call.args c (in_to c m) (in_t c m) in
-      let same : physical_stripe spec (class_of spec e) call.args ≡ physical_stripe spec (class_of spec e) (row_in spec call.args e) =
-      physical_stripe-agreeing spec (class_of spec e) call.args (row_in spec call.args e) in_t in_row
-      (λ x y b d g. one_pair call.args fits.1.tuple.rising x y b (in_project (target_columns spec e) y call.args d).0 g) in
-      subst (In (stripe_in spec call.args e)) (stripes_named held) (subst (λ z. In z (stripes_of (locks_of held))) same n)
+  -- the call's tuple falls on held stripes
+  pub tuple_named : GivesTuple (op_at spec call.op).kind → AllHeld spec (stripes_held held) call.args
+  tuple_named gives =
+      subst (λ stripes. AllHeld spec stripes call.args) (stripes_named held)
+      (tuple_is_named spec r a.relation call.args (whole_tuple spec call fits gives) sealed.in_range sealed.accepted.adequate sealed.accepted.placed at.progress (locks_of held) (o.tuple gives).named keeps.k4.0)
 
   pub insert_exclusive : (op_at spec call.op).kind ≡ Insert → AreExclusive spec call.args held
-  insert_exclusive k = exclusive_from spec call.args held (insert_named k) (at.modes (insert_no_query (op_at spec call.op).kind k))
+  insert_exclusive k = exclusive_from spec call.args held (tuple_named (is_insert (op_at spec call.op).kind k)) (at.modes (insert_no_query (op_at spec call.op).kind k))
 
   -- where the plain step adds the tuple, its rows can be added
   pub insert_addable : (op_at spec call.op).kind ≡ Insert → (plain spec r call).reply ≡ Inserted → AreAddable spec call.args held
-  insert_addable k reply e l h m s =
-      let over : cols_of call.args ≡ all_columns spec = whole_tuple spec call fits (is_insert (op_at spec call.op).kind k) in
-      let sat : Satisfies (put tuple_cmp call.args r) spec.deps = subst (λ z. Satisfies z spec.deps) (inserted_relation spec call fits k r reply) (plain_satisfies spec r call a.satisfies) in
-      let source : (u : Pairs) → IsThere h.now e u → (x : Pairs) × In x r × (u ≡ project (bound spec (edge_at spec e).to) x) = λ u n.
-      (in_all_rows spec r (e, u, n.0) (in_fragments spec r (h.stripe ∷ []) (e, u, n.0) (subst (λ (z : List EdgeRow). In (e, u, n.0) z) (now_is h m) n.1)).0).projected in
-      let shape_is : (shape : EdgeShape) → HasShape (edge_table spec) e shape → shape_of spec (edge_at spec e) ≡ shape = λ shape has.
-      (let q : Some (shape_of spec (edge_at spec e)) ≡ Some shape = sym (shape_in_table spec e l) ∙ has in cc) in
-      record {
-        small = λ w n q. ((good_stripes spec sealed held at.unchanged r a h m).counted w n).1;
-        alone = λ shape has u n p q.
-            let x : (x : Pairs) × In x r × (u ≡ project (bound spec (edge_at spec e).to) x) = source u n in
-            let keyed_two : AreKeyed spec (e, project (bound spec (edge_at spec e).to) x.0, how_many (bound spec (edge_at spec e).to) (put tuple_cmp call.args (x.0 ∷ [])) (project (bound spec (edge_at spec e).to) x.0))
-            (e, project (bound spec (edge_at spec e).to) call.args, how_many (bound spec (edge_at spec e).to) (put tuple_cmp call.args (x.0 ∷ [])) (project (bound spec (edge_at spec e).to) call.args)) =
-            keyed spec sealed r a.relation call.args over fits.1.tuple sat e l x.0 x.1 in
-            let is : shape_of spec (edge_at spec e) ≡ shape = shape_is shape has in
-            x.2 ∙ ap (λ (z : EdgeRow). z.1) (keyed_two.by_key refl
-            (subst (λ (z : EdgeShape). project z.source (project (bound spec (edge_at spec e).to) x.0) ≡ project z.source (row_in spec call.args e)) (sym is) (subst (λ z. project shape.source z ≡ project shape.source (row_in spec call.args e)) x.2 p))
-            (subst (λ (z : EdgeShape). project z.key (project (bound spec (edge_at spec e).to) x.0) ≡ project z.key (row_in spec call.args e)) (sym is) (subst (λ z. project shape.key z ≡ project shape.key (row_in spec call.args e)) x.2 q)));
-        single = λ shape has kind u n p.
-            let x : (x : Pairs) × In x r × (u ≡ project (bound spec (edge_at spec e).to) x) = source u n in
-            let keyed_two : AreKeyed spec (e, project (bound spec (edge_at spec e).to) x.0, how_many (bound spec (edge_at spec e).to) (put tuple_cmp call.args (x.0 ∷ [])) (project (bound spec (edge_at spec e).to) x.0))
-            (e, project (bound spec (edge_at spec e).to) call.args, how_many (bound spec (edge_at spec e).to) (put tuple_cmp call.args (x.0 ∷ [])) (project (bound spec (edge_at spec e).to) call.args)) =
-            keyed spec sealed r a.relation call.args over fits.1.tuple sat e l x.0 x.1 in
-            let is : shape_of spec (edge_at spec e) ≡ shape = shape_is shape has in
-            ap (project shape.key) (x.2 ∙ ap (λ (z : EdgeRow). z.1) (keyed_two.single refl (subst (λ (z : EdgeShape). z.kind ≡ Singleton) (sym is) kind)
-            (subst (λ (z : EdgeShape). project z.source (project (bound spec (edge_at spec e).to) x.0) ≡ project z.source (row_in spec call.args e)) (sym is) (subst (λ z. project shape.source z ≡ project shape.source (row_in spec call.args e)) x.2 p))));
-      }
+  insert_addable k reply =
+      addable_at spec sealed r held at.unchanged a call.args (whole_tuple spec call fits (is_insert (op_at spec call.op).kind k)) fits.1.tuple
+      (subst (λ z. Satisfies z spec.deps) (inserted_relation spec call fits k r reply) (plain_satisfies spec r call a.satisfies))
 
   -- ---- a remove
 
@@ -244,7 +246,7 @@ module _ (spec : Spec) (sealed : IsSealed spec) (plan : List Statement) (call : 
   remove_named k b m e l =
       let over : cols_of b ≡ all_columns spec = found_whole k b m in
       let rises : IsRising nat_cmp (cols_of b) = subst (IsRising nat_cmp) (sym over) (rising_range 0 (length spec.columns)) in
-      let q : (choice : Which) × In (class_of spec e, choice) at.progress.locked = keeps.k4 e l in
+      let q : (choice : Which) × In (class_of spec e, choice) at.progress.locked = keeps.k4.0 e l in
       let in_to : Within (class_at spec (class_of spec e)).cols (target_columns spec e) = striping_in_target spec sealed.accepted.adequate sealed.accepted.placed e l in
       subst (In (stripe_in spec b e)) (stripes_named held)
       (o.search.guards (class_of spec e, q.0) q.1 (covered_without_probe spec at.progress (class_of spec e) q.0 (o.no_probe (remove_no_insert (op_at spec call.op).kind k))) b (row_in spec b e) m

@@ -1,13 +1,15 @@
 -- What a query answers from rows that rise.
-use Rattle.std.specs.Prelude.{◌≡◌, ℕ, suc, ◌+◌, ◌<◌, ◌≤◌, Bool, true, false, List, [], ◌∷◌, cond, get_or, length}
+use Rattle.std.specs.Prelude.{◌≡◌, ℕ, suc, ◌+◌, ◌<◌, ◌≤◌, ◌==◌, Bool, true, false, List, [], ◌∷◌, cond, filter, get_or, length}
 use Rattle.std.specs.declared.cmp.Ordering.{Ordering}
 use Rattle.std.specs.declared.cmp.Ordering.TheVariants.{Less}
-use Rattle.std.proofs.Common.{arith, ap, leb, refl, subst}
-use Rattle.std.proofs.lemmas.Bool.{le-leb, leb-true}
+use Rattle.std.proofs.Common.{arith, ap, leb, refl, subst, sym, ◌∙◌}
+use Rattle.std.proofs.lemmas.Bool.{eqb-true, le-leb, leb-true}
 use Rattle.rc_tuple.specs.RisingSet.{IsRising}
 use Rattle.rc_tuple.specs.RisingSetLaws.{IsOrder}
+use Rattle.rc_tuple.specs.Tuple.{Pairs}
+use Rattle.rc_spec.specs.Ranges.{in_ranges}
 use Rattle.rc_spec.specs.declared.call.Reply.TheVariants.{Rows, Many}
-use Rattle.rc_spec.specs.Plain.{at_most_256}
+use Rattle.rc_spec.specs.Plain.{at_most}
 use Rattle.rc_bindings.specs.BindingsLaws.{rising_behind}
 
 -- a list in which each is below the next rises
@@ -19,12 +21,21 @@ module _ {A : Type 0} (R : A → A → Ordering) (o : IsOrder R) (d : A) where
       rising_behind R o x y xs (steps 0 (omega arith))
       (rising_by_steps (y ∷ xs) (λ i l. let e : suc i + 1 ≡ suc (i + 1) = omega arith in subst (λ k. R (get_or (y ∷ xs) i d) (get_or (x ∷ y ∷ xs) k d) ≡ Less) e (steps (suc i) (omega (arith, l)))))
 
-pub few_rows : (rows : List (List ℕ)) → length rows ≤ 256 → at_most_256 rows ≡ Rows rows
-few_rows rows l = ap (λ b. cond b (Rows rows) (Many (length rows))) (le-leb (length rows) 256 l)
+pub few_rows : (most : ℕ) (rows : List (List ℕ)) → length rows ≤ most → at_most most rows ≡ Rows rows
+few_rows most rows l = ap (λ b. cond b (Rows rows) (Many (length rows))) (le-leb (length rows) most l)
 
-pub many_rows : (rows : List (List ℕ)) → 256 < length rows → at_most_256 rows ≡ Many (length rows)
-many_rows rows l = go (leb (length rows) 256) refl
+pub many_rows : (most : ℕ) (rows : List (List ℕ)) → most < length rows → at_most most rows ≡ Many (length rows)
+many_rows most rows l = go (leb (length rows) most) refl
   where
-    go : (b : Bool) → leb (length rows) 256 ≡ b → cond b (Rows rows) (Many (length rows)) ≡ Many (length rows)
-    go true e = let m = leb-true (length rows) 256 e in absurd (omega (arith, l, m))
+    go : (b : Bool) → leb (length rows) most ≡ b → cond b (Rows rows) (Many (length rows)) ≡ Many (length rows)
+    go true e = let m = leb-true (length rows) most e in absurd (omega (arith, l, m))
     go false e = refl
+
+pub nothing : {A : Type 0} (xs : List A) (b : Bool) → b ≡ (length xs == 0) → b ≡ true → xs ≡ []
+nothing [] b e t = refl
+nothing (x ∷ xs) b e t = absurd (let n : length (x ∷ xs) ≡ 0 = eqb-true (length (x ∷ xs)) 0 (sym e ∙ t) in omega (arith, n))
+
+-- without bounds each tuple is between them
+pub none_outside : (ts : List Pairs) → filter (in_ranges []) ts ≡ ts
+none_outside [] = refl
+none_outside (t ∷ ts) = ap (λ z. t ∷ z) (none_outside ts)

@@ -1,4 +1,5 @@
 mod ApplyLemmas
+mod CheckLemmas
 pub mod LentLemmas
 mod LockLemmas
 mod PlaceLemmas
@@ -11,6 +12,8 @@ pub mod ReadStepLemmas
 pub mod CheckStepLemmas
 pub mod ChangeLemmas
 pub mod ConditionLemmas
+pub mod UpdateLemmas
+pub mod ReplaceLemmas
 pub mod GoLemmas
 mod EmitLemmas
 mod StripeLemmas

@@ -1,5 +1,5 @@
 -- How a run stands after a Read.
-use Rattle.std.specs.Prelude.{◌≡◌, ℕ, ◌<◌, List, ◌∷◌, None, Some, length}
+use Rattle.std.specs.Prelude.{◌≡◌, ℕ, ◌<◌, List, ◌∷◌, None, Option, Some, length}
 use Rattle.std.specs.Ordering.{nat_cmp}
 use Rattle.std.proofs.Common.{inl, inr, refl, sym, ap, subst, ◌∙◌}
 use Rattle.rc_tuple.specs.RisingSet.{In, IsRising}
@@ -9,8 +9,9 @@ use Rattle.rc_tuple.specs.Tuple.{Pairs, cols_of, merge}
 use Rattle.rc_tuple.specs.TupleLaws.{Agree, agree_from, in_merge, one_pair, rising_columns, rising_merge}
 use Rattle.rc_spec.specs.declared.call.Call.{Call}
 use Rattle.rc_spec.specs.declared.items.OpKind.{OpKind}
-use Rattle.rc_spec.specs.declared.items.OpKind.TheVariants.{Query, Insert, Remove}
+use Rattle.rc_spec.specs.declared.items.OpKind.TheVariants.{Query, Insert, Remove, Update}
 use Rattle.rc_spec.specs.declared.spec.Spec.{Spec}
+use Rattle.rc_spec.specs.Calls.{GivesTuple}
 use Rattle.rc_spec.specs.Acceptance.{IsSealed}
 use Rattle.rc_spec.specs.Contents.{join}
 use Rattle.rc_spec.specs.Decomposition.{bound, edge_at, target_columns}
@@ -28,7 +29,8 @@ use Rattle.rc_plan.specs.declared.statement.Statement.TheVariants.{Read}
 use Rattle.rc_plan.specs.declared.statement.Which.{Which}
 use Rattle.rc_plan.specs.declared.statement.Which.TheVariants as which
 use Rattle.rc_plan.specs.Evaluation.{run}
-use Rattle.rc_plan.specs.PlanRules.{Covers, HasProbed, IsFindable, IsInsert, KeepsAll, MayRead, Progress, after}
+use Rattle.rc_plan.specs.PlanRules.{Covers, HasProbed, IsFindable, KeepsAll, MayRead, Progress, after}
+use Rattle.rc_plan.specs.ProbeLaws.{IsProbing}
 use Rattle.rc_plan.specs.RunLaws.{read_keeps, read_same}
 use Rattle.rc_plan.specs.StripeLocks.{stripes_of, band}
 use Rattle.rc_machine.specs.Machine.{locks_of, rows_now, stripes_held}
@@ -36,7 +38,7 @@ use Rattle.rc_machine.specs.Read.{AreGood, AreReaders}
 use Rattle.rc_machine.specs.Run.{IsAt, IsOn, IsClassTaken}
 use Rattle.rc_machine.proofs.ReadLemmas.{row_there, target_rises}
 use Rattle.rc_machine.proofs.RunLemmas.{now_together, stripes_named}
-use Rattle.rc_plan.specs.Search.{IsSearching, searching}
+use Rattle.rc_plan.specs.Search.{IsSearching, updating}
 
 merged_columns : (t u : Pairs) → IsRising nat_cmp (cols_of t) → IsRising nat_cmp (cols_of u) → Agree t u → IsRising nat_cmp (cols_of (merge t u))
 merged_columns t u rt ru f = rising_columns (merge t u) (rising_merge t u) (λ p q m n e. elim (in_merge t u p m) [
@@ -48,17 +50,23 @@ findable_more : (mode : ReadMode) (key xs ys : List ℕ) → Within xs ys → Is
 findable_more Lookup key xs ys w f = λ c m. w c (f c m)
 findable_more Scan key xs ys w f = tt
 
-probed : (kind : OpKind) (p : Progress) → IsInsert kind → MayRead kind p → HasProbed p
-probed (Query outs) p i h = absurd i
+probed : (kind : OpKind) (p : Progress) → GivesTuple kind → MayRead kind p → HasProbed p
+probed (Query outs ranges) p i h = absurd i
 probed Insert p i h = h
 probed Remove p i h = absurd i
+probed Update p i h = h
+
+-- behind a Probe the search doesn't speak of the bindings
+still_probing : (t : Pairs) (p : Progress) (s : Pairs) (bs cs : List Pairs) → HasProbed p → IsProbing t p s bs → IsProbing t p s cs
+still_probing t p s bs cs h (inl e) = absurd (let g : None ≡ Some h.0 = sym e.0 ∙ h.1 in cc)
+still_probing t p s bs cs h (inr e) = inr e
 
 -- the rows of held stripes that nothing changed are good
 pub good_stripes : (spec : Spec) → IsSealed spec → (held : List HeldStripe) → ((h : HeldStripe) → In h held → h.now ≡ h.taken) → (r : List Pairs) → AreOfRelation spec held r → AreGood spec held
 good_stripes spec sealed held same r a h m = subst (AreGoodRows spec h.stripe) (sym (same h m)) ((readable_law spec sealed held r a).good h m)
 
-module _ (spec : Spec) (sealed : IsSealed spec) (plan : List Statement) (call : Call) (e : ℕ) (mode : ReadMode) (rest : List Statement) (bs : List Pairs) (held : List HeldStripe)
-    (at : IsAt spec plan call (Read e mode ∷ rest) bs held) where
+module _ (spec : Spec) (sealed : IsSealed spec) (plan : List Statement) (call : Call) (e : ℕ) (mode : ReadMode) (rest : List Statement) (bs : List Pairs) (old : Option Pairs) (held : List HeldStripe)
+    (at : IsAt spec plan call (Read e mode ∷ rest) bs old held) where
   edge : e < length spec.edges
   edge = at.known (Read e mode) (inl refl)
 
@@ -80,7 +88,7 @@ module _ (spec : Spec) (sealed : IsSealed spec) (plan : List Statement) (call : 
   -- the bindings find the rows of the edge on the held stripes
   pub are_readers : (r : List Pairs) → AreOfRelation spec held r → AreReaders spec e mode held bs
   are_readers r a =
-      let o : IsOn spec r (op_at spec call.op).kind call.args at.progress bs (locks_of held) = at.on r a in
+      let o : IsOn spec r (op_at spec call.op) call.args at.progress bs old (locks_of held) = at.on r a in
       record {
         readers = λ b m. record {
           source = λ c n. o.search.columns b m c (source_bound r a c n);
@@ -104,7 +112,7 @@ module _ (spec : Spec) (sealed : IsSealed spec) (plan : List Statement) (call : 
   module _ (joined : List Pairs) (is : joined ≡ join bs (tuples_of_edge e (rows_now held))) where
     same_at : (r : List Pairs) (a : AreOfRelation spec held r) (stripes : List ℕ) → Within (stripes_held held) stripes → join bs (tuples_of_edge e (rows_on spec r stripes)) ≡ join bs (tuples_of_edge e (all_rows spec r))
     same_at r a stripes w =
-        let o : IsOn spec r (op_at spec call.op).kind call.args at.progress bs (locks_of held) = at.on r a in
+        let o : IsOn spec r (op_at spec call.op) call.args at.progress bs old (locks_of held) = at.on r a in
         read_same spec sealed.in_range sealed.accepted.adequate sealed.accepted.placed r a.relation a.satisfies o.sought o.rising at.progress bs (locks_of held) stripes e mode o.search edge keeps.k3
         (λ c m. w c (subst (In c) (stripes_named held) m))
 
@@ -113,7 +121,7 @@ module _ (spec : Spec) (sealed : IsSealed spec) (plan : List Statement) (call : 
         is ∙ ap (λ z. join bs (tuples_of_edge e z)) (now_together spec r held (λ h m. at.unchanged h m ∙ a.rows h m)) ∙ same_at r a (stripes_held held) (λ c m. m)
 
     -- the run after a Read; some relation is needed to see that its tuples' columns rise
-    pub read_step : (r : List Pairs) → AreOfRelation spec held r → IsAt spec plan call rest joined held
+    pub read_step : (r : List Pairs) → AreOfRelation spec held r → IsAt spec plan call rest joined old held
     read_step r₀ a₀ = record {
       progress = after spec at.progress (Read e mode);
       keeps = at.keeps.1;
@@ -129,7 +137,7 @@ module _ (spec : Spec) (sealed : IsSealed spec) (plan : List Statement) (call : 
           subst (λ z. IsRising nat_cmp (cols_of z)) (sym j.merged)
           (merged_columns j.left j.right (at.columns_rise j.left j.in_left) (subst (IsRising nat_cmp) (sym cols) (target_rises spec sealed e edge)) (agree_from j.left j.right j.agree));
       on = λ r a.
-          let o : IsOn spec r (op_at spec call.op).kind call.args at.progress bs (locks_of held) = at.on r a in
+          let o : IsOn spec r (op_at spec call.op) call.args at.progress bs old (locks_of held) = at.on r a in
           record {
             sought = o.sought;
             rising = o.rising;
@@ -137,12 +145,13 @@ module _ (spec : Spec) (sealed : IsSealed spec) (plan : List Statement) (call : 
             search = subst (λ z. IsSearching spec r o.sought (after spec at.progress (Read e mode)) z (locks_of held)) (sym (joined_all r a))
                 (read_keeps spec sealed.in_range sealed.accepted.adequate sealed.accepted.placed r a.relation a.satisfies o.sought o.rising at.progress bs (locks_of held) e mode o.search edge keeps.k5);
             taken = λ x m. taken_more x.0 x.1 (o.taken x m);
-            insert = λ i. record {
-              begun = λ none. absurd (let q : HasProbed at.progress = probed (op_at spec call.op).kind at.progress i keeps.k1.1 in let g : None ≡ Some q.0 = sym none ∙ q.1 in cc);
-              named = (o.insert i).named;
+            tuple = λ i. record {
+              probing = still_probing call.args at.progress o.sought bs joined (probed (op_at spec call.op).kind at.progress i keeps.k1.1) (o.tuple i).probing;
+              named = (o.tuple i).named;
             };
             no_probe = o.no_probe;
+            found = o.found;
           };
       runs = λ r a stripes w.
-          at.runs r a stripes w ∙ ap (λ z. run spec (op_at spec call.op) call rest (searching z (locks_of held) (rows_on spec r stripes))) (same_at r a stripes w ∙ sym (joined_all r a));
+          at.runs r a stripes w ∙ ap (λ z. run spec (op_at spec call.op) call rest (updating old z (locks_of held) (rows_on spec r stripes))) (same_at r a stripes w ∙ sym (joined_all r a));
     }

@@ -1,9 +1,10 @@
 -- How a run stands after each statement.
-use Rattle.std.specs.Prelude.{◌≡◌, ℕ, ◌<◌, List, [], ◌∷◌, ◌++◌, Option, length}
+use Rattle.std.specs.Prelude.{◌≡◌, ℕ, ◌<◌, List, [], ◌∷◌, ◌++◌, None, Option, Some, length}
 use Rattle.std.specs.declared.cmp.Ordering.TheVariants.{Less}
 use Rattle.std.specs.Cmp.{nat_cmp_is}
 use Rattle.std.specs.Ordering.{nat_cmp, ordering_then}
 use Rattle.std.proofs.Common.{inl, inr, refl, sym, ap, subst, ◌∙◌, arith}
+use Rattle.std.proofs.lemmas.Bool.{false≢true}
 use Rattle.std.proofs.lemmas.List.{map-append}
 use Rattle.rc_tuple.specs.RisingSet.{In, IsRising, gather}
 use Rattle.rc_tuple.specs.RisingSetLaws.{same_rising, rising_gather, in_gather, gather_in, in_map, map_in, in_append, append_in_left, append_in_right, nat_order, slice_get_in}
@@ -14,7 +15,7 @@ use Rattle.rc_tuple.specs.TupleLaws.{rising_pairs}
 use Rattle.rc_spec.specs.declared.call.Call.{Call}
 use Rattle.rc_spec.specs.declared.items.Op.{Op}
 use Rattle.rc_spec.specs.declared.items.OpKind.{OpKind}
-use Rattle.rc_spec.specs.declared.items.OpKind.TheVariants.{Query, Insert, Remove}
+use Rattle.rc_spec.specs.declared.items.OpKind.TheVariants.{Query, Insert, Remove, Update}
 use Rattle.rc_spec.specs.declared.lock.Mode.{Mode}
 use Rattle.rc_spec.specs.declared.lock.Mode.TheVariants.{Exclusive}
 use Rattle.rc_spec.specs.declared.spec.Spec.{Spec}
@@ -31,9 +32,9 @@ use Rattle.rc_plan.specs.declared.statement.Which.{Which}
 use Rattle.rc_plan.specs.declared.statement.Which.TheVariants as which
 use Rattle.rc_plan.specs.Compiled.{IsPlanOf}
 use Rattle.rc_plan.specs.Evaluation.{named_by, run, stripes_locked}
-use Rattle.rc_plan.specs.InsertLaws.{more_named, tuple_named}
+use Rattle.rc_plan.specs.ProbeLaws.{IsProbing, more_named, tuple_named}
 use Rattle.rc_plan.specs.LockOrderLaws.{IsOfClass-stripes_locked, of_locked_one}
-use Rattle.rc_plan.specs.PlanRules.{HasLockMode, IsKeyBound, IsLocked, IsQuery, KeepsAll, after, at_start, given_columns}
+use Rattle.rc_plan.specs.PlanRules.{HasLockMode, IsKeyBound, IsLocked, IsQuery, KeepsAll, Progress, after, at_start, given_columns}
 use Rattle.rc_plan.specs.RunLaws.{lock_keeps, search_begins}
 use Rattle.rc_plan.specs.StripeLocks.{StripeLock, mode_number, stripe_lock_cmp, stripes_of, IsOfClass, AreIn}
 use Rattle.rc_plan.specs.StripeLocksLaws.{AreIn-more, named_before, named_now, stripe_lock_order, stripes_of_in}
@@ -41,7 +42,7 @@ use Rattle.rc_machine.specs.Locks.{AreLocked}
 use Rattle.rc_machine.specs.Machine.{locks_of, stripes_held}
 use Rattle.rc_machine.specs.Run.{IsAt, IsOn, IsClassTaken}
 use Rattle.rc_plan.specs.NamedStripes.{HasNamed, AreOfLocked}
-use Rattle.rc_plan.specs.Search.{searching}
+use Rattle.rc_plan.specs.Search.{searching, updating}
 use Rattle.rc_spec.specs.CallsLaws.{fits_at_op}
 
 -- ---- rising lists
@@ -75,9 +76,10 @@ fewer spec r old more new e a = record { relation = a.relation; satisfies = a.sa
 -- ---- arguments
 
 given_by : (spec : Spec) (pattern : List ℕ) (kind : OpKind) → AreBelow (length spec.columns) pattern → Within (value_columns spec pattern kind) (all_columns spec)
-given_by spec pattern (Query outs) b c m = in_range_below (length spec.columns) c (b c m)
+given_by spec pattern (Query outs ranges) b c m = in_range_below (length spec.columns) c (b c m)
 given_by spec pattern Insert b c m = m
 given_by spec pattern Remove b c m = in_range_below (length spec.columns) c (b c m)
+given_by spec pattern Update b c m = m
 
 -- a call gives values at columns of the specification
 given_inside : (spec : Spec) → IsInRange spec → (op : Op) → IsOpAmong (length spec.columns) op → (t : Pairs) → cols_of t ≡ given_columns spec op → Within (cols_of t) (all_columns spec)
@@ -86,13 +88,19 @@ given_inside spec range op among t e c m = given_by spec op.pattern op.kind amon
 -- ---- locks
 
 mode_of : (kind : OpKind) (mode : Mode) → HasLockMode kind mode → (IsQuery kind → ⊥) → mode ≡ Exclusive
-mode_of (Query outs) mode h n = absurd (n tt)
+mode_of (Query outs ranges) mode h n = absurd (n tt)
 mode_of Insert mode h n = h
 mode_of Remove mode h n = h
+mode_of Update mode h n = h
+
+-- before the first Probe the tuple is the one binding
+begun : (t : Pairs) (p : Progress) (s : Pairs) (bs : List Pairs) → IsProbing t p s bs → p.probe ≡ None → bs ≡ t ∷ []
+begun t p s bs (inl e) none = e.2
+begun t p s bs (inr e) none = absurd (let g : None ≡ Some e.0 = sym none ∙ e.1 in cc)
 
 module _ (spec : Spec) (sealed : IsSealed spec) (plan : List Statement) (call : Call) where
   -- a run begins
-  pub begins : (fits : Fits spec call) → IsPlanOf spec call.op plan → IsAt spec plan call plan (call.args ∷ []) []
+  pub begins : (fits : Fits spec call) → IsPlanOf spec call.op plan → IsAt spec plan call plan (call.args ∷ []) None []
   begins fits planned =
       let op : Op = op_at spec call.op in
       let at : FitsAt spec call op = fits_at_op spec call fits in
@@ -112,13 +120,14 @@ module _ (spec : Spec) (sealed : IsSealed spec) (plan : List Statement) (call : 
           inside = given_inside spec sealed.in_range op among call.args at.columns;
           search = search_begins spec r call.args op at.columns;
           taken = λ x m. absurd m;
-          insert = λ i. record { begun = λ e. refl; named = λ x m. absurd m };
+          tuple = λ i. record { probing = inl (refl, refl, refl); named = λ x m. absurd m };
           no_probe = λ n. refl;
+          found = λ u e. absurd (false≢true e);
         };
         runs = λ r a stripes w. refl;
       }
 
-  module _ (c : ℕ) (choice : Which) (mode : Mode) (rest : List Statement) (bs : List Pairs) (held : List HeldStripe) (at : IsAt spec plan call (Lock c choice mode ∷ rest) bs held) where
+  module _ (c : ℕ) (choice : Which) (mode : Mode) (rest : List Statement) (bs : List Pairs) (old : Option Pairs) (held : List HeldStripe) (at : IsAt spec plan call (Lock c choice mode ∷ rest) bs old held) where
     class : c < length spec.classes
     class = at.known (Lock c choice mode) (inl refl)
 
@@ -180,9 +189,9 @@ module _ (spec : Spec) (sealed : IsSealed spec) (plan : List Statement) (call : 
       taken_before d which.Keyed g = g
       taken_before d which.All g = λ stripe m. named_before stripe (locks_of held) (named_by spec c choice mode bs) (g stripe m)
 
-      lock_on : (r : List Pairs) → AreOfRelation spec held r → IsOn spec r (op_at spec call.op).kind call.args (after spec at.progress (Lock c choice mode)) bs (gather stripe_lock_cmp (locks_of held ++ named_by spec c choice mode bs))
+      lock_on : (r : List Pairs) → AreOfRelation spec held r → IsOn spec r (op_at spec call.op) call.args (after spec at.progress (Lock c choice mode)) bs old (gather stripe_lock_cmp (locks_of held ++ named_by spec c choice mode bs))
       lock_on r a =
-          let o : IsOn spec r (op_at spec call.op).kind call.args at.progress bs (locks_of held) = at.on r a in
+          let o : IsOn spec r (op_at spec call.op) call.args at.progress bs old (locks_of held) = at.on r a in
           record {
             sought = o.sought;
             rising = o.rising;
@@ -192,18 +201,19 @@ module _ (spec : Spec) (sealed : IsSealed spec) (plan : List Statement) (call : 
               | inl e ↦ subst (λ (z : ℕ × Which). IsClassTaken spec (after spec at.progress (Lock c choice mode)) (stripes_of (gather stripe_lock_cmp (locks_of held ++ named_by spec c choice mode bs))) z.0 z.1) (sym e) (taken_now choice keeps.k3)
               | inr n ↦ taken_before x.0 x.1 (o.taken x n)
             ];
-            insert = λ i. record {
-              begun = (o.insert i).begun;
+            tuple = λ i. record {
+              probing = (o.tuple i).probing;
               named = λ x m. elim m [
-                | inl e ↦ subst (λ (z : ℕ × Which). HasNamed spec call.args (stripes_of (gather stripe_lock_cmp (locks_of held ++ named_by spec c choice mode bs))) z.0 z.1) (sym e) (tuple_named spec sealed.accepted.placed call.args bs (locks_of held) mode c class choice ((o.insert i).begun keeps.k1.1))
-                | inr n ↦ more_named spec call.args (locks_of held) (named_by spec c choice mode bs) x.0 x.1 ((o.insert i).named x n)
+                | inl e ↦ subst (λ (z : ℕ × Which). HasNamed spec call.args (stripes_of (gather stripe_lock_cmp (locks_of held ++ named_by spec c choice mode bs))) z.0 z.1) (sym e) (tuple_named spec sealed.accepted.placed call.args bs (locks_of held) mode c class choice (begun call.args at.progress o.sought bs (o.tuple i).probing keeps.k1.1))
+                | inr n ↦ more_named spec call.args (locks_of held) (named_by spec c choice mode bs) x.0 x.1 ((o.tuple i).named x n)
               ];
             };
             no_probe = o.no_probe;
+            found = o.found;
           }
 
       -- the run after a Lock
-      pub lock_step : IsAt spec plan call rest bs new
+      pub lock_step : IsAt spec plan call rest bs old new
       lock_step = record {
         progress = after spec at.progress (Lock c choice mode);
         keeps = at.keeps.1;
@@ -214,10 +224,10 @@ module _ (spec : Spec) (sealed : IsSealed spec) (plan : List Statement) (call : 
         modes = λ n. subst (AreIn Exclusive) (sym locks_are) (subst (λ m. AreIn Exclusive (gather stripe_lock_cmp (locks_of held ++ named_by spec c choice m bs))) (sym (mode_of (op_at spec call.op).kind mode keeps.k1.2 n))
             (AreIn-more Exclusive (locks_of held) (stripes_locked spec c choice bs) (at.modes n)));
         columns_rise = at.columns_rise;
-        on = λ r a. subst (IsOn spec r (op_at spec call.op).kind call.args (after spec at.progress (Lock c choice mode)) bs) (sym locks_are) (lock_on r (fewer spec r held f.more new f.beside a));
+        on = λ r a. subst (IsOn spec r (op_at spec call.op) call.args (after spec at.progress (Lock c choice mode)) bs old) (sym locks_are) (lock_on r (fewer spec r held f.more new f.beside a));
         runs = λ r a stripes w. at.runs r (fewer spec r held f.more new f.beside a) stripes
             (λ s m.
             let q : (h : HeldStripe) × In h held × (s ≡ h.stripe) = in_map (λ (h : HeldStripe). h.stripe) s held m in
             w s (subst (λ z. In z (stripes_held new)) (sym q.2) (map_in (λ (h : HeldStripe). h.stripe) q.0 new (subst (In q.0) (sym f.beside) (append_in_left q.0 held f.more q.1)))))
-            ∙ ap (λ ns. run spec (op_at spec call.op) call rest (searching bs ns (rows_on spec r stripes))) (sym locks_are);
+            ∙ ap (λ ns. run spec (op_at spec call.op) call rest (updating old bs ns (rows_on spec r stripes))) (sym locks_are);
       }

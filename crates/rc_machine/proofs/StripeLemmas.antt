@@ -11,7 +11,7 @@ use Rattle.rc_tuple.specs.TupleLaws.{fewer_cols, in_project, one_pair}
 use Rattle.rc_spec.specs.declared.call.Call.{Call}
 use Rattle.rc_spec.specs.declared.items.Op.{Op}
 use Rattle.rc_spec.specs.declared.items.OpKind.{OpKind}
-use Rattle.rc_spec.specs.declared.items.OpKind.TheVariants.{Query, Insert, Remove}
+use Rattle.rc_spec.specs.declared.items.OpKind.TheVariants.{Query, Insert, Remove, Update}
 use Rattle.rc_spec.specs.declared.spec.Spec.{Spec}
 use Rattle.rc_spec.specs.Acceptance.{IsSealed}
 use Rattle.rc_spec.specs.Calls.{Fits, all_columns, value_columns}
@@ -41,9 +41,10 @@ pub all_below : (spec : Spec) → AreBelow (length spec.columns) (all_columns sp
 all_below spec c m = let l = (in_range_bounds 0 (length spec.columns) c m).1 in omega (arith, l)
 
 given_below : (spec : Spec) (pattern : List ℕ) (kind : OpKind) → AreBelow (length spec.columns) pattern → AreBelow (length spec.columns) (value_columns spec pattern kind)
-given_below spec pattern (Query outs) below = below
+given_below spec pattern (Query outs ranges) below = below
 given_below spec pattern Insert below = all_below spec
 given_below spec pattern Remove below = below
+given_below spec pattern Update below = all_below spec
 
 -- a call gives values for columns of the specification
 pub args_below : (spec : Spec) → IsSealed spec → (call : Call) → Fits spec call → AreBelow (length spec.columns) (cols_of call.args)

@@ -1,5 +1,6 @@
 pub mod Applied
 pub mod Apply
+pub mod Checks
 pub mod EdgeRead
 pub mod Locks
 pub mod Machine

@@ -1,15 +1,16 @@
 -- Where a run of a plan over held stripes stands.
-use Rattle.std.specs.Prelude.{◌≡◌, ℕ, List, [], ◌∷◌, None, Option, Some}
+use Rattle.std.specs.Prelude.{◌≡◌, ℕ, true, List, [], ◌∷◌, None, Option, Some}
 use Rattle.std.specs.Ordering.{nat_cmp}
 use Rattle.rc_tuple.specs.RisingSet.{In, IsRising}
 use Rattle.rc_tuple.specs.ColSet.{Within}
 use Rattle.rc_tuple.specs.Tuple.{Pairs, cols_of, pair_cmp}
 use Rattle.rc_spec.specs.declared.call.Call.{Call}
 use Rattle.rc_spec.specs.declared.call.Reply.{Reply}
-use Rattle.rc_spec.specs.declared.items.OpKind.{OpKind}
+use Rattle.rc_spec.specs.declared.call.Reply.TheVariants.{Absent}
+use Rattle.rc_spec.specs.declared.items.Op.{Op}
 use Rattle.rc_spec.specs.declared.lock.Mode.TheVariants.{Exclusive}
 use Rattle.rc_spec.specs.declared.spec.Spec.{Spec}
-use Rattle.rc_spec.specs.Calls.{all_columns}
+use Rattle.rc_spec.specs.Calls.{GivesTuple, all_columns}
 use Rattle.rc_spec.specs.Fragments.{rows_on}
 use Rattle.rc_spec.specs.Placement.{class_at, op_at}
 use Rattle.rc_fragment.specs.Holder.{AreOfRelation, HeldStripe}
@@ -17,34 +18,37 @@ use Rattle.rc_plan.specs.declared.statement.Statement.{Statement}
 use Rattle.rc_plan.specs.declared.statement.Which.{Which}
 use Rattle.rc_plan.specs.declared.statement.Which.TheVariants as which
 use Rattle.rc_plan.specs.Evaluation.{eval, run}
-use Rattle.rc_plan.specs.PlanRules.{AreKnown, Covers, IsInsert, IsQuery, KeepsFrom, Progress}
+use Rattle.rc_plan.specs.PlanRules.{AreKnown, Covers, IsQuery, IsUpdate, KeepsFrom, Progress}
+use Rattle.rc_plan.specs.ProbeLaws.{IsProbing}
 use Rattle.rc_plan.specs.StripeLocks.{StripeLock, stripes_of, band, AreIn}
 use Rattle.rc_machine.specs.Machine.{AreAsTaken, HasReplied, locks_of, stripes_held}
 use Rattle.rc_plan.specs.NamedStripes.{HasNamed, AreOfLocked}
-use Rattle.rc_plan.specs.Search.{IsSearching, searching}
+use Rattle.rc_plan.specs.Search.{IsSearching, updating}
+use Rattle.rc_plan.specs.UpdateLaws.{IsOld}
 
 -- what is known of a locked class: where keyed locks cover a read, the bindings have the columns that choose a stripe, and else all of its stripes are named
 abbrev pub IsClassTaken : Spec → Progress → List ℕ → ℕ → Which → Type 0
 IsClassTaken spec p stripes c which.Keyed = Covers spec p c which.Keyed → Within (class_at spec c).cols p.columns
 IsClassTaken spec p stripes c which.All = (stripe : ℕ) → In stripe (band spec c) → In stripe stripes
 
--- an insert locks before its first Probe, where its tuple is the one binding, and so on the tuple's stripes
-pub record IsFromTuple (spec : Spec) (t : Pairs) (p : Progress) (bs : List Pairs) (ns : List StripeLock) : Type 0 where
-  pub begun : p.probe ≡ None → bs ≡ t ∷ []
+-- an insert and an update lock before their first Probe, where their tuple is the one binding, and so on the tuple's stripes; then they search for its projections
+pub record IsFromTuple (spec : Spec) (t : Pairs) (p : Progress) (s : Pairs) (bs : List Pairs) (ns : List StripeLock) : Type 0 where
+  pub probing : IsProbing t p s bs
   pub named : (x : ℕ × Which) → In x p.locked → HasNamed spec t (stripes_of ns) x.0 x.1
 
--- the search of a run, over a relation
-pub record IsOn (spec : Spec) (r : List Pairs) (kind : OpKind) (t : Pairs) (p : Progress) (bs : List Pairs) (ns : List StripeLock) : Type 0 where
+-- the search of a run, over a relation, and the old tuple of an update
+pub record IsOn (spec : Spec) (r : List Pairs) (op : Op) (t : Pairs) (p : Progress) (bs : List Pairs) (old : Option Pairs) (ns : List StripeLock) : Type 0 where
   pub sought : Pairs
   pub rising : IsRising pair_cmp sought
   pub inside : Within (cols_of sought) (all_columns spec)
   pub search : IsSearching spec r sought p bs ns
   pub taken : (x : ℕ × Which) → In x p.locked → IsClassTaken spec p (stripes_of ns) x.0 x.1
-  pub insert : IsInsert kind → IsFromTuple spec t p bs ns
-  pub no_probe : (IsInsert kind → ⊥) → p.probe ≡ None
+  pub tuple : GivesTuple op.kind → IsFromTuple spec t p sought bs ns
+  pub no_probe : (GivesTuple op.kind → ⊥) → p.probe ≡ None
+  pub found : IsUpdate op.kind → p.sought ≡ true → (o : Pairs) × (old ≡ Some o) × IsOld r t op.pattern o
 
--- Before the rest of the plan, with these bindings and held stripes: nothing is changed, stripes were taken rising and are of locked classes; and over each relation of which the held stripes have fragments, evaluation on the fragments of any stripes among which are those held goes on as the rest of the plan from here.
-pub record IsAt (spec : Spec) (plan : List Statement) (call : Call) (rest : List Statement) (bs : List Pairs) (held : List HeldStripe) : Type 0 where
+-- Before the rest of the plan, with these bindings, this old tuple and held stripes: nothing is changed, stripes were taken rising and are of locked classes; and over each relation of which the held stripes have fragments, evaluation on the fragments of any stripes among which are those held goes on as the rest of the plan from here.
+pub record IsAt (spec : Spec) (plan : List Statement) (call : Call) (rest : List Statement) (bs : List Pairs) (old : Option Pairs) (held : List HeldStripe) : Type 0 where
   pub progress : Progress
   pub keeps : KeepsFrom spec (op_at spec call.op) progress rest
   pub known : AreKnown spec rest
@@ -53,11 +57,16 @@ pub record IsAt (spec : Spec) (plan : List Statement) (call : Call) (rest : List
   pub classes : AreOfLocked spec progress (locks_of held)
   pub modes : (IsQuery (op_at spec call.op).kind → ⊥) → AreIn Exclusive (locks_of held)
   pub columns_rise : (b : Pairs) → In b bs → IsRising nat_cmp (cols_of b)
-  pub on : (r : List Pairs) → AreOfRelation spec held r → IsOn spec r (op_at spec call.op).kind call.args progress bs (locks_of held)
+  pub on : (r : List Pairs) → AreOfRelation spec held r → IsOn spec r (op_at spec call.op) call.args progress bs old (locks_of held)
   pub runs : (r : List Pairs) → AreOfRelation spec held r → (stripes : List ℕ) → Within (stripes_held held) stripes
-      → eval spec plan call (rows_on spec r stripes) ≡ run spec (op_at spec call.op) call rest (searching bs (locks_of held) (rows_on spec r stripes))
+      → eval spec plan call (rows_on spec r stripes) ≡ run spec (op_at spec call.op) call rest (updating old bs (locks_of held) (rows_on spec r stripes))
 
 -- a run goes on with the rest of its plan, or has answered
-abbrev pub HasGoneOn : Spec → List Statement → Call → List Statement → List Pairs → List HeldStripe → Option Reply → Type 0
-HasGoneOn spec plan call rest bs held None = IsAt spec plan call rest bs held
-HasGoneOn spec plan call rest bs held (Some answer) = HasReplied spec plan call held answer
+abbrev pub HasGoneOn : Spec → List Statement → Call → List Statement → List Pairs → Option Pairs → List HeldStripe → Option Reply → Type 0
+HasGoneOn spec plan call rest bs old held None = IsAt spec plan call rest bs old held
+HasGoneOn spec plan call rest bs old held (Some answer) = HasReplied spec plan call held answer
+
+-- the reply of CheckFound, and the old tuple that it keeps: the least of the bindings
+abbrev pub HasKeptLeast : List Pairs → Option Pairs → Option Reply → Type 0
+HasKeptLeast [] old reply = reply ≡ Some Absent
+HasKeptLeast (b ∷ bs) old reply = (reply ≡ None) × (old ≡ Some b)

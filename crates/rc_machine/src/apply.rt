@@ -1,6 +1,6 @@
 //! Apply: a tuple's rows added to all edges, or taken out of them.
 
-ghost use Rattle.std.specs.Prelude.{◌≡◌, ℕ, length, IfOk, OnErr, OnOk};
+ghost use Rattle.std.specs.Prelude.{◌≡◌, ℕ, Some, length, IfOk, OnErr, OnOk};
 ghost use Rattle.std.specs.List.{range_with_len};
 ghost use Rattle.rc_tuple.specs.RisingSet.{In};
 ghost use Rattle.rc_tuple.specs.Tuple.{Pairs};
@@ -10,7 +10,7 @@ ghost use Rattle.rc_spec.specs.Fragments.{edge_numbers};
 ghost use Rattle.rc_spec.specs.declared.spec.Spec.{Spec};
 ghost use Rattle.rc_fragment.specs.Fragment.{edge_table};
 ghost use Rattle.rc_fragment.specs.Holder.{held_of};
-ghost use Rattle.rc_machine.specs.Applied.{AreTakenAlike, CanApply, CanInsert, CanRemove, HasApplied, HasRemoved};
+ghost use Rattle.rc_machine.specs.Applied.{AreTakenAlike, CanApply, CanInsert, CanRemove, CanReplace, HasApplied, HasRemoved, HasReplaced, replaced_in};
 ghost use Rattle.rc_machine.specs.Apply.{IsSameButLent, all_changed};
 ghost use Rattle.rc_machine.specs.Machine.{AreAsTaken};
 ghost use Rattle.rc_machine.specs.Workspace.{AreWide};
@@ -37,8 +37,8 @@ pub(crate) fn apply<H: Holder>(
     requires table { (H.seen holder.old).table ≡ edge_table compiled.now.spec }
     requires wide { AreWide compiled.now.spec space.old }
     requires unchanged { AreAsTaken (held_of (H.seen holder.old)) }
-    requires can { CanApply compiled.now.spec kind.now args.now space.old.bindings.tuples (held_of (H.seen holder.old)) }
-    ensures ok { IfOk result (HasApplied compiled.now.spec kind.now args.now space.old.bindings.tuples (held_of (H.seen holder.old)) (held_of (H.seen holder.new))) }
+    requires can { CanApply compiled.now.spec kind.now args.now space.old.old_tuple space.old.bindings.tuples (held_of (H.seen holder.old)) }
+    ensures ok { IfOk result (HasApplied compiled.now.spec kind.now args.now space.old.old_tuple space.old.bindings.tuples (held_of (H.seen holder.old)) (held_of (H.seen holder.new))) }
     ensures err { OnErr result (held_of (H.seen holder.new) ≡ held_of (H.seen holder.old)) }
     ensures lent { IsSameButLent (H.seen holder.old) (H.seen holder.new) }
     ensures sound { (spec : Spec) → H.is_sound holder.old spec → H.is_sound holder.new spec }
@@ -52,7 +52,7 @@ pub(crate) fn apply<H: Holder>(
     }
 }
 
-/// Changes the rows and answers. Where memory is wanted some rows may be added, and none is taken out.
+/// Changes the rows and answers. Where memory is wanted some rows may be changed.
 fn change_rows<H: Holder>(
     alloc: Global,
     holder: &mut H,
@@ -64,8 +64,8 @@ fn change_rows<H: Holder>(
     requires sealed { IsSealed compiled.now.spec }
     requires table { (H.seen holder.old).table ≡ edge_table compiled.now.spec }
     requires wide { AreWide compiled.now.spec space.old }
-    requires can { CanApply compiled.now.spec kind.now args.now space.old.bindings.tuples (held_of (H.seen holder.old)) }
-    ensures ok { IfOk result (HasApplied compiled.now.spec kind.now args.now space.old.bindings.tuples (held_of (H.seen holder.old)) (held_of (H.seen holder.new))) }
+    requires can { CanApply compiled.now.spec kind.now args.now space.old.old_tuple space.old.bindings.tuples (held_of (H.seen holder.old)) }
+    ensures ok { IfOk result (HasApplied compiled.now.spec kind.now args.now space.old.old_tuple space.old.bindings.tuples (held_of (H.seen holder.old)) (held_of (H.seen holder.new))) }
     ensures alike { OnErr result (AreTakenAlike (held_of (H.seen holder.old)) (held_of (H.seen holder.new))) }
     ensures lent { IsSameButLent (H.seen holder.old) (H.seen holder.new) }
     ensures sound { (spec : Spec) → H.is_sound holder.old spec → H.is_sound holder.new spec }
@@ -87,6 +87,7 @@ fn change_rows<H: Holder>(
         OpKind::Remove => {
             remove_least(alloc, holder, compiled, &space.bindings, &mut space.places)
         }
+        OpKind::Update => replace_old(holder, compiled, args, space),
     }
 }
 
@@ -114,6 +115,63 @@ fn remove_least<H: Holder>(
     let removed = least.tuple(alloc)?;
     sub_rows(holder, compiled, &removed, &least, places)?;
     Ok(Reply::Removed(removed))
+}
+
+/// Puts the tuple in the place of the old one, which becomes the reply's, if there is one. Where memory is wanted some
+/// rows may be changed.
+fn replace_old<H: Holder>(
+    holder: &mut H,
+    compiled: &Compiled,
+    args: &Tuple,
+    space: &mut Workspace,
+) -> Result<Reply, Memory>
+    requires sealed { IsSealed compiled.now.spec }
+    requires table { (H.seen holder.old).table ≡ edge_table compiled.now.spec }
+    requires wide { AreWide compiled.now.spec space.old }
+    requires can { (o : Pairs) → space.old.old_tuple ≡ Some o → CanReplace compiled.now.spec o args.now (held_of (H.seen holder.old)) }
+    ensures ok { IfOk result (HasReplaced compiled.now.spec args.now space.old.old_tuple (held_of (H.seen holder.old)) (held_of (H.seen holder.new))) }
+    ensures alike { OnErr result (AreTakenAlike (held_of (H.seen holder.old)) (held_of (H.seen holder.new))) }
+    ensures lent { IsSameButLent (H.seen holder.old) (H.seen holder.new) }
+    ensures sound { (spec : Spec) → H.is_sound holder.old spec → H.is_sound holder.new spec }
+{
+    let Some(old) = space.old_tuple.take() else {
+        return Ok(Reply::Absent);
+    };
+    replace(
+        holder,
+        compiled,
+        &old,
+        args,
+        &mut space.found,
+        &mut space.places,
+    )?;
+    Ok(Reply::Updated(old))
+}
+
+/// Takes the old tuple's rows out and adds the new one's. Where memory is wanted some rows may be changed.
+fn replace<H: Holder>(
+    holder: &mut H,
+    compiled: &Compiled,
+    old: &Tuple,
+    args: &Tuple,
+    found: &mut Bindings,
+    places: &mut Vec<RowPlace>,
+) -> Result<(), Memory>
+    requires sealed { IsSealed compiled.now.spec }
+    requires table { (H.seen holder.old).table ≡ edge_table compiled.now.spec }
+    requires wide { found.old.width ≡ length compiled.now.spec.columns }
+    requires can { CanReplace compiled.now.spec old.now args.now (held_of (H.seen holder.old)) }
+    ensures ok { OnOk result (held_of (H.seen holder.new) ≡ replaced_in compiled.now.spec old.now args.now (held_of (H.seen holder.old))) }
+    ensures alike { OnErr result (AreTakenAlike (held_of (H.seen holder.old)) (held_of (H.seen holder.new))) }
+    ensures lent { IsSameButLent (H.seen holder.old) (H.seen holder.new) }
+    ensures sound { (spec : Spec) → H.is_sound holder.old spec → H.is_sound holder.new spec }
+{
+    found.begin(old.cols());
+    found.push_projection(old)?;
+    sub_rows(holder, compiled, old, &found.get(0), places)?;
+    found.begin(args.cols());
+    found.push_projection(args)?;
+    add_rows(holder, compiled, args, &found.get(0), places)
 }
 
 /// Adds the tuple's row to each edge, on the stripe on which it falls. Where memory is wanted the rows of the first

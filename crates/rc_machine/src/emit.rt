@@ -1,39 +1,60 @@
 //! Emit: a query's reply from its bindings.
 
-ghost use Rattle.std.specs.Prelude.{◌≡◌, ℕ, List, IfOk, IsTrue, map};
+ghost use Rattle.std.specs.Prelude.{◌≡◌, ℕ, List, IfOk, IsTrue, filter, map};
 ghost use Rattle.rc_tuple.specs.RisingSet.{IsRising};
 ghost use Rattle.rc_tuple.specs.Tuple.{pick};
 ghost use Rattle.rc_spec.specs.Plain.{row_cmp};
+ghost use Rattle.rc_spec.specs.Ranges.{in_ranges};
 ghost use Rattle.rc_spec.specs.declared.items.OpKind.TheVariants.{Query};
 ghost use Rattle.rc_plan.specs.Evaluation.{answer};
 ghost use Rattle.rc_plan.specs.PlanRules.{IsQuery};
 
 use rc_bindings::Bindings;
-use rc_spec::{MAX_ROWS, OpKind, Reply, RowList};
+use rc_spec::{OpKind, Range, Reply, RowList};
 use rc_tuple::{Cols, Memory};
 use std::alloc::Global;
 
-/// The reply of a query's Emit.
-pub(crate) fn emit(alloc: Global, kind: &OpKind, bindings: &Bindings) -> Result<Reply, Memory>
+/// The reply of a query's Emit, with so many rows at most. Of the bindings those between the bounds are kept.
+pub(crate) fn emit(
+    alloc: Global,
+    most: u64,
+    kind: &OpKind,
+    ranges: &[Range],
+    bindings: &mut Bindings,
+) -> Result<Reply, Memory>
     requires { IsQuery kind.now }
-    ensures { IfOk result (λ reply. (outs : List ℕ) → kind.now ≡ Query outs → reply ≡ answer outs bindings.now.tuples) }
+    ensures { IfOk result (λ reply. (outs cols : List ℕ) → kind.now ≡ Query outs cols
+        → reply ≡ answer most outs (filter (in_ranges ranges.now) bindings.old.tuples)) }
 {
     match kind {
-        OpKind::Query { outs } => answer(alloc, outs, bindings),
-        OpKind::Insert | OpKind::Remove => unreachable!(),
+        OpKind::Query { outs, .. } => {
+            keep_asked(ranges, bindings);
+            answer(alloc, most, outs, bindings)
+        }
+        OpKind::Insert | OpKind::Remove | OpKind::Update => unreachable!(),
     }
 }
 
-/// The reply of a query from its bindings: the distinct rows of the outputs where there are few, and else their number.
-/// Mostly the rows rise as the bindings do; where they don't, they are gathered.
-fn answer(alloc: Global, outs: &Cols, bindings: &Bindings) -> Result<Reply, Memory>
-    ensures { IfOk result (λ reply. reply ≡ answer outs.now bindings.now.tuples) }
+/// Keeps the bindings that are between the bounds, if there are bounds.
+fn keep_asked(ranges: &[Range], bindings: &mut Bindings)
+    ensures { bindings.new.tuples ≡ filter (in_ranges ranges.now) bindings.old.tuples }
+{
+    if !ranges.is_empty() {
+        bindings.keep_in_ranges(ranges);
+    }
+}
+
+/// The reply of a query from its bindings: the distinct rows of the outputs where there are so many at most, and else
+/// their number. Mostly the rows rise as the bindings do; where they don't, they are gathered.
+fn answer(alloc: Global, most: u64, outs: &Cols, bindings: &Bindings) -> Result<Reply, Memory>
+    ensures { IfOk result (λ reply. reply ≡ answer most outs.now bindings.now.tuples) }
 {
     if !rows_rise(outs, bindings) {
-        return rc_plan::answer(alloc, outs, &bindings.tuples(alloc)?);
+        return rc_plan::answer(alloc, most, outs, &[], &bindings.tuples(alloc)?);
     }
-    if bindings.len() > MAX_ROWS {
-        return Ok(Reply::Many(bindings.len() as u64));
+    let count = bindings.len() as u64;
+    if count > most {
+        return Ok(Reply::Many(count));
     }
     Ok(Reply::Rows(rows(alloc, outs, bindings)?))
 }

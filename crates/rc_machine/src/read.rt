@@ -46,6 +46,7 @@ pub(crate) fn read<H: Holder>(
     requires readers { AreReaders compiled.now.spec edge mode (held_of (H.seen holder.now)) space.old.bindings.tuples }
     ensures joined { OnOk result (space.new.bindings.tuples ≡ join space.old.bindings.tuples (tuples_of_edge edge (rows_now (held_of (H.seen holder.now))))) }
     ensures wide { OnOk result (AreWide compiled.now.spec space.new) }
+    ensures old { OnOk result (space.new.old_tuple ≡ space.old.old_tuple) }
 {
     let read = EdgeRead::of(compiled, edge, mode);
     space

@@ -15,7 +15,7 @@ ghost use Rattle.rc_machine.specs.declared.stop.Stop.TheVariants as stop;
 
 use crate::Stop;
 use crate::apply::apply;
-use crate::check::{conflict, present};
+use crate::check::{conflict, found, present};
 use crate::emit::emit;
 use crate::lock::lock;
 use crate::read::read;
@@ -41,10 +41,10 @@ pub(crate) fn step<H: Holder>(
     requires planned { IsPlanOf compiled.now.spec call.now.op plan.now }
     requires there { at < length plan.now }
     requires sound { H.is_sound holder.old compiled.now.spec }
-    requires run { IsAt compiled.now.spec plan.now call.now (drop at plan.now) space.old.bindings.tuples (held_of (H.seen holder.old)) }
+    requires run { IsAt compiled.now.spec plan.now call.now (drop at plan.now) space.old.bindings.tuples space.old.old_tuple (held_of (H.seen holder.old)) }
     requires wide { AreWide compiled.now.spec space.old }
     requires taken { AreTakenAsOffered (H.seen holder.old) }
-    ensures run { IfOk result (HasGoneOn compiled.now.spec plan.now call.now (drop (at + 1) plan.now) space.new.bindings.tuples (held_of (H.seen holder.new))) }
+    ensures run { IfOk result (HasGoneOn compiled.now.spec plan.now call.now (drop (at + 1) plan.now) space.new.bindings.tuples space.new.old_tuple (held_of (H.seen holder.new))) }
     ensures wide { IfOk result (StaysWide compiled.now.spec space.new) }
     ensures taken { AreTakenAsOffered (H.seen holder.new) }
     ensures stopped { IfErr result (λ _. AreAsTaken (held_of (H.seen holder.new))) }
@@ -76,14 +76,20 @@ pub(crate) fn step<H: Holder>(
             Ok(None)
         }
         Statement::CheckAbsent => Ok(present(&space.bindings)),
-        Statement::CheckDep { dep } => Ok(conflict(spec, dep, &call.args, &space.bindings)),
+        Statement::CheckFound => Ok(found(alloc, &space.bindings, &mut space.old_tuple)?),
+        Statement::CheckDep { dep } => {
+            let op = spec.op(call.op);
+            Ok(conflict(spec, op, dep, &call.args, &space.bindings))
+        }
         Statement::Apply => {
             let kind = &spec.op(call.op).kind;
             Ok(Some(apply(alloc, holder, compiled, kind, &call.args, space)?))
         }
         Statement::Emit => {
             let kind = &spec.op(call.op).kind;
-            Ok(Some(emit(alloc, kind, &space.bindings)?))
+            let ranges = call.ranges.list();
+            let reply = emit(alloc, spec.most_rows, kind, ranges, &mut space.bindings)?;
+            Ok(Some(reply))
         }
         Statement::Commit | Statement::Release { .. } => unreachable!(),
     }

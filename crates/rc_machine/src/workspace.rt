@@ -1,18 +1,22 @@
 //! What a run of a plan works with.
 
-ghost use Rattle.std.specs.Prelude.{◌≡◌, ◌<◌, ◌≤◌, []};
+ghost use Rattle.std.specs.Prelude.{◌≡◌, ◌<◌, ◌≤◌, [], None};
 ghost use Rattle.rc_bindings.specs.Bindings.{no_binding};
 
 use crate::places::RowPlace;
 use rc_bindings::Bindings;
+use rc_tuple::Tuple;
 use std::alloc::Global;
 
-/// What runs of plans work with, one run after another: the bindings, and space that statements use, for the bindings
-/// that a Read finds, for the values by which it looks up, for the stripes that a Lock takes, and for the rows that an
-/// Apply changes. What a run leaves in it the next one forgets; its memory the next one uses again.
+/// What runs of plans work with, one run after another: the bindings, the tuple that an update found, and space that
+/// statements use, for the bindings that a Read finds, for the values by which it looks up, for the stripes that a Lock
+/// takes, and for the rows that an Apply changes. What a run leaves in it the next one forgets; its memory the next one
+/// uses again.
 #[derive(Debug, Drop)]
 pub struct Workspace {
     pub(crate) bindings: Bindings,
+    /// The tuple that an update is to take the place of, from CheckFound to Apply.
+    pub(crate) old_tuple: Option<Tuple>,
     pub(crate) found: Bindings,
     pub(crate) finder: Finder,
     pub(crate) stripes: Vec<u32>,
@@ -32,6 +36,7 @@ impl Workspace {
     pub fn new(alloc: Global) -> Workspace {
         Workspace {
             bindings: Bindings::new(alloc, 1),
+            old_tuple: None,
             found: Bindings::new(alloc, 1),
             finder: Finder {
                 source: Vec::new(alloc),
@@ -48,14 +53,16 @@ impl Workspace {
         *self.stripes.allocator()
     }
 
-    /// Forgets the bindings, and takes so many columns.
+    /// Forgets the bindings and the old tuple, and takes so many columns.
     pub(crate) fn clear_for(&mut self, width: usize)
         requires some { 0 < width }
         requires few { width ≤ 32 }
         ensures bindings { self.new.bindings ≡ no_binding [] width }
+        ensures old { self.new.old_tuple ≡ None }
         ensures found { self.new.found ≡ no_binding [] width }
     {
         self.bindings.reset(width);
+        self.old_tuple = None;
         self.found.reset(width);
     }
 }

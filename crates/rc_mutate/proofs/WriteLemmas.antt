@@ -2,7 +2,7 @@
 use Rattle.std.specs.Prelude.{◌≡◌, ℕ, ◌+◌, ◌-◌, ◌<◌, Bool, true, false, not, cond, List, [], ◌∷◌, ◌++◌, length, map, filter}
 use Rattle.std.specs.List.{flat_map, range_with_len}
 use Rattle.std.specs.Ordering.{nat_cmp}
-use Rattle.std.proofs.Common.{inl, inr, sym, ap, subst, ◌∙◌, arith, get_or}
+use Rattle.std.proofs.Common.{inl, inr, refl, sym, ap, subst, ◌∙◌, arith, get_or}
 use Rattle.std.proofs.lemmas.Bool.{cases_eq}
 use Rattle.std.proofs.Math.Seq.{get_or-append_seam}
 use Rattle.std.proofs.lemmas.List.{append_assoc, append-nil, map-append, get_or_append_left}
@@ -10,9 +10,9 @@ use Rattle.std.proofs.lemmas.List.Elements.{filter-append}
 use Rattle.rc_tuple.specs.RisingSet.{In, put, gather}
 use Rattle.rc_tuple.specs.RisingSetLaws.{nat_order, gather_more, get_or_in}
 use Rattle.rc_tuple.specs.ColSet.{Within, is_within, union}
-use Rattle.rc_tuple.specs.ColSetLaws.{range_with_len_more, in_range_below, union_within}
+use Rattle.rc_tuple.specs.ColSetLaws.{range_with_len_more, in_range_below, union_left, union_within}
 use Rattle.rc_tuple.specs.declared.dep.Dep.{Dep}
-use Rattle.rc_spec.specs.declared.items.OpKind.TheVariants.{Insert, Remove}
+use Rattle.rc_spec.specs.declared.items.OpKind.TheVariants.{Insert, Remove, Update}
 use Rattle.rc_spec.specs.declared.items.Op.{Op}
 use Rattle.rc_spec.specs.declared.spec.Spec.{Spec}
 use Rattle.rc_spec.specs.Acceptance.{IsSealed}
@@ -26,9 +26,9 @@ use Rattle.rc_plan.specs.declared.statement.Which.TheVariants as which
 use Rattle.rc_plan.specs.Evaluation.{no_dep, dep_at}
 use Rattle.rc_plan.specs.Compiled.{plan_at}
 use Rattle.rc_plan.specs.PlanRules.{pattern_columns}
-use Rattle.rc_query.specs.declared.probe.InsertProbe.{InsertProbe}
+use Rattle.rc_query.specs.declared.probe.PlannedProbe.{PlannedProbe}
 use Rattle.rc_spec.specs.declared.lock.Mode.TheVariants.{Exclusive}
-use Rattle.rc_query.specs.Planned.{Routing, ChoosesRoutes, IsPlanned, classes_of_edges, written_classes, locks, locks_and_reads, left_after, ending, remove_plan, which_under, probe_statements, insert_plan, insert_probes, pattern_probe, dependency_probe, checked_deps, plan_for}
+use Rattle.rc_query.specs.Planned.{Routing, ChoosesRoutes, IsPlanned, classes_of_edges, written_classes, locks, locks_and_reads, left_after, ending, remove_plan, which_under, probe_statements, insert_plan, insert_probes, pattern_probe, dependency_probe, checked_deps, found_probe, update_dependency_probe, update_probes, update_which, update_plan, plan_for}
 use Rattle.rc_query.specs.PlannedLaws.{chosen_routing, routing_chooses}
 
 -- ---- numbers from 0
@@ -90,7 +90,7 @@ checked_more spec pattern k b e =
     last false e = ap (λ (z : Bool). cond (not z) ((k + 1) ∷ []) []) e
 
 -- the probe for the pattern, and those for the first dependencies
-abbrev pub probes_of_first : Spec → Routing → List ℕ → ℕ → List InsertProbe
+abbrev pub probes_of_first : Spec → Routing → List ℕ → ℕ → List PlannedProbe
 probes_of_first spec route pattern count = pattern_probe route pattern ∷ map (dependency_probe spec route) (checked_deps spec pattern count)
 
 -- the dependency with a number, as it was found in the list of a specification
@@ -110,27 +110,27 @@ pub need_known : (spec : Spec) (dep : Dep) → IsDepAmong (length spec.columns) 
 need_known spec dep known =
     union_within dep.left dep.right (all_columns spec) (λ c m. in_range_below (length spec.columns) c (known.left.below c m)) (λ c m. in_range_below (length spec.columns) c (known.right.below c m))
 
-pub probes_same : (spec : Spec) (route : Routing) (pattern : List ℕ) (place : ℕ) (dep : Dep) (before : List InsertProbe) → dep_at spec (place + 1) ≡ dep → is_within pattern dep.left ≡ true
+pub probes_same : (spec : Spec) (route : Routing) (pattern : List ℕ) (place : ℕ) (dep : Dep) (before : List PlannedProbe) → dep_at spec (place + 1) ≡ dep → is_within pattern dep.left ≡ true
     → before ≡ probes_of_first spec route pattern place → before ≡ probes_of_first spec route pattern (place + 1)
 probes_same spec route pattern place dep before found within same =
     let none : checked_deps spec pattern (place + 1) ≡ checked_deps spec pattern place ++ [] = checked_more spec pattern place true (ap (λ (z : Dep). is_within pattern z.left) found ∙ within) in
     same ∙ ap (λ z. pattern_probe route pattern ∷ map (dependency_probe spec route) z) (sym (none ∙ append-nil (checked_deps spec pattern place)))
 
-pub probes_more : (spec : Spec) (route : Routing) (pattern need : List ℕ) (place : ℕ) (dep : Dep) (before now : List InsertProbe) (probe : InsertProbe) → dep_at spec (place + 1) ≡ dep → is_within pattern dep.left ≡ false
-    → need ≡ union dep.left dep.right → before ≡ probes_of_first spec route pattern place → (let new : InsertProbe = record { columns = dep.left; route = route dep.left need; check = CheckDep (place + 1) } in probe ≡ new)
+pub probes_more : (spec : Spec) (route : Routing) (pattern need : List ℕ) (place : ℕ) (dep : Dep) (before now : List PlannedProbe) (probe : PlannedProbe) → dep_at spec (place + 1) ≡ dep → is_within pattern dep.left ≡ false
+    → need ≡ union dep.left dep.right → before ≡ probes_of_first spec route pattern place → (let new : PlannedProbe = record { columns = dep.left; route = route dep.left need; check = CheckDep (place + 1) } in probe ≡ new)
     → now ≡ before ++ probe ∷ [] → now ≡ probes_of_first spec route pattern (place + 1)
 probes_more spec route pattern need place dep before now probe found within wanted same made more =
     let list : List ℕ = checked_deps spec pattern place in
     let one : checked_deps spec pattern (place + 1) ≡ list ++ (place + 1) ∷ [] = checked_more spec pattern place false (ap (λ (z : Dep). is_within pattern z.left) found ∙ within) in
     let new : probe ≡ dependency_probe spec route (place + 1) =
-    made ∙ ap (λ z. let r : InsertProbe = record { columns = dep.left; route = route dep.left z; check = CheckDep (place + 1) } in r) wanted
-    ∙ ap (λ (d : Dep). let r : InsertProbe = record { columns = d.left; route = route d.left (union d.left d.right); check = CheckDep (place + 1) } in r) (sym found) in
+    made ∙ ap (λ z. let r : PlannedProbe = record { columns = dep.left; route = route dep.left z; check = CheckDep (place + 1) } in r) wanted
+    ∙ ap (λ (d : Dep). let r : PlannedProbe = record { columns = d.left; route = route d.left (union d.left d.right); check = CheckDep (place + 1) } in r) (sym found) in
     more ∙ ap (λ z. z ++ probe ∷ []) same ∙ ap (λ z. probes_of_first spec route pattern place ++ z ∷ []) new
     ∙ ap (λ z. pattern_probe route pattern ∷ z) (sym (ap (map (dependency_probe spec route)) one ∙ map-append (dependency_probe spec route) list ((place + 1) ∷ [])))
 
 -- ---- the plan of an insert
 
-pub insertion_made : (spec given : Spec) (classes : List ℕ) (probes first second : List InsertProbe) (begun locked probed plan : List Statement) → given ≡ spec → first ≡ probes → second ≡ probes
+pub insertion_made : (spec given : Spec) (classes : List ℕ) (probes first second : List PlannedProbe) (begun locked probed plan : List Statement) → given ≡ spec → first ≡ probes → second ≡ probes
     → classes ≡ written_classes given → begun ≡ [] → locked ≡ begun ++ locks Exclusive (which_under given first) classes → probed ≡ locked ++ flat_map (probe_statements given) second
     → plan ≡ probed ++ ending Apply classes → plan ≡ insert_plan spec probes
 insertion_made spec given classes probes first second begun locked probed plan same one two of none lock probe end =
@@ -152,6 +152,63 @@ insert_planned spec s op pattern plan kind given made =
       route = route;
       chosen = routing_chooses spec s;
       value = made route (routing_chooses spec s) ∙ ap (λ z. insert_plan spec (insert_probes spec route z)) given ∙ ap (plan_for spec route (pattern_columns op)) (sym kind);
+    }
+
+-- ---- the probes of an update
+
+pub union_some_left : (xs ys : List ℕ) → (xs ≡ [] → ⊥) → union xs ys ≡ [] → ⊥
+union_some_left xs ys f e = go xs refl
+  where
+    go : (zs : List ℕ) → zs ≡ xs → ⊥
+    go [] q = f (sym q)
+    go (z ∷ zs) q = subst (In z) e (union_left xs ys z (subst (In z) q (inl refl)))
+
+-- the probe for the pattern, and those for the first dependencies
+abbrev pub update_probes_of_first : Spec → Routing → List ℕ → ℕ → List PlannedProbe
+update_probes_of_first spec route pattern count = found_probe spec route pattern ∷ map (update_dependency_probe spec route pattern) (checked_deps spec pattern count)
+
+pub update_probes_same : (spec : Spec) (route : Routing) (pattern : List ℕ) (place : ℕ) (dep : Dep) (before : List PlannedProbe) → dep_at spec (place + 1) ≡ dep → is_within pattern dep.left ≡ true
+    → before ≡ update_probes_of_first spec route pattern place → before ≡ update_probes_of_first spec route pattern (place + 1)
+update_probes_same spec route pattern place dep before found within same =
+    let none : checked_deps spec pattern (place + 1) ≡ checked_deps spec pattern place ++ [] = checked_more spec pattern place true (ap (λ (z : Dep). is_within pattern z.left) found ∙ within) in
+    same ∙ ap (λ z. found_probe spec route pattern ∷ map (update_dependency_probe spec route pattern) z) (sym (none ∙ append-nil (checked_deps spec pattern place)))
+
+pub update_probes_more : (spec : Spec) (route : Routing) (pattern sides need : List ℕ) (place : ℕ) (dep : Dep) (before now : List PlannedProbe) (probe : PlannedProbe) → dep_at spec (place + 1) ≡ dep → is_within pattern dep.left ≡ false
+    → sides ≡ union dep.left dep.right → need ≡ union sides pattern → before ≡ update_probes_of_first spec route pattern place → (let new : PlannedProbe = record { columns = dep.left; route = route dep.left need; check = CheckDep (place + 1) } in probe ≡ new)
+    → now ≡ before ++ probe ∷ [] → now ≡ update_probes_of_first spec route pattern (place + 1)
+update_probes_more spec route pattern sides need place dep before now probe found within both wanted same made more =
+    let list : List ℕ = checked_deps spec pattern place in
+    let one : checked_deps spec pattern (place + 1) ≡ list ++ (place + 1) ∷ [] = checked_more spec pattern place false (ap (λ (z : Dep). is_within pattern z.left) found ∙ within) in
+    let new : probe ≡ update_dependency_probe spec route pattern (place + 1) =
+    made ∙ ap (λ z. let r : PlannedProbe = record { columns = dep.left; route = route dep.left z; check = CheckDep (place + 1) } in r) (wanted ∙ ap (λ z. union z pattern) both)
+    ∙ ap (λ (d : Dep). let r : PlannedProbe = record { columns = d.left; route = route d.left (union (union d.left d.right) pattern); check = CheckDep (place + 1) } in r) (sym found) in
+    more ∙ ap (λ z. z ++ probe ∷ []) same ∙ ap (λ z. update_probes_of_first spec route pattern place ++ z ∷ []) new
+    ∙ ap (λ z. found_probe spec route pattern ∷ z) (sym (ap (map (update_dependency_probe spec route pattern)) one ∙ map-append (update_dependency_probe spec route pattern) list ((place + 1) ∷ [])))
+
+-- ---- the plan of an update
+
+pub replacement_made : (spec given : Spec) (pattern classes : List ℕ) (probes first second : List PlannedProbe) (begun locked probed plan : List Statement) → given ≡ spec → first ≡ probes → second ≡ probes
+    → classes ≡ written_classes given → begun ≡ [] → locked ≡ begun ++ locks Exclusive (update_which given pattern first) classes → probed ≡ locked ++ flat_map (probe_statements given) second
+    → plan ≡ probed ++ ending Apply classes → plan ≡ update_plan spec pattern probes
+replacement_made spec given pattern classes probes first second begun locked probed plan same one two of none lock probe end =
+    let wanted : classes ≡ written_classes spec = of ∙ ap (λ (s : Spec). written_classes s) same in
+    let front : List Statement = locks Exclusive (update_which spec pattern probes) (written_classes spec) in
+    let middle : List Statement = flat_map (probe_statements spec) probes in
+    let made : locked ≡ front =
+    lock ∙ ap (λ z. z ++ locks Exclusive (update_which given pattern first) classes) none ∙ ap (λ (s : Spec). locks Exclusive (update_which s pattern first) classes) same
+    ∙ ap (λ z. locks Exclusive (update_which spec pattern z) classes) one ∙ ap (λ z. locks Exclusive (update_which spec pattern probes) z) wanted in
+    let both : probed ≡ front ++ middle =
+    probe ∙ ap (λ z. z ++ flat_map (probe_statements given) second) made ∙ ap (λ (s : Spec). front ++ flat_map (probe_statements s) second) same ∙ ap (λ z. front ++ flat_map (probe_statements spec) z) two in
+    end ∙ ap (λ z. z ++ ending Apply classes) both ∙ ap (λ z. (front ++ middle) ++ ending Apply z) wanted ∙ append_assoc front middle (ending Apply (written_classes spec))
+
+pub update_planned : (spec : Spec) → IsSealed spec → (op : Op) (pattern : List ℕ) (plan : List Statement) → op.kind ≡ Update → pattern ≡ pattern_columns op
+    → ((route : Routing) → ChoosesRoutes spec route → plan ≡ update_plan spec pattern (update_probes spec route pattern)) → IsPlanned spec op plan
+update_planned spec s op pattern plan kind given made =
+    let route : Routing = chosen_routing spec s in
+    record {
+      route = route;
+      chosen = routing_chooses spec s;
+      value = made route (routing_chooses spec s) ∙ ap (λ z. update_plan spec z (update_probes spec route z)) given ∙ ap (plan_for spec route (pattern_columns op)) (sym kind);
     }
 
 -- ---- the plans of all operations

@@ -10,13 +10,13 @@ ghost use Rattle.rc_spec.specs.Calls.{all_columns};
 ghost use Rattle.rc_spec.specs.InRange.{IsInRange};
 ghost use Rattle.rc_spec.specs.Placement.{IsPlaced, class_of, op_at};
 ghost use Rattle.rc_plan.specs.Compiled.{IsPlanOf};
-ghost use Rattle.rc_query.specs.declared.probe.InsertProbe.{InsertProbe};
+ghost use Rattle.rc_query.specs.declared.probe.PlannedProbe.{PlannedProbe};
 ghost use Rattle.rc_query.specs.Planned.{ChoosesRoutes, IsPlanned, Routing, insert_plan, insert_probes, locks, probe_statements, reads_unbound, which_under};
 
 use crate::classes::written_classes;
 use crate::probes::insert_probes;
 use rc_plan::{Plan, Statement, Which};
-use rc_query::{ClassSet, InsertProbe, pattern_of, push_ending, push_locks_and_reads};
+use rc_query::{ClassSet, PlannedProbe, pattern_of, push_ending, push_locks_and_reads};
 use rc_spec::{Accepted, Mode, Spec};
 use rc_tuple::{ColSet, Memory};
 use std::alloc::Global;
@@ -34,7 +34,7 @@ fn reads_class(spec: &Spec, route: &[u8], class: u8) -> bool
 }
 
 /// Whether the probe reads an edge of the class, and its columns don't choose a stripe of it.
-fn reads_unbound(spec: &Spec, class: u8, probe: &InsertProbe) -> bool
+fn reads_unbound(spec: &Spec, class: u8, probe: &PlannedProbe) -> bool
     requires { class < length spec.now.classes }
     ensures { result ≡ reads_unbound spec.now class probe.now }
 {
@@ -43,7 +43,7 @@ fn reads_unbound(spec: &Spec, class: u8, probe: &InsertProbe) -> bool
 }
 
 /// The stripes of a class that the lock takes under which the probes read.
-fn which_under(spec: &Spec, probes: &[InsertProbe], class: u8) -> Which
+pub(crate) fn which_under(spec: &Spec, probes: &[PlannedProbe], class: u8) -> Which
     requires { class < length spec.now.classes }
     ensures { result ≡ which_under spec.now probes.now class }
 {
@@ -59,7 +59,7 @@ fn which_under(spec: &Spec, probes: &[InsertProbe], class: u8) -> Which
 fn push_locks(
     plan: &mut Plan,
     spec: &Spec,
-    probes: &[InsertProbe],
+    probes: &[PlannedProbe],
     classes: ClassSet,
 ) -> Result<(), Memory>
     requires { (c : ℕ) → In c classes → c < length spec.now.classes }
@@ -75,7 +75,7 @@ fn push_locks(
 }
 
 /// Appends a probe, its reads and its check.
-fn push_probe(plan: &mut Plan, spec: &Spec, probe: &InsertProbe) -> Result<(), Memory>
+fn push_probe(plan: &mut Plan, spec: &Spec, probe: &PlannedProbe) -> Result<(), Memory>
     requires edges { (e : ℕ) → In e probe.now.route → e < length spec.now.edges }
     requires range { IsInRange spec.now }
     requires placed { IsPlaced spec.now }
@@ -96,8 +96,12 @@ fn push_probe(plan: &mut Plan, spec: &Spec, probe: &InsertProbe) -> Result<(), M
 }
 
 /// Appends the probes, each with its reads and its check.
-fn push_probes(plan: &mut Plan, spec: &Spec, probes: &[InsertProbe]) -> Result<(), Memory>
-    requires edges { (probe : InsertProbe) → In probe probes.now → (e : ℕ) → In e probe.route → e < length spec.now.edges }
+pub(crate) fn push_probes(
+    plan: &mut Plan,
+    spec: &Spec,
+    probes: &[PlannedProbe],
+) -> Result<(), Memory>
+    requires edges { (probe : PlannedProbe) → In probe probes.now → (e : ℕ) → In e probe.route → e < length spec.now.edges }
     requires range { IsInRange spec.now }
     requires placed { IsPlaced spec.now }
     ensures { OnOk result (plan.new ≡ plan.old ++ flat_map (probe_statements spec.now) probes.now) }

@@ -1,4 +1,4 @@
-//! The planners of inserts and removes, and the plans of all operations.
+//! The planners of inserts, removes and updates, and the plans of all operations.
 #![tactic(auto)]
 
 mod classes;
@@ -6,7 +6,9 @@ mod insert;
 mod operations;
 mod probes;
 mod remove;
+mod update;
 
 pub use insert::plan_insert;
 pub use operations::compile;
 pub use remove::plan_remove;
+pub use update::plan_update;

@@ -5,7 +5,7 @@ ghost use Rattle.rc_spec.specs.Placement.{op_at};
 ghost use Rattle.rc_plan.specs.Compiled.{ArePlansOf, IsPlanOf, plan_at};
 ghost use Rattle.rc_query.specs.Planned.{IsPlanned};
 
-use crate::{plan_insert, plan_remove};
+use crate::{plan_insert, plan_remove, plan_update};
 use rc_plan::{Compiled, Plan};
 use rc_query::plan_query;
 use rc_spec::{Accepted, OpKind};
@@ -20,9 +20,10 @@ fn plan_op(alloc: Global, accepted: &Accepted, op: u8) -> Result<Plan, Memory>
 {
     let operation = accepted.spec().op(op);
     match &operation.kind {
-        OpKind::Query { outs: _ } => plan_query(alloc, accepted, op),
+        OpKind::Query { .. } => plan_query(alloc, accepted, op),
         OpKind::Insert => plan_insert(alloc, accepted, op),
         OpKind::Remove => plan_remove(alloc, accepted, op),
+        OpKind::Update => plan_update(alloc, accepted, op),
     }
 }
 

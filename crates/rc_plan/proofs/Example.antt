@@ -43,13 +43,13 @@ some_edges = edge 1 2 5 ∷ edge 1 3 7 ∷ edge 4 1 8 ∷ []
 -- ---- what the definitions compute
 
 abbrev pub add : Pairs → Call
-add t = record { op = 0; args = t }
+add t = record { op = 0; args = t; ranges = [] }
 
 abbrev pub drop : ℕ → ℕ → Call
-drop x y = record { op = 1; args = src_dst x y }
+drop x y = record { op = 1; args = src_dst x y; ranges = [] }
 
 abbrev pub successors_of : ℕ → Call
-successors_of x = record { op = 2; args = (0, x) ∷ [] }
+successors_of x = record { op = 2; args = (0, x) ∷ []; ranges = [] }
 
 found : (eval graph successor_plan (successors_of 1) (all_rows graph some_edges)).reply ≡ Some (Rows ((2 ∷ 5 ∷ []) ∷ (3 ∷ 7 ∷ []) ∷ []))
 found = refl
@@ -136,8 +136,8 @@ in_range = record {
   known_classes = each_in (λ (class : Class). IsSetBelow 3 class.cols) graph.classes (set_by (0 ∷ []) (one_rises 0) refl, tt);
   known_places = each_in (IsPlaceAmong 2 1) graph.places (record { edge = lit< tt; class = lit< tt }, (record { edge = lit< tt; class = lit< tt }, tt));
   known_ops = each_in (IsOpAmong 3) graph.ops (
-    record { pattern = below_by 3 (0 ∷ 1 ∷ []) refl; outs = tt },
-    (record { pattern = below_by 3 (0 ∷ 1 ∷ []) refl; outs = tt }, (record { pattern = below_by 3 (0 ∷ []) refl; outs = below_by 3 (1 ∷ 2 ∷ []) refl }, tt)),
+    record { pattern = below_by 3 (0 ∷ 1 ∷ []) refl; outs = tt; ranges = λ c z. absurd z },
+    (record { pattern = below_by 3 (0 ∷ 1 ∷ []) refl; outs = tt; ranges = λ c z. absurd z }, (record { pattern = below_by 3 (0 ∷ []) refl; outs = below_by 3 (1 ∷ 2 ∷ []) refl; ranges = λ c z. absurd z }, tt)),
   );
 }
 
@@ -217,18 +217,18 @@ placed = record {
 
 ops_keep : (n : ℕ) → n < 3 → KeepsO graph (op_at graph n)
 ops_keep = numbered (λ n. KeepsO graph (op_at graph n)) 3 (
-  record { o1 = λ e. some_number 0 (1 ∷ []); o2 = λ e. cc; o3 = λ outs e. cc },
+  record { o1 = λ e. some_number 0 (1 ∷ []); o2 = λ z. absurd z; o3 = λ outs ranges e. cc },
   (
-    record { o1 = λ e. cc; o2 = λ e. determines_all; o3 = λ outs e. cc },
-    (record { o1 = λ e. cc; o2 = λ e. cc; o3 = λ outs e. record { some = λ z. some_outs outs e z; distinct = subst AreDistinct (same_outs outs e) ((λ m. two_apart m), ((λ m. m), tt)) } }, tt),
+    record { o1 = λ e. cc; o2 = λ e. determines_all; o3 = λ outs ranges e. cc },
+    (record { o1 = λ e. cc; o2 = λ z. absurd z; o3 = λ outs ranges e. record { some = λ z. some_outs outs ranges e z; distinct = subst AreDistinct (same_outs outs ranges e) ((λ m. two_apart m), ((λ m. m), tt)) } }, tt),
   ),
 )
   where
-    same_outs : (outs : List ℕ) → Query (1 ∷ 2 ∷ []) ≡ Query outs → 1 ∷ 2 ∷ [] ≡ outs
-    same_outs outs e = cc
+    same_outs : (outs ranges : List ℕ) → Query (1 ∷ 2 ∷ []) [] ≡ Query outs ranges → 1 ∷ 2 ∷ [] ≡ outs
+    same_outs outs ranges e = cc
 
-    some_outs : (outs : List ℕ) → Query (1 ∷ 2 ∷ []) ≡ Query outs → outs ≡ [] → ⊥
-    some_outs outs e z = some_number 1 (2 ∷ []) (same_outs outs e ∙ z)
+    some_outs : (outs ranges : List ℕ) → Query (1 ∷ 2 ∷ []) [] ≡ Query outs ranges → outs ≡ [] → ⊥
+    some_outs outs ranges e z = some_number 1 (2 ∷ []) (same_outs outs ranges e ∙ z)
 
     two_apart : In {A = ℕ} 1 (2 ∷ []) → ⊥
     two_apart (inl e) = absurd (let k : 1 < 2 = lit< tt in omega (arith, e, k))

@@ -10,6 +10,8 @@ use Rattle.rc_tuple.specs.Relation.{IsOver, IsRelation, SatisfiesOne, Satisfies}
 use Rattle.rc_tuple.specs.RelationLaws.{satisfies_from_test}
 use Rattle.rc_tuple.specs.declared.dep.Dep.{Dep}
 use Rattle.rc_spec.specs.declared.lock.Mode.{Mode}
+use Rattle.rc_spec.specs.Ranges.{IsBounded}
+use Rattle.std.proofs.lemmas.List.Elements.{All-nil}
 use Rattle.rc_spec.specs.declared.lock.Mode.TheVariants.{Shared, Exclusive}
 use Rattle.rc_spec.specs.Calls.{FitsAt}
 use Rattle.rc_spec.specs.Placement.{class_of}
@@ -76,11 +78,11 @@ add_keeps = (
                     k3 = tt;
                     k4 = tt;
                     k5 = tt;
-                    k6 = (refl, within_by (2 ∷ []) (0 ∷ 1 ∷ 2 ∷ []) refl, within_by (0 ∷ []) (0 ∷ 1 ∷ 2 ∷ []) refl);
+                    k6 = (refl, within_by (2 ∷ []) (0 ∷ 1 ∷ 2 ∷ []) refl, within_by (0 ∷ []) (0 ∷ 1 ∷ 2 ∷ []) refl, tt);
                     k7 = (refl, λ d z. absurd z);
                   },
                   (
-                    record { k1 = (refl, (2 ∷ [], refl)); k2 = tt; k3 = tt; k4 = all_locked which.All; k5 = tt; k6 = tt; k7 = (refl, risks_checked) },
+                    record { k1 = (refl, (2 ∷ [], refl)); k2 = tt; k3 = tt; k4 = (all_locked which.All, tt); k5 = tt; k6 = tt; k7 = (refl, risks_checked) },
                     (
                       record { k1 = refl; k2 = tt; k3 = tt; k4 = tt; k5 = tt; k6 = tt; k7 = tt },
                       (record { k1 = (refl, (which.All, inl refl), λ z. absurd z); k2 = tt; k3 = tt; k4 = tt; k5 = tt; k6 = tt; k7 = tt }, (refl, released_all which.All)),
@@ -104,7 +106,7 @@ drop_keeps = (
     (
       record { k1 = (refl, tt); k2 = tt; k3 = (which.Keyed, inl refl, tt); k4 = tt; k5 = (inr (inl refl), within_by (1 ∷ []) (0 ∷ 1 ∷ []) refl, inl (follows_within (0 ∷ []) (0 ∷ []) refl)); k6 = tt; k7 = tt },
       (
-        record { k1 = (refl, tt); k2 = tt; k3 = tt; k4 = all_locked which.Keyed; k5 = tt; k6 = λ c m. m; k7 = tt },
+        record { k1 = (refl, tt); k2 = tt; k3 = tt; k4 = (all_locked which.Keyed, tt); k5 = tt; k6 = λ c m. m; k7 = tt },
         (
           record { k1 = refl; k2 = tt; k3 = tt; k4 = tt; k5 = tt; k6 = tt; k7 = tt },
           (record { k1 = (refl, (which.Keyed, inl refl), λ z. absurd z); k2 = tt; k3 = tt; k4 = tt; k5 = tt; k6 = tt; k7 = tt }, (refl, released_all which.Keyed)),
@@ -122,7 +124,7 @@ successors_keep = (
     (
       record { k1 = (refl, tt); k2 = tt; k3 = (which.Keyed, inl refl, tt); k4 = tt; k5 = (inr (inl refl), tt, inl (follows_within (0 ∷ []) (0 ∷ []) refl)); k6 = tt; k7 = tt },
       (
-        record { k1 = (refl, tt); k2 = tt; k3 = tt; k4 = tt; k5 = tt; k6 = (within_by (0 ∷ []) (0 ∷ 1 ∷ 2 ∷ []) refl, within_by (1 ∷ 2 ∷ []) (0 ∷ 1 ∷ 2 ∷ []) refl); k7 = tt },
+        record { k1 = (refl, tt); k2 = tt; k3 = tt; k4 = tt; k5 = tt; k6 = (within_by (0 ∷ []) (0 ∷ 1 ∷ 2 ∷ []) refl, within_by (1 ∷ 2 ∷ []) (0 ∷ 1 ∷ 2 ∷ []) refl, λ c z. absurd z); k7 = tt },
         (
           record { k1 = refl; k2 = tt; k3 = tt; k4 = tt; k5 = tt; k6 = tt; k7 = tt },
           (record { k1 = (refl, (which.Keyed, inl refl), λ z. absurd z); k2 = tt; k3 = tt; k4 = tt; k5 = tt; k6 = tt; k7 = tt }, (refl, released_all which.Keyed)),
@@ -170,6 +172,8 @@ add_fits = record {
     values = each_in (λ (p : ℕ × ℕ). p.1 < 2 ^ 64) (edge 1 9 9) (lit< tt, (lit< tt, (lit< tt, tt)));
   };
   columns = refl;
+  ranges = refl;
+  bounds = All-nil IsBounded;
 }
 
 successors_fit : FitsAt graph (successors_of 1) successors
@@ -181,6 +185,8 @@ successors_fit = record {
     values = each_in (λ (p : ℕ × ℕ). p.1 < 2 ^ 64) ((0, 1) ∷ []) (lit< tt, tt);
   };
   columns = refl;
+  ranges = refl;
+  bounds = All-nil IsBounded;
 }
 
 -- all stripes, each held alone

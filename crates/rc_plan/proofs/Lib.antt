@@ -1,5 +1,6 @@
 mod Example
 mod ExamplePlans
+mod UpdateExample
 mod ResolvedLemmas
 mod RowLemmas
 mod TextLemmas

@@ -1,24 +1,26 @@
 -- What a plan does on a list of rows: its reply, the stripes that it names, and the rows after it. (PLDI 2011 and PLDI 2012, evaluation of query plans.)
-use Rattle.std.specs.Prelude.{ℕ, ◌-◌, Bool, true, false, List, [], ◌∷◌, ◌++◌, Option, None, Some, map, not, is_some, if◌then◌else◌, get_or}
+use Rattle.std.specs.Prelude.{ℕ, ◌-◌, Bool, true, false, ◌&&◌, List, [], ◌∷◌, ◌++◌, Option, None, Some, map, filter, not, is_some, if◌then◌else◌, get_or}
 use Rattle.std.specs.List.{list_any}
 use Rattle.rc_tuple.specs.RisingSet.{gather}
 use Rattle.rc_tuple.specs.Tuple.{Pairs, project, agree_on}
 use Rattle.rc_tuple.specs.declared.dep.Dep.{Dep}
 use Rattle.rc_spec.specs.declared.call.Call.{Call}
 use Rattle.rc_spec.specs.declared.call.Reply.{Reply}
-use Rattle.rc_spec.specs.declared.call.Reply.TheVariants.{Rows, Many, Inserted, Present, Conflict, Removed, Absent}
+use Rattle.rc_spec.specs.declared.call.Reply.TheVariants.{Rows, Many, Inserted, Present, Conflict, Removed, Updated, Absent}
 use Rattle.rc_spec.specs.declared.items.Op.{Op}
 use Rattle.rc_spec.specs.declared.items.OpKind.{OpKind}
-use Rattle.rc_spec.specs.declared.items.OpKind.TheVariants.{Query, Insert, Remove}
+use Rattle.rc_spec.specs.declared.items.OpKind.TheVariants.{Query, Insert, Remove, Update}
 use Rattle.rc_spec.specs.declared.lock.Mode.{Mode}
+use Rattle.rc_spec.specs.declared.range.Range.{Range}
 use Rattle.rc_spec.specs.declared.spec.Spec.{Spec}
 use Rattle.rc_spec.specs.Contents.{join}
 use Rattle.rc_spec.specs.Fragments.{EdgeRow, tuples_of_edge, all_rows}
 use Rattle.rc_spec.specs.Placement.{op_at}
-use Rattle.rc_spec.specs.Plain.{at_most_256, rows_of}
+use Rattle.rc_spec.specs.Plain.{at_most, rows_of}
+use Rattle.rc_spec.specs.Ranges.{in_ranges}
 use Rattle.rc_spec.specs.Stripes.{physical_stripe}
 use Rattle.rc_plan.specs.declared.statement.Statement.{Statement}
-use Rattle.rc_plan.specs.declared.statement.Statement.TheVariants.{Lock, Probe, Read, CheckAbsent, CheckDep, Apply, Emit, Commit, Release}
+use Rattle.rc_plan.specs.declared.statement.Statement.TheVariants.{Lock, Probe, Read, CheckAbsent, CheckFound, CheckDep, Apply, Emit, Commit, Release}
 use Rattle.rc_plan.specs.declared.statement.Which.{Which}
 use Rattle.rc_plan.specs.declared.statement.Which.TheVariants as which
 use Rattle.rc_spec.specs.CountedRows.{with_rows, without_rows}
@@ -30,6 +32,8 @@ pub record RunState : Type 0 where
   pub bindings : List Pairs
   -- the stripes that the Locks named, each with its Lock's mode, rising
   pub named : List StripeLock
+  -- the tuple that an update found
+  pub old : Option Pairs
   pub reply : Option Reply
   pub rows : List EdgeRow
 
@@ -55,13 +59,20 @@ abbrev pub some_left : List Pairs → Bool
 some_left [] = false
 some_left (b ∷ bindings) = true
 
--- a binding differs from the call's tuple on the dependency's right side
-abbrev pub some_differs : Spec → ℕ → Pairs → List Pairs → Bool
-some_differs spec dep args bindings = list_any (λ b. not (agree_on (dep_at spec dep).right b args)) bindings
+-- whether a binding stays beside the call's tuple: in an update the old tuple doesn't, which alone has its pattern values
+abbrev pub stays_beside : OpKind → List ℕ → Pairs → Pairs → Bool
+stays_beside (Query outs ranges) pattern args b = true
+stays_beside Insert pattern args b = true
+stays_beside Remove pattern args b = true
+stays_beside Update pattern args b = not (agree_on pattern b args)
 
--- what a query answers from tuples: the distinct rows of the outputs
-abbrev pub answer : List ℕ → List Pairs → Reply
-answer outs tuples = at_most_256 (rows_of outs tuples)
+-- a binding that stays beside the call's tuple differs from it on the dependency's right side
+abbrev pub some_differs : Spec → Op → ℕ → Pairs → List Pairs → Bool
+some_differs spec op dep args bindings = list_any (λ b. stays_beside op.kind op.pattern args b && not (agree_on (dep_at spec dep).right b args)) bindings
+
+-- what a query answers from tuples: the distinct rows of the outputs, where there are so many at most
+abbrev pub answer : ℕ → List ℕ → List Pairs → Reply
+answer most outs tuples = at_most most (rows_of outs tuples)
 
 -- ---- the statements
 
@@ -70,15 +81,28 @@ abbrev pub remove_least : Spec → List Pairs → RunState → RunState
 remove_least spec [] state = record state { reply = Some Absent }
 remove_least spec (b ∷ bindings) state = record state { reply = Some (Removed b); rows = without_rows spec b state.rows }
 
+-- the least of the bindings is the old tuple
+abbrev pub keep_least : List Pairs → RunState → RunState
+keep_least [] state = record state { reply = Some Absent }
+keep_least (b ∷ bindings) state = record state { old = Some b }
+
+-- the old tuple goes, with its rows, and then the call's comes
+abbrev pub replace : Spec → Option Pairs → Pairs → RunState → RunState
+replace spec None args state = record state { reply = Some Absent }
+replace spec (Some old) args state = record state { reply = Some (Updated old); rows = with_rows spec args (without_rows spec old state.rows) }
+
 abbrev pub apply : Spec → OpKind → Pairs → RunState → RunState
-apply spec (Query outs) args state = state
+apply spec (Query outs ranges) args state = state
 apply spec Insert args state = record state { reply = Some Inserted; rows = with_rows spec args state.rows }
 apply spec Remove args state = remove_least spec state.bindings state
+apply spec Update args state = replace spec state.old args state
 
-abbrev pub emit : OpKind → RunState → RunState
-emit (Query outs) state = record state { reply = Some (answer outs state.bindings) }
-emit Insert state = state
-emit Remove state = state
+-- from the bindings whose values are between the call's bounds
+abbrev pub emit : ℕ → OpKind → List Range → RunState → RunState
+emit most (Query outs cols) ranges state = record state { reply = Some (answer most outs (filter (in_ranges ranges) state.bindings)) }
+emit most Insert ranges state = state
+emit most Remove ranges state = state
+emit most Update ranges state = state
 
 -- one statement of the plan of an operation, at a call, where there is no reply yet
 abbrev pub run_one : Spec → Op → Call → RunState → Statement → RunState
@@ -86,9 +110,10 @@ run_one spec op call state (Lock c choice mode) = record state { named = gather 
 run_one spec op call state (Probe cols) = record state { bindings = project cols call.args ∷ [] }
 run_one spec op call state (Read e mode) = record state { bindings = join state.bindings (tuples_of_edge e state.rows) }
 run_one spec op call state CheckAbsent = if some_left state.bindings then record state { reply = Some Present } else state
-run_one spec op call state (CheckDep dep) = if some_differs spec dep call.args state.bindings then record state { reply = Some (Conflict dep) } else state
+run_one spec op call state CheckFound = keep_least state.bindings state
+run_one spec op call state (CheckDep dep) = if some_differs spec op dep call.args state.bindings then record state { reply = Some (Conflict dep) } else state
 run_one spec op call state Apply = apply spec op.kind call.args state
-run_one spec op call state Emit = emit op.kind state
+run_one spec op call state Emit = emit spec.most_rows op.kind call.ranges state
 run_one spec op call state Commit = state
 run_one spec op call state (Release c) = state
 
@@ -104,7 +129,7 @@ run spec op call (x ∷ plan) state = run spec op call plan (run_next spec op ca
 
 -- a run begins with the call's tuple as its one binding
 abbrev pub begun : Call → List EdgeRow → RunState
-begun call rows = record { bindings = call.args ∷ []; named = []; reply = None; rows = rows }
+begun call rows = record { bindings = call.args ∷ []; named = []; old = None; reply = None; rows = rows }
 
 -- the plan of the call's operation, on these rows
 abbrev pub eval : Spec → List Statement → Call → List EdgeRow → RunState
@@ -122,4 +147,5 @@ rows_as_taken spec args Inserted rows = without_rows spec args rows
 rows_as_taken spec args Present rows = rows
 rows_as_taken spec args (Conflict dep) rows = rows
 rows_as_taken spec args (Removed t) rows = with_rows spec t rows
+rows_as_taken spec args (Updated t) rows = with_rows spec t (without_rows spec args rows)
 rows_as_taken spec args Absent rows = rows

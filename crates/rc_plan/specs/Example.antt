@@ -3,7 +3,7 @@ use Rattle.std.specs.Prelude.{List, [], ◌∷◌}
 use Rattle.rc_spec.specs.declared.items.ColKind.TheVariants.{Num}
 use Rattle.rc_spec.specs.declared.items.EdgeKind.TheVariants.{Hash, Ordered}
 use Rattle.rc_spec.specs.declared.items.Op.{Op}
-use Rattle.rc_spec.specs.declared.items.OpKind.TheVariants.{Query, Insert, Remove}
+use Rattle.rc_spec.specs.declared.items.OpKind.TheVariants.{Query, Insert, Remove, Update}
 use Rattle.rc_spec.specs.declared.lock.Mode.TheVariants.{Shared, Exclusive}
 use Rattle.rc_spec.specs.declared.spec.Spec.{Spec}
 use Rattle.rc_plan.specs.declared.statement.ReadMode.TheVariants.{Lookup, Scan}
@@ -20,7 +20,7 @@ abbrev pub drop_edge : Op
 drop_edge = record { name = []; pattern = 0 ∷ 1 ∷ []; kind = Remove }
 
 abbrev pub successors : Op
-successors = record { name = []; pattern = 0 ∷ []; kind = Query (1 ∷ 2 ∷ []) }
+successors = record { name = []; pattern = 0 ∷ []; kind = Query (1 ∷ 2 ∷ []) [] }
 
 -- The columns src, dst and weight; the nodes root, u and w; the edges e1 from root to u and e2 from u to w; and one class of 4 stripes, chosen by src. Names play no part here.
 abbrev pub graph : Spec
@@ -32,6 +32,7 @@ graph = record {
   classes = record { name = []; stripes = 4; cols = 0 ∷ [] } ∷ [];
   places = record { edge = 0; class = 0 } ∷ record { edge = 1; class = 0 } ∷ [];
   ops = add_edge ∷ drop_edge ∷ successors ∷ [];
+  most_rows = 256;
 }
 
 -- ---- the plans

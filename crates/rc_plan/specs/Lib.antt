@@ -12,6 +12,7 @@ pub mod NamedStripesLaws
 pub mod PlanRules
 pub mod PlanRulesLaws
 pub mod PlanText
+pub mod ProbeLaws
 pub mod QueryLaws
 pub mod RemoveLaws
 pub mod Resolved
@@ -21,3 +22,4 @@ pub mod ServeLaws
 pub mod StripeLocks
 pub mod StripeLocksLaws
 pub mod Turns
+pub mod UpdateLaws

@@ -19,14 +19,14 @@ use Rattle.rc_spec.specs.PlacementLaws.{class_of_known}
 use Rattle.rc_spec.specs.Stripes.{band_start, physical_stripe}
 use Rattle.rc_spec.specs.StripesLaws.{band_before}
 use Rattle.rc_plan.specs.declared.statement.Statement.{Statement}
-use Rattle.rc_plan.specs.declared.statement.Statement.TheVariants.{Lock, Probe, Read, CheckAbsent, CheckDep, Apply, Emit, Commit, Release}
+use Rattle.rc_plan.specs.declared.statement.Statement.TheVariants.{Lock, Probe, Read, CheckAbsent, CheckFound, CheckDep, Apply, Emit, Commit, Release}
 use Rattle.rc_plan.specs.declared.statement.Which.{Which}
 use Rattle.rc_plan.specs.declared.statement.Which.TheVariants as which
 use Rattle.rc_plan.specs.Evaluation.{RunState, stripes_locked, named_by, run_one, run_next, run, begun}
 use Rattle.rc_plan.specs.Laws.{LocksRise, ReadsAreEarly}
 use Rattle.rc_plan.specs.PlanRules.{Progress, at_start, after, IsKnown, AreKnown, IsLocked, KeepsAll, KeepsFrom}
 use Rattle.rc_plan.specs.PlanRulesLaws.{progress_from, keeps_drop}
-use Rattle.rc_plan.specs.RunLaws.{named-apply, named-emit, named-check_absent, named-check_dep, run-split}
+use Rattle.rc_plan.specs.RunLaws.{named-apply, named-emit, named-keep_least, named-check_absent, named-check_dep, run-split}
 use Rattle.rc_plan.specs.StripeLocks.{StripeLock, stripe_lock_cmp, stripes_of, IsOfClass}
 use Rattle.rc_plan.specs.StripeLocksLaws.{stripe_lock_order, in_stripes_of, stripes_of_in, IsOfClass-physical_stripe, band_of_class, of_one_class}
 use Rattle.rc_plan.specs.NamedStripes.{AreOfLocked}
@@ -58,6 +58,7 @@ keeps_order spec op p (Lock d choice mode) c locked keeps = keeps.k2 (c, locked.
 keeps_order spec op p (Probe cols) c locked keeps = tt
 keeps_order spec op p (Read e mode) c locked keeps = tt
 keeps_order spec op p CheckAbsent c locked keeps = tt
+keeps_order spec op p CheckFound c locked keeps = tt
 keeps_order spec op p (CheckDep dep) c locked keeps = tt
 keeps_order spec op p Apply c locked keeps = tt
 keeps_order spec op p Emit c locked keeps = tt
@@ -69,6 +70,7 @@ still_locked spec p (Lock d choice mode) c locked = (locked.0, inr locked.1)
 still_locked spec p (Probe cols) c locked = locked
 still_locked spec p (Read e mode) c locked = locked
 still_locked spec p CheckAbsent c locked = locked
+still_locked spec p CheckFound c locked = locked
 still_locked spec p (CheckDep dep) c locked = locked
 still_locked spec p Apply c locked = locked
 still_locked spec p Emit c locked = locked
@@ -95,9 +97,10 @@ module _ (spec : Spec) (placed : IsPlaced spec) (op : Op) (call : Call) where
   before_one c stripe (Probe cols) state of later known m = m
   before_one c stripe (Read e mode) state of later known m = m
   before_one c stripe CheckAbsent state of later known m = subst (λ z. In stripe (stripes_of z)) (named-check_absent spec op call state) m
+  before_one c stripe CheckFound state of later known m = subst (λ z. In stripe (stripes_of z)) (named-keep_least state.bindings state) m
   before_one c stripe (CheckDep dep) state of later known m = subst (λ z. In stripe (stripes_of z)) (named-check_dep spec op call state dep) m
   before_one c stripe Apply state of later known m = subst (λ z. In stripe (stripes_of z)) (named-apply spec op.kind call.args state) m
-  before_one c stripe Emit state of later known m = subst (λ z. In stripe (stripes_of z)) (named-emit op.kind state) m
+  before_one c stripe Emit state of later known m = subst (λ z. In stripe (stripes_of z)) (named-emit spec.most_rows op.kind call.ranges state) m
   before_one c stripe Commit state of later known m = m
   before_one c stripe (Release d) state of later known m = m
 
@@ -136,9 +139,10 @@ module _ (spec : Spec) (placed : IsPlaced spec) (op : Op) (call : Call) where
   of_locked_one p (Probe cols) state known f stripe m = f stripe m
   of_locked_one p (Read e mode) state known f stripe m = f stripe m
   of_locked_one p CheckAbsent state known f stripe m = f stripe (subst (λ z. In stripe (stripes_of z)) (named-check_absent spec op call state) m)
+  of_locked_one p CheckFound state known f stripe m = f stripe (subst (λ z. In stripe (stripes_of z)) (named-keep_least state.bindings state) m)
   of_locked_one p (CheckDep dep) state known f stripe m = f stripe (subst (λ z. In stripe (stripes_of z)) (named-check_dep spec op call state dep) m)
   of_locked_one p Apply state known f stripe m = f stripe (subst (λ z. In stripe (stripes_of z)) (named-apply spec op.kind call.args state) m)
-  of_locked_one p Emit state known f stripe m = f stripe (subst (λ z. In stripe (stripes_of z)) (named-emit op.kind state) m)
+  of_locked_one p Emit state known f stripe m = f stripe (subst (λ z. In stripe (stripes_of z)) (named-emit spec.most_rows op.kind call.ranges state) m)
   of_locked_one p Commit state known f stripe m = f stripe m
   of_locked_one p (Release d) state known f stripe m = f stripe m
 

@@ -2,6 +2,7 @@
 use Rattle.std.specs.Prelude.{◌≡◌, ℕ, true, List, [], ◌∷◌, filter, map}
 use Rattle.std.specs.Ordering.{nat_cmp}
 use Rattle.std.proofs.Common.{inl, inr, refl, sym, ap, subst, ◌∙◌}
+use Rattle.std.proofs.lemmas.Bool.{and_from, and_parts}
 use Rattle.rc_tuple.specs.RisingSet.{In, IsRising}
 use Rattle.rc_tuple.specs.RisingSetLaws.{same_rising, same_gather, rising_filter, in_filter, filter_in, in_map, map_in, number_lists_order}
 use Rattle.rc_tuple.specs.ColSet.{has, Within}
@@ -11,7 +12,10 @@ use Rattle.rc_tuple.specs.MergeLaws.{value-project, project_all}
 use Rattle.rc_tuple.specs.Relation.{IsRelation}
 use Rattle.rc_tuple.specs.RelationLaws.{rising_of}
 use Rattle.rc_spec.specs.HeathLaws.{IsSeen}
-use Rattle.rc_spec.specs.Plain.{row_cmp, at_most_256}
+use Rattle.rc_spec.specs.Plain.{row_cmp, at_most}
+use Rattle.rc_spec.specs.Ranges.{range_column, in_ranges, is_asked}
+use Rattle.rc_spec.specs.RangesLaws.{in_ranges-project}
+use Rattle.rc_spec.specs.declared.range.Range.{Range}
 use Rattle.rc_plan.specs.Evaluation.{answer}
 
 pub pick-project : (xs outs : List ℕ) (t : Pairs) → Within outs xs → pick outs (project xs t) ≡ pick outs t
@@ -68,14 +72,33 @@ module _ (columns : List ℕ) (o : IsRising nat_cmp columns) (r : List Pairs) (i
       (seen.each t f.0 (matching_agrees xs s t (subst (IsRising nat_cmp) (sym (i.each t f.0).over) o) m))
 
   -- so a query answers from them as from the matching tuples
-  pub answer-seen : (xs outs : List ℕ) (bs : List Pairs) → IsSeen r s xs bs → Within (cols_of s) xs → Within outs xs → answer outs bs ≡ answer outs (filter (matches s) r)
-  answer-seen xs outs bs seen w v =
-      ap at_most_256 (same_gather row_cmp number_lists_order (map (pick outs) bs) (map (pick outs) (filter (matches s) r))
+  pub answer-seen : (most : ℕ) (xs outs : List ℕ) (bs : List Pairs) → IsSeen r s xs bs → Within (cols_of s) xs → Within outs xs → answer most outs bs ≡ answer most outs (filter (matches s) r)
+  answer-seen most xs outs bs seen w v =
+      ap (at_most most) (same_gather row_cmp number_lists_order (map (pick outs) bs) (map (pick outs) (filter (matches s) r))
       (λ z h. let b : (b : Pairs) × In b bs × (z ≡ pick outs b) = in_map (pick outs) z bs h in
       let t : (t : Pairs) × In t (filter (matches s) r) × (b.0 ≡ project xs t) = seen_matches xs bs seen w b.0 b.1 in
       subst (λ y. In y (map (pick outs) (filter (matches s) r))) (sym (b.2 ∙ ap (pick outs) t.2 ∙ pick-project xs outs t.0 v)) (map_in (pick outs) t.0 (filter (matches s) r) t.1))
       (λ z h. let t : (t : Pairs) × In t (filter (matches s) r) × (z ≡ pick outs t) = in_map (pick outs) z (filter (matches s) r) h in
       subst (λ y. In y (map (pick outs) bs)) (pick-project xs outs t.0 v ∙ sym t.2) (map_in (pick outs) (project xs t.0) bs (matches_seen xs bs seen w t.0 t.1))))
+
+  -- and from those between the bounds of some ranges as from the tuples that match a call with these
+  pub answer-asked : (most : ℕ) (ranges : List Range) (xs outs : List ℕ) (bs : List Pairs) → IsSeen r s xs bs → Within (cols_of s) xs → Within outs xs → Within (map range_column ranges) xs
+      → answer most outs (filter (in_ranges ranges) bs) ≡ answer most outs (filter (is_asked s ranges) r)
+  answer-asked most ranges xs outs bs seen w v z =
+      ap (at_most most) (same_gather row_cmp number_lists_order (map (pick outs) (filter (in_ranges ranges) bs)) (map (pick outs) (filter (is_asked s ranges) r))
+      (λ y h. let b : (b : Pairs) × In b (filter (in_ranges ranges) bs) × (y ≡ pick outs b) = in_map (pick outs) y (filter (in_ranges ranges) bs) h in
+      let k : In b.0 bs × (in_ranges ranges b.0 ≡ true) = in_filter (in_ranges ranges) b.0 bs b.1 in
+      let t : (t : Pairs) × In t (filter (matches s) r) × (b.0 ≡ project xs t) = seen_matches xs bs seen w b.0 k.0 in
+      let m : In t.0 r × (matches s t.0 ≡ true) = in_filter (matches s) t.0 r t.1 in
+      let g : in_ranges ranges t.0 ≡ true = sym (in_ranges-project ranges xs t.0 z) ∙ ap (in_ranges ranges) (sym t.2) ∙ k.1 in
+      subst (λ x. In x (map (pick outs) (filter (is_asked s ranges) r))) (sym (b.2 ∙ ap (pick outs) t.2 ∙ pick-project xs outs t.0 v))
+      (map_in (pick outs) t.0 (filter (is_asked s ranges) r) (filter_in (is_asked s ranges) t.0 r m.0 (and_from (matches s t.0) (in_ranges ranges t.0) m.1 g))))
+      (λ y h. let t : (t : Pairs) × In t (filter (is_asked s ranges) r) × (y ≡ pick outs t) = in_map (pick outs) y (filter (is_asked s ranges) r) h in
+      let k : In t.0 r × (is_asked s ranges t.0 ≡ true) = in_filter (is_asked s ranges) t.0 r t.1 in
+      let m : (matches s t.0 ≡ true) × (in_ranges ranges t.0 ≡ true) = and_parts (matches s t.0) (in_ranges ranges t.0) k.1 in
+      subst (λ x. In x (map (pick outs) (filter (in_ranges ranges) bs))) (pick-project xs outs t.0 v ∙ sym t.2)
+      (map_in (pick outs) (project xs t.0) (filter (in_ranges ranges) bs)
+      (filter_in (in_ranges ranges) (project xs t.0) bs (matches_seen xs bs seen w t.0 (filter_in (matches s) t.0 r k.0 m.0)) (in_ranges-project ranges xs t.0 z ∙ m.1)))))
 
   -- where all columns are visited, the bindings are the matching tuples
   pub all_seen_match : (xs : List ℕ) (bs : List Pairs) → Within columns xs → IsRising tuple_cmp bs → IsSeen r s xs bs → bs ≡ filter (matches s) r

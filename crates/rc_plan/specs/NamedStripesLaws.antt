@@ -1,5 +1,5 @@
 -- Laws of the stripes that a plan names, whatever the rows: they are its Locks', and the arguments' where these choose them.
-use Rattle.std.specs.Prelude.{◌≡◌, ℕ, Bool, true, false, List, [], ◌∷◌, ◌++◌, ◌⊎◌, None, Some, cond, is_some}
+use Rattle.std.specs.Prelude.{◌≡◌, ℕ, Bool, true, false, List, [], ◌∷◌, ◌++◌, ◌⊎◌, Option, None, Some, cond, is_some}
 use Rattle.std.specs.Ordering.{nat_cmp}
 use Rattle.std.proofs.Common.{inl, inr, refl, sym, ap, subst, ◌∙◌}
 use Rattle.std.proofs.lemmas.Option.{get_or_from_slice_get}
@@ -13,7 +13,8 @@ use Rattle.rc_spec.specs.declared.call.Call.{Call}
 use Rattle.rc_spec.specs.declared.call.Reply.TheVariants.{Present, Conflict}
 use Rattle.rc_spec.specs.declared.items.Op.{Op}
 use Rattle.rc_spec.specs.declared.items.OpKind.{OpKind}
-use Rattle.rc_spec.specs.declared.items.OpKind.TheVariants.{Query, Insert, Remove}
+use Rattle.rc_spec.specs.declared.items.OpKind.TheVariants.{Query, Insert, Remove, Update}
+use Rattle.rc_spec.specs.declared.range.Range.{Range}
 use Rattle.rc_spec.specs.declared.spec.Spec.{Spec}
 use Rattle.rc_spec.specs.Fragments.{tuples_of_edge}
 use Rattle.rc_spec.specs.HeathLaws.{IsJoined, in_join}
@@ -21,15 +22,15 @@ use Rattle.rc_spec.specs.Placement.{class_at, no_op, op_at, IsPlaced}
 use Rattle.rc_spec.specs.Stripes.{physical_stripe}
 use Rattle.rc_spec.specs.StripesLaws.{stripe_by_values}
 use Rattle.rc_plan.specs.declared.statement.Statement.{Statement}
-use Rattle.rc_plan.specs.declared.statement.Statement.TheVariants.{Lock, Probe, Read, CheckAbsent, CheckDep, Apply, Emit, Commit, Release}
+use Rattle.rc_plan.specs.declared.statement.Statement.TheVariants.{Lock, Probe, Read, CheckAbsent, CheckFound, CheckDep, Apply, Emit, Commit, Release}
 use Rattle.rc_plan.specs.declared.statement.Which.{Which}
 use Rattle.rc_plan.specs.declared.statement.Which.TheVariants as which
-use Rattle.rc_plan.specs.Evaluation.{RunState, stripes_locked, named_by, some_left, some_differs, remove_least, apply, emit, run_one, run_next, run, begun}
+use Rattle.rc_plan.specs.Evaluation.{RunState, stripes_locked, named_by, some_left, some_differs, remove_least, keep_least, replace, apply, emit, run_one, run_next, run, begun}
 use Rattle.rc_plan.specs.Laws.{NamedStripesAreLocked}
 use Rattle.rc_plan.specs.LockOrderLaws.{IsOfClass-stripes_locked}
 use Rattle.rc_plan.specs.NamedStripes.{IsNamedBy}
 use Rattle.rc_plan.specs.PlanRules.{Progress, at_start, after, IsKnown, AreKnown, KeepsAll, KeepsFrom, KeepsPlanRules}
-use Rattle.rc_plan.specs.RunLaws.{named-apply, named-emit, named-check_absent, named-check_dep}
+use Rattle.rc_plan.specs.RunLaws.{named-apply, named-emit, named-keep_least, named-check_absent, named-check_dep}
 use Rattle.rc_plan.specs.StripeLocks.{StripeLock, stripe_lock_cmp}
 use Rattle.rc_plan.specs.StripeLocksLaws.{stripe_lock_order}
 
@@ -79,15 +80,25 @@ bindings-remove_least : (spec : Spec) (bs : List Pairs) (state : RunState) → (
 bindings-remove_least spec [] state = refl
 bindings-remove_least spec (b ∷ bs) state = refl
 
+bindings-keep_least : (bs : List Pairs) (state : RunState) → (keep_least bs state).bindings ≡ state.bindings
+bindings-keep_least [] state = refl
+bindings-keep_least (b ∷ bs) state = refl
+
+bindings-replace : (spec : Spec) (old : Option Pairs) (args : Pairs) (state : RunState) → (replace spec old args state).bindings ≡ state.bindings
+bindings-replace spec None args state = refl
+bindings-replace spec (Some old) args state = refl
+
 bindings-apply : (spec : Spec) (kind : OpKind) (args : Pairs) (state : RunState) → (apply spec kind args state).bindings ≡ state.bindings
-bindings-apply spec (Query outs) args state = refl
+bindings-apply spec (Query outs ranges) args state = refl
 bindings-apply spec Insert args state = refl
 bindings-apply spec Remove args state = bindings-remove_least spec state.bindings state
+bindings-apply spec Update args state = bindings-replace spec state.old args state
 
-bindings-emit : (kind : OpKind) (state : RunState) → (emit kind state).bindings ≡ state.bindings
-bindings-emit (Query outs) state = refl
-bindings-emit Insert state = refl
-bindings-emit Remove state = refl
+bindings-emit : (most : ℕ) (kind : OpKind) (ranges : List Range) (state : RunState) → (emit most kind ranges state).bindings ≡ state.bindings
+bindings-emit most (Query outs cols) ranges state = refl
+bindings-emit most Insert ranges state = refl
+bindings-emit most Remove ranges state = refl
+bindings-emit most Update ranges state = refl
 
 bindings-either : (b : Bool) (x y : RunState) → x.bindings ≡ y.bindings → (cond b x y).bindings ≡ y.bindings
 bindings-either true x y e = e
@@ -98,6 +109,7 @@ probe_before spec p (Lock c choice mode) e = e
 probe_before spec p (Probe cols) e = absurd (let g : Some cols ≡ None = e in cc)
 probe_before spec p (Read n mode) e = e
 probe_before spec p CheckAbsent e = e
+probe_before spec p CheckFound e = e
 probe_before spec p (CheckDep dep) e = e
 probe_before spec p Apply e = e
 probe_before spec p Emit e = e
@@ -116,9 +128,10 @@ module _ (spec : Spec) (placed : IsPlaced spec) (op : Op) (call : Call) (rises :
       let j : IsJoined state.bindings (tuples_of_edge e state.rows) c = in_join state.bindings (tuples_of_edge e state.rows) c m in
       subst (IsExtended args) (sym j.merged) (extended_merge args j.left j.right j.agree (f j.left j.in_left))
   extended_one p CheckAbsent state f n = subst (AreExtended args) (sym (bindings-either (some_left state.bindings) (record state { reply = Some Present }) state refl)) f
-  extended_one p (CheckDep dep) state f n = subst (AreExtended args) (sym (bindings-either (some_differs spec dep args state.bindings) (record state { reply = Some (Conflict dep) }) state refl)) f
+  extended_one p CheckFound state f n = subst (AreExtended args) (sym (bindings-keep_least state.bindings state)) f
+  extended_one p (CheckDep dep) state f n = subst (AreExtended args) (sym (bindings-either (some_differs spec op dep args state.bindings) (record state { reply = Some (Conflict dep) }) state refl)) f
   extended_one p Apply state f n = subst (AreExtended args) (sym (bindings-apply spec op.kind args state)) f
-  extended_one p Emit state f n = subst (AreExtended args) (sym (bindings-emit op.kind state)) f
+  extended_one p Emit state f n = subst (AreExtended args) (sym (bindings-emit spec.most_rows op.kind call.ranges state)) f
   extended_one p Commit state f n = f
   extended_one p (Release c) state f n = f
 
@@ -153,9 +166,10 @@ module _ (spec : Spec) (placed : IsPlaced spec) (op : Op) (call : Call) (rises :
   named_one p (Probe cols) plan state known keeps f lock m = inl m
   named_one p (Read e mode) plan state known keeps f lock m = inl m
   named_one p CheckAbsent plan state known keeps f lock m = inl (subst (In lock) (named-check_absent spec op call state) m)
+  named_one p CheckFound plan state known keeps f lock m = inl (subst (In lock) (named-keep_least state.bindings state) m)
   named_one p (CheckDep dep) plan state known keeps f lock m = inl (subst (In lock) (named-check_dep spec op call state dep) m)
   named_one p Apply plan state known keeps f lock m = inl (subst (In lock) (named-apply spec op.kind args state) m)
-  named_one p Emit plan state known keeps f lock m = inl (subst (In lock) (named-emit op.kind state) m)
+  named_one p Emit plan state known keeps f lock m = inl (subst (In lock) (named-emit spec.most_rows op.kind call.ranges state) m)
   named_one p Commit plan state known keeps f lock m = inl m
   named_one p (Release c) plan state known keeps f lock m = inl m
 

@@ -6,22 +6,23 @@ use Rattle.rc_tuple.specs.RisingSet.{In, gather}
 use Rattle.rc_tuple.specs.ColSet.{Within, union}
 use Rattle.rc_spec.specs.declared.items.Op.{Op}
 use Rattle.rc_spec.specs.declared.items.OpKind.{OpKind}
-use Rattle.rc_spec.specs.declared.items.OpKind.TheVariants.{Query, Insert, Remove}
+use Rattle.rc_spec.specs.declared.items.OpKind.TheVariants.{Query, Insert, Remove, Update}
 use Rattle.rc_spec.specs.declared.lock.Mode.{Mode}
 use Rattle.rc_spec.specs.declared.lock.Mode.TheVariants.{Exclusive}
 use Rattle.rc_spec.specs.declared.spec.Spec.{Spec}
 use Rattle.rc_spec.specs.Adequacy.{IsLossless}
-use Rattle.rc_spec.specs.Calls.{all_columns, value_columns}
+use Rattle.rc_spec.specs.Calls.{all_columns, value_columns, GivesTuple}
 use Rattle.rc_spec.specs.Decomposition.{edge_at, target_columns}
 use Rattle.rc_spec.specs.First.{IsFirstFailing}
 use Rattle.rc_spec.specs.Placement.{class_at, class_of}
+use Rattle.rc_spec.specs.Ranges.{range_columns}
 use Rattle.rc_plan.specs.declared.refusal.PlanRefusal.{PlanRefusal}
 use Rattle.rc_plan.specs.declared.refusal.PlanRule.{PlanRule}
 use Rattle.rc_plan.specs.declared.refusal.PlanRule.TheVariants.{K1, K2, K3, K4, K5, K6, K7}
 use Rattle.rc_plan.specs.declared.statement.ReadMode.{ReadMode}
 use Rattle.rc_plan.specs.declared.statement.ReadMode.TheVariants.{Lookup, Scan}
 use Rattle.rc_plan.specs.declared.statement.Statement.{Statement}
-use Rattle.rc_plan.specs.declared.statement.Statement.TheVariants.{Lock, Probe, Read, CheckAbsent, CheckDep, Apply, Emit, Commit, Release}
+use Rattle.rc_plan.specs.declared.statement.Statement.TheVariants.{Lock, Probe, Read, CheckAbsent, CheckFound, CheckDep, Apply, Emit, Commit, Release}
 use Rattle.rc_plan.specs.declared.statement.Which.{Which}
 use Rattle.rc_plan.specs.declared.statement.Which.TheVariants as which
 use Rattle.rc_plan.specs.Evaluation.{dep_at}
@@ -46,15 +47,15 @@ pub record Progress : Type 0 where
   pub released : List ℕ
   -- the last Probe's columns
   pub probe : Option (List ℕ)
-  -- whether CheckAbsent has come, and the dependencies checked
-  pub absent : Bool
+  -- whether CheckAbsent or CheckFound has come, and the dependencies checked
+  pub sought : Bool
   pub checked : List ℕ
 
 -- the pattern's columns, as a set
 abbrev pub pattern_columns : Op → List ℕ
 pattern_columns op = gather nat_cmp op.pattern
 
--- the columns of a call's tuple: an insert has all, a query and a remove have the pattern's
+-- the columns of a call's tuple: an insert and an update have all, a query and a remove have the pattern's
 abbrev pub given_columns : Spec → Op → List ℕ
 given_columns spec op = gather nat_cmp (value_columns spec op.pattern op.kind)
 
@@ -67,7 +68,7 @@ at_start spec op = record {
   locked = [];
   released = [];
   probe = None;
-  absent = false;
+  sought = false;
   checked = [];
 }
 
@@ -75,7 +76,8 @@ abbrev pub after : Spec → Progress → Statement → Progress
 after spec p (Lock c choice mode) = record p { locked = (c, choice) ∷ p.locked }
 after spec p (Probe cols) = record p { columns = cols; visited = []; reached = []; probe = Some cols }
 after spec p (Read e mode) = record p { columns = union p.columns (target_columns spec e); visited = union p.visited (target_columns spec e); reached = (edge_at spec e).to ∷ p.reached }
-after spec p CheckAbsent = record p { absent = true }
+after spec p CheckAbsent = record p { sought = true }
+after spec p CheckFound = record p { sought = true }
 after spec p (CheckDep dep) = record p { checked = dep ∷ p.checked }
 after spec p Apply = record p { phase = Phase.Decided }
 after spec p Emit = record p { phase = Phase.Decided }
@@ -95,6 +97,7 @@ IsKnown spec (Lock c choice mode) = c < length spec.classes
 IsKnown spec (Probe cols) = Within cols (all_columns spec)
 IsKnown spec (Read e mode) = e < length spec.edges
 IsKnown spec CheckAbsent = Unit {0}
+IsKnown spec CheckFound = Unit {0}
 IsKnown spec (CheckDep dep) = (0 < dep) × (dep ≤ length spec.deps)
 IsKnown spec Apply = Unit {0}
 IsKnown spec Emit = Unit {0}
@@ -108,39 +111,51 @@ AreKnown spec plan = (x : Statement) → In x plan → IsKnown spec x
 
 -- a query's Locks have either mode, the others' are Exclusive
 abbrev pub HasLockMode : OpKind → Mode → Type 0
-HasLockMode (Query outs) mode = Unit {0}
+HasLockMode (Query outs ranges) mode = Unit {0}
 HasLockMode Insert mode = mode ≡ Exclusive
 HasLockMode Remove mode = mode ≡ Exclusive
+HasLockMode Update mode = mode ≡ Exclusive
 
--- an insert reads behind a Probe
+-- an insert and an update read behind a Probe
 abbrev pub MayRead : OpKind → Progress → Type 0
-MayRead (Query outs) p = Unit {0}
+MayRead (Query outs ranges) p = Unit {0}
 MayRead Insert p = HasProbed p
 MayRead Remove p = Unit {0}
+MayRead Update p = HasProbed p
 
--- a query applies nothing, an insert behind a Probe
+-- a query applies nothing, an insert and an update behind a Probe
 abbrev pub MayApply : OpKind → Progress → Type 0
-MayApply (Query outs) p = ⊥
+MayApply (Query outs ranges) p = ⊥
 MayApply Insert p = HasProbed p
 MayApply Remove p = Unit {0}
+MayApply Update p = HasProbed p
 
 abbrev pub IsInsert : OpKind → Type 0
-IsInsert (Query outs) = ⊥
+IsInsert (Query outs ranges) = ⊥
 IsInsert Insert = Unit {0}
 IsInsert Remove = ⊥
+IsInsert Update = ⊥
+
+abbrev pub IsUpdate : OpKind → Type 0
+IsUpdate (Query outs ranges) = ⊥
+IsUpdate Insert = ⊥
+IsUpdate Remove = ⊥
+IsUpdate Update = Unit {0}
 
 abbrev pub IsQuery : OpKind → Type 0
-IsQuery (Query outs) = Unit {0}
+IsQuery (Query outs ranges) = Unit {0}
 IsQuery Insert = ⊥
 IsQuery Remove = ⊥
+IsQuery Update = ⊥
 
--- a query has Locks and Reads, and then one Emit; a remove Exclusive Locks and Reads, and then one Apply; an insert Exclusive Locks, then Probes, Reads and checks, of which the first is a Probe, and then one Apply. Then comes one Commit, and then one Release of each locked class.
+-- a query has Locks and Reads, and then one Emit; a remove Exclusive Locks and Reads, and then one Apply; an insert Exclusive Locks, then Probes, Reads and checks, of which the first is a Probe, and then one Apply; an update the same with CheckFound in place of CheckAbsent. Then comes one Commit, and then one Release of each locked class.
 abbrev pub KeepsK1 : OpKind → Progress → Statement → Type 0
 KeepsK1 kind p (Lock c choice mode) = (p.phase ≡ Phase.Searching) × (p.probe ≡ None) × HasLockMode kind mode
-KeepsK1 kind p (Probe cols) = (p.phase ≡ Phase.Searching) × IsInsert kind
+KeepsK1 kind p (Probe cols) = (p.phase ≡ Phase.Searching) × GivesTuple kind
 KeepsK1 kind p (Read e mode) = (p.phase ≡ Phase.Searching) × MayRead kind p
 KeepsK1 kind p CheckAbsent = (p.phase ≡ Phase.Searching) × IsInsert kind × HasProbed p
-KeepsK1 kind p (CheckDep dep) = (p.phase ≡ Phase.Searching) × IsInsert kind × HasProbed p
+KeepsK1 kind p CheckFound = (p.phase ≡ Phase.Searching) × IsUpdate kind × HasProbed p
+KeepsK1 kind p (CheckDep dep) = (p.phase ≡ Phase.Searching) × GivesTuple kind × HasProbed p
 KeepsK1 kind p Apply = (p.phase ≡ Phase.Searching) × MayApply kind p
 KeepsK1 kind p Emit = (p.phase ≡ Phase.Searching) × IsQuery kind
 KeepsK1 kind p Commit = p.phase ≡ Phase.Decided
@@ -176,10 +191,17 @@ KeepsK3 spec p _ = Unit {0}
 
 -- ---- K4: cover of writes
 
+-- what an update locks keyed is of classes whose columns the pattern has: so the old tuple's rows fall where the new one's do
+abbrev pub CoversOld : Spec → Op → OpKind → Progress → Type 0
+CoversOld spec op (Query outs ranges) p = Unit {0}
+CoversOld spec op Insert p = Unit {0}
+CoversOld spec op Remove p = Unit {0}
+CoversOld spec op Update p = (e : ℕ) → e < length spec.edges → In (class_of spec e, which.Keyed) p.locked → Within (class_at spec (class_of spec e)).cols (pattern_columns op)
+
 -- each class that has an edge is locked
-abbrev pub KeepsK4 : Spec → Progress → Statement → Type 0
-KeepsK4 spec p Apply = (e : ℕ) → e < length spec.edges → IsLocked p (class_of spec e)
-KeepsK4 spec p _ = Unit {0}
+abbrev pub KeepsK4 : Spec → Op → Progress → Statement → Type 0
+KeepsK4 spec op p Apply = ((e : ℕ) → e < length spec.edges → IsLocked p (class_of spec e)) × CoversOld spec op op.kind p
+KeepsK4 spec op p _ = Unit {0}
 
 -- ---- K5: steps of reads
 
@@ -199,21 +221,31 @@ KeepsK5 spec p _ = Unit {0}
 -- ---- K6: what is found
 
 abbrev pub OutputsAreVisited : OpKind → List ℕ → Type 0
-OutputsAreVisited (Query outs) visited = Within outs visited
+OutputsAreVisited (Query outs ranges) visited = Within outs visited
 OutputsAreVisited Insert visited = Unit {0}
 OutputsAreVisited Remove visited = Unit {0}
+OutputsAreVisited Update visited = Unit {0}
 
 -- a remove finds whole tuples
 abbrev pub FindsTuples : Spec → OpKind → List ℕ → Type 0
-FindsTuples spec (Query outs) visited = Unit {0}
+FindsTuples spec (Query outs ranges) visited = Unit {0}
 FindsTuples spec Insert visited = Unit {0}
 FindsTuples spec Remove visited = Within (all_columns spec) visited
+FindsTuples spec Update visited = Unit {0}
 
--- what a statement speaks of was visited: at Emit the pattern and the outputs; at a check the last Probe's columns, which are the pattern or the dependency's left side, and its right side; at a remove's Apply all columns
+-- an update's check of a dependency tells the old tuple by its pattern values
+abbrev pub TellsOld : Op → OpKind → List ℕ → Type 0
+TellsOld op (Query outs ranges) visited = Unit {0}
+TellsOld op Insert visited = Unit {0}
+TellsOld op Remove visited = Unit {0}
+TellsOld op Update visited = Within (pattern_columns op) visited
+
+-- what a statement speaks of was visited: at Emit the pattern, the outputs and the range columns; at CheckAbsent the last Probe's columns, which are the pattern; at CheckFound all columns, behind a Probe of the pattern; at CheckDep the last Probe's columns, which are the dependency's left side, and its right side, and in an update the pattern; at a remove's Apply all columns
 abbrev pub KeepsK6 : Spec → Op → Progress → Statement → Type 0
-KeepsK6 spec op p Emit = Within (pattern_columns op) p.visited × OutputsAreVisited op.kind p.visited
+KeepsK6 spec op p Emit = Within (pattern_columns op) p.visited × OutputsAreVisited op.kind p.visited × Within (range_columns op.kind) p.visited
 KeepsK6 spec op p CheckAbsent = (p.probe ≡ Some (pattern_columns op)) × Within (pattern_columns op) p.visited
-KeepsK6 spec op p (CheckDep dep) = (p.probe ≡ Some (dep_at spec dep).left) × Within (dep_at spec dep).left p.visited × Within (dep_at spec dep).right p.visited
+KeepsK6 spec op p CheckFound = (p.probe ≡ Some (pattern_columns op)) × Within (all_columns spec) p.visited
+KeepsK6 spec op p (CheckDep dep) = (p.probe ≡ Some (dep_at spec dep).left) × Within (dep_at spec dep).left p.visited × Within (dep_at spec dep).right p.visited × TellsOld op op.kind p.visited
 KeepsK6 spec op p Apply = FindsTuples spec op.kind p.visited
 KeepsK6 spec op p _ = Unit {0}
 
@@ -223,15 +255,16 @@ KeepsK6 spec op p _ = Unit {0}
 abbrev pub IsAtRisk : Spec → Op → ℕ → Type 0
 IsAtRisk spec op dep = Within (pattern_columns op) (dep_at spec dep).left → ⊥
 
--- all checks that an insert needs have come
+-- all checks that an insert or an update needs have come
 abbrev pub ChecksAreDone : Spec → Op → OpKind → Progress → Type 0
-ChecksAreDone spec op (Query outs) p = Unit {0}
-ChecksAreDone spec op Insert p = (p.absent ≡ true) × ((dep : ℕ) → 0 < dep → dep ≤ length spec.deps → IsAtRisk spec op dep → In dep p.checked)
+ChecksAreDone spec op (Query outs ranges) p = Unit {0}
+ChecksAreDone spec op Insert p = (p.sought ≡ true) × ((dep : ℕ) → 0 < dep → dep ≤ length spec.deps → IsAtRisk spec op dep → In dep p.checked)
 ChecksAreDone spec op Remove p = Unit {0}
+ChecksAreDone spec op Update p = (p.sought ≡ true) × ((dep : ℕ) → 0 < dep → dep ≤ length spec.deps → IsAtRisk spec op dep → In dep p.checked)
 
--- a dependency is checked after CheckAbsent and after those with smaller numbers; at an insert's Apply the checks are done
+-- a dependency is checked after CheckAbsent or CheckFound and after those with smaller numbers; at an insert's or an update's Apply the checks are done
 abbrev pub KeepsK7 : Spec → Op → Progress → Statement → Type 0
-KeepsK7 spec op p (CheckDep dep) = (p.absent ≡ true) × ((d : ℕ) → In d p.checked → d < dep)
+KeepsK7 spec op p (CheckDep dep) = (p.sought ≡ true) × ((d : ℕ) → In d p.checked → d < dep)
 KeepsK7 spec op p Apply = ChecksAreDone spec op op.kind p
 KeepsK7 spec op p _ = Unit {0}
 
@@ -242,7 +275,7 @@ abbrev pub StatementKeeps : Spec → Op → PlanRule → Progress → Statement 
 StatementKeeps spec op K1 p x = KeepsK1 op.kind p x
 StatementKeeps spec op K2 p x = KeepsK2 p x
 StatementKeeps spec op K3 p x = KeepsK3 spec p x
-StatementKeeps spec op K4 p x = KeepsK4 spec p x
+StatementKeeps spec op K4 p x = KeepsK4 spec op p x
 StatementKeeps spec op K5 p x = KeepsK5 spec p x
 StatementKeeps spec op K6 p x = KeepsK6 spec op p x
 StatementKeeps spec op K7 p x = KeepsK7 spec op p x
@@ -252,7 +285,7 @@ pub record KeepsAll (spec : Spec) (op : Op) (p : Progress) (x : Statement) : Typ
   pub k1 : KeepsK1 op.kind p x
   pub k2 : KeepsK2 p x
   pub k3 : KeepsK3 spec p x
-  pub k4 : KeepsK4 spec p x
+  pub k4 : KeepsK4 spec op p x
   pub k5 : KeepsK5 spec p x
   pub k6 : KeepsK6 spec op p x
   pub k7 : KeepsK7 spec op p x

@@ -13,7 +13,7 @@ use Rattle.rc_plan.specs.declared.refusal.PlanRule.TheVariants.{K1, K2, K3, K4, 
 use Rattle.rc_plan.specs.declared.statement.ReadMode.{ReadMode}
 use Rattle.rc_plan.specs.declared.statement.ReadMode.TheVariants.{Lookup, Scan}
 use Rattle.rc_plan.specs.declared.statement.Statement.{Statement}
-use Rattle.rc_plan.specs.declared.statement.Statement.TheVariants.{Lock, Probe, Read, CheckAbsent, CheckDep, Apply, Emit, Commit, Release}
+use Rattle.rc_plan.specs.declared.statement.Statement.TheVariants.{Lock, Probe, Read, CheckAbsent, CheckFound, CheckDep, Apply, Emit, Commit, Release}
 use Rattle.rc_plan.specs.declared.statement.Which.{Which}
 use Rattle.rc_plan.specs.declared.statement.Which.TheVariants as which
 
@@ -52,6 +52,7 @@ statement_text spec (Lock c choice mode) = codes "lock " ++ (class_at spec c).na
 statement_text spec (Probe cols) = codes "probe" ++ flat_map (column_text spec) cols
 statement_text spec (Read e mode) = codes "read " ++ (edge_at spec e).name ++ read_mode_text mode
 statement_text spec CheckAbsent = codes "absent"
+statement_text spec CheckFound = codes "found"
 statement_text spec (CheckDep dep) = codes "check " ++ decimal dep
 statement_text spec Apply = codes "apply"
 statement_text spec Emit = codes "emit"

@@ -25,7 +25,7 @@ use Rattle.rc_spec.specs.Placement.{class_at, class_of, IsPlaced}
 use Rattle.rc_spec.specs.Plain.{plain_by, removed_first}
 use Rattle.rc_spec.specs.Stripes.{physical_stripe}
 use Rattle.rc_plan.specs.declared.statement.Statement.{Statement}
-use Rattle.rc_plan.specs.declared.statement.Statement.TheVariants.{Lock, Probe, Read, CheckAbsent, CheckDep, Apply, Emit, Commit, Release}
+use Rattle.rc_plan.specs.declared.statement.Statement.TheVariants.{Lock, Probe, Read, CheckAbsent, CheckFound, CheckDep, Apply, Emit, Commit, Release}
 use Rattle.rc_plan.specs.declared.statement.Which.{Which}
 use Rattle.rc_plan.specs.declared.statement.Which.TheVariants as which
 use Rattle.rc_spec.specs.CountedRows.{row_in, without_rows}
@@ -77,8 +77,8 @@ module _ (spec : Spec) (range : IsInRange spec) (populated : HasColumnAndNode sp
       → ((t : Pairs) → In t ts → In t r × AllHeld spec (stripes_of ns) t) → AreIn Exclusive ns → Within (stripes_of ns) stripes
       → EndsAs spec s (ran plan (remove_least spec ts (searching bs ns (rows_on spec r stripes)))) (ran plan (remove_least spec ts (searching bs ns (all_rows spec r)))) r (removed_first ts r) stripes
   remove_ends plan bs ns [] f x v =
-      let one = run-replied spec (remove_op name pattern) call plan bs ns Absent (rows_on spec r stripes) in
-      let two = run-replied spec (remove_op name pattern) call plan bs ns Absent (all_rows spec r) in
+      let one = run-replied spec (remove_op name pattern) call plan bs ns None Absent (rows_on spec r stripes) in
+      let two = run-replied spec (remove_op name pattern) call plan bs ns None Absent (all_rows spec r) in
       record {
         reply = ap (λ (z : RunState). z.reply) one;
         named = ap (λ (z : RunState). z.named) one ∙ sym (ap (λ (z : RunState). z.named) two);
@@ -87,8 +87,8 @@ module _ (spec : Spec) (range : IsInRange spec) (populated : HasColumnAndNode sp
         others = λ stripe g. refl;
       }
   remove_ends plan bs ns (t ∷ ts) f x v =
-      let one = run-replied spec (remove_op name pattern) call plan bs ns (Removed t) (without_rows spec t (rows_on spec r stripes)) in
-      let two = run-replied spec (remove_op name pattern) call plan bs ns (Removed t) (without_rows spec t (all_rows spec r)) in
+      let one = run-replied spec (remove_op name pattern) call plan bs ns None (Removed t) (without_rows spec t (rows_on spec r stripes)) in
+      let two = run-replied spec (remove_op name pattern) call plan bs ns None (Removed t) (without_rows spec t (all_rows spec r)) in
       let m : In t r = (f t (inl refl)).0 in
       let on : AllHeld spec (stripes_of ns) t = (f t (inl refl)).1 in
       let held : AllHeld spec stripes t = λ e l. v (physical_stripe spec (class_of spec e) (row_in spec t e)) (on e l) in
@@ -102,7 +102,7 @@ module _ (spec : Spec) (range : IsInRange spec) (populated : HasColumnAndNode sp
       }
 
   abbrev RemoveEnds : RunState → RunState → Type 0
-  RemoveEnds one two = EndsAs spec s one two r (plain_by Remove pattern spec.deps s r) stripes
+  RemoveEnds one two = EndsAs spec s one two r (plain_by spec.most_rows Remove pattern spec.deps s call.ranges r) stripes
 
   pub remove_runs : (plan : List Statement) (p : Progress) (bs : List Pairs) (ns : List StripeLock) → IsSearching spec r s p bs ns → p.probe ≡ None
       → AreIn Exclusive ns
@@ -129,11 +129,12 @@ module _ (spec : Spec) (range : IsInRange spec) (populated : HasColumnAndNode sp
       subst (λ z. EndsAs spec s (ran plan (remove_least spec bs (searching bs ns (rows_on spec r stripes)))) (ran plan (remove_least spec bs (searching bs ns (all_rows spec r)))) r (removed_first z r) stripes) are
       (remove_ends plan bs ns bs (λ t m.
       let n : In t r = (in_filter (matches s) t r (subst (In t) are m)).0 in
-      (n, found_is_named p bs ns f none keeps.0.k4 t m n)) x
+      (n, found_is_named p bs ns f none keeps.0.k4.0 t m n)) x
       (λ c q. v c (stripes_grow spec (remove_op name pattern) call (Apply ∷ plan) (searching bs ns (rows_on spec r stripes)) c q)))
   remove_runs (Emit ∷ plan) p bs ns f none x known keeps v = absurd keeps.0.k1.1
   remove_runs (Probe cols ∷ plan) p bs ns f none x known keeps v = absurd keeps.0.k1.1
   remove_runs (CheckAbsent ∷ plan) p bs ns f none x known keeps v = absurd keeps.0.k1.1
+  remove_runs (CheckFound ∷ plan) p bs ns f none x known keeps v = absurd keeps.0.k1.1
   remove_runs (CheckDep dep ∷ plan) p bs ns f none x known keeps v = absurd keeps.0.k1.1
   remove_runs (Commit ∷ plan) p bs ns f none x known keeps v = let e : Phase.Searching ≡ Phase.Decided = sym f.phase ∙ keeps.0.k1 in cc
   remove_runs (Release c ∷ plan) p bs ns f none x known keeps v = let e : Phase.Searching ≡ Phase.Committed = sym f.phase ∙ keeps.0.k1.0 in cc

@@ -1,5 +1,5 @@
 -- Laws of runs: what the bindings are while an accepted plan searches, and that the rows of the named stripes are enough for its reads.
-use Rattle.std.specs.Prelude.{◌≡◌, ℕ, zero, suc, take, drop, ◌<◌, Bool, true, false, List, [], ◌∷◌, ◌++◌, Some, map, cond, length, is_some}
+use Rattle.std.specs.Prelude.{◌≡◌, ℕ, zero, suc, take, drop, ◌<◌, Bool, true, false, List, [], ◌∷◌, ◌++◌, Option, None, Some, map, cond, length, is_some}
 use Rattle.std.proofs.Common.{inl, inr, refl, sym, subst}
 use Rattle.rc_tuple.specs.RisingSet.{In, IsRising, gather}
 use Rattle.rc_tuple.specs.RisingSetLaws.{same_rising, gather_in, append_in_left, in_map, map_in}
@@ -13,9 +13,10 @@ use Rattle.rc_spec.specs.declared.call.Reply.{Reply}
 use Rattle.rc_spec.specs.declared.call.Reply.TheVariants.{Present, Conflict}
 use Rattle.rc_spec.specs.declared.items.Op.{Op}
 use Rattle.rc_spec.specs.declared.items.OpKind.{OpKind}
-use Rattle.rc_spec.specs.declared.items.OpKind.TheVariants.{Query, Insert, Remove}
+use Rattle.rc_spec.specs.declared.items.OpKind.TheVariants.{Query, Insert, Remove, Update}
 use Rattle.rc_spec.specs.declared.lock.Mode.{Mode}
 use Rattle.rc_spec.specs.declared.lock.Mode.TheVariants.{Exclusive}
+use Rattle.rc_spec.specs.declared.range.Range.{Range}
 use Rattle.rc_spec.specs.declared.spec.Spec.{Spec}
 use Rattle.rc_spec.specs.Adequacy.{IsAdequate}
 use Rattle.rc_spec.specs.Calls.{all_columns}
@@ -31,10 +32,10 @@ use Rattle.rc_spec.specs.Plain.{Outcome}
 use Rattle.rc_spec.specs.Stripes.{physical_stripe}
 use Rattle.rc_plan.specs.declared.statement.ReadMode.{ReadMode}
 use Rattle.rc_plan.specs.declared.statement.Statement.{Statement}
-use Rattle.rc_plan.specs.declared.statement.Statement.TheVariants.{Lock, Probe, Read, CheckAbsent, CheckDep, Apply, Emit, Commit, Release}
+use Rattle.rc_plan.specs.declared.statement.Statement.TheVariants.{Lock, Probe, Read, CheckAbsent, CheckFound, CheckDep, Apply, Emit, Commit, Release}
 use Rattle.rc_plan.specs.declared.statement.Which.{Which}
 use Rattle.rc_plan.specs.declared.statement.Which.TheVariants as which
-use Rattle.rc_plan.specs.Evaluation.{RunState, stripes_locked, named_by, some_left, some_differs, remove_least, apply, emit, run_one, run_next, run, rows_as_taken}
+use Rattle.rc_plan.specs.Evaluation.{RunState, stripes_locked, named_by, some_left, some_differs, remove_least, keep_least, replace, apply, emit, run_one, run_next, run, rows_as_taken}
 use Rattle.rc_plan.specs.PlanRules.{Progress, after, at_start, given_columns, IsKeyBound, KeepsK3, KeepsK5}
 use Rattle.rc_plan.specs.StripeLocks.{StripeLock, stripe_lock_cmp, stripes_of}
 use Rattle.rc_plan.specs.StripeLocksLaws.{stripe_lock_order, named_before, named_now, physical_stripe-agreeing, physical_stripe-in_band, striping_in_target}
@@ -100,15 +101,25 @@ named-remove_least : (spec : Spec) (bs : List Pairs) (state : RunState) → (rem
 named-remove_least spec [] state = refl
 named-remove_least spec (b ∷ bs) state = refl
 
+pub named-keep_least : (bs : List Pairs) (state : RunState) → (keep_least bs state).named ≡ state.named
+named-keep_least [] state = refl
+named-keep_least (b ∷ bs) state = refl
+
+named-replace : (spec : Spec) (old : Option Pairs) (args : Pairs) (state : RunState) → (replace spec old args state).named ≡ state.named
+named-replace spec None args state = refl
+named-replace spec (Some old) args state = refl
+
 pub named-apply : (spec : Spec) (kind : OpKind) (args : Pairs) (state : RunState) → (apply spec kind args state).named ≡ state.named
-named-apply spec (Query outs) args state = refl
+named-apply spec (Query outs ranges) args state = refl
 named-apply spec Insert args state = refl
 named-apply spec Remove args state = named-remove_least spec state.bindings state
+named-apply spec Update args state = named-replace spec state.old args state
 
-pub named-emit : (kind : OpKind) (state : RunState) → (emit kind state).named ≡ state.named
-named-emit (Query outs) state = refl
-named-emit Insert state = refl
-named-emit Remove state = refl
+pub named-emit : (most : ℕ) (kind : OpKind) (ranges : List Range) (state : RunState) → (emit most kind ranges state).named ≡ state.named
+named-emit most (Query outs cols) ranges state = refl
+named-emit most Insert ranges state = refl
+named-emit most Remove ranges state = refl
+named-emit most Update ranges state = refl
 
 named-either : (b : Bool) (x y : RunState) → x.named ≡ y.named → (cond b x y).named ≡ y.named
 named-either true x y e = e
@@ -118,7 +129,7 @@ pub named-check_absent : (spec : Spec) (op : Op) (call : Call) (state : RunState
 named-check_absent spec op call state = named-either (some_left state.bindings) (record state { reply = Some Present }) state refl
 
 pub named-check_dep : (spec : Spec) (op : Op) (call : Call) (state : RunState) (dep : ℕ) → (run_one spec op call state (CheckDep dep)).named ≡ state.named
-named-check_dep spec op call state dep = named-either (some_differs spec dep call.args state.bindings) (record state { reply = Some (Conflict dep) }) state refl
+named-check_dep spec op call state dep = named-either (some_differs spec op dep call.args state.bindings) (record state { reply = Some (Conflict dep) }) state refl
 
 named-run_one : (spec : Spec) (op : Op) (call : Call) (state : RunState) (x : Statement) (lock : StripeLock) → In lock state.named
     → In lock (run_one spec op call state x).named
@@ -128,9 +139,10 @@ named-run_one spec op call state (Lock c choice mode) lock h =
 named-run_one spec op call state (Probe cols) lock h = h
 named-run_one spec op call state (Read e mode) lock h = h
 named-run_one spec op call state CheckAbsent lock h = in_either lock (some_left state.bindings) (record state { reply = Some Present }) state h h
-named-run_one spec op call state (CheckDep dep) lock h = in_either lock (some_differs spec dep call.args state.bindings) (record state { reply = Some (Conflict dep) }) state h h
+named-run_one spec op call state CheckFound lock h = subst (In lock) (sym (named-keep_least state.bindings state)) h
+named-run_one spec op call state (CheckDep dep) lock h = in_either lock (some_differs spec op dep call.args state.bindings) (record state { reply = Some (Conflict dep) }) state h h
 named-run_one spec op call state Apply lock h = subst (In lock) (sym (named-apply spec op.kind call.args state)) h
-named-run_one spec op call state Emit lock h = subst (In lock) (sym (named-emit op.kind state)) h
+named-run_one spec op call state Emit lock h = subst (In lock) (sym (named-emit spec.most_rows op.kind call.ranges state)) h
 named-run_one spec op call state Commit lock h = h
 named-run_one spec op call state (Release c) lock h = h
 
@@ -156,10 +168,11 @@ run-split spec op call [] (suc n) state = refl
 run-split spec op call (x ∷ plan) (suc n) state = run-split spec op call plan n (run_next spec op call state x)
 
 -- a run with a reply stays as it is
-pub run-replied : (spec : Spec) (op : Op) (call : Call) (plan : List Statement) (bs : List Pairs) (ns : List StripeLock) (reply : Reply) (rows : List EdgeRow)
-    → run spec op call plan (record { bindings = bs; named = ns; reply = Some reply; rows = rows }) ≡ record { bindings = bs; named = ns; reply = Some reply; rows = rows }
-run-replied spec op call [] bs ns reply rows = refl
-run-replied spec op call (x ∷ plan) bs ns reply rows = run-replied spec op call plan bs ns reply rows
+pub run-replied : (spec : Spec) (op : Op) (call : Call) (plan : List Statement) (bs : List Pairs) (ns : List StripeLock) (old : Option Pairs) (reply : Reply) (rows : List EdgeRow)
+    → run spec op call plan (record { bindings = bs; named = ns; old = old; reply = Some reply; rows = rows })
+    ≡ record { bindings = bs; named = ns; old = old; reply = Some reply; rows = rows }
+run-replied spec op call [] bs ns old reply rows = refl
+run-replied spec op call (x ∷ plan) bs ns old reply rows = run-replied spec op call plan bs ns old reply rows
 
 -- ---- two runs to their ends
 

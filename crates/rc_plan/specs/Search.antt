@@ -1,5 +1,5 @@
 -- Where a run stands that searches, against what the rules know of it.
-use Rattle.std.specs.Prelude.{◌≡◌, ℕ, List, None}
+use Rattle.std.specs.Prelude.{◌≡◌, ℕ, List, Option, None}
 use Rattle.rc_tuple.specs.ColSet.{Within}
 use Rattle.rc_tuple.specs.RisingSet.{In, IsRising}
 use Rattle.rc_tuple.specs.Tuple.{Pairs, cols_of, tuple_cmp}
@@ -18,7 +18,11 @@ use Rattle.rc_plan.specs.StripeLocks.{StripeLock, stripes_of}
 
 -- a state with no reply
 abbrev pub searching : List Pairs → List StripeLock → List EdgeRow → RunState
-searching bs ns rows = record { bindings = bs; named = ns; reply = None; rows = rows }
+searching bs ns rows = record { bindings = bs; named = ns; old = None; reply = None; rows = rows }
+
+-- the same of an update, which may have found the old tuple
+abbrev pub updating : Option Pairs → List Pairs → List StripeLock → List EdgeRow → RunState
+updating old bs ns rows = record { bindings = bs; named = ns; old = old; reply = None; rows = rows }
 
 -- where a search for the tuples that agree with s stands: its bindings, and the stripes named
 pub record IsSearching (spec : Spec) (r : List Pairs) (s : Pairs) (p : Progress) (bs : List Pairs) (ns : List StripeLock) : Type 0 where

@@ -1,5 +1,5 @@
 -- The law of accepted plans, for one call and for several in turn.
-use Rattle.std.specs.Prelude.{◌≡◌, ℕ, List, [], ◌∷◌, Some, length}
+use Rattle.std.specs.Prelude.{◌≡◌, ℕ, List, [], ◌∷◌, None, Some, map, length}
 use Rattle.std.specs.Ordering.{nat_cmp}
 use Rattle.std.proofs.Common.{inl, inr, refl, sym, ap, subst, ◌∙◌}
 use Rattle.std.proofs.lemmas.Bool.{false≢true}
@@ -13,7 +13,7 @@ use Rattle.rc_tuple.specs.TupleLaws.{rising_cols}
 use Rattle.rc_tuple.specs.Relation.{IsRelation, Satisfies}
 use Rattle.rc_spec.specs.declared.items.Op.{Op}
 use Rattle.rc_spec.specs.declared.items.OpKind.{OpKind}
-use Rattle.rc_spec.specs.declared.items.OpKind.TheVariants.{Query, Insert, Remove}
+use Rattle.rc_spec.specs.declared.items.OpKind.TheVariants.{Query, Insert, Remove, Update}
 use Rattle.rc_spec.specs.declared.spec.Spec.{Spec}
 use Rattle.rc_spec.specs.Adequacy.{IsAdequate}
 use Rattle.rc_spec.specs.Calls.{all_columns}
@@ -23,6 +23,7 @@ use Rattle.rc_spec.specs.InRange.{IsInRange, HasColumnAndNode, IsOpAmong}
 use Rattle.rc_spec.specs.Placement.{no_op, op_at, IsPlaced, KeepsO}
 use Rattle.rc_spec.specs.Plain.{Outcome, plain, plain_by}
 use Rattle.rc_spec.specs.PlainLaws.{plain-known, plain_satisfies}
+use Rattle.rc_spec.specs.Ranges.{range_column, range_columns}
 use Rattle.rc_plan.specs.declared.statement.Statement.{Statement}
 use Rattle.rc_plan.specs.Evaluation.{begun, run, eval, RunState}
 use Rattle.rc_plan.specs.InsertLaws.{insert_op, insert_runs}
@@ -34,6 +35,7 @@ use Rattle.rc_plan.specs.RunLaws.{EndsAs, search_begins}
 use Rattle.rc_plan.specs.StripeLocks.{stripes_of, AreHeld}
 use Rattle.rc_plan.specs.StripeLocksLaws.{held_stripes, held_exclusive}
 use Rattle.rc_spec.specs.declared.call.Call.{Call}
+use Rattle.rc_plan.specs.UpdateLaws.{update_op, update_runs}
 use Rattle.rc_plan.specs.Turns.{HasAcceptedPlan, eval_replies, rows_after, AllAreHeld, plain_replies}
 
 -- an operation's pattern is among the columns
@@ -46,20 +48,20 @@ module _ (spec : Spec) (range : IsInRange spec) (populated : HasColumnAndNode sp
   RunsServe op call plan =
       Within (stripes_of (run spec op call plan (begun call (rows_on spec r stripes))).named) stripes
       → EndsAs spec call.args (run spec op call plan (begun call (rows_on spec r stripes))) (run spec op call plan (begun call (all_rows spec r))) r
-      (plain_by op.kind op.pattern spec.deps call.args r) stripes
+      (plain_by spec.most_rows op.kind op.pattern spec.deps call.args call.ranges r) stripes
 
   pub runs_serve : (name pattern : List ℕ) (kind : OpKind) → (let op : Op = record { name = name; pattern = pattern; kind = kind } in
-      IsOpAmong (length spec.columns) op → KeepsO spec op → (call : Call) → cols_of call.args ≡ given_columns spec op
+      IsOpAmong (length spec.columns) op → KeepsO spec op → (call : Call) → cols_of call.args ≡ given_columns spec op → map range_column call.ranges ≡ range_columns kind
       → (plan : List Statement) → AreKnown spec plan → KeepsPlanRules spec op plan → RunsServe op call plan)
-  runs_serve name pattern (Query outs) among o call fits plan known keeps v =
-      query_runs spec range ok placed r i h call (rising_cols call.args (subst (IsRising nat_cmp) (sym fits) (rising_gather nat_cmp nat_order pattern))) name pattern outs
-      (λ c m. pattern_known spec (query_op name pattern outs) among c (subst (In c) fits m)) fits ((o.o3 outs refl).some) stripes plan
-      (at_start spec (query_op name pattern outs)) (call.args ∷ []) [] (search_begins spec r call.args (query_op name pattern outs) fits) known keeps v
-  runs_serve name pattern Remove among o call fits plan known keeps v =
+  runs_serve name pattern (Query outs cols) among o call fits ranged plan known keeps v =
+      query_runs spec range ok placed r i h call (rising_cols call.args (subst (IsRising nat_cmp) (sym fits) (rising_gather nat_cmp nat_order pattern))) name pattern outs cols
+      (λ c m. pattern_known spec (query_op name pattern outs cols) among c (subst (In c) fits m)) fits ranged ((o.o3 outs cols refl).some) stripes plan
+      (at_start spec (query_op name pattern outs cols)) (call.args ∷ []) [] (search_begins spec r call.args (query_op name pattern outs cols) fits) known keeps v
+  runs_serve name pattern Remove among o call fits ranged plan known keeps v =
       remove_runs spec range populated ok placed r i h call (rising_cols call.args (subst (IsRising nat_cmp) (sym fits) (rising_gather nat_cmp nat_order pattern))) name pattern
       (λ c m. pattern_known spec (remove_op name pattern) among c (subst (In c) fits m)) stripes plan
       (at_start spec (remove_op name pattern)) (call.args ∷ []) [] (search_begins spec r call.args (remove_op name pattern) fits) refl (λ lock z. absurd z) known keeps v
-  runs_serve name pattern Insert among o call fits plan known keeps v =
+  runs_serve name pattern Insert among o call fits ranged plan known keeps v =
       insert_runs spec range ok placed r i h call (fits ∙ gather-rising nat_cmp nat_order (all_columns spec) (rising_range 0 (length spec.columns))) name pattern (o.o1 refl) stripes plan
       (at_start spec (insert_op name pattern)) call.args (call.args ∷ []) []
       (record {
@@ -71,6 +73,20 @@ module _ (spec : Spec) (range : IsInRange spec) (populated : HasColumnAndNode sp
         checked = λ dep z. absurd z;
       })
       known keeps v
+  runs_serve name pattern Update among o call fits ranged plan known keeps v =
+      update_runs spec range ok placed r i h call (fits ∙ gather-rising nat_cmp nat_order (all_columns spec) (rising_range 0 (length spec.columns))) name pattern
+      (pattern_known spec (update_op name pattern) among)
+      (λ e. subst (In 0) e (in_range_below (length spec.columns) 0 populated.column)) (o.o2 tt) stripes plan
+      (at_start spec (update_op name pattern)) call.args (call.args ∷ []) [] None
+      (record {
+        search = search_begins spec r call.args (update_op name pattern) fits;
+        probing = inl (refl, refl, refl);
+        locks = λ x z. absurd z;
+        exclusive = λ lock z. absurd z;
+        found = λ e. absurd (false≢true e);
+        checked = λ dep z. absurd z;
+      })
+      known keeps v
 
 pub plans_law : AcceptedPlansServe
 plans_law spec range populated ok placed call op fits o plan known keeps r i h held v =
@@ -79,9 +95,9 @@ plans_law spec range populated ok placed call op fits o plan known keeps r i h h
     let among : IsOpAmong (length spec.columns) op = range.known_ops op (slice_get_in spec.ops call.op op fits.known) in
     let ran : Op → List EdgeRow → RunState = λ x rows. run spec x call plan (begun call rows) in
     let ends : (op' : Op) → op' ≡ op → AreHeld (ran op' (rows_on spec r stripes)).named held
-    → EndsAs spec call.args (ran op' (rows_on spec r stripes)) (ran op' (all_rows spec r)) r (plain_by op.kind op.pattern spec.deps call.args r) stripes =
-    λ op' e w. subst (λ (x : Op). EndsAs spec call.args (ran x (rows_on spec r stripes)) (ran x (all_rows spec r)) r (plain_by op.kind op.pattern spec.deps call.args r) stripes) (sym e)
-    (runs_serve spec range populated ok placed r i h stripes op.name op.pattern op.kind among o call fits.columns plan known keeps
+    → EndsAs spec call.args (ran op' (rows_on spec r stripes)) (ran op' (all_rows spec r)) r (plain_by spec.most_rows op.kind op.pattern spec.deps call.args call.ranges r) stripes =
+    λ op' e w. subst (λ (x : Op). EndsAs spec call.args (ran x (rows_on spec r stripes)) (ran x (all_rows spec r)) r (plain_by spec.most_rows op.kind op.pattern spec.deps call.args call.ranges r) stripes) (sym e)
+    (runs_serve spec range populated ok placed r i h stripes op.name op.pattern op.kind among o call fits.columns fits.ranges plan known keeps
     (held_stripes (ran op (rows_on spec r stripes)).named held
     (subst (λ (x : Op). AreHeld (ran x (rows_on spec r stripes)).named held) e w))) in
     let d : EndsAs spec call.args (eval spec plan call (rows_on spec r stripes)) (eval spec plan call (all_rows spec r)) r (plain spec r call) stripes =

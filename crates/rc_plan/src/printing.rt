@@ -50,6 +50,7 @@ pub fn push_statement(text: &mut Vec<u8>, spec: &Spec, statement: &Statement) ->
         Statement::Probe { cols } => push_probe(text, spec, cols),
         Statement::Read { edge, mode } => push_read(text, spec, edge, mode),
         Statement::CheckAbsent => push_word(text, b"absent"),
+        Statement::CheckFound => push_word(text, b"found"),
         Statement::CheckDep { dep } => push_check(text, dep),
         Statement::Apply => push_word(text, b"apply"),
         Statement::Emit => push_word(text, b"emit"),

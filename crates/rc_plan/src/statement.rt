@@ -33,7 +33,7 @@ pub enum Statement {
         /// How each is locked.
         mode: Mode,
     },
-    /// Begins a search of an insert: the one binding is the new tuple's projection on the columns.
+    /// Begins a search of an insert or an update: the one binding is the new tuple's projection on the columns.
     Probe {
         /// The columns.
         cols: ColSet,
@@ -47,13 +47,16 @@ pub enum Statement {
     },
     /// Ends an insert with the reply Present where a binding is left.
     CheckAbsent,
+    /// Ends an update with the reply Absent where no binding is left; else the one binding is kept as the old tuple.
+    CheckFound,
     /// Ends an insert with the reply Conflict where a binding differs from the new tuple on the right side of a
-    /// dependency.
+    /// dependency, and an update where one differs from it on the pattern too.
     CheckDep {
         /// The dependency, from 1.
         dep: u32,
     },
-    /// Adds the new tuple's rows to all edges, or takes out those of the one binding.
+    /// Adds the new tuple's rows to all edges, or takes out those of the one binding; an update takes out those of the old
+    /// tuple and adds those of the new one.
     Apply,
     /// Answers a query from the bindings.
     Emit,

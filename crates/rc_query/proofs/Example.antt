@@ -11,12 +11,12 @@ use Rattle.rc_spec.specs.declared.items.EdgeKind.TheVariants as kinds
 use Rattle.rc_spec.specs.declared.items.Node.{Node}
 use Rattle.rc_spec.specs.declared.items.Op.{Op}
 use Rattle.rc_spec.specs.declared.items.OpKind.{OpKind}
-use Rattle.rc_spec.specs.declared.items.OpKind.TheVariants.{Query, Insert, Remove}
+use Rattle.rc_spec.specs.declared.items.OpKind.TheVariants.{Query, Insert, Remove, Update}
 use Rattle.rc_spec.specs.declared.lock.Mode.TheVariants.{Shared, Exclusive}
 use Rattle.rc_spec.specs.declared.spec.Spec.{Spec}
 use Rattle.rc_plan.specs.declared.statement.ReadMode.TheVariants.{Lookup, Scan}
 use Rattle.rc_plan.specs.declared.statement.Statement.{Statement}
-use Rattle.rc_plan.specs.declared.statement.Statement.TheVariants.{Lock, Probe, Read, CheckAbsent, CheckDep, Apply, Emit, Commit, Release}
+use Rattle.rc_plan.specs.declared.statement.Statement.TheVariants.{Lock, Probe, Read, CheckAbsent, CheckFound, CheckDep, Apply, Emit, Commit, Release}
 use Rattle.rc_plan.specs.declared.statement.Which.TheVariants as which
 use Rattle.rc_plan.specs.Example.{graph, add_edge, add_plan, drop_edge, drop_plan}
 use Rattle.rc_query.specs.Planned.{Routing, planned_by}
@@ -62,6 +62,7 @@ graph_by col = record {
   classes = class 8 (0 ∷ []) ∷ class 4 (col ∷ []) ∷ [];
   places = record { edge = 0; class = 0 } ∷ record { edge = 1; class = 1 } ∷ record { edge = 2; class = 1 } ∷ [];
   ops = [];
+  most_rows = 256;
 }
 
 abbrev graph_route : Routing
@@ -74,15 +75,28 @@ inserts = refl
 deletes : planned_by (graph_by 0) graph_route (op (0 ∷ 1 ∷ []) Remove) ≡ keyed 0 ∷ Read 0 Lookup ∷ keyed 1 ∷ Read 1 Lookup ∷ Read 2 Scan ∷ Apply ∷ Commit ∷ Release 1 ∷ Release 0 ∷ []
 deletes = refl
 
-successors : planned_by (graph_by 0) graph_route (op (0 ∷ []) (Query (1 ∷ 2 ∷ []))) ≡ shared 0 ∷ Read 0 Lookup ∷ shared 1 ∷ Read 1 Scan ∷ Read 2 Scan ∷ Emit ∷ Commit ∷ Release 1 ∷ Release 0 ∷ []
+successors : planned_by (graph_by 0) graph_route (op (0 ∷ []) (Query (1 ∷ 2 ∷ []) [])) ≡ shared 0 ∷ Read 0 Lookup ∷ shared 1 ∷ Read 1 Scan ∷ Read 2 Scan ∷ Emit ∷ Commit ∷ Release 1 ∷ Release 0 ∷ []
 successors = refl
 
-finds : planned_by (graph_by 0) graph_route (op (0 ∷ 1 ∷ []) (Query (2 ∷ []))) ≡ shared 0 ∷ Read 0 Lookup ∷ shared 1 ∷ Read 1 Lookup ∷ Read 2 Scan ∷ Emit ∷ Commit ∷ Release 1 ∷ Release 0 ∷ []
+finds : planned_by (graph_by 0) graph_route (op (0 ∷ 1 ∷ []) (Query (2 ∷ []) [])) ≡ shared 0 ∷ Read 0 Lookup ∷ shared 1 ∷ Read 1 Lookup ∷ Read 2 Scan ∷ Emit ∷ Commit ∷ Release 1 ∷ Release 0 ∷ []
 finds = refl
 
 -- no value of dst is bound yet
-locks_all : planned_by (graph_by 1) graph_route (op (0 ∷ []) (Query (1 ∷ 2 ∷ []))) ≡ shared 0 ∷ Read 0 Lookup ∷ all_shared 1 ∷ Read 1 Scan ∷ Read 2 Scan ∷ Emit ∷ Commit ∷ Release 1 ∷ Release 0 ∷ []
+locks_all : planned_by (graph_by 1) graph_route (op (0 ∷ []) (Query (1 ∷ 2 ∷ []) [])) ≡ shared 0 ∷ Read 0 Lookup ∷ all_shared 1 ∷ Read 1 Scan ∷ Read 2 Scan ∷ Emit ∷ Commit ∷ Release 1 ∷ Release 0 ∷ []
 locks_all = refl
+
+near : planned_by (graph_by 0) graph_route (op (0 ∷ []) (Query (1 ∷ 2 ∷ []) (1 ∷ [])))
+    ≡ shared 0 ∷ Read 0 Lookup ∷ shared 1 ∷ Read 1 Scan ∷ Read 2 Scan ∷ Emit ∷ Commit ∷ Release 1 ∷ Release 0 ∷ []
+near = refl
+
+-- a range column is read though it isn't an output
+lighter : planned_by (graph_by 0) graph_route (op (0 ∷ []) (Query (1 ∷ []) (2 ∷ [])))
+    ≡ shared 0 ∷ Read 0 Lookup ∷ shared 1 ∷ Read 1 Scan ∷ Read 2 Scan ∷ Emit ∷ Commit ∷ Release 1 ∷ Release 0 ∷ []
+lighter = refl
+
+changes : planned_by (graph_by 0) graph_route (op (0 ∷ 1 ∷ []) Update)
+    ≡ keyed 0 ∷ keyed 1 ∷ Probe (0 ∷ 1 ∷ []) ∷ Read 0 Lookup ∷ Read 1 Lookup ∷ Read 2 Scan ∷ CheckFound ∷ Apply ∷ Commit ∷ Release 1 ∷ Release 0 ∷ []
+changes = refl
 
 -- ---- processes of name spaces, with their states and processors
 
@@ -95,6 +109,7 @@ scheduler = record {
   classes = class 4 (0 ∷ []) ∷ class 4 (2 ∷ []) ∷ class 4 (0 ∷ 1 ∷ []) ∷ [];
   places = record { edge = 0; class = 0 } ∷ record { edge = 1; class = 0 } ∷ record { edge = 2; class = 1 } ∷ record { edge = 3; class = 1 } ∷ record { edge = 4; class = 2 } ∷ [];
   ops = [];
+  most_rows = 256;
 }
 
 abbrev scheduler_route : Routing
@@ -108,7 +123,7 @@ kills : planned_by scheduler scheduler_route (op (0 ∷ 1 ∷ []) Remove)
     ≡ keyed 0 ∷ Read 0 Lookup ∷ Read 1 Lookup ∷ keyed 1 ∷ keyed 2 ∷ Read 4 Scan ∷ Apply ∷ Commit ∷ Release 2 ∷ Release 1 ∷ Release 0 ∷ []
 kills = refl
 
-by_state : planned_by scheduler scheduler_route (op (2 ∷ []) (Query (0 ∷ 1 ∷ []))) ≡ shared 1 ∷ Read 2 Lookup ∷ Read 3 Scan ∷ Emit ∷ Commit ∷ Release 1 ∷ []
+by_state : planned_by scheduler scheduler_route (op (2 ∷ []) (Query (0 ∷ 1 ∷ []) [])) ≡ shared 1 ∷ Read 2 Lookup ∷ Read 3 Scan ∷ Emit ∷ Commit ∷ Release 1 ∷ []
 by_state = refl
 
 -- ---- names with seats
@@ -122,6 +137,7 @@ seats = record {
   classes = class 4 (0 ∷ []) ∷ class 4 (2 ∷ []) ∷ [];
   places = record { edge = 0; class = 0 } ∷ record { edge = 1; class = 1 } ∷ [];
   ops = [];
+  most_rows = 256;
 }
 
 abbrev seats_route : Routing
@@ -131,12 +147,17 @@ adds : planned_by seats seats_route (op (0 ∷ []) Insert)
     ≡ keyed 0 ∷ keyed 1 ∷ Probe (0 ∷ []) ∷ Read 0 Lookup ∷ CheckAbsent ∷ Probe (2 ∷ []) ∷ Read 1 Lookup ∷ CheckDep 2 ∷ Apply ∷ Commit ∷ Release 1 ∷ Release 0 ∷ []
 adds = refl
 
-by_seat : planned_by seats seats_route (op (2 ∷ []) (Query (0 ∷ []))) ≡ shared 1 ∷ Read 1 Lookup ∷ Emit ∷ Commit ∷ Release 1 ∷ []
+by_seat : planned_by seats seats_route (op (2 ∷ []) (Query (0 ∷ []) [])) ≡ shared 1 ∷ Read 1 Lookup ∷ Emit ∷ Commit ∷ Release 1 ∷ []
 by_seat = refl
 
 -- a class is left after the last read
 drops : planned_by seats seats_route (op (0 ∷ []) Remove) ≡ keyed 0 ∷ Read 0 Lookup ∷ keyed 1 ∷ Apply ∷ Commit ∷ Release 1 ∷ Release 0 ∷ []
 drops = refl
+
+-- the old seat may be on any stripe
+moves : planned_by seats seats_route (op (0 ∷ []) Update)
+    ≡ keyed 0 ∷ all 1 ∷ Probe (0 ∷ []) ∷ Read 0 Lookup ∷ CheckFound ∷ Probe (2 ∷ []) ∷ Read 1 Lookup ∷ CheckDep 2 ∷ Apply ∷ Commit ∷ Release 1 ∷ Release 0 ∷ []
+moves = refl
 
 -- where all searches read the first edge
 adds_by_scan : planned_by seats (λ pattern need. 0 ∷ []) (op (0 ∷ []) Insert)

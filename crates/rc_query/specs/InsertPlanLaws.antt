@@ -28,7 +28,7 @@ use Rattle.rc_plan.specs.Evaluation.{no_dep, dep_at}
 use Rattle.rc_plan.specs.PlanRules.{IsKeyBound, Covers, at_start}
 use Rattle.rc_route.specs.GoodRoutes.{all_edges, IsGoodFrom, IsGoodRoute}
 use Rattle.rc_route.specs.GoodRoutesLaws.{good_known}
-use Rattle.rc_query.specs.declared.probe.InsertProbe.{InsertProbe}
+use Rattle.rc_query.specs.declared.probe.PlannedProbe.{PlannedProbe}
 use Rattle.rc_query.specs.Laws.{GivesGoodRoutes}
 use Rattle.rc_query.specs.Planned.{written_classes, locks_and_reads, ending, Routing, pattern_probe, dependency_probe, checked_deps, insert_probes, reads_unbound, which_under, probe_statements, insert_plan}
 use Rattle.rc_query.specs.ProgressLaws.{AreAcceptedFrom, searching, with_locks, with_locks_new, in_with_locks, locks_fit, less_from, read_fits, ending_fits, edge_in, in_edge, class_in, classes_known, rising_classes, class_columns_known}
@@ -39,7 +39,7 @@ abbrev inserting : List ℕ → List ℕ → Op
 inserting name pattern = record { name = name; pattern = pattern; kind = Insert }
 
 -- the locks cover the Reads of a route behind a Probe of some columns
-abbrev CoverReads : Spec → List (ℕ × Which) → List ℕ → List ℕ → Type 0
+abbrev pub CoverReads : Spec → List (ℕ × Which) → List ℕ → List ℕ → Type 0
 CoverReads spec ls columns es = (e : ℕ) → In e es → (choice : Which) × In (class_of spec e, choice) ls × IsKeyBound spec (class_of spec e) choice columns
 
 covers_probed : (spec : Spec) (columns visited reached : List ℕ) (ls : List (ℕ × Which)) (xs : List ℕ) (absent : Bool) (checked : List ℕ) (c : ℕ) (choice : Which)
@@ -47,7 +47,7 @@ covers_probed : (spec : Spec) (columns visited reached : List ℕ) (ls : List (�
 covers_probed spec columns visited reached ls xs absent checked c which.Keyed h = h
 covers_probed spec columns visited reached ls xs absent checked c which.All h = tt
 
-probe_reads_fit : (spec : Spec) (op : Op) (need xs es columns visited reached : List ℕ) (ls : List (ℕ × Which)) (absent : Bool) (checked : List ℕ)
+pub probe_reads_fit : (spec : Spec) (op : Op) (need xs es columns visited reached : List ℕ) (ls : List (ℕ × Which)) (absent : Bool) (checked : List ℕ)
     → CoverReads spec ls xs es → IsGoodFrom spec need reached visited es → (rest : List Statement)
     → ((columns visited reached : List ℕ) → Within need visited → AreAcceptedFrom spec op (searching columns visited reached ls (Some xs) absent checked) rest)
     → AreAcceptedFrom spec op (searching columns visited reached ls (Some xs) absent checked) (locks_and_reads spec Exclusive columns [] es ++ rest)
@@ -60,7 +60,7 @@ probe_reads_fit spec op need xs (e ∷ es) columns visited reached ls absent che
     )
 
 -- a Probe and its Reads, where the check behind them fits
-probe_fits : (spec : Spec) (name pattern need columns visited reached : List ℕ) (ls : List (ℕ × Which)) (last : Option (List ℕ)) (absent : Bool) (checked : List ℕ) (probe : InsertProbe)
+probe_fits : (spec : Spec) (name pattern need columns visited reached : List ℕ) (ls : List (ℕ × Which)) (last : Option (List ℕ)) (absent : Bool) (checked : List ℕ) (probe : PlannedProbe)
     → Within probe.columns (all_columns spec) → CoverReads spec ls probe.columns probe.route → IsGoodRoute spec need probe.route → (rest : List Statement)
     → ((columns visited reached : List ℕ) → Within need visited → AreAcceptedFrom spec (inserting name pattern) (searching columns visited reached ls (Some probe.columns) absent checked) (probe.check ∷ rest))
     → AreAcceptedFrom spec (inserting name pattern) (searching columns visited reached ls last absent checked) (probe_statements spec probe ++ rest)
@@ -75,17 +75,17 @@ probe_fits spec name pattern need columns visited reached ls last absent checked
 pub dep_known : (spec : Spec) → IsInRange spec → (dep : ℕ) → 0 < dep → dep ≤ length spec.deps → IsDepAmong (length spec.columns) (dep_at spec dep)
 dep_known spec i dep some most = i.known_deps (dep_at spec dep) (get_or_in spec.deps (dep - 1) no_dep (omega arith))
 
-set_known : (spec : Spec) (cols : List ℕ) → IsSetBelow (length spec.columns) cols → Within cols (all_columns spec)
+pub set_known : (spec : Spec) (cols : List ℕ) → IsSetBelow (length spec.columns) cols → Within cols (all_columns spec)
 set_known spec cols s c m = in_range_below (length spec.columns) c (s.below c m)
 
 -- of all dependencies that have to be checked some are left, which are after those that were checked
-record Checks (spec : Spec) (all left checked : List ℕ) : Type 0 where
+pub record Checks (spec : Spec) (all left checked : List ℕ) : Type 0 where
   pub rising : IsRising nat_cmp left
   pub known : (d : ℕ) → In d left → (0 < d) × (d ≤ length spec.deps)
   pub below : (j : ℕ) → In j checked → (d : ℕ) → In d left → j < d
   pub each : (j : ℕ) → In j all → In j checked ⊎ In j left
 
-checks_step : (spec : Spec) (all : List ℕ) (d : ℕ) (left checked : List ℕ) → Checks spec all (d ∷ left) checked → Checks spec all left (d ∷ checked)
+pub checks_step : (spec : Spec) (all : List ℕ) (d : ℕ) (left checked : List ℕ) → Checks spec all (d ∷ left) checked → Checks spec all left (d ∷ checked)
 checks_step spec all d left checked k = record {
   rising = k.rising.1;
   known = λ e m. k.known e (inr m);
@@ -118,7 +118,7 @@ deps_fit spec i route good name pattern ls all rest f (d ∷ left) columns visit
         k3 = tt;
         k4 = tt;
         k5 = tt;
-        k6 = (refl, (λ c h. w c (union_left xs ys c h)), (λ c h. w c (union_right xs ys c h)));
+        k6 = (refl, (λ c h. w c (union_left xs ys c h)), (λ c h. w c (union_right xs ys c h)), tt);
         k7 = (refl, λ j h. k.below j h d (inl refl));
       },
       deps_fit spec i route good name pattern ls all rest f left columns visited reached (d ∷ checked) xs (checks_step spec all d left checked k) (λ e m. v e (inr m)),
@@ -132,19 +132,19 @@ range_tests a n c l m = grind (arith, nat_tests)
 in_range : (a n c : ℕ) → a ≤ c → c < a + n → In c (range_with_len a n)
 in_range a n c l m = in_has (range_with_len a n) c (has-range a n c ∙ range_tests a n c l m)
 
-in_checked : (spec : Spec) (pattern : List ℕ) (dep : ℕ) → In dep (checked_deps spec pattern (length spec.deps)) → (0 < dep) × (dep ≤ length spec.deps)
+pub in_checked : (spec : Spec) (pattern : List ℕ) (dep : ℕ) → In dep (checked_deps spec pattern (length spec.deps)) → (0 < dep) × (dep ≤ length spec.deps)
 in_checked spec pattern dep m =
     let q : (1 ≤ dep) × (dep < 1 + length spec.deps) =
     in_range_bounds 1 (length spec.deps) dep (in_filter (λ d. not (is_within pattern (dep_at spec d).left)) dep (range_with_len 1 (length spec.deps)) m).0 in
     (omega (arith, q.0), omega (arith, q.1))
 
-checked_in : (spec : Spec) (pattern : List ℕ) (dep : ℕ) → 0 < dep → dep ≤ length spec.deps → (Within pattern (dep_at spec dep).left → ⊥) → In dep (checked_deps spec pattern (length spec.deps))
+pub checked_in : (spec : Spec) (pattern : List ℕ) (dep : ℕ) → 0 < dep → dep ≤ length spec.deps → (Within pattern (dep_at spec dep).left → ⊥) → In dep (checked_deps spec pattern (length spec.deps))
 checked_in spec pattern dep some most risk =
     filter_in (λ d. not (is_within pattern (dep_at spec d).left)) dep (range_with_len 1 (length spec.deps)) (in_range 1 (length spec.deps) dep some (omega arith))
     (not_from_false (is_within pattern (dep_at spec dep).left)
     (elim (cases_Bool (is_within pattern (dep_at spec dep).left)) [ inl e ↦ absurd (risk (within_from_test pattern (dep_at spec dep).left e)) | inr e ↦ e ]))
 
-no_checks : (spec : Spec) (pattern : List ℕ) → Checks spec (checked_deps spec pattern (length spec.deps)) (checked_deps spec pattern (length spec.deps)) []
+pub no_checks : (spec : Spec) (pattern : List ℕ) → Checks spec (checked_deps spec pattern (length spec.deps)) (checked_deps spec pattern (length spec.deps)) []
 no_checks spec pattern = record {
   rising = rising_filter nat_cmp (λ d. not (is_within pattern (dep_at spec d).left)) (range_with_len 1 (length spec.deps)) (rising_range 1 (length spec.deps));
   known = in_checked spec pattern;
@@ -164,18 +164,18 @@ dep_route_good spec i route good pattern d m =
 
 -- they read edges of the specification
 pub probe_edges_known : (spec : Spec) → IsInRange spec → (route : Routing) → GivesGoodRoutes spec route → (pattern : List ℕ) → Within pattern (all_columns spec)
-    → (probe : InsertProbe) → In probe (insert_probes spec route pattern) → (e : ℕ) → In e probe.route → e < length spec.edges
+    → (probe : PlannedProbe) → In probe (insert_probes spec route pattern) → (e : ℕ) → In e probe.route → e < length spec.edges
 probe_edges_known spec i route good pattern w probe (inl q) e m =
-    good_known spec pattern (route pattern pattern) (good pattern pattern w) e (subst (λ (z : InsertProbe). In e z.route) q m)
+    good_known spec pattern (route pattern pattern) (good pattern pattern w) e (subst (λ (z : PlannedProbe). In e z.route) q m)
 probe_edges_known spec i route good pattern w probe (inr h) e m =
     let q : (d : ℕ) × In d (checked_deps spec pattern (length spec.deps)) × (probe ≡ dependency_probe spec route d) = in_map (dependency_probe spec route) probe (checked_deps spec pattern (length spec.deps)) h in
     good_known spec (union (dep_at spec q.0).left (dep_at spec q.0).right) (dependency_probe spec route q.0).route (dep_route_good spec i route good pattern q.0 q.1) e
-    (subst (λ (z : InsertProbe). In e z.route) q.2 m)
+    (subst (λ (z : PlannedProbe). In e z.route) q.2 m)
 
 -- ---- the locks of an insert
 
 -- a keyed class's columns are those of each probe that reads under it
-keyed_covers : (spec : Spec) (probes : List InsertProbe) (probe : InsertProbe) → In probe probes → (c : ℕ) → In c (map (class_of spec) probe.route) → IsKeyBound spec c (which_under spec probes c) probe.columns
+pub keyed_covers : (spec : Spec) (probes : List PlannedProbe) (probe : PlannedProbe) → In probe probes → (c : ℕ) → In c (map (class_of spec) probe.route) → IsKeyBound spec c (which_under spec probes c) probe.columns
 keyed_covers spec probes probe h c k = go (list_any (reads_unbound spec c) probes) refl
   where
     go : (b : Bool) → list_any (reads_unbound spec c) probes ≡ b → IsKeyBound spec c (if b then which.All else which.Keyed) probe.columns
@@ -188,7 +188,7 @@ keyed_covers spec probes probe h c k = go (list_any (reads_unbound spec c) probe
         ]
 
 -- and the whole tuple has them, before the first Probe
-all_bound : (spec : Spec) (probes : List InsertProbe) (c : ℕ) (columns : List ℕ) → Within (class_at spec c).cols columns → IsKeyBound spec c (which_under spec probes c) columns
+pub all_bound : (spec : Spec) (probes : List PlannedProbe) (c : ℕ) (columns : List ℕ) → Within (class_at spec c).cols columns → IsKeyBound spec c (which_under spec probes c) columns
 all_bound spec probes c columns w = go (list_any (reads_unbound spec c) probes)
   where
     go : (b : Bool) → IsKeyBound spec c (if b then which.All else which.Keyed) columns
@@ -205,16 +205,16 @@ insert_fits spec i a pl route good name pattern w =
     let given : List ℕ = gather nat_cmp (all_columns spec) in
     let xs : List ℕ = gather nat_cmp pattern in
     let inside : Within xs (all_columns spec) = λ c h. w c (in_gather nat_cmp nat_order c pattern h) in
-    let probes : List InsertProbe = insert_probes spec route xs in
+    let probes : List PlannedProbe = insert_probes spec route xs in
     let deps : List ℕ = checked_deps spec xs (length spec.deps) in
-    let first : InsertProbe = pattern_probe route xs in
+    let first : PlannedProbe = pattern_probe route xs in
     let wanted : List ℕ = written_classes spec in
     let choice : ℕ → Which = which_under spec probes in
     let ls : List (ℕ × Which) = with_locks choice wanted [] in
     let n : (c : ℕ) → In c wanted → c < length spec.classes = classes_known spec i pl (all_edges spec) (in_edge spec) in
     let g : IsGoodRoute spec xs (route xs xs) = good xs xs inside in
     let own : (e : ℕ) → e < length spec.edges → In (class_of spec e) wanted = λ e l. class_in spec (all_edges spec) e (edge_in spec e l) in
-    let covers : (probe : InsertProbe) → In probe probes → CoverReads spec ls probe.columns probe.route = λ probe h e k. (
+    let covers : (probe : PlannedProbe) → In probe probes → CoverReads spec ls probe.columns probe.route = λ probe h e k. (
       choice (class_of spec e),
       with_locks_new choice wanted [] (class_of spec e) (own e (probe_edges_known spec i route good xs inside probe h e k)),
       keyed_covers spec probes probe h (class_of spec e) (map_in (class_of spec) e probe.route k),
@@ -235,7 +235,7 @@ insert_fits spec i a pl route good name pattern w =
             k1 = (refl, (last, refl));
             k2 = tt;
             k3 = tt;
-            k4 = λ e l. (choice (class_of spec e), with_locks_new choice wanted [] (class_of spec e) (own e l));
+            k4 = ((λ e l. (choice (class_of spec e), with_locks_new choice wanted [] (class_of spec e) (own e l))), tt);
             k5 = tt;
             k6 = tt;
             k7 = (refl, λ d some most risk. all d (checked_in spec xs d some most risk));

@@ -6,3 +6,4 @@ pub mod PlannedLaws
 pub mod ProgressLaws
 pub mod SearchPlanLaws
 pub mod StatementsLaws
+pub mod UpdatePlanLaws

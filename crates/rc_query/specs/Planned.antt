@@ -6,7 +6,7 @@ use Rattle.rc_tuple.specs.RisingSet.{gather}
 use Rattle.rc_tuple.specs.ColSet.{has, is_within, union}
 use Rattle.rc_spec.specs.declared.items.Op.{Op}
 use Rattle.rc_spec.specs.declared.items.OpKind.{OpKind}
-use Rattle.rc_spec.specs.declared.items.OpKind.TheVariants.{Query, Insert, Remove}
+use Rattle.rc_spec.specs.declared.items.OpKind.TheVariants.{Query, Insert, Remove, Update}
 use Rattle.rc_spec.specs.declared.lock.Mode.{Mode}
 use Rattle.rc_spec.specs.declared.lock.Mode.TheVariants.{Shared, Exclusive}
 use Rattle.rc_spec.specs.declared.spec.Spec.{Spec}
@@ -16,14 +16,14 @@ use Rattle.rc_spec.specs.Placement.{class_at, class_of}
 use Rattle.rc_plan.specs.declared.statement.ReadMode.{ReadMode}
 use Rattle.rc_plan.specs.declared.statement.ReadMode.TheVariants.{Lookup, Scan}
 use Rattle.rc_plan.specs.declared.statement.Statement.{Statement}
-use Rattle.rc_plan.specs.declared.statement.Statement.TheVariants.{Lock, Probe, Read, CheckAbsent, CheckDep, Apply, Emit, Commit, Release}
+use Rattle.rc_plan.specs.declared.statement.Statement.TheVariants.{Lock, Probe, Read, CheckAbsent, CheckFound, CheckDep, Apply, Emit, Commit, Release}
 use Rattle.rc_plan.specs.declared.statement.Which.{Which}
 use Rattle.rc_plan.specs.declared.statement.Which.TheVariants as which
 use Rattle.rc_plan.specs.Evaluation.{dep_at}
 use Rattle.rc_plan.specs.PlanRules.{pattern_columns}
 use Rattle.rc_route.specs.GoodRoutes.{all_edges}
 use Rattle.rc_route.specs.Paths.{IsChosenRoute}
-use Rattle.rc_query.specs.declared.probe.InsertProbe.{InsertProbe}
+use Rattle.rc_query.specs.declared.probe.PlannedProbe.{PlannedProbe}
 
 -- ---- locks and reads of a route
 
@@ -72,6 +72,10 @@ ending last classes = last ∷ Commit ∷ map Release (reverse classes)
 
 -- ---- queries and removes, with the route for their need
 
+-- the columns that a query reads beside its pattern: those of its ranges and of its outputs
+abbrev pub asked_columns : List ℕ → List ℕ → List ℕ
+asked_columns ranges outs = union (gather nat_cmp ranges) (gather nat_cmp outs)
+
 -- a query locks the classes of its route's edges Shared
 abbrev pub query_plan : Spec → List ℕ → List ℕ → List Statement
 query_plan spec pattern route = locks_and_reads spec Shared pattern (classes_of_edges spec route) route ++ ending Emit (classes_of_edges spec route)
@@ -89,11 +93,11 @@ abbrev pub Routing : Type 0
 Routing = List ℕ → List ℕ → List ℕ
 
 -- the search for a tuple that has the pattern values of the new one
-abbrev pub pattern_probe : Routing → List ℕ → InsertProbe
+abbrev pub pattern_probe : Routing → List ℕ → PlannedProbe
 pattern_probe route pattern = record { columns = pattern; route = route pattern pattern; check = CheckAbsent }
 
 -- the search for the tuples that have the left side of a dependency, by its number from 1
-abbrev pub dependency_probe : Spec → Routing → ℕ → InsertProbe
+abbrev pub dependency_probe : Spec → Routing → ℕ → PlannedProbe
 dependency_probe spec route dep = record {
   columns = (dep_at spec dep).left;
   route = route (dep_at spec dep).left (union (dep_at spec dep).left (dep_at spec dep).right);
@@ -104,32 +108,59 @@ dependency_probe spec route dep = record {
 abbrev pub checked_deps : Spec → List ℕ → ℕ → List ℕ
 checked_deps spec pattern count = filter (λ dep. not (is_within pattern (dep_at spec dep).left)) (range_with_len 1 count)
 
-abbrev pub insert_probes : Spec → Routing → List ℕ → List InsertProbe
+abbrev pub insert_probes : Spec → Routing → List ℕ → List PlannedProbe
 insert_probes spec route pattern = pattern_probe route pattern ∷ map (dependency_probe spec route) (checked_deps spec pattern (length spec.deps))
 
 -- the probe's route reads an edge of the class, and its columns don't choose a stripe of it
-abbrev pub reads_unbound : Spec → ℕ → InsertProbe → Bool
+abbrev pub reads_unbound : Spec → ℕ → PlannedProbe → Bool
 reads_unbound spec c probe = has (map (class_of spec) probe.route) c && not (is_within (class_at spec c).cols probe.columns)
 
 -- an insert's Lock is of All stripes where some probe reads under it without its columns
-abbrev pub which_under : Spec → List InsertProbe → ℕ → Which
+abbrev pub which_under : Spec → List PlannedProbe → ℕ → Which
 which_under spec probes c = if list_any (reads_unbound spec c) probes then which.All else which.Keyed
 
 -- a Probe, its Reads and its check; all classes are locked before
-abbrev pub probe_statements : Spec → InsertProbe → List Statement
+abbrev pub probe_statements : Spec → PlannedProbe → List Statement
 probe_statements spec probe = Probe probe.columns ∷ locks_and_reads spec Exclusive probe.columns [] probe.route ++ probe.check ∷ []
 
 -- an insert locks all classes that have an edge Exclusive, and then makes its probes
-abbrev pub insert_plan : Spec → List InsertProbe → List Statement
+abbrev pub insert_plan : Spec → List PlannedProbe → List Statement
 insert_plan spec probes =
     locks Exclusive (which_under spec probes) (written_classes spec) ++ (flat_map (probe_statements spec) probes ++ ending Apply (written_classes spec))
+
+-- ---- updates
+
+-- the search for the tuple that has the pattern values of the new one, whole
+abbrev pub found_probe : Spec → Routing → List ℕ → PlannedProbe
+found_probe spec route pattern = record { columns = pattern; route = route pattern (all_columns spec); check = CheckFound }
+
+-- the search for the tuples that have the left side of a dependency: the old tuple is told among them by its pattern values
+abbrev pub update_dependency_probe : Spec → Routing → List ℕ → ℕ → PlannedProbe
+update_dependency_probe spec route pattern dep = record {
+  columns = (dep_at spec dep).left;
+  route = route (dep_at spec dep).left (union (union (dep_at spec dep).left (dep_at spec dep).right) pattern);
+  check = CheckDep dep;
+}
+
+abbrev pub update_probes : Spec → Routing → List ℕ → List PlannedProbe
+update_probes spec route pattern = found_probe spec route pattern ∷ map (update_dependency_probe spec route pattern) (checked_deps spec pattern (length spec.deps))
+
+-- an update's Lock is of All stripes also where the pattern doesn't choose one, since the old tuple's rows may fall on any
+abbrev pub update_which : Spec → List ℕ → List PlannedProbe → ℕ → Which
+update_which spec pattern probes c = if is_within (class_at spec c).cols pattern then which_under spec probes c else which.All
+
+-- an update locks all classes that have an edge Exclusive, and then makes its probes
+abbrev pub update_plan : Spec → List ℕ → List PlannedProbe → List Statement
+update_plan spec pattern probes =
+    locks Exclusive (update_which spec pattern probes) (written_classes spec) ++ (flat_map (probe_statements spec) probes ++ ending Apply (written_classes spec))
 
 -- ---- the plan of an operation
 
 abbrev pub plan_for : Spec → Routing → List ℕ → OpKind → List Statement
-plan_for spec route pattern (Query outs) = query_plan spec pattern (route pattern (union pattern (gather nat_cmp outs)))
+plan_for spec route pattern (Query outs ranges) = query_plan spec pattern (route pattern (union pattern (asked_columns ranges outs)))
 plan_for spec route pattern Insert = insert_plan spec (insert_probes spec route pattern)
 plan_for spec route pattern Remove = remove_plan spec pattern (route pattern (all_columns spec))
+plan_for spec route pattern Update = update_plan spec pattern (update_probes spec route pattern)
 
 -- over the routes that are given
 abbrev pub planned_by : Spec → Routing → Op → List Statement

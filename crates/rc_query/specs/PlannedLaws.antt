@@ -8,22 +8,24 @@ use Rattle.rc_tuple.specs.ColSet.{Within, union}
 use Rattle.rc_tuple.specs.ColSetLaws.{union_within, in_range_below}
 use Rattle.rc_spec.specs.declared.items.Op.{Op}
 use Rattle.rc_spec.specs.declared.items.OpKind.{OpKind}
-use Rattle.rc_spec.specs.declared.items.OpKind.TheVariants.{Query, Insert, Remove}
+use Rattle.rc_spec.specs.declared.items.OpKind.TheVariants.{Query, Insert, Remove, Update}
 use Rattle.rc_spec.specs.declared.spec.Spec.{Spec}
 use Rattle.rc_spec.specs.Acceptance.{IsSealed}
 use Rattle.rc_spec.specs.Adequacy.{IsAdequate}
 use Rattle.rc_spec.specs.Calls.{all_columns}
 use Rattle.rc_spec.specs.InRange.{IsInRange, AreBelow, HasOutsAmong}
 use Rattle.rc_spec.specs.Placement.{IsPlaced, op_at, no_op}
+use Rattle.rc_spec.specs.Ranges.{range_columns}
 use Rattle.rc_plan.specs.Compiled.{IsPlanOf}
 use Rattle.rc_plan.specs.PlanRules.{at_start}
 use Rattle.rc_route.specs.LeastPathLaws.{chosen_routes_are_good, one_chosen_route, has_chosen_route}
 use Rattle.rc_route.specs.Paths.{IsChosenRoute}
 use Rattle.rc_query.specs.InsertPlanLaws.{insert_fits}
 use Rattle.rc_query.specs.Laws.{GivesGoodRoutes, IsAcceptedFor, PlansOverGoodRoutesAreAccepted, PlannedPlansAreAccepted, HasPlannedPlan, OnePlannedPlan}
-use Rattle.rc_query.specs.Planned.{Routing, plan_for, planned_by, ChoosesRoutes}
+use Rattle.rc_query.specs.Planned.{Routing, asked_columns, plan_for, planned_by, ChoosesRoutes}
 use Rattle.rc_query.specs.ProgressLaws.{AreAcceptedFrom, known_of_fit, rules_of_fit}
 use Rattle.rc_query.specs.SearchPlanLaws.{query_fits, remove_fits}
+use Rattle.rc_query.specs.UpdatePlanLaws.{update_fits}
 
 -- ---- over any good routes
 
@@ -31,20 +33,22 @@ set_known : (spec : Spec) (cols : List ℕ) → AreBelow (length spec.columns) c
 set_known spec cols b c m = in_range_below (length spec.columns) c (b c (in_gather nat_cmp nat_order c cols m))
 
 plan_fits : (spec : Spec) → IsInRange spec → IsAdequate spec → IsPlaced spec → (route : Routing) → GivesGoodRoutes spec route
-    → (name pattern : List ℕ) (kind : OpKind) → AreBelow (length spec.columns) pattern → HasOutsAmong (length spec.columns) kind
+    → (name pattern : List ℕ) (kind : OpKind) → AreBelow (length spec.columns) pattern → HasOutsAmong (length spec.columns) kind → AreBelow (length spec.columns) (range_columns kind)
     → (let op : Op = record { name = name; pattern = pattern; kind = kind } in AreAcceptedFrom spec op (at_start spec op) (plan_for spec route (gather nat_cmp pattern) kind))
-plan_fits spec i a pl route good name pattern (Query outs) below outs_below =
+plan_fits spec i a pl route good name pattern (Query outs ranges) below outs_below ranges_below =
     let xs : List ℕ = gather nat_cmp pattern in
-    let ys : List ℕ = gather nat_cmp outs in
-    query_fits spec i pl name pattern outs (route xs (union xs ys))
-    (good xs (union xs ys) (union_within xs ys (all_columns spec) (set_known spec pattern below) (set_known spec outs outs_below)))
-plan_fits spec i a pl route good name pattern Insert below outs_below = insert_fits spec i a pl route good name pattern (λ c m. in_range_below (length spec.columns) c (below c m))
-plan_fits spec i a pl route good name pattern Remove below outs_below =
+    let ys : List ℕ = asked_columns ranges outs in
+    query_fits spec i pl name pattern outs ranges (route xs (union xs ys))
+    (good xs (union xs ys) (union_within xs ys (all_columns spec) (set_known spec pattern below)
+    (union_within (gather nat_cmp ranges) (gather nat_cmp outs) (all_columns spec) (set_known spec ranges ranges_below) (set_known spec outs outs_below))))
+plan_fits spec i a pl route good name pattern Insert below outs_below ranges_below = insert_fits spec i a pl route good name pattern (λ c m. in_range_below (length spec.columns) c (below c m))
+plan_fits spec i a pl route good name pattern Remove below outs_below ranges_below =
     remove_fits spec i a pl name pattern (route (gather nat_cmp pattern) (all_columns spec)) (good (gather nat_cmp pattern) (all_columns spec) (λ c h. h))
+plan_fits spec i a pl route good name pattern Update below outs_below ranges_below = update_fits spec i a pl route good name pattern (λ c m. in_range_below (length spec.columns) c (below c m))
 
 pub accepted_over_good_routes : PlansOverGoodRoutesAreAccepted
 accepted_over_good_routes spec i a pl route good op among =
-    let fits : AreAcceptedFrom spec op (at_start spec op) (planned_by spec route op) = plan_fits spec i a pl route good op.name op.pattern op.kind among.pattern among.outs in
+    let fits : AreAcceptedFrom spec op (at_start spec op) (planned_by spec route op) = plan_fits spec i a pl route good op.name op.pattern op.kind among.pattern among.outs among.ranges in
     record { known = known_of_fit spec op (at_start spec op) (planned_by spec route op) fits; rules = rules_of_fit spec op (at_start spec op) (planned_by spec route op) fits }
 
 -- ---- over the chosen routes

@@ -12,11 +12,11 @@ use Rattle.rc_tuple.specs.ColSet.{Within, is_within, union}
 use Rattle.rc_tuple.specs.ColSetLaws.{within_from_test, in_union, union_left, union_right, in_range_bounds, in_range_below}
 use Rattle.rc_spec.specs.declared.items.Op.{Op}
 use Rattle.rc_spec.specs.declared.items.OpKind.{OpKind}
-use Rattle.rc_spec.specs.declared.items.OpKind.TheVariants.{Query, Insert, Remove}
+use Rattle.rc_spec.specs.declared.items.OpKind.TheVariants.{Query, Insert, Remove, Update}
 use Rattle.rc_spec.specs.declared.lock.Mode.{Mode}
 use Rattle.rc_spec.specs.declared.spec.Spec.{Spec}
 use Rattle.rc_spec.specs.Adequacy.{IsAdequate}
-use Rattle.rc_spec.specs.Calls.{all_columns}
+use Rattle.rc_spec.specs.Calls.{all_columns, GivesTuple}
 use Rattle.rc_spec.specs.ContentsLaws.{target_within}
 use Rattle.rc_spec.specs.Decomposition.{edge_at, target_columns}
 use Rattle.rc_spec.specs.InRange.{IsInRange}
@@ -27,7 +27,7 @@ use Rattle.rc_plan.specs.declared.statement.Statement.{Statement}
 use Rattle.rc_plan.specs.declared.statement.Statement.TheVariants.{Read, Commit, Release}
 use Rattle.rc_plan.specs.declared.statement.Which.{Which}
 use Rattle.rc_plan.specs.declared.statement.Which.TheVariants as which
-use Rattle.rc_plan.specs.PlanRules.{Phase, Progress, after, IsLocked, HasProbed, IsKnown, AreKnown, HasLockMode, MayRead, IsInsert, IsComplete, KeepsK1, KeepsK2, KeepsK3, KeepsK4, KeepsK5, KeepsK6, KeepsK7, IsKeyBound, Covers, IsFindable, KeepsFrom}
+use Rattle.rc_plan.specs.PlanRules.{Phase, Progress, after, IsLocked, HasProbed, IsKnown, AreKnown, HasLockMode, MayRead, IsComplete, KeepsK1, KeepsK2, KeepsK3, KeepsK4, KeepsK5, KeepsK6, KeepsK7, IsKeyBound, Covers, IsFindable, KeepsFrom}
 use Rattle.rc_plan.specs.StripeLocksLaws.{striping_in_target}
 use Rattle.rc_route.specs.GoodRoutes.{all_edges, IsStep, IsGoodFrom}
 use Rattle.rc_query.specs.Planned.{classes_of_edges, written_classes, which_where, read_mode_where, locks, due, later, locks_and_reads, left_after, ending}
@@ -40,7 +40,7 @@ pub record IsAcceptedAt (spec : Spec) (op : Op) (p : Progress) (x : Statement) :
   pub k1 : KeepsK1 op.kind p x
   pub k2 : KeepsK2 p x
   pub k3 : KeepsK3 spec p x
-  pub k4 : KeepsK4 spec p x
+  pub k4 : KeepsK4 spec op p x
   pub k5 : KeepsK5 spec p x
   pub k6 : KeepsK6 spec op p x
   pub k7 : KeepsK7 spec op p x
@@ -62,7 +62,7 @@ rules_of_fit spec op p (x ∷ plan) f =
 -- what is known while a plan still searches
 abbrev pub searching : List ℕ → List ℕ → List ℕ → List (ℕ × Which) → Option (List ℕ) → Bool → List ℕ → Progress
 searching columns visited reached locked probe absent checked =
-    record { phase = Phase.Searching; columns = columns; visited = visited; reached = reached; locked = locked; released = []; probe = probe; absent = absent; checked = checked }
+    record { phase = Phase.Searching; columns = columns; visited = visited; reached = reached; locked = locked; released = []; probe = probe; sought = absent; checked = checked }
 
 -- ---- Locks
 
@@ -170,14 +170,15 @@ mode_findable spec columns e = go (is_within (edge_at spec e).key columns) refl
     go true q = within_from_test (edge_at spec e).key columns q
     go false q = tt
 
-may_read : (kind : OpKind) (p : Progress) → (IsInsert kind → HasProbed p) → MayRead kind p
-may_read (Query outs) p f = tt
+may_read : (kind : OpKind) (p : Progress) → (GivesTuple kind → HasProbed p) → MayRead kind p
+may_read (Query outs ranges) p f = tt
 may_read Insert p f = f tt
 may_read Remove p f = tt
+may_read Update p f = f tt
 
 -- a step of a good route may be read where its class is locked and covers it
 pub read_fits : (spec : Spec) (op : Op) (columns visited reached : List ℕ) (ls : List (ℕ × Which)) (probe : Option (List ℕ)) (absent : Bool) (checked : List ℕ) (e : ℕ)
-    → (IsInsert op.kind → HasProbed (searching columns visited reached ls probe absent checked)) → IsStep spec reached visited e
+    → (GivesTuple op.kind → HasProbed (searching columns visited reached ls probe absent checked)) → IsStep spec reached visited e
     → (choice : Which) × In (class_of spec e, choice) ls × Covers spec (searching columns visited reached ls probe absent checked) (class_of spec e) choice
     → IsAcceptedAt spec op (searching columns visited reached ls probe absent checked) (Read e (read_mode_where spec columns e))
 read_fits spec op columns visited reached ls probe absent checked e i s k = record {
@@ -205,7 +206,7 @@ more_within : (visited columns xs : List ℕ) → Within visited columns → Wit
 more_within visited columns xs w c h = elim (in_union visited xs c h) [ inl q ↦ union_left columns xs c (w c q) | inr q ↦ union_right columns xs c q ]
 
 -- the Locks and Reads of a good route, of a query or a remove
-pub locks_and_reads_fit : (spec : Spec) (op : Op) (mode : Mode) → HasLockMode op.kind mode → (need wanted : List ℕ) (es left columns visited reached : List ℕ) (ls : List (ℕ × Which)) → (IsInsert op.kind → ⊥)
+pub locks_and_reads_fit : (spec : Spec) (op : Op) (mode : Mode) → HasLockMode op.kind mode → (need wanted : List ℕ) (es left columns visited reached : List ℕ) (ls : List (ℕ × Which)) → (GivesTuple op.kind → ⊥)
     → ((c : ℕ) → In c wanted → c < length spec.classes) → ((e : ℕ) → In e es → In (class_of spec e) wanted)
     → Locks wanted left ls → Within visited columns → IsGoodFrom spec need reached visited es → (rest : List Statement)
     → ((columns visited reached : List ℕ) (ls : List (ℕ × Which)) → Locks wanted (left_after spec left es) ls → Within need visited → Within visited columns

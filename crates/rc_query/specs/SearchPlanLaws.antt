@@ -20,18 +20,19 @@ use Rattle.rc_plan.specs.declared.statement.Which.TheVariants as which
 use Rattle.rc_plan.specs.PlanRules.{at_start}
 use Rattle.rc_route.specs.GoodRoutes.{all_edges, IsGoodRoute}
 use Rattle.rc_route.specs.GoodRoutesLaws.{good_known}
-use Rattle.rc_query.specs.Planned.{classes_of_edges, written_classes, locks, left_after, ending, query_plan, remove_plan}
+use Rattle.rc_query.specs.Planned.{classes_of_edges, written_classes, locks, left_after, ending, asked_columns, query_plan, remove_plan}
 use Rattle.rc_query.specs.ProgressLaws.{AreAcceptedFrom, searching, with_locks, with_locks_old, with_locks_new, in_with_locks, locks_fit, left_after_later, locks_and_reads_fit, ending_fits, edge_in, in_edge, class_in, in_class, classes_known, no_locks, rising_classes, class_columns_known}
 
 -- ---- queries
 
-pub query_fits : (spec : Spec) → IsInRange spec → IsPlaced spec → (name pattern outs route : List ℕ)
-    → IsGoodRoute spec (union (gather nat_cmp pattern) (gather nat_cmp outs)) route
-    → (let op : Op = record { name = name; pattern = pattern; kind = Query outs } in AreAcceptedFrom spec op (at_start spec op) (query_plan spec (gather nat_cmp pattern) route))
-query_fits spec i pl name pattern outs route g =
-    let op : Op = record { name = name; pattern = pattern; kind = Query outs } in
+pub query_fits : (spec : Spec) → IsInRange spec → IsPlaced spec → (name pattern outs ranges route : List ℕ)
+    → IsGoodRoute spec (union (gather nat_cmp pattern) (asked_columns ranges outs)) route
+    → (let op : Op = record { name = name; pattern = pattern; kind = Query outs ranges } in AreAcceptedFrom spec op (at_start spec op) (query_plan spec (gather nat_cmp pattern) route))
+query_fits spec i pl name pattern outs ranges route g =
+    let op : Op = record { name = name; pattern = pattern; kind = Query outs ranges } in
     let bound : List ℕ = gather nat_cmp pattern in
-    let need : List ℕ = union bound (gather nat_cmp outs) in
+    let asked : List ℕ = asked_columns ranges outs in
+    let need : List ℕ = union bound asked in
     let wanted : List ℕ = classes_of_edges spec route in
     let n : (c : ℕ) → In c wanted → c < length spec.classes = classes_known spec i pl route (good_known spec need route g) in
     locks_and_reads_fit spec op Shared tt need wanted route wanted bound [] [] [] (λ z. z) n (class_in spec route)
@@ -45,7 +46,11 @@ query_fits spec i pl name pattern outs route g =
       k3 = tt;
       k4 = tt;
       k5 = tt;
-      k6 = ((λ c h. w c (union_left bound (gather nat_cmp outs) c h)), (λ c h. w c (union_right bound (gather nat_cmp outs) c (gather_in nat_cmp nat_order c outs h))));
+      k6 = (
+        (λ c h. w c (union_left bound asked c h)),
+        (λ c h. w c (union_right bound asked c (union_right (gather nat_cmp ranges) (gather nat_cmp outs) c (gather_in nat_cmp nat_order c outs h)))),
+        (λ c h. w c (union_right bound asked c (union_left (gather nat_cmp ranges) (gather nat_cmp outs) c (gather_in nat_cmp nat_order c ranges h)))),
+      );
       k7 = tt;
     })
     refl refl (rising_classes spec route)
@@ -80,6 +85,6 @@ remove_fits spec i a pl name pattern route g =
     locks_fit spec op Exclusive refl (λ c. which.Keyed) left columns visited reached ls false [] k.rising (λ c h. n c (k.within c h))
     (λ c h d m. v d (w d (class_columns_known spec i a pl c (k.within c h) d m))) k.below (ending Apply wanted)
     (ending_fits spec op Apply wanted (searching columns visited reached (with_locks (λ c. which.Keyed) left ls) None false [])
-    (record { known = tt; k1 = (refl, tt); k2 = tt; k3 = tt; k4 = λ e l. all (class_of spec e) (class_in spec (all_edges spec) e (edge_in spec e l)); k5 = tt; k6 = w; k7 = tt })
+    (record { known = tt; k1 = (refl, tt); k2 = tt; k3 = tt; k4 = ((λ e l. all (class_of spec e) (class_in spec (all_edges spec) e (edge_in spec e l))), tt); k5 = tt; k6 = w; k7 = tt })
     refl refl (rising_classes spec (all_edges spec)) (λ c h. (n c h, all c h))
     (λ c h. elim (in_with_locks (λ c. which.Keyed) left ls (c, h.0) h.1) [ inl q ↦ k.only (c, h.0) q | inr q ↦ k.within c q.0 ])))

@@ -56,9 +56,11 @@ pub fn plan_query(alloc: Global, accepted: &Accepted, op: u8) -> Result<Plan, Me
     let pattern = pattern_of(accepted, op);
     let query = accepted.spec().op(op);
     match &query.kind {
-        OpKind::Query { outs } => {
-            plan_search(alloc, accepted, pattern, ColSet::from_list(outs.list()))
+        OpKind::Query { outs, ranges } => {
+            let bounded = ColSet::from_list(ranges.list());
+            let answered = ColSet::from_list(outs.list());
+            plan_search(alloc, accepted, pattern, bounded.union(answered))
         }
-        OpKind::Insert | OpKind::Remove => unreachable!(),
+        OpKind::Insert | OpKind::Remove | OpKind::Update => unreachable!(),
     }
 }

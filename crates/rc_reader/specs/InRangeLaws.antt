@@ -19,10 +19,14 @@ use Rattle.rc_spec.specs.Spec.{empty}
 use Rattle.rc_spec.specs.Names.{column_names, node_names, edge_names, class_names}
 use Rattle.rc_spec.specs.InRange.{AreBelow, IsSetBelow, IsDepAmong, IsEdgeAmong, IsPlaceAmong, IsOpAmong, IsInRange}
 use Rattle.rc_reader.specs.Names.{number_among, is_unknown}
-use Rattle.rc_reader.specs.Forms.{column_line, dependency_line, node_line, edge_line, lock_line, place_line, query_line, insert_line, remove_line}
+use Rattle.rc_reader.specs.Forms.{column_line, dependency_line, node_line, edge_line, lock_line, place_line, query_line, insert_line, remove_line, update_line}
 use Rattle.rc_reader.specs.declared.sections.LineKind.{LineKind}
 use Rattle.rc_reader.specs.declared.sections.LineKind.TheVariants as sections
-use Rattle.rc_reader.specs.Sections.{later, count_of, has_lines, has_later}
+use Rattle.rc_reader.specs.declared.sections.Limit.{Limit}
+use Rattle.rc_reader.specs.declared.version.Version.{Version}
+use Rattle.rc_reader.specs.declared.version.Version.TheVariants.{One, Two}
+use Rattle.rc_reader.specs.Versions.{most_columns}
+use Rattle.rc_reader.specs.Sections.{later, line_count, has_lines, has_later}
 use Rattle.rc_reader.specs.Rules.{lacks, number_named, columns_named, set_named, operation_of}
 use Rattle.rc_reader.specs.MembersLaws.{each_push, each_of_none, gather_some}
 use Rattle.rc_reader.specs.NamesLaws.{number_among-below, numbers_of-below, length-numbers_of}
@@ -49,18 +53,18 @@ set_some spec words more known e =
     gather_some (columns_named spec words) (omega arith) e
 
 -- these sections have no item
-abbrev pub AreEmpty : Spec → List (LineKind × ℕ) → Type 0
+abbrev pub AreEmpty : Spec → List (LineKind × Limit) → Type 0
 AreEmpty spec [] = Unit {0}
-AreEmpty spec (row ∷ rows) = (count_of spec row.0 ≡ 0) × AreEmpty spec rows
+AreEmpty spec (row ∷ rows) = (line_count spec row.0 ≡ 0) × AreEmpty spec rows
 
-are_empty : (spec : Spec) (rows : List (LineKind × ℕ)) → list_any (λ (row : LineKind × ℕ). has_lines (count_of spec) row.0) rows ≡ false → AreEmpty spec rows
+are_empty : (spec : Spec) (rows : List (LineKind × Limit)) → list_any (λ (row : LineKind × Limit). has_lines (line_count spec) row.0) rows ≡ false → AreEmpty spec rows
 are_empty spec [] e = tt
 are_empty spec (row ∷ rows) e =
-    let parts = or_parts (has_lines (count_of spec) row.0) (list_any (λ (r : LineKind × ℕ). has_lines (count_of spec) r.0) rows) e in
-    (eqb-true (count_of spec row.0) 0 (not-false (eqb (count_of spec row.0) 0) parts.0), are_empty spec rows parts.1)
+    let parts = or_parts (has_lines (line_count spec) row.0) (list_any (λ (r : LineKind × Limit). has_lines (line_count spec) r.0) rows) e in
+    (eqb-true (line_count spec row.0) 0 (not-false (eqb (line_count spec row.0) 0) parts.0), are_empty spec rows parts.1)
 
 -- where a line is in order, those behind its own
-empty_later : (spec : Spec) (kind : LineKind) → has_later (count_of spec) kind ≡ false → AreEmpty spec (later kind)
+empty_later : (spec : Spec) (kind : LineKind) → has_later (line_count spec) kind ≡ false → AreEmpty spec (later kind)
 empty_later spec kind e = are_empty spec (later kind) e
 
 -- a known name's number is one of the items
@@ -72,7 +76,12 @@ number_below : (names : List (List ℕ)) (word : List ℕ) (limit : ℕ) → len
 number_below names word limit len known =
     named_below (number_among names word) limit (λ k e. let below = number_among-below names word k e in omega arith) known
 
-in_range-column : (spec : Spec) (more : Column) → IsInRange spec → length spec.columns < 16 → has_later (count_of spec) sections.Column ≡ false → IsInRange (record spec { columns = spec.columns ++ more ∷ [] })
+-- no text has more columns than there may be
+pub most_columns-le : (version : Version) → most_columns version ≤ 32
+most_columns-le One = lit≤ tt
+most_columns-le Two = lit≤ tt
+
+in_range-column : (spec : Spec) (more : Column) → IsInRange spec → length spec.columns < 32 → has_later (line_count spec) sections.Column ≡ false → IsInRange (record spec { columns = spec.columns ++ more ∷ [] })
 in_range-column spec more range few order =
     let (deps, (nodes, (edges, (classes, (places, (ops, none)))))) = empty_later spec sections.Column order in
     let count : ℕ = length (spec.columns ++ more ∷ []) in
@@ -110,9 +119,10 @@ in_range-operation spec more range few known = record {
 }
 
 in_range-with_line : Keeps IsInRange
-in_range-with_line spec (column_line name kind) next formed is_taken range =
-    in_range-column spec (record { name = name; kind = kind }) range (leb-false 16 (length spec.columns) is_taken.limit) is_taken.order
-in_range-with_line spec (dependency_line left right) next formed is_taken range =
+in_range-with_line version spec (column_line name kind) next formed is_taken range =
+    let few = leb-false (most_columns version) (length spec.columns) is_taken.limit in
+    in_range-column spec (record { name = name; kind = kind }) range (omega (arith, most_columns-le version)) is_taken.order
+in_range-with_line version spec (dependency_line left right) next formed is_taken range =
     let few = leb-false 32 (length spec.deps) is_taken.limit in
     let known = or_parts (lacks spec left) (lacks spec right) is_taken.known in
     let more : Dep = record { left = set_named spec left; right = set_named spec right } in
@@ -135,7 +145,7 @@ in_range-with_line spec (dependency_line left right) next formed is_taken range 
       known_places = range.known_places;
       known_ops = range.known_ops;
     }
-in_range-with_line spec (node_line name columns) next formed is_taken range =
+in_range-with_line version spec (node_line name columns) next formed is_taken range =
     let few = leb-false 16 (length spec.nodes) is_taken.limit in
     let (edges, others) = empty_later spec sections.Node is_taken.order in
     let more : Node = record { name = name; cols = set_named spec columns } in
@@ -154,7 +164,7 @@ in_range-with_line spec (node_line name columns) next formed is_taken range =
       known_places = range.known_places;
       known_ops = range.known_ops;
     }
-in_range-with_line spec (edge_line name from to kind key) next formed is_taken range =
+in_range-with_line version spec (edge_line name from to kind key) next formed is_taken range =
     let few = leb-false 24 (length spec.edges) is_taken.limit in
     let (classes, (places, others)) = empty_later spec sections.Edge is_taken.order in
     let names : List (List ℕ) = node_names spec.nodes in
@@ -181,7 +191,7 @@ in_range-with_line spec (edge_line name from to kind key) next formed is_taken r
       known_places = each_of_none (IsPlaceAmong (length (spec.edges ++ more ∷ [])) (length spec.classes)) spec.places places;
       known_ops = range.known_ops;
     }
-in_range-with_line spec (lock_line name number columns) next formed is_taken range =
+in_range-with_line version spec (lock_line name number columns) next formed is_taken range =
     let few = leb-false 16 (length spec.classes) is_taken.limit in
     let (places, others) = empty_later spec sections.Lock is_taken.order in
     let more : Class = record { name = name; stripes = unwrap_or number 0; cols = set_named spec columns } in
@@ -200,7 +210,7 @@ in_range-with_line spec (lock_line name number columns) next formed is_taken ran
       known_places = each_of_none (IsPlaceAmong (length spec.edges) (length (spec.classes ++ more ∷ []))) spec.places places;
       known_ops = range.known_ops;
     }
-in_range-with_line spec (place_line edge class) next formed is_taken range =
+in_range-with_line version spec (place_line edge class) next formed is_taken range =
     let few = leb-false 24 (length spec.places) is_taken.limit in
     let known = or_parts (is_unknown (edge_names spec.edges) edge) (is_unknown (class_names spec.classes) class) is_taken.known in
     let more : Place = record { edge = number_named (edge_names spec.edges) edge; class = number_named (class_names spec.classes) class } in
@@ -222,13 +232,20 @@ in_range-with_line spec (place_line edge class) next formed is_taken range =
       });
       known_ops = range.known_ops;
     }
-in_range-with_line spec (query_line name pattern outs) next formed is_taken range =
-    in_range-operation spec (operation_of spec name pattern (kinds.Query (columns_named spec outs))) range (leb-false 32 (length spec.ops) is_taken.limit) (record { pattern = columns_below spec pattern; outs = columns_below spec outs })
-in_range-with_line spec (insert_line name pattern) next formed is_taken range =
-    in_range-operation spec (operation_of spec name pattern kinds.Insert) range (leb-false 32 (length spec.ops) is_taken.limit) (record { pattern = columns_below spec pattern; outs = tt })
-in_range-with_line spec (remove_line name pattern) next formed is_taken range =
-    in_range-operation spec (operation_of spec name pattern kinds.Remove) range (leb-false 32 (length spec.ops) is_taken.limit) (record { pattern = columns_below spec pattern; outs = tt })
-in_range-with_line spec form next formed is_taken range = range
+in_range-with_line version spec (query_line name pattern ranges outs) next formed is_taken range =
+    in_range-operation spec (operation_of spec name pattern (kinds.Query (columns_named spec outs) (columns_named spec ranges))) range
+    (leb-false 32 (length spec.ops) is_taken.limit)
+    (record { pattern = columns_below spec pattern; outs = columns_below spec outs; ranges = columns_below spec ranges })
+in_range-with_line version spec (insert_line name pattern) next formed is_taken range =
+    in_range-operation spec (operation_of spec name pattern kinds.Insert) range (leb-false 32 (length spec.ops) is_taken.limit)
+    (record { pattern = columns_below spec pattern; outs = tt; ranges = λ c none. absurd none })
+in_range-with_line version spec (remove_line name pattern) next formed is_taken range =
+    in_range-operation spec (operation_of spec name pattern kinds.Remove) range (leb-false 32 (length spec.ops) is_taken.limit)
+    (record { pattern = columns_below spec pattern; outs = tt; ranges = λ c none. absurd none })
+in_range-with_line version spec (update_line name pattern) next formed is_taken range =
+    in_range-operation spec (operation_of spec name pattern kinds.Update) range (leb-false 32 (length spec.ops) is_taken.limit)
+    (record { pattern = columns_below spec pattern; outs = tt; ranges = λ c none. absurd none })
+in_range-with_line version spec form next formed is_taken range = range
 
 pub in_range-keeps : Keeps IsInRange
 in_range-keeps = in_range-with_line

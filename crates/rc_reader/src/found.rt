@@ -2,11 +2,14 @@
 
 ghost use Rattle.std.specs.Prelude.{◌≡◌, IfOk};
 ghost use Rattle.rc_spec.specs.InRange.{IsInRange};
-ghost use Rattle.rc_reader.specs.Forms.{texts, form_text, column_line, dependency_line, node_line, edge_line, lock_line, place_line, query_line, insert_line, remove_line};
+ghost use Rattle.rc_reader.specs.Forms.{texts, form_text, column_line, dependency_line, node_line};
+ghost use Rattle.rc_reader.specs.Forms.{edge_line, lock_line, place_line, query_line, insert_line};
+ghost use Rattle.rc_reader.specs.Forms.{remove_line, update_line};
+ghost use Rattle.rc_reader.specs.Columns.{repeat_in_both};
 ghost use Rattle.rc_reader.specs.Found.{found_line, found_change, found_mark};
 
 use crate::forms::Form;
-use crate::names::{is_refused_name, named_columns, number_among};
+use crate::names::{NamedColumns, is_refused_name, named_columns, number_among};
 use crate::sections::LineKind;
 use rc_spec::{Class, ColKind, Column, Edge, EdgeKind, Name, Node, Op, OpKind, Place, Spec};
 use rc_tuple::{Dep, Memory};
@@ -14,7 +17,7 @@ use std::alloc::Global;
 
 /// What a line adds to a specification.
 #[derive(Debug, Drop)]
-pub(crate) enum Item {
+pub(crate) enum Addition {
     /// The header and `end` add nothing.
     Nothing,
     Column(Column),
@@ -37,7 +40,7 @@ pub(crate) struct FoundLine {
     /// Its number is out of range.
     pub(crate) breaks_range: bool,
     /// What it adds where it breaks no rule. A word that names nothing has the number 0 in it.
-    pub(crate) item: Item,
+    pub(crate) addition: Addition,
 }
 
 fn found_column(alloc: Global, spec: &Spec, name: &[u8], kind: ColKind) -> Result<FoundLine, Memory>
@@ -48,7 +51,7 @@ fn found_column(alloc: Global, spec: &Spec, name: &[u8], kind: ColKind) -> Resul
         breaks_names: is_refused_name(spec.columns.list(), name),
         breaks_known: false,
         breaks_range: false,
-        item: Item::Column(Column {
+        addition: Addition::Column(Column {
             name: Name::from_slice(alloc, name)?,
             kind,
         }),
@@ -62,7 +65,8 @@ fn found_dependency(
     right: &[&[u8]],
 ) -> Result<FoundLine, Memory>
     requires { IsInRange spec.now }
-    ensures { IfOk result (λ line. line ≡ found_line spec.now (dependency_line (texts left.now) (texts right.now))) }
+    ensures { IfOk result (λ line. line
+        ≡ found_line spec.now (dependency_line (texts left.now) (texts right.now))) }
 {
     let left = named_columns(alloc, spec.columns.list(), left)?;
     let right = named_columns(alloc, spec.columns.list(), right)?;
@@ -71,7 +75,7 @@ fn found_dependency(
         breaks_names: left.names_twice || right.names_twice,
         breaks_known: left.has_unknown || right.has_unknown,
         breaks_range: false,
-        item: Item::Dependency(Dep {
+        addition: Addition::Dependency(Dep {
             left: left.set,
             right: right.set,
         }),
@@ -85,7 +89,8 @@ fn found_node(
     columns: &[&[u8]],
 ) -> Result<FoundLine, Memory>
     requires { IsInRange spec.now }
-    ensures { IfOk result (λ line. line ≡ found_line spec.now (node_line name.now (texts columns.now))) }
+    ensures { IfOk result (λ line. line
+        ≡ found_line spec.now (node_line name.now (texts columns.now))) }
 {
     let columns = named_columns(alloc, spec.columns.list(), columns)?;
     Ok(FoundLine {
@@ -93,7 +98,7 @@ fn found_node(
         breaks_names: is_refused_name(spec.nodes.list(), name) || columns.names_twice,
         breaks_known: columns.has_unknown,
         breaks_range: false,
-        item: Item::Node(Node {
+        addition: Addition::Node(Node {
             name: Name::from_slice(alloc, name)?,
             cols: columns.set,
         }),
@@ -110,7 +115,8 @@ fn found_edge(
     key: &[&[u8]],
 ) -> Result<FoundLine, Memory>
     requires { IsInRange spec.now }
-    ensures { IfOk result (λ line. line ≡ found_line spec.now (edge_line name.now from.now to.now kind (texts key.now))) }
+    ensures { IfOk result (λ line. line
+        ≡ found_line spec.now (edge_line name.now from.now to.now kind (texts key.now))) }
 {
     let from = number_among(spec.nodes.list(), from);
     let to = number_among(spec.nodes.list(), to);
@@ -120,7 +126,7 @@ fn found_edge(
         breaks_names: is_refused_name(spec.edges.list(), name) || key.names_twice,
         breaks_known: from.is_none() || to.is_none() || key.has_unknown,
         breaks_range: false,
-        item: Item::Edge(Edge {
+        addition: Addition::Edge(Edge {
             name: Name::from_slice(alloc, name)?,
             from: from.unwrap_or(0) as u8,
             to: to.unwrap_or(0) as u8,
@@ -138,7 +144,8 @@ fn found_lock(
     columns: &[&[u8]],
 ) -> Result<FoundLine, Memory>
     requires { IsInRange spec.now }
-    ensures { IfOk result (λ line. line ≡ found_line spec.now (lock_line name.now stripes (texts columns.now))) }
+    ensures { IfOk result (λ line. line
+        ≡ found_line spec.now (lock_line name.now stripes (texts columns.now))) }
 {
     let columns = named_columns(alloc, spec.columns.list(), columns)?;
     Ok(FoundLine {
@@ -146,7 +153,7 @@ fn found_lock(
         breaks_names: is_refused_name(spec.classes.list(), name) || columns.names_twice,
         breaks_known: columns.has_unknown,
         breaks_range: stripes.is_none(),
-        item: Item::Class(Class {
+        addition: Addition::Class(Class {
             name: Name::from_slice(alloc, name)?,
             stripes: stripes.unwrap_or(0),
             cols: columns.set,
@@ -165,11 +172,18 @@ fn found_place(spec: &Spec, edge: &[u8], class: &[u8]) -> FoundLine
         breaks_names: false,
         breaks_known: edge.is_none() || class.is_none(),
         breaks_range: false,
-        item: Item::Place(Place {
+        addition: Addition::Place(Place {
             edge: edge.unwrap_or(0) as u8,
             class: class.unwrap_or(0) as u8,
         }),
     }
+}
+
+/// Whether a column stands twice in a query's pattern and range columns together.
+fn repeat_in_both(pattern: &NamedColumns, ranges: &NamedColumns) -> bool
+    ensures { result ≡ repeat_in_both pattern.now ranges.now }
+{
+    pattern.names_twice || ranges.names_twice || !pattern.set.inter(ranges.set).is_empty()
 }
 
 fn found_query(
@@ -177,27 +191,33 @@ fn found_query(
     spec: &Spec,
     name: &[u8],
     pattern: &[&[u8]],
+    ranges: &[&[u8]],
     outs: &[&[u8]],
 ) -> Result<FoundLine, Memory>
     requires { IsInRange spec.now }
-    ensures { IfOk result (λ line. line ≡ found_line spec.now (query_line name.now (texts pattern.now) (texts outs.now))) }
+    ensures { IfOk result (λ line. line ≡ found_line spec.now
+        (query_line name.now (texts pattern.now) (texts ranges.now) (texts outs.now))) }
 {
     let pattern = named_columns(alloc, spec.columns.list(), pattern)?;
+    let ranges = named_columns(alloc, spec.columns.list(), ranges)?;
     let outs = named_columns(alloc, spec.columns.list(), outs)?;
     Ok(FoundLine {
         kind: LineKind::Operation,
-        breaks_names: is_refused_name(spec.ops.list(), name) || pattern.names_twice,
-        breaks_known: pattern.has_unknown || outs.has_unknown,
+        breaks_names: is_refused_name(spec.ops.list(), name) || repeat_in_both(&pattern, &ranges),
+        breaks_known: pattern.has_unknown || ranges.has_unknown || outs.has_unknown,
         breaks_range: false,
-        item: Item::Operation(Op {
+        addition: Addition::Operation(Op {
             name: Name::from_slice(alloc, name)?,
             pattern: pattern.numbers,
-            kind: OpKind::Query { outs: outs.numbers },
+            kind: OpKind::Query {
+                outs: outs.numbers,
+                ranges: ranges.numbers,
+            },
         }),
     })
 }
 
-/// An insert or a remove.
+/// An insert, a remove or an update.
 fn found_change(
     alloc: Global,
     spec: &Spec,
@@ -206,7 +226,8 @@ fn found_change(
     kind: OpKind,
 ) -> Result<FoundLine, Memory>
     requires { IsInRange spec.now }
-    ensures { IfOk result (λ line. line ≡ found_change spec.now name.now (texts pattern.now) kind) }
+    ensures { IfOk result (λ line. line
+        ≡ found_change spec.now name.now (texts pattern.now) kind) }
 {
     let pattern = named_columns(alloc, spec.columns.list(), pattern)?;
     Ok(FoundLine {
@@ -214,7 +235,7 @@ fn found_change(
         breaks_names: is_refused_name(spec.ops.list(), name) || pattern.names_twice,
         breaks_known: pattern.has_unknown,
         breaks_range: false,
-        item: Item::Operation(Op {
+        addition: Addition::Operation(Op {
             name: Name::from_slice(alloc, name)?,
             pattern: pattern.numbers,
             kind,
@@ -231,7 +252,7 @@ fn found_mark(kind: LineKind) -> FoundLine
         breaks_names: false,
         breaks_known: false,
         breaks_range: false,
-        item: Item::Nothing,
+        addition: Addition::Nothing,
     }
 }
 
@@ -250,9 +271,15 @@ pub(crate) fn found_line(alloc: Global, spec: &Spec, form: Form<'_>) -> Result<F
         }
         Form::Lock(name, stripes, columns) => found_lock(alloc, spec, name, stripes, columns),
         Form::Place(edge, class) => Ok(found_place(spec, edge, class)),
-        Form::Query(name, pattern, outs) => found_query(alloc, spec, name, pattern, outs),
+        Form::Query {
+            name,
+            pattern,
+            ranges,
+            outs,
+        } => found_query(alloc, spec, name, pattern, ranges, outs),
         Form::Insert(name, pattern) => found_change(alloc, spec, name, pattern, OpKind::Insert),
         Form::Remove(name, pattern) => found_change(alloc, spec, name, pattern, OpKind::Remove),
+        Form::Update(name, pattern) => found_change(alloc, spec, name, pattern, OpKind::Update),
         Form::End => Ok(found_mark(LineKind::End)),
     }
 }

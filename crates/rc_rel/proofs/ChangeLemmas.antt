@@ -5,16 +5,17 @@ use Rattle.std.specs.List.{list_any, filter}
 use Rattle.std.specs.declared.cmp.Ordering.TheVariants.{Less}
 use Rattle.std.specs.Ordering.{nat_cmp}
 use Rattle.rc_tuple.specs.RisingSet.{In, IsRising, put, gather}
-use Rattle.rc_tuple.specs.RisingSetLaws.{get_or_in, put_old, rising_put, not_below_itself}
+use Rattle.rc_tuple.specs.RisingSetLaws.{get_or_in, put_old, rising_put, rising_filter, in_filter, not_below_itself}
 use Rattle.rc_tuple.specs.ColSet.{has}
 use Rattle.rc_tuple.specs.ColSetLaws.{has-gather}
 use Rattle.rc_tuple.specs.Tuple.{Pairs, agree_on, tuple_cmp, tuple_eq}
 use Rattle.rc_tuple.specs.TupleLaws.{tuple_order, same_from_test, test_from_same}
 use Rattle.rc_tuple.specs.RelationLaws.{agree_on-same, satisfies_fewer}
+use Rattle.rc_tuple.specs.Relation.{Satisfies}
 use Rattle.rc_tuple.specs.declared.dep.Dep.{Dep}
 use Rattle.rc_spec.specs.declared.items.OpKind.TheVariants.{Remove}
 use Rattle.rc_spec.specs.declared.call.Reply.TheVariants.{Removed}
-use Rattle.rc_spec.specs.Plain.{Outcome, first_broken_dependency, removed_first, plain_by}
+use Rattle.rc_spec.specs.Plain.{Outcome, first_broken_dependency, removed_first, updated_first, updated_unless, plain_by}
 use Rattle.rc_spec.specs.PlainLaws.{satisfies_from_none, rising_after, in_after_remove}
 use Rattle.rc_rel.specs.KnownDeps.{IsKnownToSatisfy}
 
@@ -67,6 +68,25 @@ removed_at found r others at h lt e =
     ap (λ f. removed_first f r) e
     ∙ ap (λ l. let o : Outcome = record { reply = Removed (get_or r at []); relation = l } in o) (filter-remove r at h lt)
 
+-- the tuples without one, by its place
+pub rising_remove : (r : List Pairs) (at : ℕ) → IsRising tuple_cmp r → at < length r → IsRising tuple_cmp (remove r at)
+rising_remove r at h lt = subst (IsRising tuple_cmp) (filter-remove r at h lt) (rising_filter tuple_cmp (λ u. not (tuple_eq u (get_or r at []))) r h)
+
+pub satisfies_remove : (known : List Dep) (r : List Pairs) (at : ℕ) → IsKnownToSatisfy r known → at < length r → Satisfies (remove r at) known
+satisfies_remove known r at k lt =
+    satisfies_fewer r (remove r at) known
+    (λ u m. (in_filter (λ x. not (tuple_eq x (get_or r at []))) u r (subst (In u) (sym (filter-remove r at k.rising lt)) m)).0) k.satisfies
+
+-- the tuples that agree at the set of a pattern are those that agree on the pattern
+pub agreeing-set : (pattern : List ℕ) (t : Pairs) (r : List Pairs) → filter (agree_on pattern t) r ≡ filter (agree_on (gather nat_cmp pattern) t) r
+agreeing-set pattern t r = ap (λ p. filter p r) (λ i u. (sym (agree_on-same (gather nat_cmp pattern) pattern (has-gather pattern) t u)) i)
+
+pub updated_at : (found r others : List Pairs) (deps : List Dep) (t : Pairs) (at : ℕ) → IsRising tuple_cmp r → at < length r → found ≡ get_or r at [] ∷ others
+    → updated_first found deps t r ≡ updated_unless (first_broken_dependency 1 deps (put tuple_cmp t (remove r at))) (get_or r at []) (put tuple_cmp t (remove r at)) r
+updated_at found r others deps t at h lt e =
+    ap (λ f. updated_first f deps t r) e
+    ∙ ap (λ l. updated_unless (first_broken_dependency 1 deps (put tuple_cmp t l)) (get_or r at []) (put tuple_cmp t l) r) (filter-remove r at h lt)
+
 -- what the code found among the tuples at the set of a pattern
 pub agreement_found : (found : Bool) (set list pattern : List ℕ) (t : Pairs) (rows r : List Pairs) → found ≡ list_any (agree_on set t) rows → set ≡ gather nat_cmp list → list ≡ pattern → rows ≡ r
     → list_any (agree_on pattern t) r ≡ found
@@ -85,8 +105,9 @@ kept_without deps t r h e = record {
 }
 
 -- to leave tuples out keeps what is known
-pub kept_after_remove : (pattern : List ℕ) (deps known : List Dep) (args : Pairs) (r : List Pairs) → IsKnownToSatisfy r known → IsKnownToSatisfy (plain_by Remove pattern deps args r).relation known
+pub kept_after_remove : (pattern : List ℕ) (deps known : List Dep) (args : Pairs) (r : List Pairs) → IsKnownToSatisfy r known
+    → IsKnownToSatisfy (plain_by 0 Remove pattern deps args [] r).relation known
 kept_after_remove pattern deps known args r h = record {
-  rising = rising_after Remove pattern deps args r h.rising;
-  satisfies = satisfies_fewer r (plain_by Remove pattern deps args r).relation known (in_after_remove pattern deps args r) h.satisfies;
+  rising = rising_after 0 Remove pattern deps args [] r h.rising;
+  satisfies = satisfies_fewer r (plain_by 0 Remove pattern deps args [] r).relation known (in_after_remove 0 pattern deps args [] r) h.satisfies;
 }

@@ -8,10 +8,9 @@ use Rattle.rc_tuple.specs.declared.memory.Memory.{Memory}
 use Rattle.rc_spec.specs.declared.call.Reply.{Reply}
 use Rattle.rc_spec.specs.declared.call.Call.{Call}
 use Rattle.rc_spec.specs.declared.items.Op.{Op}
-use Rattle.rc_spec.specs.declared.items.OpKind.TheVariants.{Insert}
 use Rattle.rc_spec.specs.declared.spec.Spec.{Spec}
-use Rattle.rc_spec.specs.Calls.{all_columns, FitsAt}
-use Rattle.rc_spec.specs.CallsLaws.{insert_columns}
+use Rattle.rc_spec.specs.Calls.{all_columns, FitsAt, GivesTuple}
+use Rattle.rc_spec.specs.CallsLaws.{tuple_columns}
 use Rattle.rc_spec.specs.InRange.{IsInRange, AreBelow}
 use Rattle.rc_spec.specs.Plain.{Outcome, plain_by}
 use Rattle.rc_spec.specs.PlainLaws.{each_after}
@@ -33,15 +32,15 @@ same_outcome (Err x) o p new e h = tt
 pub pattern_below : (spec : Spec) (op : Op) → IsInRange spec → In op spec.ops → AreBelow 32 op.pattern
 pattern_below spec op range m = λ n k. let a : n < length spec.columns = (range.known_ops op m).pattern n k in let b : length spec.columns ≤ 32 = range.columns in omega arith
 
--- tuples over all columns are over those of an insert's arguments
-pub over_arguments : (spec : Spec) (call : Call) (op : Op) (r : List Pairs) → FitsAt spec call op → AreOver (all_columns spec) r → op.kind ≡ Insert → AreOver (cols_of call.args) r
-over_arguments spec call op r fits over e = subst (λ (l : List ℕ). AreOver l r) (sym (insert_columns spec call op fits e)) over
+-- tuples over all columns are over those of a tuple that is given
+pub over_arguments : (spec : Spec) (call : Call) (op : Op) (r : List Pairs) → FitsAt spec call op → AreOver (all_columns spec) r → GivesTuple op.kind → AreOver (cols_of call.args) r
+over_arguments spec call op r fits over e = subst (λ (l : List ℕ). AreOver l r) (sym (tuple_columns spec call op fits e)) over
 
 -- the relation after a call is over all columns
 pub over_outcome : (spec : Spec) (call : Call) (op : Op) (r : List Pairs) → FitsAt spec call op → AreOver (all_columns spec) r
-    → AreOver (all_columns spec) (plain_by op.kind op.pattern spec.deps call.args r).relation
+    → AreOver (all_columns spec) (plain_by spec.most_rows op.kind op.pattern spec.deps call.args call.ranges r).relation
 over_outcome spec call op r fits over =
-    in_each (λ (t : Pairs). all_columns spec ≡ cols_of t) (plain_by op.kind op.pattern spec.deps call.args r).relation
-    (each_after (λ (t : Pairs). all_columns spec ≡ cols_of t) op.kind op.pattern spec.deps call.args r
-    (λ e. sym (insert_columns spec call op fits e))
+    in_each (λ (t : Pairs). all_columns spec ≡ cols_of t) (plain_by spec.most_rows op.kind op.pattern spec.deps call.args call.ranges r).relation
+    (each_after (λ (t : Pairs). all_columns spec ≡ cols_of t) spec.most_rows op.kind op.pattern spec.deps call.args call.ranges r
+    (λ e. sym (tuple_columns spec call op fits e))
     (each_in (λ (t : Pairs). all_columns spec ≡ cols_of t) r over))

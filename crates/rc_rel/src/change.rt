@@ -1,9 +1,11 @@
-ghost use Rattle.std.specs.Prelude.{◌≡◌, OnOk, OnErr};
+ghost use Rattle.std.specs.Prelude.{◌≡◌, IfOk, OnOk, OnErr};
 ghost use Rattle.rc_tuple.specs.RisingSet.{IsPlace, put};
-ghost use Rattle.rc_tuple.specs.Tuple.{tuple_cmp};
-ghost use Rattle.rc_rel.specs.Match.{IsFirstMatch};
+ghost use Rattle.rc_tuple.specs.Tuple.{cols_of, tuple_cmp};
+ghost use Rattle.rc_rel.specs.Match.{IsFirstAgreeing, IsFirstMatch};
+ghost use Rattle.rc_rel.specs.Over.{AreOver};
 
-use rc_tuple::{Memory, Tuple};
+use rc_tuple::{ColSet, Memory, Tuple};
+use std::alloc::Global;
 use std::cmp::Ordering;
 
 /// Where the tuple goes among rising tuples; `None` where it is there.
@@ -29,6 +31,30 @@ pub(crate) fn put_tuple(tuples: &mut Vec<Tuple>, tuple: Tuple) -> Result<(), Mem
         tuples.insert(at, tuple)?;
     }
     Ok(())
+}
+
+/// The place of the first tuple that has the same values at the columns.
+pub(crate) fn first_agreeing(tuples: &[Tuple], tuple: &Tuple, cols: ColSet) -> Option<usize>
+    requires { AreOver (cols_of tuple.now) tuples.now }
+    ensures { IsFirstAgreeing cols tuple.now tuples.now result }
+{
+    for (at, other) in tuples.iter().enumerate() {
+        if tuple.agrees_on(other, cols) {
+            return Some(at);
+        }
+    }
+    None
+}
+
+/// Another list of the same tuples.
+pub(crate) fn copy_tuples(alloc: Global, tuples: &[Tuple]) -> Result<Vec<Tuple>, Memory>
+    ensures { IfOk result (λ copy. copy.items ≡ tuples.now) }
+{
+    let mut copy = Vec::new(alloc);
+    for tuple in tuples {
+        copy.push(tuple.copy()?)?;
+    }
+    Ok(copy)
 }
 
 /// The place of the first tuple that matches.

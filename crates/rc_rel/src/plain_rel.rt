@@ -1,17 +1,17 @@
-ghost use Rattle.std.specs.Prelude.{◌≡◌, ◌≤◌, [], length, true, IfOk, OnOk, OnErr};
-ghost use Rattle.rc_tuple.specs.RisingSet.{IsRising};
+ghost use Rattle.std.specs.Prelude.{◌≡◌, ◌<◌, ◌≤◌, [], get_or, length, remove, true, IfOk, OnOk, OnErr};
+ghost use Rattle.rc_tuple.specs.RisingSet.{IsRising, put};
 ghost use Rattle.rc_tuple.specs.Tuple.{tuple_cmp, cols_of};
-ghost use Rattle.rc_spec.specs.declared.items.OpKind.TheVariants.{Insert, Remove};
-ghost use Rattle.rc_spec.specs.Calls.{all_columns, Fits};
+ghost use Rattle.rc_spec.specs.declared.items.OpKind.TheVariants.{Insert, Remove, Update};
+ghost use Rattle.rc_spec.specs.Calls.{all_columns, Fits, GivesTuple};
 ghost use Rattle.rc_spec.specs.InRange.{IsInRange, AreBelow};
-ghost use Rattle.rc_spec.specs.Plain.{plain, plain_by};
+ghost use Rattle.rc_spec.specs.Plain.{first_broken_dependency, plain, plain_by, updated_unless};
 ghost use Rattle.rc_rel.specs.KnownDeps.{IsKnownToSatisfy};
 ghost use Rattle.rc_rel.specs.Over.{AreOver};
 
-use crate::change::{first_match, put_tuple};
+use crate::change::{copy_tuples, first_agreeing, first_match, put_tuple};
 use crate::dependencies::{any_agrees, first_broken_dependency, same_deps};
 use crate::scan::query;
-use rc_spec::{Call, Op, OpKind, Reply, Spec};
+use rc_spec::{Call, Op, OpKind, Range, Reply, Spec};
 use rc_tuple::{ColSet, Cols, Dep, Memory, Tuple};
 use std::alloc::Global;
 use std::marker::Model;
@@ -66,13 +66,7 @@ impl PlainRel {
         ensures over { AreOver (all_columns spec.now) self.new }
     {
         let op = spec.op(call.op);
-        step(
-            &mut self.tuples,
-            &mut self.known,
-            spec.deps.list(),
-            op,
-            &call.args,
-        )
+        step(&mut self.tuples, &mut self.known, spec, op, call)
     }
 }
 
@@ -80,22 +74,27 @@ impl PlainRel {
 fn step(
     tuples: &mut Vec<Tuple>,
     known: &mut Vec<Dep>,
-    deps: &[Dep],
+    spec: &Spec,
     op: &Op,
-    args: &Tuple,
+    call: &Call,
 ) -> Result<Reply, Memory>
-    requires few { length deps.now ≤ 32 }
+    requires few { length spec.now.deps ≤ 32 }
     requires pattern { AreBelow 32 op.now.pattern }
-    requires over { op.now.kind ≡ Insert → AreOver (cols_of args.now) tuples.old.items }
+    requires over { GivesTuple op.now.kind → AreOver (cols_of call.now.args) tuples.old.items }
     requires kept { IsKnownToSatisfy tuples.old.items known.old.items }
-    ensures ok { IfOk result (λ reply. plain_by op.now.kind op.now.pattern deps.now args.now tuples.old.items ≡ record { reply = reply; relation = tuples.new.items }) }
+    ensures ok { IfOk result (λ reply. plain_by spec.now.most_rows op.now.kind op.now.pattern spec.now.deps call.now.args call.now.ranges tuples.old.items ≡ record { reply = reply; relation = tuples.new.items }) }
     ensures err { OnErr result (tuples.new.items ≡ tuples.old.items) }
     ensures kept { IsKnownToSatisfy tuples.new.items known.new.items }
 {
+    let (deps, args) = (spec.deps.list(), &call.args);
     match &op.kind {
-        OpKind::Query { outs } => query(*tuples.allocator(), tuples, outs, args),
+        OpKind::Query { outs, .. } => {
+            let (alloc, ranges) = (*tuples.allocator(), call.ranges.list());
+            query(alloc, spec.most_rows, tuples, outs, args, ranges)
+        }
         OpKind::Insert => insert(tuples, known, deps, &op.pattern, args),
         OpKind::Remove => Ok(remove(tuples, args)),
+        OpKind::Update => update(tuples, known, deps, &op.pattern, args),
     }
 }
 
@@ -111,7 +110,7 @@ fn insert(
     requires pattern { AreBelow 32 pattern.now }
     requires over { AreOver (cols_of args.now) tuples.old.items }
     requires kept { IsKnownToSatisfy tuples.old.items known.old.items }
-    ensures ok { IfOk result (λ reply. plain_by Insert pattern.now deps.now args.now tuples.old.items ≡ record { reply = reply; relation = tuples.new.items }) }
+    ensures ok { IfOk result (λ reply. plain_by 0 Insert pattern.now deps.now args.now [] tuples.old.items ≡ record { reply = reply; relation = tuples.new.items }) }
     ensures err { OnErr result (tuples.new.items ≡ tuples.old.items) }
     ensures kept { IsKnownToSatisfy tuples.new.items known.new.items }
 {
@@ -143,10 +142,61 @@ fn remember(known: &mut Vec<Dep>, deps: &[Dep], is_known: bool) -> Result<(), Me
 /// Takes the first matching tuple out.
 fn remove(tuples: &mut Vec<Tuple>, args: &Tuple) -> Reply
     requires { IsRising tuple_cmp tuples.old.items }
-    ensures { plain_by Remove [] [] args.now tuples.old.items ≡ record { reply = result; relation = tuples.new.items } }
+    ensures { plain_by 0 Remove [] [] args.now [] tuples.old.items ≡ record { reply = result; relation = tuples.new.items } }
 {
     match first_match(tuples, args) {
         Some(at) => Reply::Removed(tuples.remove(at)),
         None => Reply::Absent,
     }
+}
+
+/// Puts the tuple in the place of the first that agrees with it on the pattern, unless it breaks a dependency then.
+fn update(
+    tuples: &mut Vec<Tuple>,
+    known: &mut Vec<Dep>,
+    deps: &[Dep],
+    pattern: &Cols,
+    args: &Tuple,
+) -> Result<Reply, Memory>
+    requires few { length deps.now ≤ 32 }
+    requires pattern { AreBelow 32 pattern.now }
+    requires over { AreOver (cols_of args.now) tuples.old.items }
+    requires kept { IsKnownToSatisfy tuples.old.items known.old.items }
+    ensures ok { IfOk result (λ reply. plain_by 0 Update pattern.now deps.now args.now [] tuples.old.items ≡ record { reply = reply; relation = tuples.new.items }) }
+    ensures err { OnErr result (tuples.new.items ≡ tuples.old.items) }
+    ensures kept { IsKnownToSatisfy tuples.new.items known.new.items }
+{
+    match first_agreeing(tuples, args, ColSet::from_list(pattern.list())) {
+        Some(at) => replace_at(tuples, known, deps, args, at),
+        None => Ok(Reply::Absent),
+    }
+}
+
+/// Puts the tuple in the place of another, by its place in the list, unless it breaks a dependency then.
+fn replace_at(
+    tuples: &mut Vec<Tuple>,
+    known: &mut Vec<Dep>,
+    deps: &[Dep],
+    args: &Tuple,
+    at: usize,
+) -> Result<Reply, Memory>
+    requires at { at < length tuples.old.items }
+    requires few { length deps.now ≤ 32 }
+    requires over { AreOver (cols_of args.now) tuples.old.items }
+    requires kept { IsKnownToSatisfy tuples.old.items known.old.items }
+    ensures ok { IfOk result (λ reply. updated_unless (first_broken_dependency 1 deps.now (put tuple_cmp args.now (remove tuples.old.items at))) (get_or tuples.old.items at [])
+        (put tuple_cmp args.now (remove tuples.old.items at)) tuples.old.items ≡ record { reply = reply; relation = tuples.new.items }) }
+    ensures err { OnErr result (tuples.new.items ≡ tuples.old.items) }
+    ensures kept { IsKnownToSatisfy tuples.new.items known.new.items }
+{
+    let mut rest = copy_tuples(*tuples.allocator(), tuples)?;
+    let old = rest.remove(at);
+    let is_known = same_deps(known, deps);
+    if let Some(number) = first_broken_dependency(&rest, args, deps, is_known) {
+        return Ok(Reply::Conflict(number));
+    }
+    put_tuple(&mut rest, args.copy()?)?;
+    remember(known, deps, is_known)?;
+    *tuples = rest;
+    Ok(Reply::Updated(old))
 }

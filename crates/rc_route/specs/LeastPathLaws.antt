@@ -186,15 +186,6 @@ pub chosen_routes_are_good : ChosenRoutesAreGood
 chosen_routes_are_good spec some a pattern need route w (Least l) = paths_are_good spec some a need route l.path_for
 chosen_routes_are_good spec some a pattern need route w (Pruned none p) = walks_are_good spec a need route w p
 
--- and has few edges
-pub chosen_short : (spec : Spec) → IsInRange spec → IsAdequate spec → (pattern need route : List ℕ) → IsChosenRoute spec pattern need route → length route ≤ 24
-chosen_short spec i a pattern need route (Least l) =
-    let short : length route ≤ length spec.nodes = path_short spec i a 0 (end_of spec 0 route) route l.path_for.from_root in
-    let nodes : length spec.nodes ≤ 16 = i.nodes in omega arith
-chosen_short spec i a pattern need route (Pruned none p) =
-    let short : length route ≤ length spec.edges = walk_short spec need route p in
-    let edges : length spec.edges ≤ 24 = i.edges in omega arith
-
 -- a least path ends at a node that binds the need
 least_binds : (spec : Spec) → IsInRange spec → HasColumnAndNode spec → (pattern need path : List ℕ) → IsLeastPath spec pattern need path → SomeNodeBinds spec need
 least_binds spec i some pattern need p l = (end_of spec 0 p, end_below spec i 0 (end_of spec 0 p) p some.node l.path_for.from_root, l.path_for.binds)

@@ -8,14 +8,5 @@ use Rattle.rc_row.specs.Standings.{KeepsRefusals, turned_away}
 pub refusals_first : (s : Standing) → KeepsRefusals s s
 refusals_first s = (omega arith, λ e. refl)
 
-pub refusals_on : (old mid new : Standing) → KeepsRefusals old mid → KeepsRefusals mid new → KeepsRefusals old new
-refusals_on old mid new one two = (
-  omega (arith, one.0, two.0),
-  λ e.
-      let here : mid.refusals ≡ old.refusals = omega (arith, one.0, two.0, e) in
-      let there : new.refusals ≡ mid.refusals = omega (arith, one.0, two.0, e) in
-      two.1 there ∙ one.1 here,
-)
-
 pub one_refusal_more : (mode : Mode) (old mid : Standing) (p : ℕ) (found : Found) → KeepsRefusals old mid → KeepsRefusals old (turned_away mode mid p found)
 one_refusal_more mode old mid p found kept = (omega (arith, kept.0), λ e. absurd (omega (arith, kept.0, e)))

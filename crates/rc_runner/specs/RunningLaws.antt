@@ -48,9 +48,6 @@ module _ (store : StoreSeen) (call : Call) (reply : Reply) (old new : PassSeen) 
   pub called_number : number_of new ≡ number_of old
   called_number = ap (λ (u : PassState). u.number) m.core ∙ ap (λ (u : PassState). u.number) m.was
 
-pub before_number : (old new : PassSeen) → IsAsBefore old new → number_of new ≡ number_of old
-before_number old new b = ap (λ (u : PassState). u.number) b.core
-
 -- ---- how many entries a pass has
 
 few_thread_calls : (thread : ℕ) (round : List Turn) → length (thread_calls thread round) ≤ length round

@@ -16,9 +16,6 @@ pub set_same : {A B : Type 0} (f : A → B) (all first : List A) (i : ℕ) (a d 
     → map f (set all i a) ≡ map f first
 set_same f all first i a d is same = map-set_same f all i a d is ∙ same
 
-pub heard_none : (s : Stand) → HasHeardAll [] s s
-heard_none s = record { own = refl; seen = omega arith; told = All-nil (λ (o : Stand). o.seen ≤ s.seen) }
-
 -- a caller that has heard the first i of the others hears the one after them
 heard_one : (others : List Stand) (i : ℕ) (o s t u : Stand) → i < length others → o ≡ get_or others i o → HasHeardAll (take i others) s t → HasHeard o t u
     → HasHeardAll (take (i + 1) others) s u
@@ -63,15 +60,3 @@ told_all {A} stand olds news teller i end own told =
       told = All-map (λ (u : Stand). teller.seen ≤ u.seen) stand news
           (subst (λ (l : List A). All (λ (a : A). teller.seen ≤ (stand a).seen) l) (take_all i news whole) told);
     }
-
--- where one has heard all others, and told them, all have learnt what any had seen
-pub all_learnt : (s u : Stand) (olds news : List Stand) → HasHeardAll olds s u → HaveHeard u olds news → HaveLearnt (s ∷ olds) (u ∷ news)
-all_learnt s u olds news h g = record {
-  own = λ j. h.own j ∷ g.own j;
-  seen = All-cons (λ (t : Stand). All (λ (w : Stand). t.seen ≤ w.seen) (u ∷ news)) s olds (each s h.seen)
-      (All-weaker (λ (t : Stand). t.seen ≤ u.seen) (λ (t : Stand). All (λ (w : Stand). t.seen ≤ w.seen) (u ∷ news)) each olds h.told);
-}
-  where
-    each : (t : Stand) → t.seen ≤ u.seen → All (λ (w : Stand). t.seen ≤ w.seen) (u ∷ news)
-    each t l = All-cons (λ (w : Stand). t.seen ≤ w.seen) u news l
-        (All-weaker (λ (w : Stand). u.seen ≤ w.seen) (λ w. t.seen ≤ w.seen) (λ w k. omega (arith, l, k)) news g.told)

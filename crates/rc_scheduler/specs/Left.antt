@@ -1,10 +1,11 @@
 -- That a process which was spawned, and not taken, is left.
-use Rattle.std.specs.Prelude.{◌≡◌, ℕ, ◌<◌, true, List, [], ◌∷◌, Some}
+use Rattle.std.specs.Prelude.{◌≡◌, ◌⊎◌, ℕ, ◌<◌, true, List, [], ◌∷◌, Some}
 use Rattle.std.specs.List.{slice_get}
 use Rattle.rc_tuple.specs.RisingSet.{In}
 use Rattle.rc_tuple.specs.Tuple.{Pairs}
 use Rattle.rc_spec.specs.declared.call.Call.{Call}
-use Rattle.rc_spec.specs.declared.call.Reply.TheVariants.{Inserted, Removed}
+use Rattle.rc_spec.specs.declared.call.Reply.{Reply}
+use Rattle.rc_spec.specs.declared.call.Reply.TheVariants.{Inserted, Removed, Updated}
 use Rattle.rc_rel.specs.declared.entry.Entry.{Entry}
 use Rattle.rc_rel.specs.declared.entry.Placed.{Placed}
 use Rattle.rc_rel.specs.declared.entry.Step.{Step}
@@ -20,9 +21,13 @@ use Rattle.rc_scheduler.specs.Processes.{HasSpawned, IsLeft, process_values}
 abbrev pub IsInsertOf : Call → Entry → Type 0
 IsInsertOf call e = e.steps ≡ record { call = call; reply = Inserted } ∷ []
 
+-- the call that has this reply took the tuple out: it removed it, or put another in its place
+abbrev pub TookOut : Pairs → Reply → Type 0
+TookOut t reply = (reply ≡ Removed t) ⊎ (reply ≡ Updated t)
+
 -- no step of the entry takes the tuple out
 abbrev pub KeepsTuple : Pairs → Entry → Type 0
-KeepsTuple t e = (s : Step) → In s e.steps → s.reply ≡ Removed t → ⊥
+KeepsTuple t e = (s : Step) → In s e.steps → TookOut t s.reply → ⊥
 
 -- a call that spawned a process stands, at its place, among the entries of its session's pass
 abbrev pub SpawnsStand : Type 0

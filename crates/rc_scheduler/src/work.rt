@@ -77,6 +77,8 @@ pub fn schedule<R: Print>(rt: &R, alloc: Global) -> Result<(), Fault> {
     let options = Options {
         passes: PROCESSORS,
         limit: 1 << 48,
+        // A queue is to be told whole.
+        rows: None,
         // Nobody else chooses the values.
         seed: Seed::fixed(),
     };
@@ -162,7 +164,7 @@ fn spawn_all<R: Print>(
 }
 
 /// Runs the processes that are runnable at a processor, a few at most: each sleeps at the other
-/// processor then. There is no update: between the two calls the process isn't there.
+/// processor then. Between the two calls the process isn't there; an update would keep it in sight.
 fn run_all<R: Print>(
     rt: &R,
     operations: Operations,
@@ -208,8 +210,7 @@ fn kill_one<R: Print>(
     Ok(())
 }
 
-/// The name of the first process in a queue, its namespace and number; none where the queue is empty. (A
-/// reply lists 256 rows at most, and of more their number alone: longer queues are to be asked otherwise.)
+/// The name of the first process in a queue, its namespace and number; none where the queue is empty.
 fn first_in(
     session: &mut Session,
     operations: Operations,

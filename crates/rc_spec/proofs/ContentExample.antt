@@ -23,6 +23,7 @@ graph = record {
   classes = record { name = []; stripes = 8; cols = 0 ∷ [] } ∷ [];
   places = record { edge = 0; class = 0 } ∷ record { edge = 1; class = 0 } ∷ record { edge = 2; class = 0 } ∷ [];
   ops = [];
+  most_rows = 256;
 }
 
 abbrev src_dst : ℕ → ℕ → Pairs

@@ -1,5 +1,5 @@
 -- Laws of calls that fit.
-use Rattle.std.proofs.Common.{◌≡◌, List, sym, ap, subst, ◌∙◌, length}
+use Rattle.std.proofs.Common.{◌≡◌, ℕ, List, refl, sym, ap, subst, ◌∙◌, length}
 use Rattle.std.specs.Ordering.{nat_cmp}
 use Rattle.rc_tuple.specs.RisingSet.{gather}
 use Rattle.rc_tuple.specs.RisingSetLaws.{nat_order, gather-rising}
@@ -7,19 +7,26 @@ use Rattle.rc_tuple.specs.ColSetLaws.{rising_range}
 use Rattle.rc_tuple.specs.Tuple.{Pairs, cols_of}
 use Rattle.rc_tuple.specs.Relation.{IsOver, IsRelation}
 use Rattle.rc_spec.specs.declared.items.Op.{Op}
-use Rattle.rc_spec.specs.declared.items.OpKind.TheVariants.{Insert}
+use Rattle.rc_spec.specs.declared.items.OpKind.{OpKind}
+use Rattle.rc_spec.specs.declared.items.OpKind.TheVariants.{Query, Insert, Remove, Update}
 use Rattle.rc_spec.specs.declared.call.Call.{Call}
 use Rattle.rc_spec.specs.declared.spec.Spec.{Spec}
-use Rattle.rc_spec.specs.Calls.{all_columns, value_columns, FitsAt, Fits}
+use Rattle.rc_spec.specs.Calls.{all_columns, value_columns, GivesTuple, FitsAt, Fits}
 use Rattle.rc_spec.specs.Plain.{Outcome, plain}
 use Rattle.rc_spec.specs.PlainLaws.{rising_after, each_after, plain-known}
 use Rattle.rc_spec.specs.Placement.{no_op, op_at}
 use Rattle.std.proofs.lemmas.Option.{get_or_from_slice_get}
 
--- an insert's arguments are over all columns
-pub insert_columns : (spec : Spec) (call : Call) (op : Op) → FitsAt spec call op → op.kind ≡ Insert → cols_of call.args ≡ all_columns spec
-insert_columns spec call op fits e =
-    fits.columns ∙ ap (λ k. gather nat_cmp (value_columns spec op.pattern k)) e
+given_tuple : (spec : Spec) (pattern : List ℕ) (kind : OpKind) → GivesTuple kind → value_columns spec pattern kind ≡ all_columns spec
+given_tuple spec pattern (Query outs ranges) g = absurd g
+given_tuple spec pattern Insert g = refl
+given_tuple spec pattern Remove g = absurd g
+given_tuple spec pattern Update g = refl
+
+-- the arguments of an insert and of an update are over all columns
+pub tuple_columns : (spec : Spec) (call : Call) (op : Op) → FitsAt spec call op → GivesTuple op.kind → cols_of call.args ≡ all_columns spec
+tuple_columns spec call op fits g =
+    fits.columns ∙ ap (gather nat_cmp) (given_tuple spec op.pattern op.kind g)
     ∙ gather-rising nat_cmp nat_order (all_columns spec) (rising_range 0 (length spec.columns))
 
 -- a call that fits, fits the operation with its number
@@ -32,8 +39,8 @@ plain_keeps_relation spec r call fits h =
     let op : Op = fits.0 in
     let at : FitsAt spec call op = fits.1 in
     subst (λ (o : Outcome). IsRelation (all_columns spec) o.relation) (sym (plain-known spec r call op at.known)) (record {
-      rising = rising_after op.kind op.pattern spec.deps call.args r h.rising;
-      each = each_after (IsOver (all_columns spec)) op.kind op.pattern spec.deps call.args r
-          (λ e. record { over = insert_columns spec call op at e; fits = at.tuple.values })
+      rising = rising_after spec.most_rows op.kind op.pattern spec.deps call.args call.ranges r h.rising;
+      each = each_after (IsOver (all_columns spec)) spec.most_rows op.kind op.pattern spec.deps call.args call.ranges r
+          (λ g. record { over = tuple_columns spec call op at g; fits = at.tuple.values })
           h.each;
     })

@@ -17,6 +17,7 @@ use Rattle.rc_spec.specs.Decomposition.{bound, edge_at}
 use Rattle.rc_spec.specs.Fragments.{EdgeRow, edge_row_cmp, edge_numbers, all_rows, row_stripe, rows_on, fragment_of}
 use Rattle.rc_spec.specs.FragmentsLaws.{edge_row_order, IsEdgeRow, in_all_rows, all_rows_in, rising_fragments, in_fragments, fragments_in}
 use Rattle.rc_spec.specs.Placement.{class_of}
+use Rattle.rc_spec.specs.Plain.{without}
 use Rattle.rc_spec.specs.Stripes.{physical_stripe}
 use Rattle.rc_spec.specs.CountedRows.{is_row_at, count_at, with_count, raised, lowered, row_in, all_raised, all_lowered, with_rows, without_rows}
 
@@ -308,10 +309,8 @@ put_count q t (x ∷ r) out = go (tuple_cmp t x) refl (put_count q t r (λ h. ou
         let b : length (filter q (x ∷ r)) ≡ cond (q x) 1 0 + length (filter q r) = more (q x) x (filter q r) in omega arith
 
 -- the relation without a tuple
-abbrev pub without : Pairs → List Pairs → List Pairs
-without t r = filter (λ u. not (tuple_eq u t)) r
 
-without_none : (t : Pairs) (r : List Pairs) → (In t r → ⊥) → without t r ≡ r
+pub without_none : (t : Pairs) (r : List Pairs) → (In t r → ⊥) → without t r ≡ r
 without_none t [] out = refl
 without_none t (x ∷ r) out = go (tuple_eq x t) refl (without_none t r (λ h. out (inr h)))
   where
@@ -445,7 +444,7 @@ fragment_of-remove spec r ns t up inside a p gone = fragment_same spec r (withou
 
 -- ---- what was done, taken back
 
-without_put : (t : Pairs) (r : List Pairs) → IsRising tuple_cmp r → (In t r → ⊥) → without t (put tuple_cmp t r) ≡ r
+pub without_put : (t : Pairs) (r : List Pairs) → IsRising tuple_cmp r → (In t r → ⊥) → without t (put tuple_cmp t r) ≡ r
 without_put t r up out =
     same_rising tuple_cmp tuple_order (without t (put tuple_cmp t r)) r (rising_filter tuple_cmp (λ u. not (tuple_eq u t)) (put tuple_cmp t r) (rising_put tuple_cmp tuple_order t r up)) up
     (λ u m.
@@ -460,7 +459,7 @@ without_put t r up out =
         go true e = absurd (out (subst (λ z. In z r) (same_from_test u t e) m))
         go false e = refl
 
-put_without : (t : Pairs) (r : List Pairs) → IsRising tuple_cmp r → In t r → put tuple_cmp t (without t r) ≡ r
+pub put_without : (t : Pairs) (r : List Pairs) → IsRising tuple_cmp r → In t r → put tuple_cmp t (without t r) ≡ r
 put_without t r up inside =
     same_rising tuple_cmp tuple_order (put tuple_cmp t (without t r)) r (rising_put tuple_cmp tuple_order t (without t r) (rising_filter tuple_cmp (λ u. not (tuple_eq u t)) r up)) up
     (λ u m. elim (in_put tuple_cmp tuple_order u t (without t r) m) [
@@ -472,7 +471,7 @@ put_without t r up inside =
       | inr e ↦ put_old tuple_cmp tuple_order u t (without t r) (filter_in (λ u. not (tuple_eq u t)) u r m (not_from_false (tuple_eq u t) e))
     ])
 
-not_without : (t : Pairs) (r : List Pairs) → In t (without t r) → ⊥
+pub not_without : (t : Pairs) (r : List Pairs) → In t (without t r) → ⊥
 not_without t r m =
     let q : In t r × (not (tuple_eq t t) ≡ true) = in_filter (λ u. not (tuple_eq u t)) t r m in
     false≢true (sym (not-true (tuple_eq t t) q.1) ∙ test_from_same t t refl)

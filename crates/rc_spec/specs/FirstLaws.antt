@@ -21,10 +21,6 @@ pub each_one : {A : Type 0} (P : A → Type 0) (x : A) → P x → EachHolds P (
 each_one P x h y (inl e) = subst P (sym e) h
 each_one P x h y (inr m) = absurd m
 
-pub each_cons : {A : Type 0} (P : A → Type 0) (x : A) (xs : List A) → P x → EachHolds P xs → EachHolds P (x ∷ xs)
-each_cons P x xs h f y (inl e) = subst P (sym e) h
-each_cons P x xs h f y (inr m) = f y m
-
 -- of each image, where it holds so of each element
 pub each_map : {A B : Type 0} (P : B → Type 0) (f : A → B) (xs : List A) → ((x : A) → In x xs → P (f x)) → EachHolds P (map f xs)
 each_map {A} P f xs h y m =

@@ -11,6 +11,7 @@ use Rattle.rc_spec.specs.declared.items.Op.{Op}
 use Rattle.rc_spec.specs.declared.items.OpKind.{OpKind}
 use Rattle.rc_spec.specs.declared.items.OpKind.TheVariants as kinds
 use Rattle.rc_spec.specs.declared.spec.Spec.{Spec}
+use Rattle.rc_spec.specs.Ranges.{range_columns}
 
 -- each number of the list is below the limit
 abbrev pub AreBelow : ℕ → List ℕ → Type 0
@@ -39,14 +40,16 @@ pub record IsPlaceAmong (edges classes : ℕ) (place : Place) : Type 0 where
   pub class : place.class < classes
 
 abbrev pub HasOutsAmong : ℕ → OpKind → Type 0
-HasOutsAmong columns (kinds.Query outs) = AreBelow columns outs
+HasOutsAmong columns (kinds.Query outs ranges) = AreBelow columns outs
 HasOutsAmong columns kinds.Insert = Unit {0}
 HasOutsAmong columns kinds.Remove = Unit {0}
+HasOutsAmong columns kinds.Update = Unit {0}
 
 -- an operation over so many columns
 pub record IsOpAmong (columns : ℕ) (op : Op) : Type 0 where
   pub pattern : AreBelow columns op.pattern
   pub outs : HasOutsAmong columns op.kind
+  pub ranges : AreBelow columns (range_columns op.kind)
 
 -- every count keeps its limit, and every number is one of the specification's own
 pub record IsInRange (spec : Spec) : Type 0 where

@@ -22,6 +22,8 @@ pub mod Order
 pub mod OrderLaws
 pub mod Placement
 pub mod PlacementLaws
+pub mod Ranges
+pub mod RangesLaws
 pub mod Plain
 pub mod PlainLaws
 pub mod RefusalText

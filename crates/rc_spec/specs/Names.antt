@@ -1,5 +1,5 @@
 -- Names, and when the items of a specification are well named.
-use Rattle.std.specs.Prelude.{◌≡◌, ℕ, Bool, true, false, ◌==◌, ◌&&◌, ◌||◌, nat_le, List, [], ◌∷◌, length, map}
+use Rattle.std.specs.Prelude.{◌≡◌, ℕ, Bool, true, false, ◌==◌, ◌&&◌, ◌||◌, nat_le, List, [], ◌∷◌, ◌++◌, length, map}
 use Rattle.std.specs.List.{list_all}
 use Rattle.std.specs.Char.{is_ascii_digit, is_ascii_lowercase}
 use Rattle.rc_tuple.specs.RisingSet.{In, AreDistinct}
@@ -9,6 +9,7 @@ use Rattle.rc_spec.specs.declared.items.Edge.{Edge}
 use Rattle.rc_spec.specs.declared.items.Class.{Class}
 use Rattle.rc_spec.specs.declared.items.Op.{Op}
 use Rattle.rc_spec.specs.declared.spec.Spec.{Spec}
+use Rattle.rc_spec.specs.Ranges.{range_columns}
 
 -- a byte of a name: `a` to `z`, `0` to `9` and `_`
 abbrev pub is_name_byte : ℕ → Bool
@@ -42,11 +43,11 @@ pub record AreNames (names : List (List ℕ)) : Type 0 where
   pub each : (name : List ℕ) → In name names → is_name name ≡ true
   pub distinct : AreDistinct names
 
--- the items of each kind have different names, and no pattern names a column twice
+-- the items of each kind have different names, and no operation's pattern and ranges name a column twice
 pub record IsWellNamed (spec : Spec) : Type 0 where
   pub columns : AreNames (column_names spec.columns)
   pub nodes : AreNames (node_names spec.nodes)
   pub edges : AreNames (edge_names spec.edges)
   pub classes : AreNames (class_names spec.classes)
   pub ops : AreNames (op_names spec.ops)
-  pub patterns : (op : Op) → In op spec.ops → AreDistinct op.pattern
+  pub patterns : (op : Op) → In op spec.ops → AreDistinct (op.pattern ++ range_columns op.kind)

@@ -9,7 +9,8 @@ use Rattle.rc_tuple.specs.Relation.{Follows}
 use Rattle.rc_spec.specs.declared.items.Class.{Class}
 use Rattle.rc_spec.specs.declared.items.EdgeKind.TheVariants.{Hash}
 use Rattle.rc_spec.specs.declared.items.Op.{Op}
-use Rattle.rc_spec.specs.declared.items.OpKind.TheVariants.{Query, Insert, Remove}
+use Rattle.rc_spec.specs.declared.items.OpKind.{OpKind}
+use Rattle.rc_spec.specs.declared.items.OpKind.TheVariants.{Query, Insert, Remove, Update}
 use Rattle.rc_spec.specs.declared.items.Place.{Place}
 use Rattle.rc_spec.specs.declared.spec.Spec.{Spec}
 use Rattle.rc_spec.specs.Calls.{all_columns}
@@ -83,9 +84,16 @@ op_at spec n = get_or spec.ops n no_op
 abbrev pub KeepsO1 : Op → Type 0
 KeepsO1 op = op.kind ≡ Insert → op.pattern ≡ [] → ⊥
 
--- O2: a remove's pattern determines all columns
+-- a remove and an update find their tuple by a key
+abbrev pub FindsByKey : OpKind → Type 0
+FindsByKey (Query outs ranges) = ⊥
+FindsByKey Insert = ⊥
+FindsByKey Remove = Unit {0}
+FindsByKey Update = Unit {0}
+
+-- O2: a remove's or an update's pattern determines all columns
 abbrev pub KeepsO2 : Spec → Op → Type 0
-KeepsO2 spec op = op.kind ≡ Remove → Follows spec.deps (gather nat_cmp op.pattern) (all_columns spec)
+KeepsO2 spec op = FindsByKey op.kind → Follows spec.deps (gather nat_cmp op.pattern) (all_columns spec)
 
 -- some columns, each once
 pub record AreOuts (outs : List ℕ) : Type 0 where
@@ -94,7 +102,7 @@ pub record AreOuts (outs : List ℕ) : Type 0 where
 
 -- O3: a query has outputs, and they are distinct
 abbrev pub KeepsO3 : Op → Type 0
-KeepsO3 op = (outs : List ℕ) → op.kind ≡ Query outs → AreOuts outs
+KeepsO3 op = (outs ranges : List ℕ) → op.kind ≡ Query outs ranges → AreOuts outs
 
 -- the operation keeps its rule
 pub record KeepsO (spec : Spec) (op : Op) : Type 0 where

@@ -2,17 +2,20 @@
 
 ghost use Rattle.std.specs.Prelude.{◌≡◌, ◌↔◌, IfOk, IsTrue};
 
-use crate::RowList;
+use crate::{Ranges, RowList};
 use rc_tuple::{Memory, Tuple};
 
 /// A call of an operation, by its number, with its arguments. A call that fits a specification gives
-/// an insert a value for every column, and a query or a remove one for every pattern column.
+/// an insert or an update a value for every column, and a query or a remove one for every pattern column, and a
+/// query bounds for every range column.
 #[derive(Debug, Drop)]
 pub struct Call {
     /// The place of the operation in its specification's list, from 0.
     pub op: u8,
     /// A value for each column that the call gives.
     pub args: Tuple,
+    /// Bounds for each range column of a query, in their written order.
+    pub ranges: Ranges,
 }
 
 impl Call {
@@ -23,6 +26,7 @@ impl Call {
         Ok(Call {
             op: self.op,
             args: self.args.copy()?,
+            ranges: self.ranges.copy()?,
         })
     }
 }
@@ -30,9 +34,9 @@ impl Call {
 /// What a call answers.
 #[derive(Debug, Drop)]
 pub enum Reply {
-    /// The distinct rows of a query, rising, at most 256.
+    /// The distinct rows of a query, rising, at most as many as the specification says.
     Rows(RowList),
-    /// The number of a query's distinct rows, above 256.
+    /// The number of a query's distinct rows, above what the specification says.
     Many(u64),
     /// The tuple was added.
     Inserted,
@@ -42,6 +46,8 @@ pub enum Reply {
     Conflict(u32),
     /// The matching tuple, which was taken out.
     Removed(Tuple),
+    /// The tuple that was there before, in whose place the new one is.
+    Updated(Tuple),
     /// No tuple matches.
     Absent,
 }
@@ -58,6 +64,7 @@ impl Reply {
             Reply::Present => Ok(Reply::Present),
             Reply::Conflict(dep) => Ok(Reply::Conflict(*dep)),
             Reply::Removed(tuple) => Ok(Reply::Removed(tuple.copy()?)),
+            Reply::Updated(tuple) => Ok(Reply::Updated(tuple.copy()?)),
             Reply::Absent => Ok(Reply::Absent),
         }
     }
@@ -73,6 +80,7 @@ impl Reply {
             (Reply::Present, Reply::Present) => true,
             (Reply::Conflict(dep), Reply::Conflict(other)) => dep == other,
             (Reply::Removed(tuple), Reply::Removed(other)) => tuple.order(other).is_eq(),
+            (Reply::Updated(tuple), Reply::Updated(other)) => tuple.order(other).is_eq(),
             (Reply::Absent, Reply::Absent) => true,
             _ => false,
         }

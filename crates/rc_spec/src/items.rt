@@ -83,12 +83,15 @@ pub struct Place {
 /// What an operation does with the tuples that match its pattern.
 #[derive(Debug, Drop)]
 pub enum OpKind {
-    /// Answers the values of the output columns, in written order.
-    Query { outs: Cols },
+    /// Answers the values of the output columns, in written order, of the tuples whose values of the range columns lie
+    /// between the bounds that a call gives.
+    Query { outs: Cols, ranges: Cols },
     /// Adds a tuple, unless one with the same pattern values is there (put if absent).
     Insert,
     /// Takes the matching tuple out.
     Remove,
+    /// Puts a tuple in the place of the one that has its pattern values.
+    Update,
 }
 
 /// An operation with its pattern columns, in written order.

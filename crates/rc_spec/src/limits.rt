@@ -15,5 +15,5 @@ pub const MAX_CLASSES: usize = 16;
 /// The most physical stripes of all classes together.
 pub const MAX_STRIPES: usize = 256;
 
-/// The most rows that a query answers one by one; of more it answers their number.
-pub const MAX_ROWS: usize = 256;
+/// The most rows that a query answers one by one where nothing else is asked; of more it answers their number.
+pub const MAX_ROWS: u64 = 256;

@@ -3,10 +3,10 @@
 ghost use Rattle.std.specs.Prelude.{◌≡◌, [], IfOk, OnOk, OnErr};
 ghost use Rattle.rc_tuple.specs.RisingSet.{put};
 ghost use Rattle.rc_tuple.specs.Tuple.{pick};
-ghost use Rattle.rc_spec.specs.Plain.{at_most_256, row_cmp};
+ghost use Rattle.rc_spec.specs.Plain.{at_most, row_cmp};
 ghost use Rattle.rc_spec.specs.Rows.{rows_in};
 
-use crate::{MAX_ROWS, Reply, RowList};
+use crate::{Reply, RowList};
 use rc_tuple::{Cols, Memory, Tuple};
 use std::alloc::Global;
 use std::collections::BTreeSet;
@@ -47,12 +47,12 @@ impl QueryRows {
         Ok(())
     }
 
-    /// The reply: the rows where there are at most 256, else their number.
-    pub fn reply(self, alloc: Global) -> Result<Reply, Memory>
-        ensures { IfOk result (λ reply. reply ≡ at_most_256 self) }
+    /// The reply: the rows where there are so many at most, else their number.
+    pub fn reply(self, alloc: Global, most: u64) -> Result<Reply, Memory>
+        ensures { IfOk result (λ reply. reply ≡ at_most most self) }
     {
         let QueryRows { rows } = self;
-        if rows.len() > MAX_ROWS {
+        if rows.len() as u64 > most {
             return Ok(Reply::Many(rows.len() as u64));
         }
         Ok(Reply::Rows(row_list(alloc, rows)?))

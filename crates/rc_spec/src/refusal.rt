@@ -40,7 +40,7 @@ pub enum Rule {
     P6,
     /// An insert's pattern isn't empty.
     O1,
-    /// A remove's pattern determines all columns.
+    /// A remove's or an update's pattern determines all columns.
     O2,
     /// A query has outputs, and they are distinct.
     O3,

@@ -6,7 +6,7 @@ ghost use Rattle.rc_spec.specs.InRange.{IsEdgeAmong, IsInRange, IsOpAmong, IsSet
 ghost use Rattle.rc_spec.specs.Placement.{class_at, class_of, op_at};
 ghost use Rattle.rc_spec.specs.Spec.{empty};
 
-use crate::{Class, Column, Edge, ItemKind, Node, Op, Place};
+use crate::{Class, Column, Edge, ItemKind, MAX_ROWS, Node, Op, Place};
 use rc_tuple::{ColSet, Dep, SmallList};
 use std::alloc::Global;
 
@@ -48,10 +48,13 @@ pub struct Spec {
     pub places: Places,
     /// The declared operations.
     pub ops: Ops,
+    /// The most rows that a query answers one by one; of more it answers their number. It is `MAX_ROWS` unless it is
+    /// set otherwise; the greatest number sets no limit.
+    pub most_rows: u64,
 }
 
 impl Spec {
-    /// The specification with no item, which takes no memory.
+    /// The specification with no item, and at most `MAX_ROWS` rows a reply, which takes no memory.
     pub fn new(alloc: Global) -> Self
         ensures { result ≡ empty }
     {
@@ -63,6 +66,7 @@ impl Spec {
             classes: Classes::new(alloc),
             places: Places::new(alloc),
             ops: Ops::new(alloc),
+            most_rows: MAX_ROWS,
         }
     }
 

@@ -119,14 +119,6 @@ module _ (waits : Bool) (row : RowSeen) (old reserved ran new : PassSeen) (room 
 
 -- ---- what is free
 
--- a pass that is as before is as free
-pub free_before : (store : StoreSeen) (old new : PassSeen) → IsFree store old → IsPassOf store.row new → IsAsBefore old new → IsFree store new
-free_before store old new free of before = record {
-  of_row = of;
-  idle = before.held ∙ free.idle;
-  few = subst (λ (u : PassState). length u.own ≤ store.limit) (sym before.core) free.few;
-}
-
 -- one that had fewer entries than the limit is free after a call
 pub free_made : (store : StoreSeen) (call : Call) (reply : Reply) (old new : PassSeen) (receipt : Receipt) → length (core_of old).own < store.limit
     → IsPassOf store.row new → HasMade store call reply old new receipt → IsFree store new

@@ -1,7 +1,8 @@
 -- The lines of a specification that can be written are read as what they say.
-use Rattle.std.proofs.Common.{◌≡◌, ℕ, ◌<◌, ◌≤◌, ◌^◌, false, List, [], ◌∷◌, ◌++◌, length, map, refl, sym, subst, inl, inr, arith, lit≤}
+use Rattle.std.proofs.Common.{◌≡◌, ℕ, ◌<◌, ◌≤◌, ◌^◌, false, List, [], ◌∷◌, ◌++◌, length, map, refl, sym, ap, ◌∙◌, subst, inl, inr, arith, lit≤, codes}
 use Rattle.std.specs.Prelude.{decimal}
 use Rattle.std.specs.List.{AllByRecursion}
+use Rattle.std.proofs.lemmas.List.Folds.{list_any-append}
 use Rattle.rc_tuple.specs.RisingSet.{In}
 use Rattle.rc_tuple.specs.RisingSetLaws.{in_append, in_map, map_in, get_or_in}
 use Rattle.rc_tuple.specs.declared.dep.Dep.{Dep}
@@ -22,17 +23,21 @@ use Rattle.rc_spec.specs.declared.items.OpKind.{OpKind}
 use Rattle.rc_spec.specs.declared.items.OpKind.TheVariants as kinds
 use Rattle.rc_spec.specs.declared.spec.Spec.{Spec}
 use Rattle.rc_spec.specs.InRange.{AreBelow, HasOutsAmong}
+use Rattle.rc_spec.specs.Ranges.{range_columns}
 use Rattle.rc_spec.specs.Names.{AreNames}
-use Rattle.rc_reader.specs.Forms.{FormText, header_line, end_line}
+use Rattle.rc_reader.specs.declared.version.Version.{Version}
+use Rattle.rc_reader.specs.declared.version.Version.TheVariants.{One, Two}
+use Rattle.rc_reader.specs.TextLimits.{KeepsRanges, IsKindOf, KeepsVersion}
+use Rattle.rc_reader.specs.Forms.{FormText, header_line, end_line, is_arrow}
 use Rattle.rc_reader.specs.Grammar.{is_end}
-use Rattle.rc_text_laws.specs.Written.{column_kind_word, edge_kind_word, words_of_form, HasForm, ArePlain, CanBeLine, written_line, name_at, names_at, column_names_at, column_form_of, dependency_form_of, node_form_of, edge_form_of, class_form_of, place_form_of, operation_form_by, operation_form_of, item_forms, spec_lines, CanBeWritten}
+use Rattle.rc_text_laws.specs.Written.{column_kind_word, edge_kind_word, asked_words, words_of_form, LackArrow, LackColon, MayAsk, HasForm, ArePlain, CanBeLine, written_line, name_at, names_at, column_names_at, column_form_of, dependency_form_of, node_form_of, edge_form_of, class_form_of, place_form_of, operation_form_by, operation_form_of, item_forms, spec_lines, CanBeWritten}
 use Rattle.rc_text_laws.specs.WordsLaws.{plain_name, plain_append}
 use Rattle.rc_text_laws.specs.LineLaws.{line_printable, stripes_of-decimal}
-use Rattle.rc_text_laws.specs.SectionsLaws.{below_map, list_plain, list_lacks_arrow}
+use Rattle.rc_text_laws.specs.SectionsLaws.{neither, below_map, list_plain, list_lacks_arrow, list_lacks_colon}
 
 -- the line of an item is read as what it says, and is not `end`
-pub record IsItemLine (form : FormText) : Type 0 where
-  pub can_be_line : CanBeLine form
+pub record IsItemLine (version : Version) (form : FormText) : Type 0 where
+  pub can_be_line : CanBeLine version form
   pub goes_on : is_end form ≡ false
 
 column_kind_plain : (kind : ColKind) → IsPlain (column_kind_word kind)
@@ -62,20 +67,37 @@ some_names : (names : List (List ℕ)) (ns : List ℕ) → (ns ≡ [] → ⊥) �
 some_names names [] some = absurd (some refl)
 some_names names (n ∷ ns) some = omega arith
 
-item : (form : FormText) → HasForm (words_of_form form) form → ArePlain (words_of_form form) → is_end form ≡ false
-    → IsItemLine form
-item form has_form plain goes_on = record {
+asked_plain : (pattern ranges : List (List ℕ)) → ArePlain pattern → ArePlain ranges
+    → ArePlain (asked_words pattern ranges)
+asked_plain pattern [] plain others = plain
+asked_plain pattern (word ∷ words) plain others =
+    plain_append pattern (codes ":" ∷ word ∷ words) plain ((refl, refl), others)
+
+asked_lack_arrow : (pattern ranges : List (List ℕ)) → LackArrow pattern → LackArrow ranges
+    → LackArrow (asked_words pattern ranges)
+asked_lack_arrow pattern [] lack others = lack
+asked_lack_arrow pattern (word ∷ words) lack others =
+    list_any-append is_arrow pattern (codes ":" ∷ word ∷ words) ∙ neither _ _ lack others
+
+may_ask : (version : Version) (spec : Spec) (pattern : List (List ℕ)) (ranges : List ℕ) → KeepsRanges version ranges
+    → LackColon pattern → MayAsk version pattern (column_names_at spec ranges)
+may_ask One spec pattern ranges none lack = ap (column_names_at spec) none
+may_ask Two spec pattern ranges none lack = lack
+
+item : (version : Version) (form : FormText) → HasForm version (words_of_form version form) form
+    → ArePlain (words_of_form version form) → is_end form ≡ false → IsItemLine version form
+item version form has_form plain goes_on = record {
   can_be_line = record { has_form = has_form; plain = plain };
   goes_on = goes_on;
 }
 
-module _ (spec : Spec) (can : CanBeWritten spec) where
-  column_written : (x : Column) → In x spec.columns → IsItemLine (column_form_of x)
+module _ (version : Version) (spec : Spec) (can : CanBeWritten spec) (keeps : KeepsVersion version spec) where
+  column_written : (x : Column) → In x spec.columns → IsItemLine version (column_form_of x)
   column_written x here =
       let name = own_plain (λ (column : Column). column.name) spec.columns x can.well_named.columns here in
-      item (column_form_of x) refl ((refl, refl), (name, (column_kind_plain x.kind, tt))) refl
+      item version (column_form_of x) refl ((refl, refl), (name, (column_kind_plain x.kind, tt))) refl
 
-  dependency_written : (x : Dep) → In x spec.deps → IsItemLine (dependency_form_of spec x)
+  dependency_written : (x : Dep) → In x spec.deps → IsItemLine version (dependency_form_of spec x)
   dependency_written x here =
       let among = can.in_range.known_deps x here in
       let lacks_left = list_lacks_arrow spec can x.left among.left.below in
@@ -83,24 +105,24 @@ module _ (spec : Spec) (can : CanBeWritten spec) where
       let left = list_plain spec can x.left among.left.below in
       let right = list_plain spec can x.right among.right.below in
       let lists = plain_append (column_names_at spec x.left) _ left ((refl, refl), right) in
-      item (dependency_form_of spec x) (refl, lacks_left, lacks_right, some_names _ x.right among.has_right) ((refl, refl), lists) refl
+      item version (dependency_form_of spec x) (refl, lacks_left, lacks_right, some_names _ x.right among.has_right) ((refl, refl), lists) refl
 
-  node_written : (x : Node) → In x spec.nodes → IsItemLine (node_form_of spec x)
+  node_written : (x : Node) → In x spec.nodes → IsItemLine version (node_form_of spec x)
   node_written x here =
       let name = own_plain (λ (node : Node). node.name) spec.nodes x can.well_named.nodes here in
       let columns = list_plain spec can x.cols (can.in_range.known_nodes x here).below in
-      item (node_form_of spec x) refl ((refl, refl), (name, columns)) refl
+      item version (node_form_of spec x) refl ((refl, refl), (name, columns)) refl
 
-  edge_written : (x : Edge) → In x spec.edges → IsItemLine (edge_form_of spec x)
+  edge_written : (x : Edge) → In x spec.edges → IsItemLine version (edge_form_of spec x)
   edge_written x here =
       let among = can.in_range.known_edges x here in
       let name = own_plain (λ (edge : Edge). edge.name) spec.edges x can.well_named.edges here in
       let from = other_plain (λ (node : Node). node.name) spec.nodes x.from can.well_named.nodes among.from in
       let to = other_plain (λ (node : Node). node.name) spec.nodes x.to can.well_named.nodes among.to in
       let key = list_plain spec can x.key among.key.below in
-      item (edge_form_of spec x) refl ((refl, refl), (name, (from, (to, (edge_kind_plain x.kind, key))))) refl
+      item version (edge_form_of spec x) refl ((refl, refl), (name, (from, (to, (edge_kind_plain x.kind, key))))) refl
 
-  class_written : (x : Class) → In x spec.classes → IsItemLine (class_form_of spec x)
+  class_written : (x : Class) → In x spec.classes → IsItemLine version (class_form_of spec x)
   class_written x here =
       let few = can.limits.stripes x here in
       let large : 65536 ≤ 2 ^ 64 = lit≤ tt in
@@ -108,53 +130,64 @@ module _ (spec : Spec) (can : CanBeWritten spec) where
       let name = own_plain (λ (class : Class). class.name) spec.classes x can.well_named.classes here in
       let number = plain-number (decimal x.stripes) digits in
       let columns = list_plain spec can x.cols (can.in_range.known_classes x here).below in
-      item (class_form_of spec x) (decimal x.stripes, refl, digits, stripes_of-decimal x.stripes few)
+      item version (class_form_of spec x) (decimal x.stripes, refl, digits, stripes_of-decimal x.stripes few)
       ((refl, refl), (name, (number, columns))) refl
 
-  place_written : (x : Place) → In x spec.places → IsItemLine (place_form_of spec x)
+  place_written : (x : Place) → In x spec.places → IsItemLine version (place_form_of spec x)
   place_written x here =
       let among = can.in_range.known_places x here in
       let edge = other_plain (λ (e : Edge). e.name) spec.edges x.edge can.well_named.edges among.edge in
       let class = other_plain (λ (c : Class). c.name) spec.classes x.class can.well_named.classes among.class in
-      item (place_form_of spec x) refl ((refl, refl), (edge, (class, tt))) refl
+      item version (place_form_of spec x) refl ((refl, refl), (edge, (class, tt))) refl
 
   operation_written_by : (name pattern : List ℕ) (kind : OpKind) → IsPlain name
       → AreBelow (length spec.columns) pattern → HasOutsAmong (length spec.columns) kind
-      → IsItemLine (operation_form_by spec name pattern kind)
-  operation_written_by name pattern (kinds.Query outs) plain below outs_below =
-      let lacks_pattern = list_lacks_arrow spec can pattern below in
+      → AreBelow (length spec.columns) (range_columns kind) → IsKindOf version kind
+      → IsItemLine version (operation_form_by spec name pattern kind)
+  operation_written_by name pattern (kinds.Query outs ranges) plain below outs_below ranges_below is_kind =
+      let words = column_names_at spec pattern in
+      let others = column_names_at spec ranges in
+      let lacks_asked = asked_lack_arrow words others (list_lacks_arrow spec can pattern below)
+      (list_lacks_arrow spec can ranges ranges_below) in
       let lacks_outs = list_lacks_arrow spec can outs outs_below in
-      let columns = list_plain spec can pattern below in
+      let may = may_ask version spec words ranges is_kind (list_lacks_colon spec can pattern below) in
+      let asked = asked_plain words others (list_plain spec can pattern below) (list_plain spec can ranges ranges_below) in
       let answers = list_plain spec can outs outs_below in
-      let lists = plain_append (column_names_at spec pattern) _ columns ((refl, refl), answers) in
-      item (operation_form_by spec name pattern (kinds.Query outs)) (refl, lacks_pattern, lacks_outs)
+      let lists = plain_append (asked_words words others) _ asked ((refl, refl), answers) in
+      item version (operation_form_by spec name pattern (kinds.Query outs ranges)) (refl, may, lacks_asked, lacks_outs)
       ((refl, refl), (plain, ((refl, refl), lists))) refl
-  operation_written_by name pattern kinds.Insert plain below outs_below =
+  operation_written_by name pattern kinds.Insert plain below outs_below ranges_below is_kind =
       let columns = list_plain spec can pattern below in
-      item (operation_form_by spec name pattern kinds.Insert) refl ((refl, refl), (plain, ((refl, refl), columns))) refl
-  operation_written_by name pattern kinds.Remove plain below outs_below =
+      item version (operation_form_by spec name pattern kinds.Insert) refl ((refl, refl), (plain, ((refl, refl), columns)))
+      refl
+  operation_written_by name pattern kinds.Remove plain below outs_below ranges_below is_kind =
       let columns = list_plain spec can pattern below in
-      item (operation_form_by spec name pattern kinds.Remove) refl ((refl, refl), (plain, ((refl, refl), columns))) refl
+      item version (operation_form_by spec name pattern kinds.Remove) refl ((refl, refl), (plain, ((refl, refl), columns)))
+      refl
+  operation_written_by name pattern kinds.Update plain below outs_below ranges_below is_kind =
+      let columns = list_plain spec can pattern below in
+      item version (operation_form_by spec name pattern kinds.Update) (refl, is_kind)
+      ((refl, refl), (plain, ((refl, refl), columns))) refl
 
-  operation_written : (x : Op) → In x spec.ops → IsItemLine (operation_form_of spec x)
+  operation_written : (x : Op) → In x spec.ops → IsItemLine version (operation_form_of spec x)
   operation_written x here =
       let among = can.in_range.known_ops x here in
       let name = own_plain (λ (op : Op). op.name) spec.ops x can.well_named.ops here in
-      operation_written_by x.name x.pattern x.kind name among.pattern among.outs
+      operation_written_by x.name x.pattern x.kind name among.pattern among.outs among.ranges (keeps.kinds x here)
 
   in_section : {X : Type 0} (form : X → FormText) (items : List X)
-      → ((x : X) → In x items → IsItemLine (form x)) → (f : FormText) → In f (map form items) → IsItemLine f
+      → ((x : X) → In x items → IsItemLine version (form x)) → (f : FormText) → In f (map form items) → IsItemLine version f
   in_section form items each f m =
       let found = in_map form f items m in
-      subst IsItemLine (sym found.2) (each found.0 found.1)
+      subst (IsItemLine version) (sym found.2) (each found.0 found.1)
 
-  in_sections : (front others : List FormText) → ((f : FormText) → In f front → IsItemLine f)
-      → ((f : FormText) → In f others → IsItemLine f) → (f : FormText) → In f (front ++ others) → IsItemLine f
+  in_sections : (front others : List FormText) → ((f : FormText) → In f front → IsItemLine version f)
+      → ((f : FormText) → In f others → IsItemLine version f) → (f : FormText) → In f (front ++ others) → IsItemLine version f
   in_sections front others first second f m =
       elim (in_append f front others m) [ inl here ↦ first f here | inr later ↦ second f later ]
 
   -- each line between the header and `end`
-  pub items_written : (f : FormText) → In f (item_forms spec) → IsItemLine f
+  pub items_written : (f : FormText) → In f (item_forms spec) → IsItemLine version f
   items_written =
       in_sections _ _ (in_section column_form_of spec.columns column_written)
       (in_sections _ _ (in_section (dependency_form_of spec) spec.deps dependency_written)
@@ -165,29 +198,32 @@ module _ (spec : Spec) (can : CanBeWritten spec) where
       (in_section (operation_form_of spec) spec.ops operation_written))))))
 
 -- lines of plain words are read again where they are printed
-printable_lines : (forms : List FormText) → ((f : FormText) → In f forms → ArePlain (words_of_form f))
-    → AllByRecursion IsPrintable (map written_line forms)
-printable_lines [] each = tt
-printable_lines (form ∷ forms) each =
-    (line_printable form (each form (inl refl)), printable_lines forms (λ f m. each f (inr m)))
+printable_lines : (version : Version) (forms : List FormText)
+    → ((f : FormText) → In f forms → ArePlain (words_of_form version f))
+    → AllByRecursion IsPrintable (map (written_line version) forms)
+printable_lines version [] each = tt
+printable_lines version (form ∷ forms) each =
+    (line_printable version form (each form (inl refl)), printable_lines version forms (λ f m. each f (inr m)))
 
-pub header_plain : ArePlain (words_of_form header_line)
-header_plain = ((refl, refl), ((refl, refl), tt))
+pub header_plain : (version : Version) → ArePlain (words_of_form version header_line)
+header_plain One = ((refl, refl), ((refl, refl), tt))
+header_plain Two = ((refl, refl), ((refl, refl), tt))
 
-pub end_written : CanBeLine end_line
-end_written = record { has_form = refl; plain = ((refl, refl), tt) }
+pub end_written : (version : Version) → CanBeLine version end_line
+end_written version = record { has_form = refl; plain = ((refl, refl), tt) }
 
-items_and_end : (spec : Spec) → CanBeWritten spec → (f : FormText) → In f (item_forms spec ++ end_line ∷ [])
-    → ArePlain (words_of_form f)
-items_and_end spec can f m = elim (in_append f (item_forms spec) (end_line ∷ []) m) [
-  | inl here ↦ (items_written spec can f here).can_be_line.plain
-  | inr (inl same) ↦ subst (λ g. ArePlain (words_of_form g)) (sym same) end_written.plain
+items_and_end : (version : Version) (spec : Spec) → CanBeWritten spec → KeepsVersion version spec → (f : FormText)
+    → In f (item_forms spec ++ end_line ∷ []) → ArePlain (words_of_form version f)
+items_and_end version spec can keeps f m = elim (in_append f (item_forms spec) (end_line ∷ []) m) [
+  | inl here ↦ (items_written version spec can keeps f here).can_be_line.plain
+  | inr (inl same) ↦ subst (λ g. ArePlain (words_of_form version g)) (sym same) (end_written version).plain
   | inr (inr none) ↦ absurd none
 ]
 
-pub spec_lines_printable : (spec : Spec) → CanBeWritten spec → AllByRecursion IsPrintable (spec_lines spec)
-spec_lines_printable spec can = (
-  line_printable header_line header_plain,
-  printable_lines (item_forms spec ++ end_line ∷ [])
-      (items_and_end spec can),
+pub spec_lines_printable : (version : Version) (spec : Spec) → CanBeWritten spec → KeepsVersion version spec
+    → AllByRecursion IsPrintable (spec_lines version spec)
+spec_lines_printable version spec can keeps = (
+  line_printable version header_line (header_plain version),
+  printable_lines version (item_forms spec ++ end_line ∷ [])
+      (items_and_end version spec can keeps),
 )

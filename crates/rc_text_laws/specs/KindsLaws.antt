@@ -12,25 +12,27 @@ use Rattle.rc_spec.specs.Spec.{empty}
 use Rattle.rc_spec.specs.InRange.{IsInRange}
 use Rattle.rc_reader.specs.declared.refusal.LineRule.{LineRule}
 use Rattle.rc_reader.specs.declared.refusal.LineRule.TheVariants.{S3, S4, S5, S6, S7}
-use Rattle.rc_reader.specs.Forms.{FormText, header_line, column_line, dependency_line, node_line, edge_line, lock_line, place_line, query_line, insert_line, remove_line, end_line}
+use Rattle.rc_reader.specs.Forms.{FormText, header_line, column_line, dependency_line, node_line, edge_line, lock_line, place_line, query_line, insert_line, remove_line, update_line, end_line}
+use Rattle.rc_reader.specs.declared.version.Version.{Version}
+use Rattle.rc_reader.specs.Versions.{most_columns}
 use Rattle.rc_reader.specs.Judging.{judged}
 use Rattle.rc_reader.specs.Rules.{breaks_names, breaks_known, breaks_range, breaks_limit, breaks_order, with_line, after_form}
-use Rattle.rc_reader.specs.Sections.{kind_of, is_kind, count_of, limit_of, is_full, is_misplaced}
+use Rattle.rc_reader.specs.Sections.{line_kind, is_kind, line_count, limit_of, is_full, is_misplaced}
 use Rattle.rc_reader.specs.declared.sections.LineKind.{LineKind}
 use Rattle.rc_reader.specs.declared.sections.LineKind.TheVariants as kinds
 use Rattle.rc_reader.specs.Grammar.{After, is_end, ended_by, after_form_of, after_bytes}
 use Rattle.rc_reader.specs.FirstBroken.{AreTaken}
-use Rattle.rc_reader.specs.ReadKeepsLaws.{taken_keeps}
+use Rattle.rc_reader.specs.ReadKeepsLaws.{taken_keeps, taken_keeps_version}
 use Rattle.rc_reader.specs.RulesLaws.{taken}
 use Rattle.rc_reader.specs.InRangeLaws.{in_range-keeps, in_range-empty}
-use Rattle.rc_reader.specs.TextLimits.{KeepsTextLimits}
-use Rattle.rc_reader.specs.TextLimitsLaws.{limits-keeps, limits-empty}
+use Rattle.rc_reader.specs.TextLimits.{KeepsTextLimits, KeepsVersion}
+use Rattle.rc_reader.specs.TextLimitsLaws.{limits-keeps, limits-empty, version-keeps, version-empty}
 use Rattle.rc_text_laws.specs.Kinds.{line_form, Says, kinds_of, how_many, is_one_too_many, is_out_of_order}
 use Rattle.rc_text_laws.specs.LineFormLaws.{told_by_form}
 
 -- how many items of each kind are there behind lines of these kinds
 abbrev Grows : Spec → List LineKind → Spec → Type 0
-Grows spec kinds next = (kind : LineKind) → count_of next kind ≡ count_of spec kind + how_many kind kinds
+Grows spec kinds next = (kind : LineKind) → line_count next kind ≡ line_count spec kind + how_many kind kinds
 
 same : (n : ℕ) → n ≡ n + 0
 same n = omega arith
@@ -40,7 +42,7 @@ pushed xs x = omega (arith, length_push xs x)
 
 -- one line, which is no header and not `end`
 grows_by : (spec : Spec) (form : FormText) → breaks_order spec form ≡ false → is_end form ≡ false
-    → Grows spec (kind_of form ∷ []) (with_line spec form)
+    → Grows spec (line_kind form ∷ []) (with_line spec form)
 grows_by spec header_line order goes_on kind = absurd (false≢true (sym order))
 grows_by spec end_line order goes_on kind = absurd (false≢true (sym goes_on))
 grows_by spec (column_line name of) order goes_on kinds.Column = pushed spec.columns _
@@ -49,9 +51,10 @@ grows_by spec (node_line name columns) order goes_on kinds.Node = pushed spec.no
 grows_by spec (edge_line name from to of key) order goes_on kinds.Edge = pushed spec.edges _
 grows_by spec (lock_line name number columns) order goes_on kinds.Lock = pushed spec.classes _
 grows_by spec (place_line edge class) order goes_on kinds.Place = pushed spec.places _
-grows_by spec (query_line name pattern outs) order goes_on kinds.Operation = pushed spec.ops _
+grows_by spec (query_line name pattern ranges outs) order goes_on kinds.Operation = pushed spec.ops _
 grows_by spec (insert_line name pattern) order goes_on kinds.Operation = pushed spec.ops _
 grows_by spec (remove_line name pattern) order goes_on kinds.Operation = pushed spec.ops _
+grows_by spec (update_line name pattern) order goes_on kinds.Operation = pushed spec.ops _
 grows_by spec form order goes_on kind = same _
 
 -- lines behind a line
@@ -70,26 +73,27 @@ ended_spec form (Ok next) after e =
     let both : record { ended = is_end form; spec = next } ≡ after = cc in
     (ap (λ (a : After). Ok a.spec) both, ap (λ (a : After). a.ended) both)
 
-line_grows : (spec : Spec) (found : Option FormText) (after : After) (kinds : List LineKind) (next : Spec)
-    → after_form_of spec found ≡ Ok after → after.ended ≡ false → Grows after.spec kinds next
-    → Grows spec (cons_option (option_map kind_of found) kinds) next
-line_grows spec None after kinds next e goes_on h = absurd cc
-line_grows spec (Some form) after kinds next e goes_on h =
-    let (taken_form, ended) = ended_spec form (after_form spec form) after e in
-    let step = taken spec form after.spec taken_form in
-    grows_more spec after.spec next (kind_of form) kinds
-    (subst (λ (s : Spec). Grows spec (kind_of form ∷ []) s) step.value (grows_by spec form step.order (ended ∙ goes_on))) h
+module _ (version : Version) where
+  line_grows : (spec : Spec) (found : Option FormText) (after : After) (kinds : List LineKind) (next : Spec)
+      → after_form_of version spec found ≡ Ok after → after.ended ≡ false → Grows after.spec kinds next
+      → Grows spec (cons_option (option_map line_kind found) kinds) next
+  line_grows spec None after kinds next e goes_on h = absurd cc
+  line_grows spec (Some form) after kinds next e goes_on h =
+      let (taken_form, ended) = ended_spec form (after_form version spec form) after e in
+      let step = taken version spec form after.spec taken_form in
+      grows_more spec after.spec next (line_kind form) kinds
+      (subst (λ (s : Spec). Grows spec (line_kind form ∷ []) s) step.value (grows_by spec form step.order (ended ∙ goes_on))) h
 
-lines_grow : (spec : Spec) (lines : List ContentLine) (next : Spec) → AreTaken spec lines next
-    → Grows spec (kinds_of lines) next
-lines_grow spec [] next e = subst (λ (s : Spec). Grows spec [] s) e (λ kind. same (count_of spec kind))
-lines_grow spec (line ∷ lines) next (after, e, goes_on, others) =
-    line_grows spec (line_form line.bytes) after (kinds_of lines) next (sym (told_by_form spec line.bytes) ∙ e) goes_on
-    (lines_grow after.spec lines next others)
+  lines_grow : (spec : Spec) (lines : List ContentLine) (next : Spec) → AreTaken version spec lines next
+      → Grows spec (kinds_of version lines) next
+  lines_grow spec [] next e = subst (λ (s : Spec). Grows spec [] s) e (λ kind. same (line_count spec kind))
+  lines_grow spec (line ∷ lines) next (after, e, goes_on, others) =
+      line_grows spec (line_form version line.bytes) after (kinds_of version lines) next
+      (sym (told_by_form version spec line.bytes) ∙ e) goes_on (lines_grow after.spec lines next others)
 
 -- ---- the tests
 
-none_at_first : (kind : LineKind) → count_of empty kind ≡ 0
+none_at_first : (kind : LineKind) → line_count empty kind ≡ 0
 none_at_first kinds.Header = refl
 none_at_first kind = refl
 
@@ -102,31 +106,34 @@ same_limit x y e = cc
 at_most : (n count most limit : ℕ) → n ≡ count → n ≤ most → some_limit most ≡ some_limit limit → count ≤ limit
 at_most n count most limit e few same_one = omega (arith, e, few, same_limit most limit same_one)
 
-module _ (lines : List ContentLine) (spec : Spec) (taken_lines : AreTaken empty lines spec) where
+module _ (version : Version) (lines : List ContentLine) (spec : Spec) (taken_lines : AreTaken version empty lines spec) where
   -- of each kind there are as many items as lines
-  counted : (kind : LineKind) → count_of spec kind ≡ how_many kind (kinds_of lines)
-  counted kind = omega (arith, lines_grow empty lines spec taken_lines kind, none_at_first kind)
+  counted : (kind : LineKind) → line_count spec kind ≡ how_many kind (kinds_of version lines)
+  counted kind = omega (arith, lines_grow version empty lines spec taken_lines kind, none_at_first kind)
 
-  counts : count_of spec ≡ (λ (kind : LineKind). how_many kind (kinds_of lines))
+  counts : line_count spec ≡ (λ (kind : LineKind). how_many kind (kinds_of version lines))
   counts = fun_ext counted
 
   -- S6 is told by the kinds of the lines before
-  pub limit_told : (form : FormText) → breaks_limit spec form ≡ is_one_too_many (kinds_of lines) (kind_of form)
-  limit_told form = ap (λ count. is_full count (kind_of form)) counts
+  pub limit_told : (form : FormText) → breaks_limit version spec form ≡ is_one_too_many version (kinds_of version lines) (line_kind form)
+  limit_told form = ap (λ count. is_full version count (line_kind form)) counts
 
   -- and so is S7
-  pub order_told : (form : FormText) → breaks_order spec form ≡ is_out_of_order (kinds_of lines) (kind_of form)
-  order_told form = ap (λ count. is_misplaced count (kind_of form)) counts
+  pub order_told : (form : FormText) → breaks_order spec form ≡ is_out_of_order (kinds_of version lines) (line_kind form)
+  order_told form = ap (λ count. is_misplaced count (line_kind form)) counts
 
   in_range : IsInRange spec
-  in_range = taken_keeps IsInRange in_range-keeps empty lines spec taken_lines in_range-empty
+  in_range = taken_keeps IsInRange in_range-keeps version empty lines spec taken_lines in_range-empty
 
   limits : KeepsTextLimits spec
-  limits = taken_keeps KeepsTextLimits limits-keeps empty lines spec taken_lines limits-empty
+  limits = taken_keeps KeepsTextLimits limits-keeps version empty lines spec taken_lines limits-empty
+
+  keeps : KeepsVersion version spec
+  keeps = taken_keeps_version KeepsVersion version-keeps version empty lines spec taken_lines (version-empty version)
 
   -- no kind has more lines than its limit
-  pub few_lines : (kind : LineKind) (limit : ℕ) → limit_of kind ≡ Some limit → how_many kind (kinds_of lines) ≤ limit
-  few_lines kinds.Column limit e = at_most _ _ _ limit (counted kinds.Column) limits.columns e
+  pub few_lines : (kind : LineKind) (limit : ℕ) → limit_of version kind ≡ Some limit → how_many kind (kinds_of version lines) ≤ limit
+  few_lines kinds.Column limit e = at_most _ _ (most_columns version) limit (counted kinds.Column) keeps.columns e
   few_lines kinds.Dependency limit e = at_most _ _ _ limit (counted kinds.Dependency) in_range.deps e
   few_lines kinds.Node limit e = at_most _ _ _ limit (counted kinds.Node) in_range.nodes e
   few_lines kinds.Edge limit e = at_most _ _ _ limit (counted kinds.Edge) in_range.edges e
@@ -163,70 +170,71 @@ ended_rule form (Err broken) rule e = let same_rule : broken ≡ rule =
 abbrev SaysWhat : Option FormText → (FormText → Type 0) → Type 0
 SaysWhat found P = (form : FormText) × (found ≡ Some form) × P form
 
-limit_says : (spec : Spec) (found : Option FormText) → after_form_of spec found ≡ Err S6
-    → SaysWhat found (λ form. breaks_limit spec form ≡ true)
-limit_says spec None e = absurd cc
-limit_says spec (Some form) e = (
-  form,
-  refl,
-  limit_test (breaks_names spec form) (breaks_known spec form) (breaks_range form)
-      (breaks_limit spec form) (breaks_order spec form) (with_line spec form)
-      (ended_rule form (after_form spec form) S6 e),
-)
+module _ (version : Version) where
+  limit_says : (spec : Spec) (found : Option FormText) → after_form_of version spec found ≡ Err S6
+      → SaysWhat found (λ form. breaks_limit version spec form ≡ true)
+  limit_says spec None e = absurd cc
+  limit_says spec (Some form) e = (
+    form,
+    refl,
+    limit_test (breaks_names spec form) (breaks_known spec form) (breaks_range form)
+        (breaks_limit version spec form) (breaks_order spec form) (with_line spec form)
+        (ended_rule form (after_form version spec form) S6 e),
+  )
 
-order_says : (spec : Spec) (found : Option FormText) → after_form_of spec found ≡ Err S7
-    → SaysWhat found (λ form. (breaks_limit spec form ≡ false) × (breaks_order spec form ≡ true))
-order_says spec None e = absurd cc
-order_says spec (Some form) e = (
-  form,
-  refl,
-  order_test (breaks_names spec form) (breaks_known spec form) (breaks_range form)
-      (breaks_limit spec form) (breaks_order spec form) (with_line spec form)
-      (ended_rule form (after_form spec form) S7 e),
-)
+  order_says : (spec : Spec) (found : Option FormText) → after_form_of version spec found ≡ Err S7
+      → SaysWhat found (λ form. (breaks_limit version spec form ≡ false) × (breaks_order spec form ≡ true))
+  order_says spec None e = absurd cc
+  order_says spec (Some form) e = (
+    form,
+    refl,
+    order_test (breaks_names spec form) (breaks_known spec form) (breaks_range form)
+        (breaks_limit version spec form) (breaks_order spec form) (with_line spec form)
+        (ended_rule form (after_form version spec form) S7 e),
+  )
 
-taken_says : (spec : Spec) (found : Option FormText) (after : After) → after_form_of spec found ≡ Ok after
-    → SaysWhat found (λ form. (breaks_limit spec form ≡ false) × (breaks_order spec form ≡ false))
-taken_says spec None after e = absurd cc
-taken_says spec (Some form) after e =
-    let step = taken spec form after.spec (ended_spec form (after_form spec form) after e).0 in
-    (form, refl, (step.limit, step.order))
+  taken_says : (spec : Spec) (found : Option FormText) (after : After) → after_form_of version spec found ≡ Ok after
+      → SaysWhat found (λ form. (breaks_limit version spec form ≡ false) × (breaks_order spec form ≡ false))
+  taken_says spec None after e = absurd cc
+  taken_says spec (Some form) after e =
+      let step = taken version spec form after.spec (ended_spec form (after_form version spec form) after e).0 in
+      (form, refl, (step.limit, step.order))
 
-module _ (lines : List ContentLine) (spec : Spec) (bytes : List ℕ) (taken_lines : AreTaken empty lines spec)
-  where
-    -- a line refused by S6 is one too many
-    pub too_many : after_bytes spec bytes ≡ Err S6
-        → Says bytes (λ form. is_one_too_many (kinds_of lines) (kind_of form) ≡ true)
-    too_many e =
-        let says = limit_says spec (line_form bytes) (sym (told_by_form spec bytes) ∙ e) in
-        (says.0, says.1, sym (limit_told lines spec taken_lines says.0) ∙ says.2)
+module _ (version : Version) (lines : List ContentLine) (spec : Spec) (bytes : List ℕ)
+    (taken_lines : AreTaken version empty lines spec) where
+  -- a line refused by S6 is one too many
+  pub too_many : after_bytes version spec bytes ≡ Err S6
+      → Says version bytes (λ form. is_one_too_many version (kinds_of version lines) (line_kind form) ≡ true)
+  too_many e =
+      let says = limit_says version spec (line_form version bytes) (sym (told_by_form version spec bytes) ∙ e) in
+      (says.0, says.1, sym (limit_told version lines spec taken_lines says.0) ∙ says.2)
 
-    -- one refused by S7 is not, and is out of order
-    pub out_of_order : after_bytes spec bytes ≡ Err S7
-        → Says bytes (λ form. (is_one_too_many (kinds_of lines) (kind_of form) ≡ false)
-        × (is_out_of_order (kinds_of lines) (kind_of form) ≡ true))
-    out_of_order e =
-        let says = order_says spec (line_form bytes) (sym (told_by_form spec bytes) ∙ e) in (
-          says.0,
-          says.1,
-          (
-            sym (limit_told lines spec taken_lines says.0)
-                ∙ says.2.0,
-            sym (order_told lines spec taken_lines says.0) ∙ says.2.1,
-          ),
-        )
+  -- one refused by S7 is not, and is out of order
+  pub out_of_order : after_bytes version spec bytes ≡ Err S7
+      → Says version bytes (λ form. (is_one_too_many version (kinds_of version lines) (line_kind form) ≡ false)
+      × (is_out_of_order (kinds_of version lines) (line_kind form) ≡ true))
+  out_of_order e =
+      let says = order_says version spec (line_form version bytes) (sym (told_by_form version spec bytes) ∙ e) in (
+        says.0,
+        says.1,
+        (
+          sym (limit_told version lines spec taken_lines says.0)
+              ∙ says.2.0,
+          sym (order_told version lines spec taken_lines says.0) ∙ says.2.1,
+        ),
+      )
 
-    -- and one that is taken is neither
-    pub in_its_place : (after : After) → after_bytes spec bytes ≡ Ok after
-        → Says bytes (λ form. (is_one_too_many (kinds_of lines) (kind_of form) ≡ false)
-        × (is_out_of_order (kinds_of lines) (kind_of form) ≡ false))
-    in_its_place after e =
-        let says = taken_says spec (line_form bytes) after (sym (told_by_form spec bytes) ∙ e) in (
-          says.0,
-          says.1,
-          (
-            sym (limit_told lines spec taken_lines says.0)
-                ∙ says.2.0,
-            sym (order_told lines spec taken_lines says.0) ∙ says.2.1,
-          ),
-        )
+  -- and one that is taken is neither
+  pub in_its_place : (after : After) → after_bytes version spec bytes ≡ Ok after
+      → Says version bytes (λ form. (is_one_too_many version (kinds_of version lines) (line_kind form) ≡ false)
+      × (is_out_of_order (kinds_of version lines) (line_kind form) ≡ false))
+  in_its_place after e =
+      let says = taken_says version spec (line_form version bytes) after (sym (told_by_form version spec bytes) ∙ e) in (
+        says.0,
+        says.1,
+        (
+          sym (limit_told version lines spec taken_lines says.0)
+              ∙ says.2.0,
+          sym (order_told version lines spec taken_lines says.0) ∙ says.2.1,
+        ),
+      )

@@ -1,7 +1,7 @@
 -- The report of a legal history shows it: the replies of the plain relation are of the kind of their operations,
 -- with known values.
-use Rattle.std.proofs.Common.{◌≡◌, ℕ, ◌+◌, ◌<◌, ◌≤◌, ◌^◌, Bool, true, false, cond, nat_le, List, [], ◌∷◌, ◌++◌, length, map, inl, inr, Some, refl, sym, ap, ◌∙◌, subst, arith}
-use Rattle.std.specs.Prelude.{filter}
+use Rattle.std.proofs.Common.{◌≡◌, ℕ, ◌+◌, ◌<◌, ◌≤◌, ◌^◌, Bool, true, false, cond, nat_le, List, [], ◌∷◌, ◌++◌, length, map, inl, inr, Option, Some, None, refl, sym, ap, ◌∙◌, subst, arith}
+use Rattle.std.specs.Prelude.{filter, IfSome}
 use Rattle.std.specs.List.{AllByRecursion, list_any, zip}
 use Rattle.std.specs.Ordering.{match_ordering}
 use Rattle.std.specs.declared.cmp.Ordering.{Ordering}
@@ -11,24 +11,26 @@ use Rattle.rc_tuple.specs.RisingSet.{In, put, gather}
 use Rattle.rc_tuple.specs.RisingSetLaws.{number_lists_order, in_gather, in_map, in_filter, each_in, in_each, slice_get_in}
 use Rattle.rc_tuple.specs.ColSetLaws.{in_range_below}
 use Rattle.rc_tuple.specs.Tuple.{Pairs, cols_of, value, pick, matches, agree_on, tuple_cmp}
+use Rattle.rc_spec.specs.Ranges.{is_asked}
+use Rattle.rc_spec.specs.declared.range.Range.{Range}
 use Rattle.rc_tuple.specs.MergeLaws.{value_in}
 use Rattle.rc_tuple.specs.Relation.{breaks}
 use Rattle.rc_tuple.specs.declared.dep.Dep.{Dep}
 use Rattle.rc_spec.specs.Calls.{FitsAt}
 use Rattle.rc_spec.specs.Names.{IsWellNamed}
-use Rattle.rc_spec.specs.CallsLaws.{insert_columns}
+use Rattle.rc_spec.specs.CallsLaws.{tuple_columns}
 use Rattle.rc_spec.specs.InRange.{IsInRange, HasOutsAmong, AreBelow}
-use Rattle.rc_spec.specs.Plain.{plain, plain_by, rows_of, row_cmp, at_most_256, first_broken_dependency, inserted_unless, removed_first}
+use Rattle.rc_spec.specs.Plain.{plain, plain_by, rows_of, row_cmp, at_most, first_broken_dependency, inserted_unless, without, removed_first, updated_unless, updated_first}
 use Rattle.rc_spec.specs.PlainLaws.{each_after, plain-known, plain_grows}
 use Rattle.rc_spec.specs.declared.items.Op.{Op}
 use Rattle.rc_spec.specs.declared.items.OpKind.{OpKind}
-use Rattle.rc_spec.specs.declared.items.OpKind.TheVariants.{Query, Insert, Remove}
+use Rattle.rc_spec.specs.declared.items.OpKind.TheVariants.{Query, Insert, Remove, Update}
 use Rattle.rc_spec.specs.declared.call.Reply.TheVariants.{Rows, Many, Present}
 use Rattle.rc_spec.specs.declared.spec.Spec.{Spec}
 use Rattle.rc_rel.specs.declared.entry.Step.{Step}
 use Rattle.rc_rel.specs.declared.entry.Entry.{Entry}
 use Rattle.rc_rel.specs.History.{IsLegal, IsNumbered, AreLegalFrom, after_steps, steps_of, replay}
-use Rattle.rc_work.specs.Printed.{kind_at}
+use Rattle.rc_work.specs.Printed.{bounds_given, kind_at}
 use Rattle.rc_work.specs.Report.{report}
 use Rattle.rc_text.specs.Lines.{printed_lines}
 use Rattle.rc_text_laws.specs.CutLaws.{AreTexts}
@@ -64,14 +66,13 @@ length-filter-le {A} p (x ∷ xs) = go (p x) (length-filter-le p xs)
     go true h = omega arith
     go false h = omega arith
 
-length-rows_of-le : (outs : List ℕ) (args : Pairs) (r : List Pairs)
-    → length (rows_of outs (filter (matches args) r)) ≤ length r
-length-rows_of-le outs args r =
+length-rows_of-le : (outs : List ℕ) (p : Pairs → Bool) (r : List Pairs) → length (rows_of outs (filter p r)) ≤ length r
+length-rows_of-le outs p r =
     omega (
       arith,
-      length-gather-le row_cmp (map (pick outs) (filter (matches args) r)),
-      length-map (filter (matches args) r) (pick outs),
-      length-filter-le (matches args) r,
+      length-gather-le row_cmp (map (pick outs) (filter p r)),
+      length-map (filter p r) (pick outs),
+      length-filter-le p r,
     )
 
 module _ (spec : Spec) (texts : List (List ℕ)) (ranged : IsInRange spec) where
@@ -99,51 +100,69 @@ module _ (spec : Spec) (texts : List (List ℕ)) (ranged : IsInRange spec) where
       (length-map outs (value t), picked t outs shown.1 (λ c n. subst (In c) (sym shown.0) (in_range_below (length spec.columns) c (below c n)))) in
       subst (RowIsShown spec texts outs) (sym found.2) here
 
-  many_or_rows : (outs : List ℕ) (rows : List (List ℕ)) → length rows < 2 ^ 64
+  many_or_rows : (outs ranges : List ℕ) (most : ℕ) (rows : List (List ℕ)) → length rows < 2 ^ 64
       → AllByRecursion (RowIsShown spec texts outs) rows
-      → IsReplyOf spec texts (Query outs) (at_most_256 rows)
-  many_or_rows outs rows small h = go (nat_le (length rows) 256)
+      → IsReplyOf spec texts (Query outs ranges) (at_most most rows)
+  many_or_rows outs ranges most rows small h = go (nat_le (length rows) most)
     where
-      go : (b : Bool) → IsReplyOf spec texts (Query outs) (cond b (Rows rows) (Many (length rows)))
+      go : (b : Bool) → IsReplyOf spec texts (Query outs ranges) (cond b (Rows rows) (Many (length rows)))
       go true = (small, h)
       go false = small
 
-  broken_small : (n : ℕ) (deps : List Dep) (r : List Pairs) (s : List Pairs) (t : List Pairs)
-      → n + length deps < 2 ^ 64
-      → IsReplyOf spec texts Insert (inserted_unless (first_broken_dependency n deps r) s t).reply
-  broken_small n [] r s t h = tt
-  broken_small n (d ∷ deps) r s t h =
-      go (breaks r d) (broken_small (n + 1) deps r s t (omega arith))
+  -- a dependency that is broken has a number of 64 bits
+  broken_small : (n : ℕ) (deps : List Dep) (r : List Pairs) → n + length deps < 2 ^ 64
+      → IfSome (first_broken_dependency n deps r) (λ j. j < 2 ^ 64)
+  broken_small n [] r h = tt
+  broken_small n (d ∷ deps) r h = go (breaks r d) (broken_small (n + 1) deps r (omega arith))
     where
-      go : (b : Bool)
-          → IsReplyOf spec texts Insert (inserted_unless (first_broken_dependency (n + 1) deps r) s t).reply
-          → IsReplyOf spec texts Insert (inserted_unless (cond b (Some n) (first_broken_dependency (n + 1) deps r)) s t).reply
+      go : (b : Bool) → IfSome (first_broken_dependency (n + 1) deps r) (λ j. j < 2 ^ 64)
+          → IfSome (cond b (Some n) (first_broken_dependency (n + 1) deps r)) (λ j. j < 2 ^ 64)
       go true k = omega arith
       go false k = k
 
-  reply_shown : (kind : OpKind) (pattern : List ℕ) (args : Pairs) (r : List Pairs)
+  inserted_shown : (broken : Option ℕ) (s t : List Pairs) → IfSome broken (λ j. j < 2 ^ 64)
+      → IsReplyOf spec texts Insert (inserted_unless broken s t).reply
+  inserted_shown None s t small = tt
+  inserted_shown (Some n) s t small = small
+
+  updated_shown : (broken : Option ℕ) (old : Pairs) (s t : List Pairs) → IfSome broken (λ j. j < 2 ^ 64)
+      → IsRowShown spec texts old → IsReplyOf spec texts Update (updated_unless broken old s t).reply
+  updated_shown None old s t small shown = shown
+  updated_shown (Some n) old s t small shown = small
+
+  reply_shown : (most : ℕ) (kind : OpKind) (pattern : List ℕ) (args : Pairs) (ranges : List Range) (r : List Pairs)
       → HasOutsAmong (length spec.columns) kind → length r < 2 ^ 64
       → ((t : Pairs) → In t r → IsRowShown spec texts t)
-      → IsReplyOf spec texts kind (plain_by kind pattern spec.deps args r).reply
-  reply_shown (Query outs) pattern args r outs_below small each =
-      let ts = filter (matches args) r in
-      many_or_rows outs (rows_of outs ts) (omega (arith, length-rows_of-le outs args r))
-      (in_each (RowIsShown spec texts outs) (rows_of outs ts) (row_shown outs ts outs_below (λ t m. each t (in_filter (matches args) t r m).0)))
-  reply_shown Insert pattern args r outs_below small each = go (list_any (agree_on pattern args) r)
+      → IsReplyOf spec texts kind (plain_by most kind pattern spec.deps args ranges r).reply
+  reply_shown most (Query outs cols) pattern args ranges r outs_below small each =
+      let ts = filter (is_asked args ranges) r in
+      many_or_rows outs cols most (rows_of outs ts) (omega (arith, length-rows_of-le outs (is_asked args ranges) r))
+      (in_each (RowIsShown spec texts outs) (rows_of outs ts) (row_shown outs ts outs_below (λ t m. each t (in_filter (is_asked args ranges) t r m).0)))
+  reply_shown most Insert pattern args ranges r outs_below small each = go (list_any (agree_on pattern args) r)
     where
       go : (b : Bool)
           → IsReplyOf spec texts Insert (cond b (record { reply = Present; relation = r }) (inserted_unless (first_broken_dependency 1 spec.deps (put tuple_cmp args r)) (put tuple_cmp args r) r)).reply
       go true = tt
       go false =
-          broken_small 1 spec.deps (put tuple_cmp args r) (put tuple_cmp args r) r
-          (omega (arith, ranged.deps))
-  reply_shown Remove pattern args r outs_below small each =
+          inserted_shown (first_broken_dependency 1 spec.deps (put tuple_cmp args r)) (put tuple_cmp args r) r
+          (broken_small 1 spec.deps (put tuple_cmp args r) (omega (arith, ranged.deps)))
+  reply_shown most Remove pattern args ranges r outs_below small each =
       go (filter (matches args) r) (λ t m. each t (in_filter (matches args) t r m).0)
     where
       go : (ts : List Pairs) → ((t : Pairs) → In t ts → IsRowShown spec texts t)
           → IsReplyOf spec texts Remove (removed_first ts r).reply
       go [] f = tt
       go (t ∷ ts) f = f t (inl refl)
+  reply_shown most Update pattern args ranges r outs_below small each =
+      go (filter (agree_on pattern args) r) (λ t m. each t (in_filter (agree_on pattern args) t r m).0)
+    where
+      go : (ts : List Pairs) → ((t : Pairs) → In t ts → IsRowShown spec texts t)
+          → IsReplyOf spec texts Update (updated_first ts spec.deps args r).reply
+      go [] f = tt
+      go (old ∷ others) f =
+          let s = put tuple_cmp args (without old r) in
+          updated_shown (first_broken_dependency 1 spec.deps s) old s r
+          (broken_small 1 spec.deps s (omega (arith, ranged.deps))) (f old (inl refl))
 
 -- ---- histories
 
@@ -155,6 +174,7 @@ pub record IsCallShown (spec : Spec) (texts : List (List ℕ)) (entry : Entry) :
   pub op : Op
   pub fits : FitsAt spec step.call op
   pub args : AreShown spec texts step.call.args
+  pub bounds : AreShown spec texts (bounds_given step.call.ranges)
 
 module _ (spec : Spec) (texts : List (List ℕ)) (ranged : IsInRange spec) where
   legal_entries : (r : List Pairs) (history : List Entry)
@@ -175,14 +195,14 @@ module _ (spec : Spec) (texts : List (List ℕ)) (ranged : IsInRange spec) where
       (ranged.known_ops op (slice_get_in spec.ops step.call.op op called.fits.known)).outs in
       let reply : IsReplyOf spec texts op.kind step.reply =
       subst (IsReplyOf spec texts op.kind) (sym (turns.0 ∙ ap (λ o. o.reply) known))
-      (reply_shown spec texts ranged op.kind op.pattern step.call.args r outs (omega arith) each) in
+      (reply_shown spec texts ranged spec.most_rows op.kind op.pattern step.call.args step.call.ranges r outs (omega arith) each) in
       let each' : (t : Pairs) → In t (plain spec r step.call).relation → IsRowShown spec texts t =
       subst (λ o. (t : Pairs) → In t o.relation → IsRowShown spec texts t) (sym known)
-      (each_after (IsRowShown spec texts) op.kind op.pattern spec.deps step.call.args r (λ k. (insert_columns spec step.call op called.fits k, called.args)) each) in
+      (each_after (IsRowShown spec texts) spec.most_rows op.kind op.pattern spec.deps step.call.args step.call.ranges r (λ k. (tuple_columns spec step.call op called.fits k, called.args)) each) in
       let rest = legal_entries (plain spec r step.call).relation history each'
       (omega (arith, plain_grows spec r step.call)) h.1 turns.1 in
       let shown_step : IsStepShown spec texts step =
-      record { op = op; fits = called.fits; args = called.args; reply = reply } in
+      record { op = op; fits = called.fits; args = called.args; bounds = called.bounds; reply = reply } in
       let shown : IsEntryShown spec texts e =
       record { small = called.small; step = step; one = called.one; shown = shown_step } in (
         (shown, rest.0),

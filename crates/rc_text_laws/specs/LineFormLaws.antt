@@ -7,7 +7,8 @@ use Rattle.rc_text.specs.NextWordLaws.{found_comes}
 use Rattle.rc_text.specs.Words.{WordText, plain_text, quoted_text, Found, next_word_of, found_then, words_within, words_of, IsPlain, IsWritable, ComesNext}
 use Rattle.rc_text.specs.declared.words.WordFault.{WordFault}
 use Rattle.rc_spec.specs.declared.spec.Spec.{Spec}
-use Rattle.rc_reader.specs.Forms.{FormText, dependency_line, lock_line, query_line, onto_words, all_plain, plain_words_of, form_of}
+use Rattle.rc_reader.specs.declared.version.Version.{Version}
+use Rattle.rc_reader.specs.Forms.{FormText, dependency_line, lock_line, query_line, update_line, onto_words, all_plain, plain_words_of, form_of}
 use Rattle.rc_reader.specs.FormsLaws.{IsFormed, formed}
 use Rattle.rc_reader.specs.Grammar.{after_form_of, after_words, after_bytes}
 use Rattle.rc_text_laws.specs.Written.{stripes_word, words_of_form, HasForm, DifferInNumber, ArePlain, CanBeLine, written_line}
@@ -19,15 +20,15 @@ use Rattle.rc_text_laws.specs.LineLaws.{stripes_of-decimal}
 
 -- ---- what a line does
 
-by_words : (spec : Spec) (found : Option (List (List ℕ)))
-    → after_words spec found ≡ after_form_of spec (option_and_then form_of found)
-by_words spec None = refl
-by_words spec (Some words) = refl
+by_words : (version : Version) (spec : Spec) (found : Option (List (List ℕ)))
+    → after_words version spec found ≡ after_form_of version spec (option_and_then (form_of version) found)
+by_words version spec None = refl
+by_words version spec (Some words) = refl
 
-pub told_by_form : (spec : Spec) (bytes : List ℕ)
-    → after_bytes spec bytes ≡ after_form_of spec (line_form bytes)
+pub told_by_form : (version : Version) (spec : Spec) (bytes : List ℕ)
+    → after_bytes version spec bytes ≡ after_form_of version spec (line_form version bytes)
 unfolding after_bytes
-told_by_form spec bytes = by_words spec (plain_words_of bytes)
+told_by_form version spec bytes = by_words version spec (plain_words_of bytes)
 
 -- ---- the words of a line that has none quoted and no fault can be written plain
 
@@ -71,86 +72,90 @@ stripes_plain : (number : Option ℕ) → unwrap_or number 0 ≤ 65535 → IsPla
 stripes_plain None few = (refl, refl)
 stripes_plain (Some n) few = plain-number (decimal n) (is_number-decimal n (small n few))
 
-lock_has_form : (name : List ℕ) (number : Option ℕ) (columns : List (List ℕ)) → unwrap_or number 0 ≤ 65535
-    → HasForm (words_of_form (lock_line name number columns)) (lock_line name number columns)
-lock_has_form name None columns few = (codes "65536", refl, refl, refl)
-lock_has_form name (Some n) columns few =
-    (decimal n, refl, is_number-decimal n (small n few), stripes_of-decimal n few)
+module _ (version : Version) where
+  lock_has_form : (name : List ℕ) (number : Option ℕ) (columns : List (List ℕ)) → unwrap_or number 0 ≤ 65535
+      → HasForm version (words_of_form version (lock_line name number columns)) (lock_line name number columns)
+  lock_has_form name None columns few = (codes "65536", refl, refl, refl)
+  lock_has_form name (Some n) columns few =
+      (decimal n, refl, is_number-decimal n (small n few), stripes_of-decimal n few)
 
--- the words of a form have it
-has_own : (words : List (List ℕ)) (form : FormText) → IsFormed form → HasForm words form
-    → HasForm (words_of_form form) form
-has_own words (dependency_line left right) formed has = (refl, has.1, has.2, has.3)
-has_own words (lock_line name number columns) formed has = lock_has_form name number columns formed
-has_own words (query_line name pattern outs) formed has = (refl, has.1, has.2)
-has_own words form formed has = refl
+  -- the words of a form have it
+  has_own : (words : List (List ℕ)) (form : FormText) → IsFormed version form → HasForm version words form
+      → HasForm version (words_of_form version form) form
+  has_own words (dependency_line left right) formed has = (refl, has.1, has.2, has.3)
+  has_own words (lock_line name number columns) formed has = lock_has_form name number columns formed
+  has_own words (query_line name pattern ranges outs) formed has = (refl, has.1, has.2, has.3)
+  has_own words (update_line name pattern) formed has = (refl, has.1)
+  has_own words form formed has = refl
 
-lock_plain : (name digits : List ℕ) (number : Option ℕ) (columns : List (List ℕ)) → unwrap_or number 0 ≤ 65535
-    → ArePlain (codes "lock" ∷ name ∷ digits ∷ columns)
-    → ArePlain (words_of_form (lock_line name number columns))
-lock_plain name digits number columns few plain =
-    (plain.0, (plain.1.0, (stripes_plain number few, plain.1.1.1)))
+  lock_plain : (name digits : List ℕ) (number : Option ℕ) (columns : List (List ℕ)) → unwrap_or number 0 ≤ 65535
+      → ArePlain (codes "lock" ∷ name ∷ digits ∷ columns)
+      → ArePlain (words_of_form version (lock_line name number columns))
+  lock_plain name digits number columns few plain =
+      (plain.0, (plain.1.0, (stripes_plain number few, plain.1.1.1)))
 
-own_plain : (words : List (List ℕ)) (form : FormText) → IsFormed form → HasForm words form → ArePlain words
-    → ArePlain (words_of_form form)
-own_plain words (dependency_line left right) formed has plain = subst ArePlain has.0 plain
-own_plain words (lock_line name number columns) formed (digits, has, are_digits, value) plain =
-    lock_plain name digits number columns formed (subst ArePlain has plain)
-own_plain words (query_line name pattern outs) formed has plain = subst ArePlain has.0 plain
-own_plain words form formed has plain = subst ArePlain has plain
+  own_plain : (words : List (List ℕ)) (form : FormText) → IsFormed version form → HasForm version words form → ArePlain words
+      → ArePlain (words_of_form version form)
+  own_plain words (dependency_line left right) formed has plain = subst ArePlain has.0 plain
+  own_plain words (lock_line name number columns) formed (digits, has, are_digits, value) plain =
+      lock_plain name digits number columns formed (subst ArePlain has plain)
+  own_plain words (query_line name pattern ranges outs) formed has plain = subst ArePlain has.0 plain
+  own_plain words (update_line name pattern) formed has plain = subst ArePlain has.0 plain
+  own_plain words form formed has plain = subst ArePlain has plain
 
--- the words of a form that is read are read as it
-pub words_anew : (words : List (List ℕ)) (form : FormText) → form_of words ≡ Some form
-    → form_of (words_of_form form) ≡ Some form
-words_anew words form e = form_read (words_of_form form) form
-    (has_own words form (formed words form e) ((form_is_exact words form).0 e))
+  -- the words of a form that is read are read as it
+  pub words_anew : (words : List (List ℕ)) (form : FormText) → form_of version words ≡ Some form
+      → form_of version (words_of_form version form) ≡ Some form
+  words_anew words form e = form_read version (words_of_form version form) form
+      (has_own words form (formed version words form e) ((form_is_exact version words form).0 e))
 
--- and so is their line
-pub line_of_form : (form : FormText) → CanBeLine form → line_form (written_line form) ≡ Some form
-line_of_form form can_be_line =
-    ap (option_and_then form_of) (line_is_read (words_of_form form) can_be_line.plain)
-    ∙ form_read (words_of_form form) form can_be_line.has_form
+  -- and so is their line
+  pub line_of_form : (form : FormText) → CanBeLine version form → line_form version (written_line version form) ≡ Some form
+  line_of_form form can_be_line =
+      ap (option_and_then (form_of version)) (line_is_read (words_of_form version form) can_be_line.plain)
+      ∙ form_read version (words_of_form version form) form can_be_line.has_form
 
-read_can_be_line : (found : Option (List (List ℕ))) (form : FormText) → PlainIf found
-    → option_and_then form_of found ≡ Some form → CanBeLine form
-read_can_be_line None form plain e = absurd cc
-read_can_be_line (Some words) form plain e =
-    let is_formed = formed words form e in
-    let has = (form_is_exact words form).0 e in
-    record { has_form = has_own words form is_formed has; plain = own_plain words form is_formed has plain }
+  read_can_be_line : (found : Option (List (List ℕ))) (form : FormText) → PlainIf found
+      → option_and_then (form_of version) found ≡ Some form → CanBeLine version form
+  read_can_be_line None form plain e = absurd cc
+  read_can_be_line (Some words) form plain e =
+      let is_formed = formed version words form e in
+      let has = (form_is_exact version words form).0 e in
+      record { has_form = has_own words form is_formed has; plain = own_plain words form is_formed has plain }
 
--- some line says it exactly where it can be one
-pub some_line : (form : FormText) → ((bytes : List ℕ) × (line_form bytes ≡ Some form)) ↔ CanBeLine form
-some_line form = (
-  (λ read. read_can_be_line (plain_words_of read.0) form (words_plain read.0) read.1),
-  (λ can_be_line. (written_line form, line_of_form form can_be_line)),
-)
+  -- some line says it exactly where it can be one
+  pub some_line : (form : FormText) → ((bytes : List ℕ) × (line_form version bytes ≡ Some form)) ↔ CanBeLine version form
+  some_line form = (
+    (λ read. read_can_be_line (plain_words_of read.0) form (words_plain read.0) read.1),
+    (λ can_be_line. (written_line version form, line_of_form form can_be_line)),
+  )
 
-pub line_anew : (bytes : List ℕ) (form : FormText) → line_form bytes ≡ Some form
-    → line_form (written_line form) ≡ Some form
-line_anew bytes form e = line_of_form form ((some_line form).0 (bytes, e))
+  pub line_anew : (bytes : List ℕ) (form : FormText) → line_form version bytes ≡ Some form
+      → line_form version (written_line version form) ≡ Some form
+  line_anew bytes form e = line_of_form form ((some_line form).0 (bytes, e))
 
--- ---- the form tells the words
+  -- ---- the form tells the words
 
-same_words : (words others : List (List ℕ)) (form : FormText) → HasForm words form → HasForm others form
-    → (words ≡ others) ⊎ DifferInNumber words others
-same_words words others (dependency_line left right) has had = inl (has.0 ∙ sym had.0)
-same_words words others (lock_line name number columns) (digits, has, are_digits, value)
-    (others_digits, had, others_are_digits, others_value) = inr (record {
-      name = name;
-      first = digits;
-      second = others_digits;
-      columns = columns;
-      words_are = has;
-      others_are = had;
-      first_number = are_digits;
-      second_number = others_are_digits;
-      same = value ∙ sym others_value;
-    })
-same_words words others (query_line name pattern outs) has had = inl (has.0 ∙ sym had.0)
-same_words words others form has had = inl (has ∙ sym had)
+  same_words : (words others : List (List ℕ)) (form : FormText) → HasForm version words form → HasForm version others form
+      → (words ≡ others) ⊎ DifferInNumber words others
+  same_words words others (dependency_line left right) has had = inl (has.0 ∙ sym had.0)
+  same_words words others (lock_line name number columns) (digits, has, are_digits, value)
+      (others_digits, had, others_are_digits, others_value) = inr (record {
+        name = name;
+        first = digits;
+        second = others_digits;
+        columns = columns;
+        words_are = has;
+        others_are = had;
+        first_number = are_digits;
+        second_number = others_are_digits;
+        same = value ∙ sym others_value;
+      })
+  same_words words others (query_line name pattern ranges outs) has had = inl (has.0 ∙ sym had.0)
+  same_words words others (update_line name pattern) has had = inl (has.0 ∙ sym had.0)
+  same_words words others form has had = inl (has ∙ sym had)
 
-pub form_tells_words : (words others : List (List ℕ)) (form : FormText) → form_of words ≡ Some form
-    → form_of others ≡ Some form → (words ≡ others) ⊎ DifferInNumber words others
-form_tells_words words others form e f =
-    same_words words others form ((form_is_exact words form).0 e) ((form_is_exact others form).0 f)
+  pub form_tells_words : (words others : List (List ℕ)) (form : FormText) → form_of version words ≡ Some form
+      → form_of version others ≡ Some form → (words ≡ others) ⊎ DifferInNumber words others
+  form_tells_words words others form e f =
+      same_words words others form ((form_is_exact version words form).0 e) ((form_is_exact version others form).0 f)

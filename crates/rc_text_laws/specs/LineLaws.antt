@@ -9,53 +9,59 @@ use Rattle.std.proofs.lemmas.Str.Parse.{IsNumeralModel, numerals_by_value}
 use Rattle.rc_text.specs.Lines.{IsPrintable}
 use Rattle.rc_text.specs.Numbers.{number_of}
 use Rattle.rc_spec.specs.declared.spec.Spec.{Spec}
-use Rattle.rc_reader.specs.Forms.{FormText, header_line, column_line, dependency_line, node_line, edge_line, lock_line, place_line, query_line, insert_line, remove_line, end_line, stripes_of}
+use Rattle.rc_reader.specs.Forms.{FormText, header_line, column_line, dependency_line, node_line, edge_line, lock_line, place_line, query_line, insert_line, remove_line, update_line, end_line, stripes_of}
+use Rattle.rc_reader.specs.Versions.{version_word}
+use Rattle.rc_reader.specs.declared.version.Version.{Version}
 use Rattle.rc_reader.specs.Rules.{after_form}
 use Rattle.rc_reader.specs.Grammar.{ended_by, after_bytes}
 use Rattle.rc_reader.specs.RulesLaws.{IsSpecLineTaken}
-use Rattle.rc_text_laws.specs.Written.{column_kind_word, edge_kind_word, stripes_word, words_of_form, ArePlain, CanBeLine, written_line}
+use Rattle.rc_text_laws.specs.Written.{column_kind_word, edge_kind_word, stripes_word, asked_words, words_of_form, ArePlain, CanBeLine, written_line}
 use Rattle.rc_text_laws.specs.WordsLaws.{line_is_read, line_is_printable}
 use Rattle.rc_text_laws.specs.FormOfLaws.{form_read}
 
--- a line that can be written is read as what it says
-pub line_read : (spec : Spec) (form : FormText) → CanBeLine form
-    → after_bytes spec (written_line form) ≡ ended_by form (after_form spec form)
-unfolding after_bytes
-line_read spec form can_be_line =
-    rw (
-      line_is_read (words_of_form form) can_be_line.plain,
-      form_read (words_of_form form) form
-          can_be_line.has_form,
-    ) refl
+module _ (version : Version) where
+  -- a line that can be written is read as what it says
+  pub line_read : (spec : Spec) (form : FormText) → CanBeLine version form
+      → after_bytes version spec (written_line version form) ≡ ended_by form (after_form version spec form)
+  unfolding after_bytes
+  line_read spec form can_be_line =
+      rw (
+        line_is_read (words_of_form version form) can_be_line.plain,
+        form_read version (words_of_form version form) form
+            can_be_line.has_form,
+      ) refl
 
--- it is a content line
-pub line_printable : (form : FormText) → ArePlain (words_of_form form) → IsPrintable (written_line form)
-line_printable header_line plain = line_is_printable (codes "relc") (codes "1" ∷ []) plain (refl, refl)
-line_printable (column_line name kind) plain =
-    line_is_printable (codes "col") (name ∷ column_kind_word kind ∷ []) plain (refl, refl)
-line_printable (dependency_line left right) plain =
-    line_is_printable (codes "fd") (left ++ codes "->" ∷ right) plain (refl, refl)
-line_printable (node_line name columns) plain =
-    line_is_printable (codes "node") (name ∷ columns) plain (refl, refl)
-line_printable (edge_line name from to kind key) plain =
-    line_is_printable (codes "edge") (name ∷ from ∷ to ∷ edge_kind_word kind ∷ key) plain (refl, refl)
-line_printable (lock_line name number columns) plain =
-    line_is_printable (codes "lock") (name ∷ stripes_word number ∷ columns) plain (refl, refl)
-line_printable (place_line edge class) plain =
-    line_is_printable (codes "place") (edge ∷ class ∷ []) plain (refl, refl)
-line_printable (query_line name pattern outs) plain =
-    line_is_printable (codes "op") (name ∷ codes "query" ∷ (pattern ++ codes "->" ∷ outs)) plain (refl, refl)
-line_printable (insert_line name pattern) plain =
-    line_is_printable (codes "op") (name ∷ codes "insert" ∷ pattern) plain (refl, refl)
-line_printable (remove_line name pattern) plain =
-    line_is_printable (codes "op") (name ∷ codes "remove" ∷ pattern) plain (refl, refl)
-line_printable end_line plain = line_is_printable (codes "end") [] plain (refl, refl)
+  -- it is a content line
+  pub line_printable : (form : FormText) → ArePlain (words_of_form version form) → IsPrintable (written_line version form)
+  line_printable header_line plain = line_is_printable (codes "relc") (version_word version ∷ []) plain (refl, refl)
+  line_printable (column_line name kind) plain =
+      line_is_printable (codes "col") (name ∷ column_kind_word kind ∷ []) plain (refl, refl)
+  line_printable (dependency_line left right) plain =
+      line_is_printable (codes "fd") (left ++ codes "->" ∷ right) plain (refl, refl)
+  line_printable (node_line name columns) plain =
+      line_is_printable (codes "node") (name ∷ columns) plain (refl, refl)
+  line_printable (edge_line name from to kind key) plain =
+      line_is_printable (codes "edge") (name ∷ from ∷ to ∷ edge_kind_word kind ∷ key) plain (refl, refl)
+  line_printable (lock_line name number columns) plain =
+      line_is_printable (codes "lock") (name ∷ stripes_word number ∷ columns) plain (refl, refl)
+  line_printable (place_line edge class) plain =
+      line_is_printable (codes "place") (edge ∷ class ∷ []) plain (refl, refl)
+  line_printable (query_line name pattern ranges outs) plain =
+      line_is_printable (codes "op") (name ∷ codes "query" ∷ (asked_words pattern ranges ++ codes "->" ∷ outs)) plain
+      (refl, refl)
+  line_printable (insert_line name pattern) plain =
+      line_is_printable (codes "op") (name ∷ codes "insert" ∷ pattern) plain (refl, refl)
+  line_printable (remove_line name pattern) plain =
+      line_is_printable (codes "op") (name ∷ codes "remove" ∷ pattern) plain (refl, refl)
+  line_printable (update_line name pattern) plain =
+      line_is_printable (codes "op") (name ∷ codes "update" ∷ pattern) plain (refl, refl)
+  line_printable end_line plain = line_is_printable (codes "end") [] plain (refl, refl)
 
--- a line that breaks no rule is taken
-pub takes : (spec : Spec) (form : FormText) (next : Spec) → IsSpecLineTaken spec form next
-    → after_form spec form ≡ Ok next
-takes spec form next taken = rw (taken.names, taken.known, taken.range, taken.limit, taken.order)
-    (ap (λ (s : Spec). Ok s) taken.value)
+  -- a line that breaks no rule is taken
+  pub takes : (spec : Spec) (form : FormText) (next : Spec) → IsSpecLineTaken version spec form next
+      → after_form version spec form ≡ Ok next
+  takes spec form next taken = rw (taken.names, taken.known, taken.range, taken.limit, taken.order)
+      (ap (λ (s : Spec). Ok s) taken.value)
 
 own : IsNumeralModel (λ ds. list_all is_ascii_digit ds ≡ true) number_of
 own = numerals_by_value _ (search rules)

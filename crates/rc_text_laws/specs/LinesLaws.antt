@@ -8,9 +8,9 @@ use Rattle.rc_spec.specs.Calls.{all_columns}
 use Rattle.rc_spec.specs.declared.items.ColKind.{ColKind}
 use Rattle.rc_spec.specs.declared.items.ColKind.TheVariants.{Num, Text}
 use Rattle.rc_spec.specs.declared.items.OpKind.{OpKind}
-use Rattle.rc_spec.specs.declared.items.OpKind.TheVariants.{Query, Insert, Remove}
+use Rattle.rc_spec.specs.declared.items.OpKind.TheVariants.{Query, Insert, Remove, Update}
 use Rattle.rc_spec.specs.declared.call.Reply.{Reply}
-use Rattle.rc_spec.specs.declared.call.Reply.TheVariants.{Rows, Many, Inserted, Present, Conflict, Removed, Absent}
+use Rattle.rc_spec.specs.declared.call.Reply.TheVariants.{Rows, Many, Inserted, Present, Conflict, Removed, Updated, Absent}
 use Rattle.rc_spec.specs.declared.spec.Spec.{Spec}
 use Rattle.rc_work.specs.Printed.{spaced, words_text, kind_at, value_text, pair_text, pair_words, row_text}
 use Rattle.rc_text_laws.specs.CutLaws.{Ends, AreTexts, decimal_one, rank_one}
@@ -157,20 +157,22 @@ rows_one spec texts outs (x ∷ rows) (y ∷ others) good h k e =
 
 -- a reply of the kind of its operation, with known values
 abbrev pub IsReplyOf : Spec → List (List ℕ) → OpKind → Reply → Type 0
-IsReplyOf spec texts (Query outs) (Rows rows) =
+IsReplyOf spec texts (Query outs ranges) (Rows rows) =
     (length rows < 2 ^ 64) × AllByRecursion (RowIsShown spec texts outs) rows
-IsReplyOf spec texts (Query outs) (Many n) = n < 2 ^ 64
-IsReplyOf spec texts (Query outs) Inserted = ⊥
-IsReplyOf spec texts (Query outs) Present = ⊥
-IsReplyOf spec texts (Query outs) (Conflict j) = ⊥
-IsReplyOf spec texts (Query outs) (Removed t) = ⊥
-IsReplyOf spec texts (Query outs) Absent = ⊥
+IsReplyOf spec texts (Query outs ranges) (Many n) = n < 2 ^ 64
+IsReplyOf spec texts (Query outs ranges) Inserted = ⊥
+IsReplyOf spec texts (Query outs ranges) Present = ⊥
+IsReplyOf spec texts (Query outs ranges) (Conflict j) = ⊥
+IsReplyOf spec texts (Query outs ranges) (Removed t) = ⊥
+IsReplyOf spec texts (Query outs ranges) (Updated t) = ⊥
+IsReplyOf spec texts (Query outs ranges) Absent = ⊥
 IsReplyOf spec texts Insert (Rows rows) = ⊥
 IsReplyOf spec texts Insert (Many n) = ⊥
 IsReplyOf spec texts Insert Inserted = Unit {0}
 IsReplyOf spec texts Insert Present = Unit {0}
 IsReplyOf spec texts Insert (Conflict j) = j < 2 ^ 64
 IsReplyOf spec texts Insert (Removed t) = ⊥
+IsReplyOf spec texts Insert (Updated t) = ⊥
 IsReplyOf spec texts Insert Absent = ⊥
 IsReplyOf spec texts Remove (Rows rows) = ⊥
 IsReplyOf spec texts Remove (Many n) = ⊥
@@ -178,4 +180,13 @@ IsReplyOf spec texts Remove Inserted = ⊥
 IsReplyOf spec texts Remove Present = ⊥
 IsReplyOf spec texts Remove (Conflict j) = ⊥
 IsReplyOf spec texts Remove (Removed t) = (cols_of t ≡ all_columns spec) × AreShown spec texts t
+IsReplyOf spec texts Remove (Updated t) = ⊥
 IsReplyOf spec texts Remove Absent = Unit {0}
+IsReplyOf spec texts Update (Rows rows) = ⊥
+IsReplyOf spec texts Update (Many n) = ⊥
+IsReplyOf spec texts Update Inserted = ⊥
+IsReplyOf spec texts Update Present = ⊥
+IsReplyOf spec texts Update (Conflict j) = j < 2 ^ 64
+IsReplyOf spec texts Update (Removed t) = ⊥
+IsReplyOf spec texts Update (Updated t) = (cols_of t ≡ all_columns spec) × AreShown spec texts t
+IsReplyOf spec texts Update Absent = Unit {0}

@@ -6,18 +6,16 @@ use Rattle.std.proofs.lemmas.List.{length-append}
 use Rattle.std.proofs.lemmas.List.Elements.{recursion_from_All}
 use Rattle.std.proofs.lemmas.List.Sums.{sum_by-cons}
 use Rattle.rc_tuple.specs.RisingSetLaws.{each_in, in_map}
-use Rattle.rc_tuple.specs.Tuple.{IsTuple}
-use Rattle.rc_tuple.specs.TupleLaws.{IsTuple-tuple_of}
 use Rattle.rc_text.specs.Lines.{TextPlace}
 use Rattle.rc_spec.specs.InRange.{IsInRange}
 use Rattle.rc_spec.specs.Names.{IsWellNamed}
 use Rattle.rc_spec.specs.declared.spec.Spec.{Spec}
 use Rattle.rc_values.specs.Ranks.{text_cmp, texts_of}
 use Rattle.rc_work.specs.declared.work.Work.{Work}
-use Rattle.rc_work.specs.CallColumns.{columns_at}
-use Rattle.rc_work.specs.CallColumnsLaws.{columns_at-below, columns_at-distinct, columns_at-few}
+use Rattle.rc_work.specs.CallColumnsLaws.{written_columns_at-few}
+use Rattle.rc_work.specs.CallLaws.{IsOfWords-call_of}
 use Rattle.rc_work.specs.Drafts.{IsRawTurn}
-use Rattle.rc_work.specs.Fitting.{RoundsFit}
+use Rattle.rc_work.specs.Fitting.{IsOfWords, RoundsFit}
 use Rattle.rc_work.specs.Limits.{KeepsLimits, KnowsTexts}
 use Rattle.rc_work.specs.Ranking.{texts_in_value, texts_in_turn, texts_in_round, texts_in, ranked_value, ranked_turn, ranked_round, ranked_rounds, work_of, work_reading}
 use Rattle.rc_work.specs.RankingLaws.{KeepsLimits-work_with, RoundsFit-ranked_rounds, KnowsTexts-work_of}
@@ -40,18 +38,18 @@ length-values (value ∷ values) are =
 
 module _ (spec : Spec) (named : IsWellNamed spec) (ranged : IsInRange spec) where
   length-turn : (turn : WorkTurn) → IsRawTurn spec turn → HasReadValues turn
-      → length (texts_in_turn turn) ≤ 32
+      → length (texts_in_turn turn) ≤ 64
   length-turn turn is read =
       omega (
         arith,
         length-values turn.values (recursion_from_All IsReadValue turn.values read),
         is.count,
-        columns_at-few spec turn.op named ranged,
+        written_columns_at-few spec turn.op named ranged,
       )
 
   length-round : (round : List WorkTurn) → AllByRecursion (IsRawTurn spec) round
       → AllByRecursion HasReadValues round
-      → length (texts_in_round round) ≤ 32 * length round
+      → length (texts_in_round round) ≤ 64 * length round
   length-round [] are read = omega arith
   length-round (turn ∷ round) are read =
       omega (
@@ -63,7 +61,7 @@ module _ (spec : Spec) (named : IsWellNamed spec) (ranged : IsInRange spec) wher
 
   length-texts_in : (rounds : List (List WorkTurn))
       → AllByRecursion (AllByRecursion (IsRawTurn spec)) rounds → HaveReadValues rounds
-      → length (texts_in rounds) ≤ 32 * sum_by length rounds
+      → length (texts_in rounds) ≤ 64 * sum_by length rounds
   length-texts_in [] are read = omega arith
   length-texts_in (round ∷ rounds) are read =
       omega (
@@ -76,29 +74,28 @@ module _ (spec : Spec) (named : IsWellNamed spec) (ranged : IsInRange spec) wher
 
   -- ---- calls fit
 
-  turn_tuple : (texts : List (List ℕ)) (turn : WorkTurn) → length texts < 2 ^ 64
-      → HasReadValues turn → IsTuple (ranked_turn spec texts turn).call.args
-  turn_tuple texts turn few read =
-      IsTuple-tuple_of (columns_at spec turn.op) (map (ranked_value texts) turn.values)
-      (columns_at-distinct spec turn.op named) (columns_at-below spec turn.op ranged)
+  turn_words : (texts : List (List ℕ)) (turn : WorkTurn) → length texts < 2 ^ 64
+      → HasReadValues turn → IsOfWords (ranked_turn spec texts turn).call
+  turn_words texts turn few read =
+      IsOfWords-call_of spec turn.op (map (ranked_value texts) turn.values) named ranged
       (λ n m.
       let found = in_map (ranked_value texts) n turn.values m in
       subst (λ v. v < 2 ^ 64) (sym found.2)
       ((each_in IsReadValue turn.values (recursion_from_All IsReadValue turn.values read) found.0 found.1).small texts few))
 
-  round_tuples : (texts : List (List ℕ)) (round : List WorkTurn) → length texts < 2 ^ 64
+  round_words : (texts : List (List ℕ)) (round : List WorkTurn) → length texts < 2 ^ 64
       → AllByRecursion HasReadValues round
-      → AllByRecursion (λ turn. IsTuple turn.call.args) (ranked_round spec texts round)
-  round_tuples texts [] few read = tt
-  round_tuples texts (turn ∷ round) few read =
-      (turn_tuple texts turn few read.0, round_tuples texts round few read.1)
+      → AllByRecursion (λ turn. IsOfWords turn.call) (ranked_round spec texts round)
+  round_words texts [] few read = tt
+  round_words texts (turn ∷ round) few read =
+      (turn_words texts turn few read.0, round_words texts round few read.1)
 
-  rounds_tuples : (texts : List (List ℕ)) (rounds : List (List WorkTurn)) → length texts < 2 ^ 64
+  rounds_words : (texts : List (List ℕ)) (rounds : List (List WorkTurn)) → length texts < 2 ^ 64
       → HaveReadValues rounds
-      → AllByRecursion (AllByRecursion (λ turn. IsTuple turn.call.args)) (ranked_rounds spec texts rounds)
-  rounds_tuples texts [] few read = tt
-  rounds_tuples texts (round ∷ rounds) few read =
-      (round_tuples texts round few read.0, rounds_tuples texts rounds few read.1)
+      → AllByRecursion (AllByRecursion (λ turn. IsOfWords turn.call)) (ranked_rounds spec texts rounds)
+  rounds_words texts [] few read = tt
+  rounds_words texts (round ∷ rounds) few read =
+      (round_words texts round few read.0, rounds_words texts rounds few read.1)
 
   draft_fits : (draft : WorkDraft) → IsReadDraft spec draft
       → RoundsFit spec (work_of spec draft).rounds
@@ -112,7 +109,7 @@ module _ (spec : Spec) (named : IsWellNamed spec) (ranged : IsInRange spec) wher
         read.is.few_calls,
       ) in
       RoundsFit-ranked_rounds spec texts draft.rounds named read.is.turns
-      (rounds_tuples texts draft.rounds few read.values)
+      (rounds_words texts draft.rounds few read.values)
 
 -- what holds of a workload that is read behind a specification
 pub record IsReadWork (spec : Spec) (work : Work) : Type 0 where

@@ -5,9 +5,9 @@ use Rattle.std.specs.List.{zip}
 use Rattle.std.specs.Fmt.{decimal}
 use Rattle.std.proofs.lemmas.List.{append_cancel_left}
 use Rattle.rc_spec.specs.declared.items.OpKind.{OpKind}
-use Rattle.rc_spec.specs.declared.items.OpKind.TheVariants.{Query, Insert, Remove}
+use Rattle.rc_spec.specs.declared.items.OpKind.TheVariants.{Query, Insert, Remove, Update}
 use Rattle.rc_spec.specs.declared.call.Reply.{Reply}
-use Rattle.rc_spec.specs.declared.call.Reply.TheVariants.{Rows, Many, Inserted, Present, Conflict, Removed, Absent}
+use Rattle.rc_spec.specs.declared.call.Reply.TheVariants.{Rows, Many, Inserted, Present, Conflict, Removed, Updated, Absent}
 use Rattle.rc_spec.specs.declared.spec.Spec.{Spec}
 use Rattle.rc_work.specs.Printed.{spaced, row_text, reply_words, outs_of}
 use Rattle.rc_text_laws.specs.CutLaws.{AreTexts, decimal_one, decimal_not}
@@ -24,11 +24,11 @@ module _ (spec : Spec) (texts : List (List ℕ)) (good : AreTexts texts) where
   row_words : List ℕ → List (List ℕ) → List ℕ
   row_words outs rows = spaced (map (λ row. row_text spec texts (zip outs row)) rows)
 
-  query_one : (outs : List ℕ) (r s : Reply) → IsReplyOf spec texts (Query outs) r
-      → IsReplyOf spec texts (Query outs) s
+  query_one : (outs ranges : List ℕ) (r s : Reply) → IsReplyOf spec texts (Query outs ranges) r
+      → IsReplyOf spec texts (Query outs ranges) s
       → spaced (reply_words spec texts outs r) ≡ spaced (reply_words spec texts outs s) → r ≡ s
   unfolding row_words
-  query_one outs (Rows rows) (Rows others) h k e =
+  query_one outs ranges (Rows rows) (Rows others) h k e =
       let line = tail_of 32 32 (decimal (length rows) ++ 32 ∷ (codes "rows" ++ row_words outs rows))
       (decimal (length others) ++ 32 ∷ (codes "rows" ++ row_words outs others)) e in
       let both = decimal_one (length rows) (length others)
@@ -36,27 +36,29 @@ module _ (spec : Spec) (texts : List (List ℕ)) (good : AreTexts texts) where
       (32 ∷ (codes "rows" ++ row_words outs others)) h.0 k.0 (inl refl) (inl refl) line in
       ap Rows
       (rows_one spec texts outs rows others good h.1 k.1 (append_cancel_left (32 ∷ codes "rows") (row_words outs rows) (row_words outs others) both.1))
-  query_one outs (Rows rows) (Many n) h k e =
+  query_one outs ranges (Rows rows) (Many n) h k e =
       absurd
       (decimal_not (length rows) (32 ∷ (codes "rows" ++ row_words outs rows)) 109 (97 ∷ 110 ∷ 121 ∷ 32 ∷ (decimal n ++ [])) h.0 (inl refl) refl
       (tail_of 32 32 (decimal (length rows) ++ 32 ∷ (codes "rows" ++ row_words outs rows)) (109 ∷ 97 ∷ 110 ∷ 121 ∷ 32 ∷ (decimal n ++ [])) e))
-  query_one outs (Many n) (Rows rows) h k e =
+  query_one outs ranges (Many n) (Rows rows) h k e =
       absurd
       (decimal_not (length rows) (32 ∷ (codes "rows" ++ row_words outs rows)) 109 (97 ∷ 110 ∷ 121 ∷ 32 ∷ (decimal n ++ [])) k.0 (inl refl) refl
       (tail_of 32 32 (decimal (length rows) ++ 32 ∷ (codes "rows" ++ row_words outs rows)) (109 ∷ 97 ∷ 110 ∷ 121 ∷ 32 ∷ (decimal n ++ [])) (sym e)))
-  query_one outs (Many n) (Many m) h k e =
+  query_one outs ranges (Many n) (Many m) h k e =
       ap Many
       (decimal_one n m [] [] h k tt tt (append_cancel_left (32 ∷ 109 ∷ 97 ∷ 110 ∷ 121 ∷ 32 ∷ []) (decimal n ++ []) (decimal m ++ []) e)).0
-  query_one outs Inserted s h k e = absurd h
-  query_one outs Present s h k e = absurd h
-  query_one outs (Conflict j) s h k e = absurd h
-  query_one outs (Removed t) s h k e = absurd h
-  query_one outs Absent s h k e = absurd h
-  query_one outs r Inserted h k e = absurd k
-  query_one outs r Present h k e = absurd k
-  query_one outs r (Conflict j) h k e = absurd k
-  query_one outs r (Removed t) h k e = absurd k
-  query_one outs r Absent h k e = absurd k
+  query_one outs ranges Inserted s h k e = absurd h
+  query_one outs ranges Present s h k e = absurd h
+  query_one outs ranges (Conflict j) s h k e = absurd h
+  query_one outs ranges (Removed t) s h k e = absurd h
+  query_one outs ranges (Updated t) s h k e = absurd h
+  query_one outs ranges Absent s h k e = absurd h
+  query_one outs ranges r Inserted h k e = absurd k
+  query_one outs ranges r Present h k e = absurd k
+  query_one outs ranges r (Conflict j) h k e = absurd k
+  query_one outs ranges r (Removed t) h k e = absurd k
+  query_one outs ranges r (Updated t) h k e = absurd k
+  query_one outs ranges r Absent h k e = absurd k
 
   insert_one : (r s : Reply) → IsReplyOf spec texts Insert r → IsReplyOf spec texts Insert s
       → spaced (reply_words spec texts [] r) ≡ spaced (reply_words spec texts [] s) → r ≡ s
@@ -74,10 +76,12 @@ module _ (spec : Spec) (texts : List (List ℕ)) (good : AreTexts texts) where
   insert_one (Rows rows) s h k e = absurd h
   insert_one (Many n) s h k e = absurd h
   insert_one (Removed t) s h k e = absurd h
+  insert_one (Updated t) s h k e = absurd h
   insert_one Absent s h k e = absurd h
   insert_one r (Rows rows) h k e = absurd k
   insert_one r (Many n) h k e = absurd k
   insert_one r (Removed t) h k e = absurd k
+  insert_one r (Updated t) h k e = absurd k
   insert_one r Absent h k e = absurd k
 
   remove_one : (r s : Reply) → IsReplyOf spec texts Remove r → IsReplyOf spec texts Remove s
@@ -93,17 +97,46 @@ module _ (spec : Spec) (texts : List (List ℕ)) (good : AreTexts texts) where
   remove_one Inserted s h k e = absurd h
   remove_one Present s h k e = absurd h
   remove_one (Conflict j) s h k e = absurd h
+  remove_one (Updated t) s h k e = absurd h
   remove_one r (Rows rows) h k e = absurd k
   remove_one r (Many n) h k e = absurd k
   remove_one r Inserted h k e = absurd k
   remove_one r Present h k e = absurd k
   remove_one r (Conflict j) h k e = absurd k
+  remove_one r (Updated t) h k e = absurd k
+
+  update_one : (r s : Reply) → IsReplyOf spec texts Update r → IsReplyOf spec texts Update s
+      → spaced (reply_words spec texts [] r) ≡ spaced (reply_words spec texts [] s) → r ≡ s
+  update_one (Updated t) (Updated u) h k e =
+      ap Updated
+      (row_one spec texts t u [] [] good (h.0 ∙ sym k.0) h.1 k.1 (append_cancel_left (32 ∷ (codes "updated" ++ 32 ∷ [])) (row_text spec texts t ++ []) (row_text spec texts u ++ []) e)).0
+  update_one (Conflict i) (Conflict j) h k e =
+      ap Conflict
+      (decimal_one i j [] [] h k tt tt (append_cancel_left (32 ∷ (codes "conflict" ++ 32 ∷ [])) (decimal i ++ []) (decimal j ++ []) e)).0
+  update_one Absent Absent h k e = refl
+  update_one (Updated t) (Conflict j) h k e = absurd (differ 117 99 _ _ (λ f. omega arith) e)
+  update_one (Updated t) Absent h k e = absurd (differ 117 97 _ _ (λ f. omega arith) e)
+  update_one (Conflict j) (Updated t) h k e = absurd (differ 99 117 _ _ (λ f. omega arith) e)
+  update_one (Conflict j) Absent h k e = absurd (differ 99 97 _ _ (λ f. omega arith) e)
+  update_one Absent (Updated t) h k e = absurd (differ 97 117 _ _ (λ f. omega arith) e)
+  update_one Absent (Conflict j) h k e = absurd (differ 97 99 _ _ (λ f. omega arith) e)
+  update_one (Rows rows) s h k e = absurd h
+  update_one (Many n) s h k e = absurd h
+  update_one Inserted s h k e = absurd h
+  update_one Present s h k e = absurd h
+  update_one (Removed t) s h k e = absurd h
+  update_one r (Rows rows) h k e = absurd k
+  update_one r (Many n) h k e = absurd k
+  update_one r Inserted h k e = absurd k
+  update_one r Present h k e = absurd k
+  update_one r (Removed t) h k e = absurd k
 
   pub reply_one : (kind : OpKind) (r s : Reply) → IsReplyOf spec texts kind r
       → IsReplyOf spec texts kind s
       → spaced (reply_words spec texts (outs_of kind) r)
       ≡ spaced (reply_words spec texts (outs_of kind) s)
       → r ≡ s
-  reply_one (Query outs) r s h k e = query_one outs r s h k e
+  reply_one (Query outs ranges) r s h k e = query_one outs ranges r s h k e
   reply_one Insert r s h k e = insert_one r s h k e
   reply_one Remove r s h k e = remove_one r s h k e
+  reply_one Update r s h k e = update_one r s h k e

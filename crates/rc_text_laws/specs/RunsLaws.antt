@@ -1,8 +1,9 @@
 -- The text of a report of a run of a workload determines the run.
-use Rattle.std.proofs.Common.{◌≡◌, ℕ, ◌<◌, ◌^◌, List, [], ◌∷◌, length, Ok, inl, refl, sym, subst, arith}
+use Rattle.std.proofs.Common.{◌≡◌, ℕ, ◌<◌, ◌^◌, List, [], ◌∷◌, length, Ok, inl, inr, refl, sym, subst, arith}
 use Rattle.std.specs.Prelude.{◌==◌}
 use Rattle.std.specs.List.{AllByRecursion}
 use Rattle.std.proofs.lemmas.Bool.{eq-eqb}
+use Rattle.std.proofs.lemmas.List.Elements.{recursion_from_All}
 use Rattle.rc_tuple.specs.RisingSet.{In}
 use Rattle.rc_tuple.specs.RisingSetLaws.{in_map, map_in, in_filter, filter_in, in_flat_map, flat_map_in, each_in, in_each}
 use Rattle.rc_tuple.specs.Tuple.{Pairs, IsTuple}
@@ -20,8 +21,10 @@ use Rattle.rc_rel.specs.History.{own, calls_of, steps_of, replay}
 use Rattle.rc_work.specs.declared.work.Turn.{Turn}
 use Rattle.rc_work.specs.declared.work.Work.{Work}
 use Rattle.rc_work.specs.Fitting.{TurnsFit, RoundsFit}
-use Rattle.rc_work.specs.Limits.{KeepsLimits, KnowsTexts, HasKnownTexts}
-use Rattle.rc_work.specs.Printed.{kind_at}
+use Rattle.rc_work.specs.Limits.{KeepsLimits, KnowsTexts, HasKnownTexts, HasKnownValues}
+use Rattle.rc_spec.specs.Ranges.{IsBounded, AreBounded}
+use Rattle.rc_spec.specs.declared.range.Range.{Range}
+use Rattle.rc_work.specs.Printed.{bounds_given, kind_at}
 use Rattle.rc_work.specs.Ranking.{work_reading}
 use Rattle.rc_work.specs.Report.{report}
 use Rattle.rc_work.specs.Runs.{Runs, HasSingleSteps, thread_calls}
@@ -42,6 +45,20 @@ shown_args : (spec : Spec) (texts : List (List ℕ)) (args : Pairs) → IsTuple 
 shown_args spec texts args is known =
     in_each (λ p. IsShown (kind_at spec p.0) texts p.1) args
     (λ p m. shown_value (kind_at spec p.0) texts p.1 (is.values p m) (known p m))
+
+-- bounds are of 64 bits
+bounds_small : (ranges : List Range) → AllByRecursion IsBounded ranges → (p : ℕ × ℕ) → In p (bounds_given ranges)
+    → p.1 < 2 ^ 64
+bounds_small [] small p m = absurd m
+bounds_small (range ∷ ranges) small p (inl e) = subst (λ (q : ℕ × ℕ). q.1 < 2 ^ 64) (sym e) small.0.0
+bounds_small (range ∷ ranges) small p (inr (inl e)) = subst (λ (q : ℕ × ℕ). q.1 < 2 ^ 64) (sym e) small.0.1
+bounds_small (range ∷ ranges) small p (inr (inr m)) = bounds_small ranges small.1 p m
+
+shown_bounds : (spec : Spec) (texts : List (List ℕ)) (ranges : List Range) → AreBounded ranges
+    → HasKnownTexts spec texts (bounds_given ranges) → AreShown spec texts (bounds_given ranges)
+shown_bounds spec texts ranges bounded known =
+    in_each (λ p. IsShown (kind_at spec p.0) texts p.1) (bounds_given ranges)
+    (λ p m. shown_value (kind_at spec p.0) texts p.1 (bounds_small ranges (recursion_from_All IsBounded ranges bounded) p m) (known p m))
 
 only_step : (steps : List Step) → length steps ≡ 1 → (step : Step) × (steps ≡ step ∷ [])
 only_step [] e = absurd (omega arith)
@@ -83,20 +100,21 @@ called spec work history limits knows fit h e m =
     let turn = found.2.0 in
     let fits : Fits spec turn.call = each_in (λ t. Fits spec t.call) found.0
     (each_in (TurnsFit spec) work.rounds fit found.0 found.1) turn found.2.1 in
-    let known : HasKnownTexts spec work.ranks turn.call.args =
-    each_in (λ t. HasKnownTexts spec work.ranks t.call.args) found.0
-    (each_in (AllByRecursion (λ t. HasKnownTexts spec work.ranks t.call.args)) work.rounds knows found.0 found.1) turn found.2.1 in
+    let known : HasKnownValues spec work.ranks turn.call =
+    each_in (λ t. HasKnownValues spec work.ranks t.call) found.0
+    (each_in (AllByRecursion (λ t. HasKnownValues spec work.ranks t.call)) work.rounds knows found.0 found.1) turn found.2.1 in
     let back = sym found.2.2 in
     let fits' : Fits spec only.0.call = subst (Fits spec) back fits in
-    let known' : HasKnownTexts spec work.ranks only.0.call.args =
-    subst (λ (c : Call). HasKnownTexts spec work.ranks c.args) back known in
+    let known' : HasKnownValues spec work.ranks only.0.call =
+    subst (λ (c : Call). HasKnownValues spec work.ranks c) back known in
     record {
       small = omega (arith, h.run.threads e m, limits.few_threads);
       step = only.0;
       one = only.1;
       op = fits'.0;
       fits = fits'.1;
-      args = shown_args spec work.ranks only.0.call.args fits'.1.tuple known';
+      args = shown_args spec work.ranks only.0.call.args fits'.1.tuple known'.args;
+      bounds = shown_bounds spec work.ranks only.0.call.ranges fits'.1.bounds known'.bounds;
     }
 
 -- one printed report of a workload has one run

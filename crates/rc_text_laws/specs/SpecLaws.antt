@@ -1,5 +1,5 @@
 -- A specification that can be written is what its text is read as, and what a text is read as can be written.
-use Rattle.std.proofs.Common.{◌≡◌, ◌↔◌, ℕ, ◌<◌, true, false, eqb, ◌||◌, List, [], ◌∷◌, ◌++◌, length, map, get_or, drop, Result, Ok, refl, sym, ap, ◌∙◌, subst, inl, inr, arith}
+use Rattle.std.proofs.Common.{◌≡◌, ◌↔◌, ℕ, ◌<◌, true, false, eqb, ◌||◌, List, [], ◌∷◌, ◌++◌, length, map, get_or, drop, Some, Result, Ok, refl, sym, ap, ◌∙◌, subst, inl, inr, arith, codes}
 use Rattle.std.proofs.lemmas.Bool.{eqb-true}
 use Rattle.rc_tuple.specs.RisingSet.{In}
 use Rattle.rc_text.specs.Lines.{ContentLine, start_of, content_from, past_end_of, bytes_of_content}
@@ -8,15 +8,19 @@ use Rattle.rc_spec.specs.declared.spec.Spec.{Spec}
 use Rattle.rc_spec.specs.InRange.{IsInRange, HasColumnAndNode}
 use Rattle.rc_spec.specs.Names.{IsWellNamed}
 use Rattle.rc_spec.specs.Spec.{empty}
+use Rattle.std.specs.Option.{option_and_then}
+use Rattle.rc_reader.specs.Versions.{version_word}
+use Rattle.rc_reader.specs.declared.version.Version.{Version}
+use Rattle.rc_reader.specs.declared.version.Version.TheVariants.{One, Two}
 use Rattle.rc_reader.specs.Forms.{FormText, header_line, end_line}
-use Rattle.rc_reader.specs.Grammar.{Reading, Broken, is_end, ended_by, after_bytes, reading_from, is_header_by, is_header, reading_all, spec_reading, nothing_after, alone, spec_of}
-use Rattle.rc_reader.specs.ReadKeepsLaws.{spec_read, read_keeps, read_populated}
+use Rattle.rc_reader.specs.Grammar.{Reading, Broken, is_end, ended_by, after_bytes, reading_from, version_of, header_version, reading_all, spec_reading, nothing_after, alone, spec_of}
+use Rattle.rc_reader.specs.ReadKeepsLaws.{spec_read, read_keeps, read_keeps_version, read_populated}
 use Rattle.rc_reader.specs.ReadingLaws.{goes_on, ends}
 use Rattle.rc_reader.specs.RulesLaws.{IsSpecLineTaken}
 use Rattle.rc_reader.specs.InRangeLaws.{in_range-keeps, in_range-empty}
 use Rattle.rc_reader.specs.WellNamedLaws.{well_named-keeps, well_named-empty}
-use Rattle.rc_reader.specs.TextLimits.{KeepsTextLimits}
-use Rattle.rc_reader.specs.TextLimitsLaws.{limits-keeps, limits-empty}
+use Rattle.rc_reader.specs.TextLimits.{KeepsTextLimits, KeepsVersion}
+use Rattle.rc_reader.specs.TextLimitsLaws.{limits-keeps, limits-empty, version-keeps, version-empty, second_version}
 use Rattle.rc_text_laws.specs.Written.{words_of_form, CanBeLine, written_line, item_forms, spec_lines, spec_text, CanBeWritten}
 use Rattle.rc_text_laws.specs.WordsLaws.{line_is_read}
 use Rattle.rc_text_laws.specs.LineLaws.{line_read, takes}
@@ -26,11 +30,12 @@ use Rattle.rc_text_laws.specs.ItemLaws.{IsItemLine, items_written, header_plain,
 -- ---- from the lines to the specification
 
 -- a line that is taken, read from its bytes
-taken_line : (spec : Spec) (form : FormText) (next : Spec) (bytes : List ℕ) → bytes ≡ written_line form
-    → CanBeLine form → IsSpecLineTaken spec form next
-    → after_bytes spec bytes ≡ Ok (record { ended = is_end form; spec = next })
-taken_line spec form next bytes e can_be_line taken =
-    ap (after_bytes spec) e ∙ line_read spec form can_be_line ∙ ap (ended_by form) (takes spec form next taken)
+taken_line : (version : Version) (spec : Spec) (form : FormText) (next : Spec) (bytes : List ℕ)
+    → bytes ≡ written_line version form → CanBeLine version form → IsSpecLineTaken version spec form next
+    → after_bytes version spec bytes ≡ Ok (record { ended = is_end form; spec = next })
+taken_line version spec form next bytes e can_be_line taken =
+    ap (after_bytes version spec) e ∙ line_read version spec form can_be_line
+    ∙ ap (ended_by form) (takes version spec form next taken)
 
 is_some_count : (n : ℕ) → 0 < n → eqb n 0 ≡ false
 is_some_count n more =
@@ -38,8 +43,8 @@ is_some_count n more =
     [ true ↦ λ e. absurd (let none = eqb-true n 0 e in omega arith) | false ↦ λ _. refl ] refl
 
 -- the line `end` is taken
-end_taken : (spec : Spec) → HasColumnAndNode spec → IsSpecLineTaken spec end_line spec
-end_taken spec populated = record {
+end_taken : (version : Version) (spec : Spec) → HasColumnAndNode spec → IsSpecLineTaken version spec end_line spec
+end_taken version spec populated = record {
   names = refl;
   known = refl;
   range = refl;
@@ -59,50 +64,92 @@ no_lines : (lines : List ContentLine) → bytes_of_content lines ≡ [] → line
 no_lines [] e = refl
 no_lines (line ∷ lines) e = absurd (omega (arith, ap length e))
 
-read_to_end : (past_end : ℕ) (next : Spec) → HasColumnAndNode next
+-- the specification is read, in a text of the version, and nothing stands behind it
+pub record IsReadBack (version : Version) (spec : Spec) (gives : Result Reading Broken) : Type 0 where
+  pub reading : Reading
+  pub read : gives ≡ Ok reading
+  pub version_is : reading.version ≡ version
+  pub spec_is : reading.spec ≡ spec
+  pub none_behind : reading.others ≡ []
+
+read_to_end : (version : Version) (past_end : ℕ) (next : Spec) → HasColumnAndNode next
     → (forms : List FormText) (lines : List ContentLine) (spec : Spec)
-    → bytes_of_content lines ≡ map written_line (forms ++ end_line ∷ [])
-    → ((form : FormText) → In form forms → IsItemLine form)
-    → AreFormsTaken spec forms next → alone (reading_from past_end spec lines) ≡ Ok next
-read_to_end past_end next populated [] [] spec e each taken = absurd (omega (arith, ap length e))
-read_to_end past_end next populated [] (line ∷ lines) spec e each taken =
-    let bytes = first_of_lines line.bytes (written_line end_line) (bytes_of_content lines) [] e in
-    let none = no_lines lines (other_lines line.bytes (written_line end_line) (bytes_of_content lines) [] e) in
-    let last = taken_line spec end_line spec line.bytes bytes end_written
-    (end_taken spec (subst HasColumnAndNode (sym taken) populated)) in
-    ap alone (ends past_end spec spec (line ∷ lines) line lines true refl last refl)
-    ∙ ap (nothing_after spec) none ∙ ap (λ (s : Spec). Ok s) taken
-read_to_end past_end next populated (form ∷ forms) [] spec e each taken = absurd (omega (arith, ap length e))
-read_to_end past_end next populated (form ∷ forms) (line ∷ lines) spec e each (between, step, taken) =
-    let others = map written_line (forms ++ end_line ∷ []) in
-    let bytes = first_of_lines line.bytes (written_line form) (bytes_of_content lines) others e in
+    → bytes_of_content lines ≡ map (written_line version) (forms ++ end_line ∷ [])
+    → ((form : FormText) → In form forms → IsItemLine version form)
+    → AreFormsTaken version spec forms next → IsReadBack version next (reading_from version past_end spec lines)
+read_to_end version past_end next populated [] [] spec e each taken = absurd (omega (arith, ap length e))
+read_to_end version past_end next populated [] (line ∷ lines) spec e each taken =
+    let last_bytes = written_line version end_line in
+    let bytes = first_of_lines line.bytes last_bytes (bytes_of_content lines) [] e in
+    let last = taken_line version spec end_line spec line.bytes bytes (end_written version)
+    (end_taken version spec (subst HasColumnAndNode (sym taken) populated)) in
+    record {
+      reading = record { version = version; spec = spec; last = line; others = lines };
+      read = ends version past_end spec spec (line ∷ lines) line lines true refl last refl;
+      version_is = refl;
+      spec_is = taken;
+      none_behind = no_lines lines (other_lines line.bytes last_bytes (bytes_of_content lines) [] e);
+    }
+read_to_end version past_end next populated (form ∷ forms) [] spec e each taken = absurd (omega (arith, ap length e))
+read_to_end version past_end next populated (form ∷ forms) (line ∷ lines) spec e each (between, step, taken) =
+    let first_bytes = written_line version form in
+    let others = map (written_line version) (forms ++ end_line ∷ []) in
+    let bytes = first_of_lines line.bytes first_bytes (bytes_of_content lines) others e in
     let item = each form (inl refl) in
-    let here = taken_line spec form between line.bytes bytes item.can_be_line step in
-    ap alone (goes_on past_end spec between (line ∷ lines) line lines (is_end form) refl here item.goes_on)
-    ∙ read_to_end past_end next populated forms lines between
-    (other_lines line.bytes (written_line form) (bytes_of_content lines) others e)
-    (λ f m. each f (inr m)) taken
+    let here = taken_line version spec form between line.bytes bytes item.can_be_line step in
+    subst (IsReadBack version next)
+    (sym (goes_on version past_end spec between (line ∷ lines) line lines (is_end form) refl here item.goes_on))
+    (read_to_end version past_end next populated forms lines between
+    (other_lines line.bytes first_bytes (bytes_of_content lines) others e)
+    (λ f m. each f (inr m)) taken)
 
-header_is_read : (bytes : List ℕ) → bytes ≡ written_line header_line → is_header bytes ≡ true
-header_is_read bytes e = ap is_header e
-    ∙ ap is_header_by (line_is_read (words_of_form header_line) header_plain)
+named_version : (version : Version) → version_of (codes "relc" ∷ version_word version ∷ []) ≡ Some version
+named_version One = refl
+named_version Two = refl
 
-read_all : (past_end : ℕ) (spec : Spec) → CanBeWritten spec → (lines : List ContentLine)
-    → bytes_of_content lines ≡ spec_lines spec → alone (reading_all past_end lines) ≡ Ok spec
-read_all past_end spec can [] e = absurd (omega (arith, ap length e))
-read_all past_end spec can (line ∷ lines) e =
-    let others = map written_line (item_forms spec ++ end_line ∷ []) in
-    let first = header_is_read line.bytes
-    (first_of_lines line.bytes (written_line header_line) (bytes_of_content lines) others e) in
-    rw first (read_to_end past_end spec can.populated (item_forms spec) lines empty
-    (other_lines line.bytes (written_line header_line) (bytes_of_content lines) others e)
-    (items_written spec can) (items_taken spec can))
+header_is_read : (version : Version) (bytes : List ℕ) → bytes ≡ written_line version header_line
+    → header_version bytes ≡ Some version
+header_is_read version bytes e =
+    ap header_version e
+    ∙ ap (option_and_then version_of) (line_is_read (words_of_form version header_line) (header_plain version))
+    ∙ named_version version
 
--- the text of a specification is read as it
-pub spec_is_read : (spec : Spec) → CanBeWritten spec → spec_of (spec_text spec) ≡ Ok spec
-spec_is_read spec can =
-    read_all (past_end_of (spec_text spec)) spec can (content_from (start_of (spec_text spec)))
-    (content-printed 0 1 (spec_lines spec) (spec_lines_printable spec can))
+read_all : (version : Version) (past_end : ℕ) (spec : Spec) → CanBeWritten spec → KeepsVersion version spec
+    → (lines : List ContentLine) → bytes_of_content lines ≡ spec_lines version spec
+    → IsReadBack version spec (reading_all past_end lines)
+read_all version past_end spec can keeps [] e = absurd (omega (arith, ap length e))
+read_all version past_end spec can keeps (line ∷ lines) e =
+    let first_bytes = written_line version header_line in
+    let others = map (written_line version) (item_forms spec ++ end_line ∷ []) in
+    let first = header_is_read version line.bytes (first_of_lines line.bytes first_bytes (bytes_of_content lines) others e) in
+    rw first (read_to_end version past_end spec can.populated (item_forms spec) lines empty
+    (other_lines line.bytes first_bytes (bytes_of_content lines) others e)
+    (items_written version spec can keeps) (items_taken version spec can keeps))
+
+-- the text of a specification, in either version that it keeps, is read as it
+read_back : (version : Version) (spec : Spec) → CanBeWritten spec → KeepsVersion version spec
+    → IsReadBack version spec (spec_reading (spec_text version spec))
+read_back version spec can keeps =
+    read_all version (past_end_of (spec_text version spec)) spec can keeps
+    (content_from (start_of (spec_text version spec)))
+    (content-printed 0 1 (spec_lines version spec) (spec_lines_printable version spec can keeps))
+
+-- its version is told
+pub version_is_read : (version : Version) (spec : Spec) → CanBeWritten spec → KeepsVersion version spec
+    → (reading : Reading) × (spec_reading (spec_text version spec) ≡ Ok reading) × (reading.version ≡ version)
+version_is_read version spec can keeps =
+    let back = read_back version spec can keeps in (back.reading, back.read, back.version_is)
+
+-- and nothing stands behind it
+pub spec_is_read : (version : Version) (spec : Spec) → CanBeWritten spec → KeepsVersion version spec
+    → spec_of (spec_text version spec) ≡ Ok spec
+spec_is_read version spec can keeps =
+    let back = read_back version spec can keeps in
+    ap alone back.read ∙ ap (nothing_after back.reading.spec) back.none_behind ∙ ap (λ (s : Spec). Ok s) back.spec_is
+
+-- each is read in the second version
+second_is_read : (spec : Spec) → CanBeWritten spec → spec_of (spec_text Two spec) ≡ Ok spec
+second_is_read spec can = spec_is_read Two spec can (second_version spec can.limits)
 
 -- ---- what is read
 
@@ -116,6 +163,11 @@ reading_can_be_written text reading e = record {
   limits = read_keeps KeepsTextLimits limits-keeps limits-empty text reading e;
 }
 
+-- and in a text of its own version
+pub reading_keeps_version : (text : List ℕ) (reading : Reading) → spec_reading text ≡ Ok reading
+    → KeepsVersion reading.version reading.spec
+reading_keeps_version text reading e = read_keeps_version KeepsVersion version-keeps version-empty text reading e
+
 pub what_is_read : (text : List ℕ) (spec : Spec) → spec_of text ≡ Ok spec → CanBeWritten spec
 what_is_read text spec e =
     let read = spec_read text spec (spec_reading text) refl e in
@@ -125,17 +177,23 @@ what_is_read text spec e =
 pub some_text_gives : (spec : Spec) → ((text : List ℕ) × (spec_of text ≡ Ok spec)) ↔ CanBeWritten spec
 some_text_gives spec = (
   (λ read. what_is_read read.0 spec read.1),
-  (λ can. (spec_text spec, spec_is_read spec can)),
+  (λ can. (spec_text Two spec, second_is_read spec can)),
 )
 
-abbrev ok_spec : Spec → Result Spec Broken
-ok_spec spec = Ok spec
+abbrev ok_reading : Reading → Result Reading Broken
+ok_reading reading = Ok reading
 
-same_spec : (x y : Spec) → ok_spec x ≡ ok_spec y → x ≡ y
-same_spec x y e = cc
+same_reading : (x y : Reading) → ok_reading x ≡ ok_reading y → x ≡ y
+same_reading x y e = cc
 
--- specifications with the same text are the same
-pub same_text : (spec other : Spec) → CanBeWritten spec → CanBeWritten other
-    → spec_text spec ≡ spec_text other → spec ≡ other
-same_text spec other can could e =
-    same_spec spec other (sym (spec_is_read spec can) ∙ ap spec_of e ∙ spec_is_read other could)
+-- specifications with the same text are the same, and of one version
+pub same_text : (version other_version : Version) (spec other : Spec) → CanBeWritten spec → CanBeWritten other
+    → KeepsVersion version spec → KeepsVersion other_version other
+    → spec_text version spec ≡ spec_text other_version other → (version ≡ other_version) × (spec ≡ other)
+same_text version other_version spec other can could keeps kept e =
+    let back = read_back version spec can keeps in
+    let again = read_back other_version other could kept in
+    let same = same_reading back.reading again.reading (sym back.read ∙ ap spec_reading e ∙ again.read) in (
+      sym back.version_is ∙ ap (λ (r : Reading). r.version) same ∙ again.version_is,
+      sym back.spec_is ∙ ap (λ (r : Reading). r.spec) same ∙ again.spec_is,
+    )

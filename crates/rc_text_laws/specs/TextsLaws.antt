@@ -15,9 +15,9 @@ use Rattle.rc_spec.specs.declared.spec.Spec.{Spec}
 use Rattle.rc_spec.specs.declared.items.ColKind.{ColKind}
 use Rattle.rc_spec.specs.declared.items.ColKind.TheVariants.{Num, Text}
 use Rattle.rc_spec.specs.declared.items.OpKind.{OpKind}
-use Rattle.rc_spec.specs.declared.items.OpKind.TheVariants.{Query, Insert, Remove}
+use Rattle.rc_spec.specs.declared.items.OpKind.TheVariants.{Query, Insert, Remove, Update}
 use Rattle.rc_spec.specs.declared.call.Reply.{Reply}
-use Rattle.rc_spec.specs.declared.call.Reply.TheVariants.{Rows, Many, Inserted, Present, Conflict, Removed, Absent}
+use Rattle.rc_spec.specs.declared.call.Reply.TheVariants.{Rows, Many, Inserted, Present, Conflict, Removed, Updated, Absent}
 use Rattle.rc_work.specs.Printed.{spaced, words_text, kind_at, value_text, pair_words, row_text, reply_words, outs_of}
 use Rattle.rc_text_laws.specs.CutLaws.{AreTexts, cut, digits}
 use Rattle.rc_spec.specs.Names.{IsWellNamed, is_name_byte}
@@ -131,20 +131,22 @@ module _ (spec : Spec) (texts : List (List ℕ)) (good : AreTexts texts) where
 
   pub lacks_reply : (kind : OpKind) (r : Reply) → IsReplyOf spec texts kind r
       → WordsLack (reply_words spec texts (outs_of kind) r)
-  lacks_reply (Query outs) (Rows rows) h =
+  lacks_reply (Query outs ranges) (Rows rows) h =
       (lacks_decimal (length rows) h.0, (refl, lacks_rows outs rows h.1))
-  lacks_reply (Query outs) (Many n) h = (refl, (lacks_decimal n h, tt))
-  lacks_reply (Query outs) Inserted h = absurd h
-  lacks_reply (Query outs) Present h = absurd h
-  lacks_reply (Query outs) (Conflict j) h = absurd h
-  lacks_reply (Query outs) (Removed t) h = absurd h
-  lacks_reply (Query outs) Absent h = absurd h
+  lacks_reply (Query outs ranges) (Many n) h = (refl, (lacks_decimal n h, tt))
+  lacks_reply (Query outs ranges) Inserted h = absurd h
+  lacks_reply (Query outs ranges) Present h = absurd h
+  lacks_reply (Query outs ranges) (Conflict j) h = absurd h
+  lacks_reply (Query outs ranges) (Removed t) h = absurd h
+  lacks_reply (Query outs ranges) (Updated t) h = absurd h
+  lacks_reply (Query outs ranges) Absent h = absurd h
   lacks_reply Insert (Rows rows) h = absurd h
   lacks_reply Insert (Many n) h = absurd h
   lacks_reply Insert Inserted h = (refl, tt)
   lacks_reply Insert Present h = (refl, tt)
   lacks_reply Insert (Conflict j) h = (refl, (lacks_decimal j h, tt))
   lacks_reply Insert (Removed t) h = absurd h
+  lacks_reply Insert (Updated t) h = absurd h
   lacks_reply Insert Absent h = absurd h
   lacks_reply Remove (Rows rows) h = absurd h
   lacks_reply Remove (Many n) h = absurd h
@@ -152,7 +154,16 @@ module _ (spec : Spec) (texts : List (List ℕ)) (good : AreTexts texts) where
   lacks_reply Remove Present h = absurd h
   lacks_reply Remove (Conflict j) h = absurd h
   lacks_reply Remove (Removed t) h = (refl, (lacks_row t h.1, tt))
+  lacks_reply Remove (Updated t) h = absurd h
   lacks_reply Remove Absent h = (refl, tt)
+  lacks_reply Update (Rows rows) h = absurd h
+  lacks_reply Update (Many n) h = absurd h
+  lacks_reply Update Inserted h = absurd h
+  lacks_reply Update Present h = absurd h
+  lacks_reply Update (Conflict j) h = (refl, (lacks_decimal j h, tt))
+  lacks_reply Update (Removed t) h = absurd h
+  lacks_reply Update (Updated t) h = (refl, (lacks_row t h.1, tt))
+  lacks_reply Update Absent h = (refl, tt)
 
   name_byte : (b : ℕ) → is_name_byte b ≡ true → not (b == 10) ≡ true
   name_byte b h = go (b == 10) refl
@@ -174,9 +185,9 @@ module _ (spec : Spec) (texts : List (List ℕ)) (good : AreTexts texts) where
   lacks_step step named h =
       subst WordsLack (sym (ap (λ o. step_words_at o spec texts step) h.fits.known)) (
         lacks_name h.op.name (name_bytes spec h.op step.call.op named h.fits.known),
-        all_append (pair_words spec texts (given h.op.kind h.op.pattern step.call.args))
+        all_append (pair_words spec texts (given h.op.kind h.op.pattern step.call.args step.call.ranges))
             (codes "->" ∷ reply_words spec texts (outs_of h.op.kind) step.reply)
-            (lacks_pairs (given h.op.kind h.op.pattern step.call.args) (given_shown spec texts h.op.kind h.op.pattern step.call.args h.fits.columns h.args))
+            (lacks_pairs (given h.op.kind h.op.pattern step.call.args step.call.ranges) (given_shown spec texts h.op.kind h.op.pattern step.call.args step.call.ranges h.fits.columns h.args h.bounds))
             (refl, lacks_reply h.op.kind step.reply h.reply),
       )
 

@@ -11,8 +11,10 @@ use Rattle.rc_text.specs.Lines.{is_content, IsPrintable}
 use Rattle.rc_text.specs.Words.{plain_text, written, words_of, IsPlain, IsWritable}
 use Rattle.rc_text.specs.NextWordLaws.{words_of-written}
 use Rattle.rc_spec.specs.Names.{is_name_byte, is_name}
-use Rattle.rc_reader.specs.Forms.{all_plain, plain_words_of, is_arrow}
-use Rattle.rc_text_laws.specs.Written.{line_of, LackArrow, ArePlain}
+use Rattle.rc_reader.specs.Forms.{all_plain, plain_words_of}
+use Rattle.std.specs.List.{list_any}
+use Rattle.std.specs.Str.{bytes_eq}
+use Rattle.rc_text_laws.specs.Written.{line_of, LackArrow, LackColon, ArePlain}
 
 byte_between : (b : ℕ) → 48 ≤ b → b ≤ 122 → is_plain_byte b ≡ true
 byte_between b low high = rw (
@@ -59,20 +61,30 @@ plain_name (b ∷ bs) e =
     let bytes = (and_parts (leb (length (b ∷ bs)) 16) (list_all is_name_byte (b ∷ bs)) parts.1).1 in
     (ne_eqb b 34 (omega (arith, leb-true 97 b letter.0)), name_bytes_are_plain (b ∷ bs) bytes)
 
--- a name is no arrow
-name_is_no_arrow : (name : List ℕ) → is_name name ≡ true → is_arrow name ≡ false
-name_is_no_arrow name e =
-    elim (is_arrow name) as (λ v. is_arrow name ≡ v → v ≡ false) [
-      | true ↦ λ same. absurd (let at : is_name name ≡ is_name (codes "->") =
-          ap is_name ((bytes_eq-Decides name (codes "->")).0 same) in false≢true (sym at ∙ e))
+-- a name is no word that is no name
+name_differs : (word name : List ℕ) → is_name word ≡ false → is_name name ≡ true → bytes_eq name word ≡ false
+name_differs word name other e =
+    elim (bytes_eq name word) as (λ v. bytes_eq name word ≡ v → v ≡ false) [
+      | true ↦ λ same. absurd (let at : is_name name ≡ is_name word =
+          ap is_name ((bytes_eq-Decides name word).0 same) in false≢true (sym other ∙ sym at ∙ e))
       | false ↦ λ _. refl
     ] refl
 
+names_lack : (word : List ℕ) (words : List (List ℕ)) → is_name word ≡ false
+    → ((name : List ℕ) → In name words → is_name name ≡ true) → list_any (λ name. bytes_eq name word) words ≡ false
+names_lack word [] other each = refl
+names_lack word (name ∷ words) other each =
+    rw (name_differs word name other (each name (inl refl)))
+    (names_lack word words other (λ later m. each later (inr m)))
+
+-- so none is an arrow, or a `:`
 pub names_lack_arrow : (words : List (List ℕ)) → ((word : List ℕ) → In word words → is_name word ≡ true)
     → LackArrow words
-names_lack_arrow [] each = refl
-names_lack_arrow (word ∷ words) each =
-    rw (name_is_no_arrow word (each word (inl refl))) (names_lack_arrow words (λ other m. each other (inr m)))
+names_lack_arrow words each = names_lack (codes "->") words refl each
+
+pub names_lack_colon : (words : List (List ℕ)) → ((word : List ℕ) → In word words → is_name word ≡ true)
+    → LackColon words
+names_lack_colon words each = names_lack (codes ":") words refl each
 
 pub plain_names : (words : List (List ℕ)) → ((word : List ℕ) → In word words → is_name word ≡ true)
     → ArePlain words

@@ -20,8 +20,11 @@ use Rattle.rc_spec.specs.declared.items.OpKind.TheVariants as kinds
 use Rattle.rc_spec.specs.declared.spec.Spec.{Spec}
 use Rattle.rc_spec.specs.InRange.{IsInRange, HasColumnAndNode}
 use Rattle.rc_spec.specs.Names.{column_names, node_names, edge_names, class_names, IsWellNamed}
-use Rattle.rc_reader.specs.Forms.{FormText, header_line, column_line, dependency_line, node_line, edge_line, lock_line, place_line, query_line, insert_line, remove_line, end_line, is_arrow, stripes_of}
-use Rattle.rc_reader.specs.TextLimits.{KeepsTextLimits}
+use Rattle.rc_reader.specs.Forms.{FormText, header_line, column_line, dependency_line, node_line, edge_line, lock_line, place_line, query_line, insert_line, remove_line, update_line, end_line, is_arrow, is_colon, stripes_of}
+use Rattle.rc_reader.specs.TextLimits.{KeepsTextLimits, HasUpdates}
+use Rattle.rc_reader.specs.Versions.{version_word}
+use Rattle.rc_reader.specs.declared.version.Version.{Version}
+use Rattle.rc_reader.specs.declared.version.Version.TheVariants.{One, Two}
 
 abbrev pub column_kind_word : ColKind → List ℕ
 column_kind_word Num = codes "num"
@@ -38,36 +41,55 @@ abbrev pub stripes_word : Option ℕ → List ℕ
 stripes_word None = codes "65536"
 stripes_word (Some n) = decimal n
 
--- the words of a line that says this
-abbrev pub words_of_form : FormText → List (List ℕ)
-words_of_form header_line = codes "relc" ∷ codes "1" ∷ []
-words_of_form (column_line name kind) = codes "col" ∷ name ∷ column_kind_word kind ∷ []
-words_of_form (dependency_line left right) = codes "fd" ∷ (left ++ codes "->" ∷ right)
-words_of_form (node_line name columns) = codes "node" ∷ name ∷ columns
-words_of_form (edge_line name from to kind key) = codes "edge" ∷ name ∷ from ∷ to ∷ edge_kind_word kind ∷ key
-words_of_form (lock_line name number columns) = codes "lock" ∷ name ∷ stripes_word number ∷ columns
-words_of_form (place_line edge class) = codes "place" ∷ edge ∷ class ∷ []
-words_of_form (query_line name pattern outs) =
-    codes "op" ∷ name ∷ codes "query" ∷ (pattern ++ codes "->" ∷ outs)
-words_of_form (insert_line name pattern) = codes "op" ∷ name ∷ codes "insert" ∷ pattern
-words_of_form (remove_line name pattern) = codes "op" ∷ name ∷ codes "remove" ∷ pattern
-words_of_form end_line = codes "end" ∷ []
+-- the words of a query before the arrow: its pattern, and behind a `:` its range columns, if it has any
+abbrev pub asked_words : List (List ℕ) → List (List ℕ) → List (List ℕ)
+asked_words pattern [] = pattern
+asked_words pattern (first ∷ others) = pattern ++ codes ":" ∷ first ∷ others
+
+-- the words of a line that says this, in a text of the version
+abbrev pub words_of_form : Version → FormText → List (List ℕ)
+words_of_form version header_line = codes "relc" ∷ version_word version ∷ []
+words_of_form version (column_line name kind) = codes "col" ∷ name ∷ column_kind_word kind ∷ []
+words_of_form version (dependency_line left right) = codes "fd" ∷ (left ++ codes "->" ∷ right)
+words_of_form version (node_line name columns) = codes "node" ∷ name ∷ columns
+words_of_form version (edge_line name from to kind key) = codes "edge" ∷ name ∷ from ∷ to ∷ edge_kind_word kind ∷ key
+words_of_form version (lock_line name number columns) = codes "lock" ∷ name ∷ stripes_word number ∷ columns
+words_of_form version (place_line edge class) = codes "place" ∷ edge ∷ class ∷ []
+words_of_form version (query_line name pattern ranges outs) =
+    codes "op" ∷ name ∷ codes "query" ∷ (asked_words pattern ranges ++ codes "->" ∷ outs)
+words_of_form version (insert_line name pattern) = codes "op" ∷ name ∷ codes "insert" ∷ pattern
+words_of_form version (remove_line name pattern) = codes "op" ∷ name ∷ codes "remove" ∷ pattern
+words_of_form version (update_line name pattern) = codes "op" ∷ name ∷ codes "update" ∷ pattern
+words_of_form version end_line = codes "end" ∷ []
 
 -- no word of these is `->`
 abbrev pub LackArrow : List (List ℕ) → Type 0
 LackArrow words = list_any is_arrow words ≡ false
 
+-- no word of these is `:`
+abbrev pub LackColon : List (List ℕ) → Type 0
+LackColon words = list_any is_colon words ≡ false
+
+-- a pattern and range columns that a query of the version may have: in the first version there are no range columns,
+-- and in the second the first `:` ends the pattern
+abbrev pub MayAsk : Version → List (List ℕ) → List (List ℕ) → Type 0
+MayAsk One pattern ranges = ranges ≡ []
+MayAsk Two pattern ranges = LackColon pattern
+
 -- Words that have a form: they are those of a line that says this. A number of stripes may have leading zeros, and all
 -- numbers above 65,535 say the same.
-abbrev pub HasForm : List (List ℕ) → FormText → Type 0
-HasForm words (dependency_line left right) =
-    (words ≡ words_of_form (dependency_line left right)) × LackArrow left × LackArrow right × (0 < length right)
-HasForm words (lock_line name number columns) =
+abbrev pub HasForm : Version → List (List ℕ) → FormText → Type 0
+HasForm version words (dependency_line left right) =
+    (words ≡ words_of_form version (dependency_line left right)) × LackArrow left × LackArrow right × (0 < length right)
+HasForm version words (lock_line name number columns) =
     (digits : List ℕ) × (words ≡ codes "lock" ∷ name ∷ digits ∷ columns) × (is_number digits ≡ true)
     × (stripes_of digits ≡ number)
-HasForm words (query_line name pattern outs) =
-    (words ≡ words_of_form (query_line name pattern outs)) × LackArrow pattern × LackArrow outs
-HasForm words form = words ≡ words_of_form form
+HasForm version words (query_line name pattern ranges outs) =
+    (words ≡ words_of_form version (query_line name pattern ranges outs)) × MayAsk version pattern ranges
+    × LackArrow (asked_words pattern ranges) × LackArrow outs
+HasForm version words (update_line name pattern) =
+    (words ≡ words_of_form version (update_line name pattern)) × HasUpdates version
+HasForm version words form = words ≡ words_of_form version form
 
 -- words that are the same, save for the digits of a number of stripes: these stand for the same number, or for two
 -- that are above 65,535
@@ -86,17 +108,17 @@ pub record DifferInNumber (words others : List (List ℕ)) : Type 0 where
 abbrev pub ArePlain : List (List ℕ) → Type 0
 ArePlain words = AllByRecursion IsPlain words
 
--- what a line can say: its words have the form, and each can be written plain
-pub record CanBeLine (form : FormText) : Type 0 where
-  pub has_form : HasForm (words_of_form form) form
-  pub plain : ArePlain (words_of_form form)
+-- what a line of a text of the version can say: its words have the form, and each can be written plain
+pub record CanBeLine (version : Version) (form : FormText) : Type 0 where
+  pub has_form : HasForm version (words_of_form version form) form
+  pub plain : ArePlain (words_of_form version form)
 
 -- the line of some words, with one space between them
 abbrev pub line_of : List (List ℕ) → List ℕ
 line_of words = join_with_byte 32 words
 
-abbrev pub written_line : FormText → List ℕ
-written_line form = line_of (words_of_form form)
+abbrev pub written_line : Version → FormText → List ℕ
+written_line version form = line_of (words_of_form version form)
 
 -- the name of the item with this number
 abbrev pub name_at : List (List ℕ) → ℕ → List ℕ
@@ -131,10 +153,11 @@ place_form_of spec place = place_line (name_at (edge_names spec.edges) place.edg
     (name_at (class_names spec.classes) place.class)
 
 abbrev pub operation_form_by : Spec → List ℕ → List ℕ → OpKind → FormText
-operation_form_by spec name pattern (kinds.Query outs) =
-    query_line name (column_names_at spec pattern) (column_names_at spec outs)
+operation_form_by spec name pattern (kinds.Query outs ranges) =
+    query_line name (column_names_at spec pattern) (column_names_at spec ranges) (column_names_at spec outs)
 operation_form_by spec name pattern kinds.Insert = insert_line name (column_names_at spec pattern)
 operation_form_by spec name pattern kinds.Remove = remove_line name (column_names_at spec pattern)
+operation_form_by spec name pattern kinds.Update = update_line name (column_names_at spec pattern)
 
 abbrev pub operation_form_of : Spec → Op → FormText
 operation_form_of spec op = operation_form_by spec op.name op.pattern op.kind
@@ -150,12 +173,12 @@ item_forms spec =
     ++ (map (place_form_of spec) spec.places
     ++ map (operation_form_of spec) spec.ops)))))
 
--- the lines of a specification
-abbrev pub spec_lines : Spec → List (List ℕ)
-spec_lines spec = map written_line (header_line ∷ (item_forms spec ++ end_line ∷ []))
+-- the lines of a specification, in a text of the version
+abbrev pub spec_lines : Version → Spec → List (List ℕ)
+spec_lines version spec = map (written_line version) (header_line ∷ (item_forms spec ++ end_line ∷ []))
 
-abbrev pub spec_text : Spec → List ℕ
-spec_text spec = printed_lines (spec_lines spec)
+abbrev pub spec_text : Version → Spec → List ℕ
+spec_text version spec = printed_lines (spec_lines version spec)
 
 -- a specification that can be written
 pub record CanBeWritten (spec : Spec) : Type 0 where

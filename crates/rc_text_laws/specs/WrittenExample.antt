@@ -1,10 +1,11 @@
 -- The lines of one specification, as they are written.
-use Rattle.std.specs.Prelude.{◌≡◌, [], ◌∷◌, decimal, codes}
+use Rattle.std.specs.Prelude.{◌≡◌, ℕ, [], ◌∷◌, List, drop, decimal, codes}
 use Rattle.std.proofs.Common.{refl}
 use Rattle.rc_spec.specs.declared.items.ColKind.TheVariants.{Num, Text}
 use Rattle.rc_spec.specs.declared.items.EdgeKind.TheVariants.{Hash, Singleton}
-use Rattle.rc_spec.specs.declared.items.OpKind.TheVariants.{Query, Insert, Remove}
+use Rattle.rc_spec.specs.declared.items.OpKind.TheVariants.{Query, Insert, Remove, Update}
 use Rattle.rc_spec.specs.declared.spec.Spec.{Spec}
+use Rattle.rc_reader.specs.declared.version.Version.TheVariants.{One, Two}
 use Rattle.rc_text_laws.specs.Written.{line_of, spec_lines}
 
 abbrev pub people : Spec
@@ -22,10 +23,11 @@ people = record {
   ops =
       record { name = codes "add"; pattern = 0 ∷ []; kind = Insert }
       ∷ record { name = codes "drop"; pattern = 0 ∷ []; kind = Remove }
-      ∷ record { name = codes "who"; pattern = 1 ∷ []; kind = Query (0 ∷ []) } ∷ [];
+      ∷ record { name = codes "who"; pattern = 1 ∷ []; kind = Query (0 ∷ []) [] } ∷ [];
+  most_rows = 256;
 }
 
-pub people_lines : spec_lines people
+pub people_lines : spec_lines One people
     ≡ codes "relc 1" ∷ codes "col id num" ∷ codes "col name text" ∷ codes "fd id -> name"
     ∷ codes "node root" ∷ codes "node one id"
     ∷ codes "node all id name" ∷ codes "edge find root one hash id" ∷ codes "edge rest one all singleton name"
@@ -33,3 +35,19 @@ pub people_lines : spec_lines people
     ∷ codes "place rest locks" ∷ codes "op add insert id"
     ∷ codes "op drop remove id" ∷ codes "op who query name -> id" ∷ codes "end" ∷ []
 people_lines = refl
+
+-- with an update, and with a range in a query
+abbrev pub renamed : Spec
+renamed = record people {
+  ops =
+      record { name = codes "name"; pattern = 0 ∷ []; kind = Update }
+      ∷ record { name = codes "from"; pattern = []; kind = Query (1 ∷ []) (0 ∷ []) } ∷ [];
+}
+
+-- their lines stand behind the other twelve
+abbrev operation_lines : List (List ℕ) → List (List ℕ)
+operation_lines lines = drop 12 lines
+
+pub renamed_lines : operation_lines (spec_lines Two renamed)
+    ≡ codes "op name update id" ∷ codes "op from query : id -> name" ∷ codes "end" ∷ []
+renamed_lines = refl

@@ -1,3 +1,4 @@
+pub mod CallLemmas
 pub mod RawLemmas
 pub mod WordLemmas
 pub mod ReadingLemmas

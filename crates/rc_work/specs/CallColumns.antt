@@ -1,10 +1,44 @@
--- The columns to which calls give values.
-use Rattle.std.specs.Prelude.{ℕ, List, []}
-use Rattle.std.specs.List.{slice_get}
+-- The columns to which calls give values, and the call that values make.
+use Rattle.std.specs.Prelude.{ℕ, List, [], ◌∷◌, ◌++◌, length, take, drop}
+use Rattle.std.specs.List.{flat_map, slice_get}
 use Rattle.std.specs.Option.{option_map_or}
+use Rattle.rc_tuple.specs.Tuple.{tuple_of}
 use Rattle.rc_spec.specs.Calls.{value_columns}
+use Rattle.rc_spec.specs.Ranges.{range_columns}
+use Rattle.rc_spec.specs.declared.call.Call.{Call}
+use Rattle.rc_spec.specs.declared.items.Op.{Op}
+use Rattle.rc_spec.specs.declared.range.Range.{Range}
 use Rattle.rc_spec.specs.declared.spec.Spec.{Spec}
 
--- those of the operation with this number, in the order in which a call gives their values
+-- those of the tuple that a call of the operation with this number gives
 abbrev pub columns_at : Spec → ℕ → List ℕ
 columns_at spec number = option_map_or (λ op. value_columns spec op.pattern op.kind) (slice_get spec.ops number) []
+
+-- those for which it gives bounds
+abbrev pub ranges_at : Spec → ℕ → List ℕ
+ranges_at spec number = option_map_or (λ op. range_columns op.kind) (slice_get spec.ops number) []
+
+-- each column twice
+abbrev pub twice : List ℕ → List ℕ
+twice cols = flat_map (λ c. c ∷ c ∷ []) cols
+
+-- the columns of the values that a call is written with: those of its tuple, and then each range column twice, for its bounds
+abbrev pub written_columns : Spec → Op → List ℕ
+written_columns spec op = value_columns spec op.pattern op.kind ++ twice (range_columns op.kind)
+
+-- so of a call of the operation with this number, in the order in which it gives their values
+abbrev pub written_columns_at : Spec → ℕ → List ℕ
+written_columns_at spec number = option_map_or (written_columns spec) (slice_get spec.ops number) []
+
+-- the ranges of some columns, with a lower and an upper bound for each
+abbrev pub ranges_of : List ℕ → List ℕ → List Range
+ranges_of (c ∷ cols) (lo ∷ hi ∷ bounds) = record { col = c; lo = lo; hi = hi } ∷ ranges_of cols bounds
+ranges_of cols bounds = []
+
+-- the call that an operation's number and the values make
+abbrev pub call_of : Spec → ℕ → List ℕ → Call
+call_of spec op values = record {
+  op = op;
+  args = tuple_of (columns_at spec op) (take (length (columns_at spec op)) values);
+  ranges = ranges_of (ranges_at spec op) (drop (length (columns_at spec op)) values);
+}

@@ -1,19 +1,22 @@
 -- Laws of the columns to which calls give values.
-use Rattle.std.proofs.Common.{◌≡◌, ℕ, ◌<◌, ◌≤◌, List, [], ◌∷◌, Option, Some, None, length, refl, arith}
+use Rattle.std.proofs.Common.{◌≡◌, ℕ, ◌+◌, ◌*◌, ◌<◌, ◌≤◌, List, [], ◌∷◌, ◌++◌, Option, Some, None, length, inl, inr, refl, ap, subst, arith}
 use Rattle.std.specs.List.{slice_get}
 use Rattle.std.specs.Option.{option_map_or}
 use Rattle.std.specs.Ordering.{nat_cmp}
+use Rattle.std.proofs.lemmas.List.{length-append}
+use Rattle.std.proofs.lemmas.List.FromFn.{length-range_with_len}
 use Rattle.rc_tuple.specs.RisingSet.{In, IsRising, AreDistinct}
-use Rattle.rc_tuple.specs.RisingSetLaws.{nat_order, not_below_itself, slice_get_in}
+use Rattle.rc_tuple.specs.RisingSetLaws.{append_in_left, in_append, nat_order, not_below_itself, slice_get_in}
 use Rattle.rc_tuple.specs.ColSetLaws.{in_range_bounds, rising_range}
 use Rattle.rc_spec.specs.Calls.{value_columns}
 use Rattle.rc_spec.specs.InRange.{AreBelow, IsInRange}
 use Rattle.rc_spec.specs.Names.{IsWellNamed}
+use Rattle.rc_spec.specs.Ranges.{range_columns}
 use Rattle.rc_spec.specs.declared.items.Op.{Op}
 use Rattle.rc_spec.specs.declared.items.OpKind.{OpKind}
-use Rattle.rc_spec.specs.declared.items.OpKind.TheVariants.{Query, Insert, Remove}
+use Rattle.rc_spec.specs.declared.items.OpKind.TheVariants.{Query, Insert, Remove, Update}
 use Rattle.rc_spec.specs.declared.spec.Spec.{Spec}
-use Rattle.rc_work.specs.CallColumns.{columns_at}
+use Rattle.rc_work.specs.CallColumns.{columns_at, ranges_at, twice, written_columns, written_columns_at}
 use Rattle.rc_work.specs.DistinctLaws.{length-distinct-le}
 
 abbrev columns_by : Spec → Option Op → List ℕ
@@ -24,14 +27,21 @@ distinct_rising [] r = tt
 distinct_rising (x ∷ xs) r = ((λ m. not_below_itself nat_cmp nat_order x x (r.0 x m) (r.0 x m)), distinct_rising xs r.1)
 
 below_by : (spec : Spec) (pattern : List ℕ) (kind : OpKind) → AreBelow (length spec.columns) pattern → AreBelow (length spec.columns) (value_columns spec pattern kind)
-below_by spec pattern (Query outs) below c m = below c m
+below_by spec pattern (Query outs ranges) below c m = below c m
 below_by spec pattern Insert below c m = omega (arith, (in_range_bounds 0 (length spec.columns) c m).1)
 below_by spec pattern Remove below c m = below c m
+below_by spec pattern Update below c m = omega (arith, (in_range_bounds 0 (length spec.columns) c m).1)
 
-distinct_by : (spec : Spec) (pattern : List ℕ) (kind : OpKind) → AreDistinct pattern → AreDistinct (value_columns spec pattern kind)
-distinct_by spec pattern (Query outs) distinct = distinct
+distinct_left : (xs ys : List ℕ) → AreDistinct (xs ++ ys) → AreDistinct xs
+distinct_left [] ys distinct = tt
+distinct_left (x ∷ xs) ys distinct = ((λ m. distinct.0 (append_in_left x xs ys m)), distinct_left xs ys distinct.1)
+
+distinct_by : (spec : Spec) (pattern : List ℕ) (kind : OpKind) → AreDistinct (pattern ++ range_columns kind)
+    → AreDistinct (value_columns spec pattern kind)
+distinct_by spec pattern (Query outs ranges) distinct = distinct_left pattern ranges distinct
 distinct_by spec pattern Insert distinct = distinct_rising (value_columns spec pattern Insert) (rising_range 0 (length spec.columns))
-distinct_by spec pattern Remove distinct = distinct
+distinct_by spec pattern Remove distinct = distinct_left pattern [] distinct
+distinct_by spec pattern Update distinct = distinct_rising (value_columns spec pattern Update) (rising_range 0 (length spec.columns))
 
 below_at : (spec : Spec) (n : ℕ) (found : Option Op) → IsInRange spec → slice_get spec.ops n ≡ found → (c : ℕ) → In c (columns_by spec found) → c < 32
 below_at spec n None range is c m = absurd m
@@ -54,3 +64,85 @@ columns_at-distinct spec n named = distinct_at spec n (slice_get spec.ops n) nam
 pub columns_at-few : (spec : Spec) (n : ℕ) → IsWellNamed spec → IsInRange spec → length (columns_at spec n) ≤ 32
 columns_at-few spec n named range =
     length-distinct-le 32 (columns_at spec n) (columns_at-distinct spec n named) (columns_at-below spec n range)
+
+-- ---- what a call is written with
+
+pub length-twice : (cols : List ℕ) → length (twice cols) ≡ 2 * length cols
+length-twice [] = refl
+length-twice (c ∷ cols) = omega (arith, length-twice cols)
+
+in_twice : (cols : List ℕ) (c : ℕ) → In c (twice cols) → In c cols
+in_twice [] c m = absurd m
+in_twice (x ∷ cols) c (inl e) = inl e
+in_twice (x ∷ cols) c (inr (inl e)) = inl e
+in_twice (x ∷ cols) c (inr (inr m)) = inr (in_twice cols c m)
+
+-- the columns of a call's tuple, and then its range columns, each twice
+pub written_columns_at-parts : (spec : Spec) (n : ℕ) → written_columns_at spec n ≡ columns_at spec n ++ twice (ranges_at spec n)
+written_columns_at-parts spec n = by (slice_get spec.ops n)
+  where
+    by : (found : Option Op) → option_map_or (written_columns spec) found []
+        ≡ columns_by spec found ++ twice (option_map_or (λ op. range_columns op.kind) found [])
+    by None = refl
+    by (Some op) = refl
+
+pub length-written_columns_at : (spec : Spec) (n : ℕ)
+    → length (written_columns_at spec n) ≡ length (columns_at spec n) + 2 * length (ranges_at spec n)
+length-written_columns_at spec n =
+    omega (
+      arith,
+      ap (λ (cols : List ℕ). length cols) (written_columns_at-parts spec n),
+      length-append (columns_at spec n) (twice (ranges_at spec n)),
+      length-twice (ranges_at spec n),
+    )
+
+ranges_below : (spec : Spec) (n : ℕ) (found : Option Op) → IsInRange spec → slice_get spec.ops n ≡ found
+    → (c : ℕ) → In c (option_map_or (λ (op : Op). range_columns op.kind) found []) → c < 32
+ranges_below spec n None range is c m = absurd m
+ranges_below spec n (Some op) range is c m =
+    omega (arith, range.columns, (range.known_ops op (slice_get_in spec.ops n op is)).ranges c m)
+
+pub ranges_at-below : (spec : Spec) (n : ℕ) → IsInRange spec → (c : ℕ) → In c (ranges_at spec n) → c < 32
+ranges_at-below spec n range = ranges_below spec n (slice_get spec.ops n) range refl
+
+pub written_columns_at-below : (spec : Spec) (n : ℕ) → IsInRange spec → (c : ℕ) → In c (written_columns_at spec n) → c < 32
+written_columns_at-below spec n range c m =
+    elim (in_append c (columns_at spec n) (twice (ranges_at spec n)) (subst (In c) (written_columns_at-parts spec n) m)) [
+      | inl h ↦ columns_at-below spec n range c h
+      | inr h ↦ ranges_at-below spec n range c (in_twice (ranges_at spec n) c h)
+    ]
+
+few_by : (columns : ℕ) (pattern ranges : List ℕ) → columns ≤ 32 → AreBelow columns pattern → AreBelow columns ranges
+    → AreDistinct (pattern ++ ranges) → length pattern + length ranges ≤ 32
+few_by columns pattern ranges few below ranges_below distinct =
+    omega (
+      arith,
+      length-append pattern ranges,
+      length-distinct-le 32 (pattern ++ ranges) distinct (λ c m.
+          elim (in_append c pattern ranges m) [
+            | inl h ↦ omega (arith, few, below c h)
+            | inr h ↦ omega (arith, few, ranges_below c h)
+          ]),
+    )
+
+written_few : (spec : Spec) (pattern : List ℕ) (kind : OpKind) → length spec.columns ≤ 32 → AreBelow (length spec.columns) pattern
+    → AreBelow (length spec.columns) (range_columns kind) → AreDistinct (pattern ++ range_columns kind)
+    → length (value_columns spec pattern kind) + 2 * length (range_columns kind) ≤ 64
+written_few spec pattern (Query outs ranges) few below ranges_below distinct =
+    omega (arith, few_by (length spec.columns) pattern ranges few below ranges_below distinct)
+written_few spec pattern Insert few below ranges_below distinct = omega (arith, few, length-range_with_len 0 (length spec.columns))
+written_few spec pattern Remove few below ranges_below distinct =
+    omega (arith, few_by (length spec.columns) pattern [] few below ranges_below distinct)
+written_few spec pattern Update few below ranges_below distinct = omega (arith, few, length-range_with_len 0 (length spec.columns))
+
+written_few_at : (spec : Spec) (n : ℕ) (found : Option Op) → IsWellNamed spec → IsInRange spec → slice_get spec.ops n ≡ found
+    → length (columns_by spec found) + 2 * length (option_map_or (λ (op : Op). range_columns op.kind) found []) ≤ 64
+written_few_at spec n None named range is = omega arith
+written_few_at spec n (Some op) named range is =
+    let m = slice_get_in spec.ops n op is in
+    written_few spec op.pattern op.kind range.columns (range.known_ops op m).pattern (range.known_ops op m).ranges (named.patterns op m)
+
+-- at most 64 values, since at most 32 columns are a query's pattern and ranges
+pub written_columns_at-few : (spec : Spec) (n : ℕ) → IsWellNamed spec → IsInRange spec → length (written_columns_at spec n) ≤ 64
+written_columns_at-few spec n named range =
+    omega (arith, length-written_columns_at spec n, written_few_at spec n (slice_get spec.ops n) named range refl)

@@ -2,9 +2,17 @@
 use Rattle.std.specs.Prelude.{◌<◌, List}
 use Rattle.std.specs.List.{AllByRecursion}
 use Rattle.rc_spec.specs.declared.spec.Spec.{Spec}
+use Rattle.rc_tuple.specs.Tuple.{IsTuple}
 use Rattle.rc_spec.specs.Calls.{Fits}
+use Rattle.rc_spec.specs.Ranges.{AreBounded}
+use Rattle.rc_spec.specs.declared.call.Call.{Call}
 use Rattle.rc_work.specs.declared.work.Turn.{Turn}
 use Rattle.rc_work.specs.declared.work.Work.{Work}
+
+-- the call's arguments are a tuple, and its bounds are values of one: each number has 64 bits
+pub record IsOfWords (call : Call) : Type 0 where
+  pub tuple : IsTuple call.args
+  pub bounds : AreBounded call.ranges
 
 -- each turn's call fits
 abbrev pub TurnsFit : Spec → List Turn → Type 0

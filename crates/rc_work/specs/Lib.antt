@@ -9,6 +9,7 @@ pub mod RawTurns
 pub mod RawTurnsLaws
 pub mod CallColumns
 pub mod CallColumnsLaws
+pub mod CallLaws
 pub mod DistinctLaws
 pub mod LineForms
 pub mod LineRules

@@ -17,7 +17,7 @@ use Rattle.rc_work.specs.declared.raw.RawValue.TheVariants as raw
 use Rattle.rc_work.specs.declared.raw.RawTurn.{RawTurn}
 use Rattle.rc_work.specs.declared.raw.Draft.{Draft}
 use Rattle.rc_work.specs.Printed.{kind_at}
-use Rattle.rc_work.specs.CallColumns.{columns_at}
+use Rattle.rc_work.specs.CallColumns.{written_columns_at}
 use Rattle.rc_work.specs.RawTurns.{onto_last}
 use Rattle.rc_work.specs.LineForms.{FormText, round_line, end_line, call_line}
 
@@ -50,7 +50,7 @@ op_number spec word = number_among (op_names spec.ops) word
 
 -- the columns to which a call of that operation gives values
 abbrev pub columns_named : Spec → List ℕ → List ℕ
-columns_named spec word = option_map_or (columns_at spec) (op_number spec word) []
+columns_named spec word = option_map_or (written_columns_at spec) (op_number spec word) []
 
 -- a number for a column of texts, or a text for a column of numbers
 abbrev pub is_wrong_kind : ColKind → RawValue → Bool

@@ -15,7 +15,7 @@ use Rattle.rc_reader.specs.NamesLaws.{number_among-below}
 use Rattle.rc_reader.specs.declared.refusal.LineRule.{LineRule}
 use Rattle.rc_reader.specs.declared.refusal.LineRule.TheVariants.{S5, S6, S7, S8, W1, W2, W3}
 use Rattle.rc_work.specs.declared.raw.Draft.{Draft}
-use Rattle.rc_work.specs.CallColumns.{columns_at}
+use Rattle.rc_work.specs.CallColumns.{written_columns_at}
 use Rattle.rc_work.specs.LineForms.{FormText, call_line}
 use Rattle.rc_work.specs.LineRules.{thread_by, thread_of, raw_values, is_too_large, op_number, has_wrong_kind, breaks_range, breaks_limit, breaks_order, breaks_operation, breaks_count, breaks_kinds, turn_of, with_line, after_form}
 use Rattle.rc_work.specs.Drafts.{IsRawTurn}
@@ -96,16 +96,16 @@ turn_of-thread spec draft thread op values next is =
     thread_below draft.threads (u64_of thread) (or_parts (is_none (thread_of draft.threads thread)) (list_any is_too_large values) is.range).0
 
 known_turn : (spec : Spec) (draft : Draft) (thread op : List ℕ) (values : List WordText) (number : Option ℕ) → op_number spec op ≡ number → is_none number ≡ false
-    → list_any is_too_large values ≡ false → not (eqb (length values) (length (option_map_or (columns_at spec) number []))) ≡ false
-    → has_wrong_kind spec (option_map_or (columns_at spec) number []) (raw_values values) ≡ false → IsRawTurn spec (turn_of spec draft thread op values)
+    → list_any is_too_large values ≡ false → not (eqb (length values) (length (option_map_or (written_columns_at spec) number []))) ≡ false
+    → has_wrong_kind spec (option_map_or (written_columns_at spec) number []) (raw_values values) ≡ false → IsRawTurn spec (turn_of spec draft thread op values)
 known_turn spec draft thread op values None is known range count kinds = absurd cc
 known_turn spec draft thread op values (Some n) is known range count kinds =
     let same : (turn_of spec draft thread op values).op ≡ n = ap (λ found. unwrap_or found 0) is in
     record {
       known = subst (λ k. k < length spec.ops) (sym same) (subst (λ k. n < k) (length-map spec.ops (λ (x : Op). x.name)) (number_among-below (op_names spec.ops) op n is));
-      cols = ap (λ found. option_map_or (columns_at spec) found []) is ∙ ap (columns_at spec) (sym same);
-      count = length-raw_values values range ∙ eqb-true (length values) (length (columns_at spec n)) (not-false _ count) ∙ ap (λ k. length (columns_at spec k)) (sym same);
-      kinds = subst (λ k. has_wrong_kind spec (columns_at spec k) (raw_values values) ≡ false) (sym same) kinds;
+      cols = ap (λ found. option_map_or (written_columns_at spec) found []) is ∙ ap (written_columns_at spec) (sym same);
+      count = length-raw_values values range ∙ eqb-true (length values) (length (written_columns_at spec n)) (not-false _ count) ∙ ap (λ k. length (written_columns_at spec k)) (sym same);
+      kinds = subst (λ k. has_wrong_kind spec (written_columns_at spec k) (raw_values values) ≡ false) (sym same) kinds;
     }
 
 -- the turn of a call is right

@@ -1,5 +1,5 @@
 -- A text that gives a specification and a workload gives none where it is cut.
-use Rattle.std.proofs.Common.{◌≡◌, ◌⊎◌, ℕ, suc, ◌+◌, ◌-◌, ◌≤◌, true, false, not, cond, eqb, List, [], ◌∷◌, ◌++◌, length, take, drop, Result, Ok, Err, codes, refl, ap, sym, ◌∙◌, subst, inl, inr, append_assoc, arith}
+use Rattle.std.proofs.Common.{◌≡◌, ◌⊎◌, ℕ, suc, ◌+◌, ◌-◌, ◌≤◌, true, false, not, cond, eqb, List, [], ◌∷◌, ◌++◌, length, take, drop, Option, Some, None, Result, Ok, Err, codes, refl, ap, sym, ◌∙◌, subst, inl, inr, append_assoc, arith}
 use Rattle.std.specs.Prelude.{sum_by}
 use Rattle.std.specs.List.{list_all}
 use Rattle.std.proofs.lemmas.Bool.{eqb-true, and_parts, or_cases}
@@ -13,7 +13,8 @@ use Rattle.rc_spec.specs.Spec.{empty}
 use Rattle.rc_reader.specs.declared.refusal.LineRule.{LineRule}
 use Rattle.rc_reader.specs.declared.refusal.LineRule.TheVariants.{S1, S8}
 use Rattle.rc_reader.specs.Grammar as spec
-use Rattle.rc_reader.specs.Grammar.{After, Broken, Reading, is_header, spec_reading}
+use Rattle.rc_reader.specs.Grammar.{After, Broken, Reading, header_version, spec_reading}
+use Rattle.rc_reader.specs.declared.version.Version.{Version}
 use Rattle.rc_work.specs.declared.raw.Draft.{Draft}
 use Rattle.rc_work.specs.WorkGrammar as work
 use Rattle.rc_work.specs.WorkGrammar.{broken_at, after_bytes, threads_of, draft_of}
@@ -42,44 +43,48 @@ ok_reading reading = Ok reading
 same_reading : (x y : Reading) → ok_reading x ≡ ok_reading y → x ≡ y
 same_reading x y e = cc
 
-spec_one : (reading : Reading) (line part : ContentLine) (rest : List ContentLine) (go : Spec → Result Reading Broken) → ((next : Spec) → IsSpecCut reading line rest (part ∷ []) (go next)) → (after : Result After LineRule) → IsSpecCut reading line rest (part ∷ []) (spec.reading_after after part [] go)
-spec_one reading line part rest go out (Err rule) = tt
-spec_one reading line part rest go out (Ok after) =
-    elim after.ended as (λ v. IsSpecCut reading line rest (part ∷ []) (cond v (Ok (record { spec = after.spec; last = part; others = [] })) (go after.spec))) [
-      | true ↦ inl refl
-      | false ↦ out after.spec
-    ]
+module _ (version : Version) where
+  spec_one : (reading : Reading) (line part : ContentLine) (rest : List ContentLine) (go : Spec → Result Reading Broken) → ((next : Spec) → IsSpecCut reading line rest (part ∷ []) (go next)) → (after : Result After LineRule) → IsSpecCut reading line rest (part ∷ []) (spec.reading_after version after part [] go)
+  spec_one reading line part rest go out (Err rule) = tt
+  spec_one reading line part rest go out (Ok after) =
+      elim after.ended as (λ v. IsSpecCut reading line rest (part ∷ []) (cond v (Ok (record { version = version; spec = after.spec; last = part; others = [] })) (go after.spec))) [
+        | true ↦ inl refl
+        | false ↦ out after.spec
+      ]
 
-spec_step : (reading : Reading) (line first : ContentLine) (rest extra front : List ContentLine) (go left_go : Spec → Result Reading Broken) → ((next : Spec) → go next ≡ Ok reading → IsSpecCut reading line rest extra (left_go next)) → (after : Result After LineRule)
-    → spec.reading_after after first (front ++ line ∷ rest) go ≡ Ok reading → IsSpecCut reading line rest extra (spec.reading_after after first (front ++ extra) left_go)
-spec_step reading line first rest extra front go left_go ih (Err rule) e = absurd cc
-spec_step reading line first rest extra front go left_go ih (Ok after) e =
-    elim after.ended as (λ v. cond v (Ok (record { spec = after.spec; last = first; others = front ++ line ∷ rest })) (go after.spec) ≡ Ok reading → IsSpecCut reading line rest extra (cond v (Ok (record { spec = after.spec; last = first; others = front ++ extra })) (left_go after.spec))) [
-      | true ↦ λ same.
-          let is = same_reading (record { spec = after.spec; last = first; others = front ++ line ∷ rest }) reading same in
-          inr (record { front = front; whole = ap (λ (r : Reading). r.others) (sym is); left_is = refl; spec = ap (λ (r : Reading). r.spec) is })
-      | false ↦ ih after.spec
-    ] e
+  spec_step : (reading : Reading) (line first : ContentLine) (rest extra front : List ContentLine) (go left_go : Spec → Result Reading Broken) → ((next : Spec) → go next ≡ Ok reading → IsSpecCut reading line rest extra (left_go next)) → (after : Result After LineRule)
+      → spec.reading_after version after first (front ++ line ∷ rest) go ≡ Ok reading → IsSpecCut reading line rest extra (spec.reading_after version after first (front ++ extra) left_go)
+  spec_step reading line first rest extra front go left_go ih (Err rule) e = absurd cc
+  spec_step reading line first rest extra front go left_go ih (Ok after) e =
+      elim after.ended as (λ v. cond v (Ok (record { version = version; spec = after.spec; last = first; others = front ++ line ∷ rest })) (go after.spec) ≡ Ok reading → IsSpecCut reading line rest extra (cond v (Ok (record { version = version; spec = after.spec; last = first; others = front ++ extra })) (left_go after.spec))) [
+        | true ↦ λ same.
+            let is = same_reading (record { version = version; spec = after.spec; last = first; others = front ++ line ∷ rest }) reading same in
+            inr (record { front = front; whole = ap (λ (r : Reading). r.others) (sym is); left_is = refl; spec = ap (λ (r : Reading). r.spec) is })
+        | false ↦ ih after.spec
+      ] e
 
-spec_cut : (p q : ℕ) (s : Spec) (reading : Reading) (front : List ContentLine) (line : ContentLine) (rest extra : List ContentLine) → IsEnding line rest extra → spec.reading_from p s (front ++ line ∷ rest) ≡ Ok reading → IsSpecCut reading line rest extra (spec.reading_from q s (front ++ extra))
+  spec_cut : (p q : ℕ) (s : Spec) (reading : Reading) (front : List ContentLine) (line : ContentLine) (rest extra : List ContentLine) → IsEnding line rest extra → spec.reading_from version p s (front ++ line ∷ rest) ≡ Ok reading → IsSpecCut reading line rest extra (spec.reading_from version q s (front ++ extra))
+  unfolding spec.reading_from
+  spec_cut p q s reading [] line rest [] ending e = tt
+  spec_cut p q s reading [] line rest (part ∷ []) ending e = spec_one reading line part rest (λ next. spec.reading_from version q next []) (λ next. tt) (spec.after_bytes version s part.bytes)
+  spec_cut p q s reading [] line rest (part ∷ other ∷ others) ending e = absurd ending
+  spec_cut p q s reading (first ∷ front) line rest extra ending e =
+      spec_step reading line first rest extra front (λ next. spec.reading_from version p next (front ++ line ∷ rest)) (λ next. spec.reading_from version q next (front ++ extra)) (λ next. spec_cut p q next reading front line rest extra ending) (spec.after_bytes version s first.bytes) e
+
+header_cut : (q : ℕ) (reading : Reading) (line part : ContentLine) (rest : List ContentLine) (found : Option Version) → IsSpecCut reading line rest (part ∷ []) (spec.reading_behind q found part [])
 unfolding spec.reading_from
-spec_cut p q s reading [] line rest [] ending e = tt
-spec_cut p q s reading [] line rest (part ∷ []) ending e = spec_one reading line part rest (λ next. spec.reading_from q next []) (λ next. tt) (spec.after_bytes s part.bytes)
-spec_cut p q s reading [] line rest (part ∷ other ∷ others) ending e = absurd ending
-spec_cut p q s reading (first ∷ front) line rest extra ending e =
-    spec_step reading line first rest extra front (λ next. spec.reading_from p next (front ++ line ∷ rest)) (λ next. spec.reading_from q next (front ++ extra)) (λ next. spec_cut p q next reading front line rest extra ending) (spec.after_bytes s first.bytes) e
+header_cut q reading line part rest None = tt
+header_cut q reading line part rest (Some version) = tt
+
+behind_cut : (p q : ℕ) (reading : Reading) (first : ContentLine) (front : List ContentLine) (line : ContentLine) (rest extra : List ContentLine) → IsEnding line rest extra → (found : Option Version) → spec.reading_behind p found first (front ++ line ∷ rest) ≡ Ok reading → IsSpecCut reading line rest extra (spec.reading_behind q found first (front ++ extra))
+behind_cut p q reading first front line rest extra ending None e = absurd cc
+behind_cut p q reading first front line rest extra ending (Some version) e = spec_cut version p q empty reading front line rest extra ending e
 
 spec_all_cut : (p q : ℕ) (reading : Reading) (front : List ContentLine) (line : ContentLine) (rest extra : List ContentLine) → IsEnding line rest extra → spec.reading_all p (front ++ line ∷ rest) ≡ Ok reading → IsSpecCut reading line rest extra (spec.reading_all q (front ++ extra))
-unfolding spec.reading_from
 spec_all_cut p q reading [] line rest [] ending e = tt
-spec_all_cut p q reading [] line rest (part ∷ []) ending e =
-    elim (is_header part.bytes) as (λ v. IsSpecCut reading line rest (part ∷ []) (cond v (spec.reading_from q empty []) (spec.broken_at S1 part.number))) [ true ↦ tt | false ↦ tt ]
+spec_all_cut p q reading [] line rest (part ∷ []) ending e = header_cut q reading line part rest (header_version part.bytes)
 spec_all_cut p q reading [] line rest (part ∷ other ∷ others) ending e = absurd ending
-spec_all_cut p q reading (first ∷ front) line rest extra ending e =
-    elim (is_header first.bytes) as (λ v. cond v (spec.reading_from p empty (front ++ line ∷ rest)) (spec.broken_at S1 first.number) ≡ Ok reading → IsSpecCut reading line rest extra (cond v (spec.reading_from q empty (front ++ extra)) (spec.broken_at S1 first.number))) [
-      | true ↦ spec_cut p q empty reading front line rest extra ending
-      | false ↦ λ same. absurd cc
-    ] e
+spec_all_cut p q reading (first ∷ front) line rest extra ending e = behind_cut p q reading first front line rest extra ending (header_version first.bytes) e
 
 -- ---- the workload
 
@@ -173,28 +178,29 @@ Stands reading lines = (front : List ContentLine) × (lines ≡ front ++ reading
 stands_more : (reading : Reading) (first : ContentLine) (lines : List ContentLine) → Stands reading lines → Stands reading (first ∷ lines)
 stands_more reading first lines is = (first ∷ is.0, ap (λ (xs : List ContentLine). first ∷ xs) is.1)
 
-stands_step : (reading : Reading) (first : ContentLine) (lines : List ContentLine) (go : Spec → Result Reading Broken) → ((next : Spec) → go next ≡ Ok reading → Stands reading lines) → (after : Result After LineRule) → spec.reading_after after first lines go ≡ Ok reading → Stands reading (first ∷ lines)
-stands_step reading first lines go ih (Err rule) e = absurd cc
-stands_step reading first lines go ih (Ok after) e =
-    elim after.ended as (λ v. cond v (Ok (record { spec = after.spec; last = first; others = lines })) (go after.spec) ≡ Ok reading → Stands reading (first ∷ lines)) [
-      | true ↦ λ same.
-          let is = same_reading (record { spec = after.spec; last = first; others = lines }) reading same in
-          ([], ap (λ (r : Reading). r.last ∷ r.others) is)
-      | false ↦ λ same. stands_more reading first lines (ih after.spec same)
-    ] e
+module _ (version : Version) where
+  stands_step : (reading : Reading) (first : ContentLine) (lines : List ContentLine) (go : Spec → Result Reading Broken) → ((next : Spec) → go next ≡ Ok reading → Stands reading lines) → (after : Result After LineRule) → spec.reading_after version after first lines go ≡ Ok reading → Stands reading (first ∷ lines)
+  stands_step reading first lines go ih (Err rule) e = absurd cc
+  stands_step reading first lines go ih (Ok after) e =
+      elim after.ended as (λ v. cond v (Ok (record { version = version; spec = after.spec; last = first; others = lines })) (go after.spec) ≡ Ok reading → Stands reading (first ∷ lines)) [
+        | true ↦ λ same.
+            let is = same_reading (record { version = version; spec = after.spec; last = first; others = lines }) reading same in
+            ([], ap (λ (r : Reading). r.last ∷ r.others) is)
+        | false ↦ λ same. stands_more reading first lines (ih after.spec same)
+      ] e
 
-stands_from : (p : ℕ) (s : Spec) (reading : Reading) (lines : List ContentLine) → spec.reading_from p s lines ≡ Ok reading → Stands reading lines
-unfolding spec.reading_from
-stands_from p s reading [] e = absurd cc
-stands_from p s reading (first ∷ lines) e = stands_step reading first lines (λ next. spec.reading_from p next lines) (λ next. stands_from p next reading lines) (spec.after_bytes s first.bytes) e
+  stands_from : (p : ℕ) (s : Spec) (reading : Reading) (lines : List ContentLine) → spec.reading_from version p s lines ≡ Ok reading → Stands reading lines
+  unfolding spec.reading_from
+  stands_from p s reading [] e = absurd cc
+  stands_from p s reading (first ∷ lines) e = stands_step reading first lines (λ next. spec.reading_from version p next lines) (λ next. stands_from p next reading lines) (spec.after_bytes version s first.bytes) e
+
+stands_behind : (p : ℕ) (reading : Reading) (first : ContentLine) (lines : List ContentLine) (found : Option Version) → spec.reading_behind p found first lines ≡ Ok reading → Stands reading (first ∷ lines)
+stands_behind p reading first lines None e = absurd cc
+stands_behind p reading first lines (Some version) e = stands_more reading first lines (stands_from version p empty reading lines e)
 
 pub stands_all : (p : ℕ) (reading : Reading) (lines : List ContentLine) → spec.reading_all p lines ≡ Ok reading → Stands reading lines
 stands_all p reading [] e = absurd cc
-stands_all p reading (first ∷ lines) e =
-    elim (is_header first.bytes) as (λ v. cond v (spec.reading_from p empty lines) (spec.broken_at S1 first.number) ≡ Ok reading → Stands reading (first ∷ lines)) [
-      | true ↦ λ same. stands_more reading first lines (stands_from p empty reading lines same)
-      | false ↦ λ same. absurd cc
-    ] e
+stands_all p reading (first ∷ lines) e = stands_behind p reading first lines (header_version first.bytes) e
 
 -- where in the lines a content line stands
 pub record StandsBehind (at number : ℕ) (lines : List (List ℕ)) (line : ContentLine) (others : List ContentLine) : Type 0 where

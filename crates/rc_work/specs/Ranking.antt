@@ -1,7 +1,6 @@
 -- The workload that a draft gives: a text is its rank among the texts of the whole workload.
 use Rattle.std.specs.Prelude.{ℕ, List, [], ◌∷◌, map, unwrap_or, Result, Ok, Err}
 use Rattle.std.specs.List.{flat_map}
-use Rattle.rc_tuple.specs.Tuple.{tuple_of}
 use Rattle.rc_text.specs.Lines.{TextPlace, content_from, past_end_of}
 use Rattle.rc_spec.specs.declared.spec.Spec.{Spec}
 use Rattle.rc_values.specs.Ranks.{texts_of, rank_of}
@@ -12,7 +11,7 @@ use Rattle.rc_work.specs.declared.raw.RawTurn.{RawTurn}
 use Rattle.rc_work.specs.declared.raw.Draft.{Draft}
 use Rattle.rc_work.specs.declared.work.Turn.{Turn}
 use Rattle.rc_work.specs.declared.work.Work.{Work}
-use Rattle.rc_work.specs.CallColumns.{columns_at}
+use Rattle.rc_work.specs.CallColumns.{call_of}
 use Rattle.rc_work.specs.WorkGrammar.{reading_all}
 
 abbrev pub texts_in_value : RawValue → List (List ℕ)
@@ -37,7 +36,7 @@ ranked_value texts (raw.Text text) = unwrap_or (rank_of texts text) 0
 abbrev pub ranked_turn : Spec → List (List ℕ) → RawTurn → Turn
 ranked_turn spec texts turn = record {
   thread = turn.thread;
-  call = record { op = turn.op; args = tuple_of (columns_at spec turn.op) (map (ranked_value texts) turn.values) };
+  call = call_of spec turn.op (map (ranked_value texts) turn.values);
 }
 
 abbrev pub ranked_round : Spec → List (List ℕ) → List RawTurn → List Turn

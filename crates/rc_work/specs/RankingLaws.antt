@@ -1,22 +1,17 @@
 -- Laws of the workload that a draft gives.
-use Rattle.std.proofs.Common.{◌≡◌, ℕ, zero, suc, ◌<◌, false, List, [], ◌∷◌, length, map, Option, Some, None, refl, sym, ap, ◌∙◌, subst, inl, inr, arith}
+use Rattle.std.proofs.Common.{◌≡◌, ℕ, ◌<◌, false, List, [], ◌∷◌, length, map, Option, Some, None, refl, sym, ap, ◌∙◌, subst, inl, inr, arith}
 use Rattle.std.specs.Prelude.{sum_by, unwrap_or, IsSome}
-use Rattle.std.specs.List.{AllByRecursion, flat_map, slice_get, zip}
-use Rattle.std.specs.Option.{option_map_or}
-use Rattle.std.specs.Ordering.{nat_cmp}
+use Rattle.std.specs.List.{AllByRecursion, flat_map, zip}
 use Rattle.std.proofs.lemmas.Bool.{or_parts, false≢true}
 use Rattle.std.proofs.lemmas.List.{length-map}
 use Rattle.std.proofs.lemmas.List.Sums.{sum_by-cons}
 use Rattle.std.proofs.lemmas.Option.{slice_get_within}
-use Rattle.rc_tuple.specs.RisingSet.{In, gather}
-use Rattle.rc_tuple.specs.RisingSetLaws.{in_gather, append_in_left, append_in_right}
-use Rattle.rc_tuple.specs.Tuple.{IsTuple, pair_cmp}
-use Rattle.rc_tuple.specs.TupleLaws.{pair_order, cols_of-tuple_of}
-use Rattle.rc_spec.specs.Calls.{value_columns, Fits}
+use Rattle.rc_tuple.specs.RisingSet.{In}
+use Rattle.rc_tuple.specs.RisingSetLaws.{append_in_left, append_in_right}
+use Rattle.rc_spec.specs.Calls.{Fits}
 use Rattle.rc_spec.specs.Names.{IsWellNamed}
 use Rattle.rc_spec.specs.declared.items.ColKind.{ColKind}
 use Rattle.rc_spec.specs.declared.items.ColKind.TheVariants as kinds
-use Rattle.rc_spec.specs.declared.items.Op.{Op}
 use Rattle.rc_spec.specs.declared.spec.Spec.{Spec}
 use Rattle.rc_values.specs.Ranks.{texts_of, rank_of}
 use Rattle.rc_values.specs.RanksLaws.{slice_get-rank_of, known-texts_of}
@@ -26,13 +21,13 @@ use Rattle.rc_work.specs.declared.raw.RawTurn.{RawTurn}
 use Rattle.rc_work.specs.declared.raw.Draft.{Draft}
 use Rattle.rc_work.specs.declared.work.Turn.{Turn}
 use Rattle.rc_work.specs.Printed.{kind_at}
-use Rattle.rc_work.specs.CallColumns.{columns_at}
-use Rattle.rc_work.specs.CallColumnsLaws.{columns_at-distinct}
+use Rattle.rc_work.specs.CallColumns.{written_columns_at}
+use Rattle.rc_work.specs.CallLaws.{Fits-call_of, args_written, bounds_written}
 use Rattle.rc_work.specs.LineRules.{is_wrong_kind, has_wrong_kind}
 use Rattle.rc_work.specs.Drafts.{IsRawTurn, IsDraft}
 use Rattle.rc_work.specs.Ranking.{texts_in_value, texts_in_turn, texts_in_round, texts_in, ranked_value, ranked_turn, ranked_round, ranked_rounds, work_with, work_of}
-use Rattle.rc_work.specs.Fitting.{TurnsFit, RoundsFit, HasThreads}
-use Rattle.rc_work.specs.Limits.{KeepsLimits, HasKnownTexts, KnowsTexts}
+use Rattle.rc_work.specs.Fitting.{IsOfWords, TurnsFit, RoundsFit, HasThreads}
+use Rattle.rc_work.specs.Limits.{KeepsLimits, HasKnownTexts, HasKnownValues, KnowsTexts}
 
 -- what holds of each element's image
 each_map : {X Y : Type 0} (P : Y → Type 0) (f : X → Y) (xs : List X) → AllByRecursion (λ x. P (f x)) xs → AllByRecursion P (map f xs)
@@ -64,32 +59,18 @@ HasThreads-work_with spec texts draft is = round_threads spec texts draft.thread
 
 -- ---- calls fit
 
-known_place : {A : Type 0} (xs : List A) (i : ℕ) → i < length xs → (x : A) × (slice_get xs i ≡ Some x)
-known_place [] i below = absurd (omega arith)
-known_place (x ∷ xs) zero below = (x, refl)
-known_place (x ∷ xs) (suc i) below = known_place xs i (omega arith)
+fits_turn : (spec : Spec) (texts : List (List ℕ)) (turn : RawTurn) → IsWellNamed spec → IsRawTurn spec turn → IsOfWords (ranked_turn spec texts turn).call → Fits spec (ranked_turn spec texts turn).call
+fits_turn spec texts turn named is words =
+    Fits-call_of spec turn.op (map (ranked_value texts) turn.values) is.known named (length-map turn.values (ranked_value texts) ∙ is.count) words
 
-fits_turn : (spec : Spec) (texts : List (List ℕ)) (turn : RawTurn) → IsWellNamed spec → IsRawTurn spec turn → IsTuple (ranked_turn spec texts turn).call.args → Fits spec (ranked_turn spec texts turn).call
-fits_turn spec texts turn named is tuple =
-    let at = known_place spec.ops turn.op is.known in (
-      at.0,
-      record {
-        known = at.1;
-        tuple = tuple;
-        columns =
-            cols_of-tuple_of (columns_at spec turn.op) (map (ranked_value texts) turn.values) (columns_at-distinct spec turn.op named) (length-map turn.values (ranked_value texts) ∙ is.count)
-            ∙ ap (λ found. gather nat_cmp (option_map_or (λ (op : Op). value_columns spec op.pattern op.kind) found [])) at.1;
-      },
-    )
+turns_fit : (spec : Spec) (texts : List (List ℕ)) (turns : List RawTurn) → IsWellNamed spec → AllByRecursion (IsRawTurn spec) turns → AllByRecursion (λ turn. IsOfWords turn.call) (ranked_round spec texts turns) → TurnsFit spec (ranked_round spec texts turns)
+turns_fit spec texts [] named all words = tt
+turns_fit spec texts (turn ∷ turns) named all words = (fits_turn spec texts turn named all.0 words.0, turns_fit spec texts turns named all.1 words.1)
 
-turns_fit : (spec : Spec) (texts : List (List ℕ)) (turns : List RawTurn) → IsWellNamed spec → AllByRecursion (IsRawTurn spec) turns → AllByRecursion (λ turn. IsTuple turn.call.args) (ranked_round spec texts turns) → TurnsFit spec (ranked_round spec texts turns)
-turns_fit spec texts [] named all tuples = tt
-turns_fit spec texts (turn ∷ turns) named all tuples = (fits_turn spec texts turn named all.0 tuples.0, turns_fit spec texts turns named all.1 tuples.1)
-
-pub RoundsFit-ranked_rounds : (spec : Spec) (texts : List (List ℕ)) (rounds : List (List RawTurn)) → IsWellNamed spec → AllByRecursion (AllByRecursion (IsRawTurn spec)) rounds → AllByRecursion (AllByRecursion (λ turn. IsTuple turn.call.args)) (ranked_rounds spec texts rounds) → RoundsFit spec (ranked_rounds spec texts rounds)
-RoundsFit-ranked_rounds spec texts [] named all tuples = tt
-RoundsFit-ranked_rounds spec texts (round ∷ rounds) named all tuples =
-    (turns_fit spec texts round named all.0 tuples.0, RoundsFit-ranked_rounds spec texts rounds named all.1 tuples.1)
+pub RoundsFit-ranked_rounds : (spec : Spec) (texts : List (List ℕ)) (rounds : List (List RawTurn)) → IsWellNamed spec → AllByRecursion (AllByRecursion (IsRawTurn spec)) rounds → AllByRecursion (AllByRecursion (λ turn. IsOfWords turn.call)) (ranked_rounds spec texts rounds) → RoundsFit spec (ranked_rounds spec texts rounds)
+RoundsFit-ranked_rounds spec texts [] named all words = tt
+RoundsFit-ranked_rounds spec texts (round ∷ rounds) named all words =
+    (turns_fit spec texts round named all.0 words.0, RoundsFit-ranked_rounds spec texts rounds named all.1 words.1)
 
 -- ---- texts are known
 
@@ -118,20 +99,24 @@ known_pairs spec texts (col ∷ cols) (value ∷ values) right within p (inr m) 
     let parts = or_parts (is_wrong_kind (kind_at spec col) value) (has_wrong_kind spec cols values) right in
     known_pairs spec texts cols values parts.1 (λ text n. within text (append_in_right text (texts_in_value value) (flat_map texts_in_value values) n)) p m is
 
-turn_known : (spec : Spec) (texts : List (List ℕ)) (turn : RawTurn) → IsRawTurn spec turn → Within (texts_in_turn turn) texts → HasKnownTexts spec (texts_of texts) (ranked_turn spec (texts_of texts) turn).call.args
-turn_known spec texts turn right within p m is =
-    let cols = columns_at spec turn.op in
+turn_known : (spec : Spec) (texts : List (List ℕ)) (turn : RawTurn) → IsRawTurn spec turn → Within (texts_in_turn turn) texts → HasKnownValues spec (texts_of texts) (ranked_turn spec (texts_of texts) turn).call
+turn_known spec texts turn right within =
     let vals = map (ranked_value (texts_of texts)) turn.values in
-    known_pairs spec texts cols turn.values right.kinds within p (in_gather pair_cmp pair_order p (zip cols vals) m) is
+    let count = length-map turn.values (ranked_value (texts_of texts)) ∙ right.count in
+    let known = known_pairs spec texts (written_columns_at spec turn.op) turn.values right.kinds within in
+    record {
+      args = λ p m is. known p (args_written spec turn.op vals p m) is;
+      bounds = λ p m is. known p (bounds_written spec turn.op vals p count m) is;
+    }
 
-turns_known : (spec : Spec) (texts : List (List ℕ)) (turns : List RawTurn) → AllByRecursion (IsRawTurn spec) turns → Within (texts_in_round turns) texts → AllByRecursion (λ turn. HasKnownTexts spec (texts_of texts) turn.call.args) (ranked_round spec (texts_of texts) turns)
+turns_known : (spec : Spec) (texts : List (List ℕ)) (turns : List RawTurn) → AllByRecursion (IsRawTurn spec) turns → Within (texts_in_round turns) texts → AllByRecursion (λ turn. HasKnownValues spec (texts_of texts) turn.call) (ranked_round spec (texts_of texts) turns)
 turns_known spec texts [] all within = tt
 turns_known spec texts (turn ∷ turns) all within = (
   turn_known spec texts turn all.0 (λ text m. within text (append_in_left text (texts_in_turn turn) (texts_in_round turns) m)),
   turns_known spec texts turns all.1 (λ text m. within text (append_in_right text (texts_in_turn turn) (texts_in_round turns) m)),
 )
 
-rounds_known : (spec : Spec) (texts : List (List ℕ)) (rounds : List (List RawTurn)) → AllByRecursion (AllByRecursion (IsRawTurn spec)) rounds → Within (texts_in rounds) texts → AllByRecursion (AllByRecursion (λ turn. HasKnownTexts spec (texts_of texts) turn.call.args)) (ranked_rounds spec (texts_of texts) rounds)
+rounds_known : (spec : Spec) (texts : List (List ℕ)) (rounds : List (List RawTurn)) → AllByRecursion (AllByRecursion (IsRawTurn spec)) rounds → Within (texts_in rounds) texts → AllByRecursion (AllByRecursion (λ turn. HasKnownValues spec (texts_of texts) turn.call)) (ranked_rounds spec (texts_of texts) rounds)
 rounds_known spec texts [] all within = tt
 rounds_known spec texts (round ∷ rounds) all within = (
   turns_known spec texts round all.0 (λ text m. within text (append_in_left text (texts_in_round round) (texts_in rounds) m)),

@@ -1,6 +1,7 @@
 //! Workloads: what a text says of them, their runs, and the report of a run.
 #![tactic(auto)]
 
+mod calls;
 mod columns;
 mod forms;
 mod laws;
@@ -15,7 +16,8 @@ mod rules;
 mod words;
 mod work;
 
-pub use columns::columns_at;
+pub use calls::refill_call;
+pub use columns::written_columns_at;
 pub use laws::{runs_make_calls, texts_print_as_written};
 pub use prefix_laws::{cut_texts_are_refused, last_letter_is_there};
 pub use printing::{print_step, print_tuple};

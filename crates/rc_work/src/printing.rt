@@ -2,10 +2,10 @@ ghost use Rattle.std.specs.Prelude.{◌≡◌, ◌++◌, [], ◌∷◌, map, dec
 ghost use Rattle.std.specs.List.{zip};
 ghost use Rattle.rc_tuple.specs.Tuple.{value};
 ghost use Rattle.rc_spec.specs.Calls.{Fits};
-ghost use Rattle.rc_work.specs.Printed.{spaced, kind_at, value_text, pair_text, pair_words, row_text, given, outs_of, reply_words, values_and_reply, words_text, step_words};
+ghost use Rattle.rc_work.specs.Printed.{spaced, kind_at, value_text, pair_text, pair_words, row_text, bounds_given, given, outs_of, reply_words, values_and_reply, words_text, step_words};
 
 use rc_rel::Step;
-use rc_spec::{ColKind, Op, OpKind, Reply, RowList, Spec};
+use rc_spec::{Call, ColKind, Op, OpKind, Range, Reply, RowList, Spec};
 use rc_text::{push_bytes, push_quoted, push_u64};
 use rc_tuple::{Memory, Tuple};
 use rc_values::Ranks;
@@ -171,19 +171,38 @@ fn push_spaced_reply(
             push_spaced(out, b"removed ")?;
             push_row(out, spec, ranks, tuple.pairs())
         }
+        Reply::Updated(tuple) => {
+            push_spaced(out, b"updated ")?;
+            push_row(out, spec, ranks, tuple.pairs())
+        }
         Reply::Absent => push_spaced(out, b"absent"),
     }
 }
 
-/// The values of a call in the order in which it gives them.
-fn given(alloc: Global, op: &Op, args: &Tuple) -> Result<Vec<(u8, u64)>, Memory>
-    ensures { IfOk result (λ pairs. pairs.items ≡ given op.now.kind op.now.pattern args.now) }
+/// The values of a call in the order in which it gives them, the bounds of a query last.
+fn given(alloc: Global, op: &Op, call: &Call) -> Result<Vec<(u8, u64)>, Memory>
+    ensures { IfOk result (λ pairs. pairs.items ≡ given op.now.kind op.now.pattern call.now.args call.now.ranges) }
 {
     match &op.kind {
-        OpKind::Query { outs: _ } => picked(alloc, op.pattern.list(), args),
-        OpKind::Insert => Ok(Vec::from_slice(alloc, args.pairs())?),
-        OpKind::Remove => picked(alloc, op.pattern.list(), args),
+        OpKind::Query { .. } => {
+            let mut pairs = picked(alloc, op.pattern.list(), &call.args)?;
+            push_bounds(&mut pairs, call.ranges.list())?;
+            Ok(pairs)
+        }
+        OpKind::Insert | OpKind::Update => Ok(Vec::from_slice(alloc, call.args.pairs())?),
+        OpKind::Remove => picked(alloc, op.pattern.list(), &call.args),
     }
+}
+
+/// Appends each range's column with its lower and then with its upper bound.
+fn push_bounds(pairs: &mut Vec<(u8, u64)>, ranges: &[Range]) -> Result<(), Memory>
+    ensures { OnOk result (pairs.new.items ≡ pairs.old.items ++ bounds_given ranges.now) }
+{
+    for range in ranges {
+        pairs.push((range.col, range.lo))?;
+        pairs.push((range.col, range.hi))?;
+    }
+    Ok(())
 }
 
 /// The columns with their values.
@@ -202,9 +221,8 @@ fn outs_of(kind: &OpKind) -> &[u8]
     ensures { result.now ≡ outs_of kind.now }
 {
     match kind {
-        OpKind::Query { outs } => outs.list(),
-        OpKind::Insert => &[],
-        OpKind::Remove => &[],
+        OpKind::Query { outs, ranges: _ } => outs.list(),
+        OpKind::Insert | OpKind::Remove | OpKind::Update => &[],
     }
 }
 
@@ -245,7 +263,7 @@ fn push_values_and_reply(
 ) -> Result<(), Memory>
     ensures { OnOk result (out.new.items ≡ out.old.items ++ spaced (values_and_reply spec.now ranks.now op.now step.now)) }
 {
-    let pairs = given(*out.allocator(), op, &step.call.args)?;
+    let pairs = given(*out.allocator(), op, &step.call)?;
     push_spaced_values(out, spec, ranks, &pairs)?;
     push_spaced(out, b"->")?;
     push_spaced_reply(out, spec, ranks, outs_of(&op.kind), &step.reply)

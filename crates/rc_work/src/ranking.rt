@@ -2,15 +2,16 @@
 
 ghost use Rattle.std.specs.Prelude.{◌≡◌, ◌++◌, map, IfOk, OnOk};
 ghost use Rattle.std.specs.List.{AllByRecursion};
-ghost use Rattle.rc_tuple.specs.Tuple.{IsTuple};
 ghost use Rattle.rc_spec.specs.InRange.{IsInRange};
 ghost use Rattle.rc_spec.specs.Names.{IsWellNamed};
 ghost use Rattle.rc_work.specs.Drafts.{IsRawTurn};
+ghost use Rattle.rc_work.specs.Fitting.{IsOfWords};
 ghost use Rattle.rc_work.specs.Ranking.{texts_in_turn, texts_in_round, texts_in, ranked_value, ranked_turn, ranked_round, ranked_rounds, work_of};
 
+use crate::calls::refill_call;
 use crate::raw::{Draft, RawRound, RawTurn, RawValue};
 use crate::work::{Round, Rounds, Turn, Work};
-use rc_spec::{Call, Spec};
+use rc_spec::{Call, Ranges, Spec};
 use rc_tuple::{Memory, Tuple};
 use rc_values::{Name64, Ranks};
 use std::alloc::Global;
@@ -76,13 +77,18 @@ fn ranked_turn(alloc: Global, spec: &Spec, ranks: &Ranks, turn: &RawTurn) -> Res
     requires named { IsWellNamed spec.now }
     requires turn { IsRawTurn spec.now turn.now }
     ensures turn { IfOk result (λ ranked. ranked ≡ ranked_turn spec.now ranks.now turn.now) }
-    ensures tuple { IfOk result (λ ranked. IsTuple ranked.call.args) }
+    ensures words { IfOk result (λ ranked. IsOfWords ranked.call) }
 {
     let vals = ranked_values(alloc, ranks, turn.values.list())?;
-    let args = Tuple::from_columns(alloc, turn.cols.list(), &vals)?;
+    let mut call = Call {
+        op: turn.op,
+        args: Tuple::empty(alloc),
+        ranges: Ranges::new(alloc),
+    };
+    refill_call(&mut call, spec, turn.op, turn.cols.list(), &vals)?;
     Ok(Turn {
         thread: turn.thread,
-        call: Call { op: turn.op, args },
+        call,
     })
 }
 
@@ -97,7 +103,7 @@ fn ranked_round(
     requires named { IsWellNamed spec.now }
     requires turns { AllByRecursion (IsRawTurn spec.now) round.now }
     ensures turns { IfOk result (λ ranked. ranked ≡ ranked_round spec.now ranks.now round.now) }
-    ensures tuples { IfOk result (λ ranked. AllByRecursion (λ turn. IsTuple turn.call.args) ranked) }
+    ensures words { IfOk result (λ ranked. AllByRecursion (λ turn. IsOfWords turn.call) ranked) }
 {
     let mut ranked = Round::new(alloc);
     for turn in round {
@@ -117,7 +123,7 @@ fn ranked_rounds(
     requires named { IsWellNamed spec.now }
     requires turns { AllByRecursion (AllByRecursion (IsRawTurn spec.now)) rounds.now }
     ensures rounds { IfOk result (λ ranked. ranked ≡ ranked_rounds spec.now ranks.now rounds.now) }
-    ensures tuples { IfOk result (λ ranked. AllByRecursion (AllByRecursion (λ turn. IsTuple turn.call.args)) ranked) }
+    ensures words { IfOk result (λ ranked. AllByRecursion (AllByRecursion (λ turn. IsOfWords turn.call)) ranked) }
 {
     let mut ranked = Rounds::new(alloc);
     for round in rounds {
@@ -132,7 +138,7 @@ pub(crate) fn work_of(alloc: Global, spec: &Spec, draft: &Draft) -> Result<Work,
     requires named { IsWellNamed spec.now }
     requires turns { AllByRecursion (AllByRecursion (IsRawTurn spec.now)) draft.now.rounds }
     ensures work { IfOk result (λ work. work ≡ work_of spec.now draft.now) }
-    ensures tuples { IfOk result (λ work. AllByRecursion (AllByRecursion (λ turn. IsTuple turn.call.args)) work.rounds) }
+    ensures words { IfOk result (λ work. AllByRecursion (AllByRecursion (λ turn. IsOfWords turn.call)) work.rounds) }
 {
     let rounds = draft.rounds.list();
     let ranks = Ranks::build(texts_in(alloc, rounds)?)?;

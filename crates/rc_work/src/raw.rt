@@ -23,7 +23,7 @@ pub(crate) type RawValues = SmallList<RawValue>;
 pub(crate) struct RawTurn {
     pub(crate) thread: u32,
     pub(crate) op: u8,
-    /// The columns to which it gives values.
+    /// The columns of its values.
     pub(crate) cols: Cols,
     pub(crate) values: RawValues,
 }

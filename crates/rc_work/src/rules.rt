@@ -9,9 +9,9 @@ ghost use Rattle.rc_spec.specs.declared.spec.Spec.{Spec};
 ghost use Rattle.rc_work.specs.LineForms.{word_texts, form_text, round_line, end_line, call_line};
 ghost use Rattle.rc_work.specs.LineRules.{thread_of, raw_value, raw_values, is_too_large, is_wrong_kind, has_wrong_kind, after_form};
 ghost use Rattle.rc_work.specs.Answers.{TakesLine};
-ghost use Rattle.rc_work.specs.CallColumns.{columns_at};
+ghost use Rattle.rc_work.specs.CallColumns.{written_columns_at};
 
-use crate::columns::columns_at;
+use crate::columns::written_columns_at;
 use crate::forms::Form;
 use crate::printing::kind_at;
 use crate::raw::{Draft, RawTurn, RawValue, RawValues};
@@ -107,14 +107,14 @@ fn call_values(alloc: Global, words: &[Word<'_>], count: usize) -> Result<Option
     Ok(Some(RawValues::new(alloc)))
 }
 
-/// The columns to which a call of the operation with this number gives values; none without an operation.
+/// The columns of the values that a call of the operation with this number is written with; none without an operation.
 fn columns_of(alloc: Global, spec: &Spec, number: Option<usize>) -> Result<Cols, Memory>
     requires range { IsInRange spec.now }
     requires known { IfSome number (λ n. n < length spec.now.ops) }
-    ensures { IfOk result (λ cols. cols ≡ option_map_or (columns_at spec.now) number []) }
+    ensures { IfOk result (λ cols. cols ≡ option_map_or (written_columns_at spec.now) number []) }
 {
     match number {
-        Some(number) => columns_at(alloc, spec, number),
+        Some(number) => written_columns_at(alloc, spec, number),
         None => Ok(Cols::new(alloc)),
     }
 }

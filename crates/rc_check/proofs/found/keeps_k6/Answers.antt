@@ -1,5 +1,6 @@
 use Rattle.std.proofs.Common.{◌≡◌, ◌↔◌, true, List, ℕ, Some, sym, ap, subst}
 use Rattle.rc_tuple.specs.ColSet.{Within}
+use Rattle.rc_spec.specs.Ranges.{range_columns}
 use Rattle.rc_plan.specs.declared.statement.Statement.{Statement}
 use Rattle.rc_plan.specs.PlanRules.{KeepsK6, OutputsAreVisited, pattern_columns}
 use Rattle.rc_check.specs.declared.progress.ProgressSets.{ProgressSets}
@@ -10,7 +11,7 @@ returns-in-Emit c = λ p e.
     let spec = c.args.spec.now in
     let op = c.args.op.now in
     subst (λ (x : Statement). (c.has_found_answer.result ≡ true) ↔ KeepsK6 spec op p x) (sym c.in-Emit.is)
-    (subst (λ (xs : List ℕ). (c.has_found_answer.result ≡ true) ↔ (Within (pattern_columns op) xs × OutputsAreVisited op.kind xs)) (ap (λ (s : ProgressSets). s.visited) e) c.has_found_answer.ensures)
+    (subst (λ (xs : List ℕ). (c.has_found_answer.result ≡ true) ↔ (Within (pattern_columns op) xs × OutputsAreVisited op.kind xs × Within (range_columns op.kind) xs)) (ap (λ (s : ProgressSets). s.visited) e) c.has_found_answer.ensures)
 
 pub returns-in-CheckAbsent : goal.returns-in-CheckAbsent
 returns-in-CheckAbsent c = λ p e.

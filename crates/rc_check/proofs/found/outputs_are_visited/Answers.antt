@@ -12,5 +12,5 @@ from_list-requires c = λ col m.
 
 pub returns-in-Query : goal.returns-in-Query
 returns-in-Query c =
-    outputs_visited c.args.op.now.kind c.in-Query.outs c.from_list.result c.args.visited c.within.result c.in-Query.is
+    outputs_visited c.args.op.now.kind c.in-Query.outs c.in-Query.ranges c.from_list.result c.args.visited c.within.result c.in-Query.is
     (c.from_list.ensures.value ∙ ap (gather nat_cmp) c.list.ensures) c.within.ensures.found

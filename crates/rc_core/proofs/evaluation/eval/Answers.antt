@@ -1,8 +1,9 @@
-use Rattle.std.proofs.Common.{◌≡◌, ◌+◌, ◌∷◌, List, drop, subst, sym, ap, ◌∙◌}
+use Rattle.std.proofs.Common.{◌≡◌, ◌+◌, ◌<◌, ◌∷◌, List, drop, length, subst, sym, ap, ◌∙◌, arith}
 use Rattle.std.specs.Option.{is_some}
 use Rattle.std.proofs.lemmas.List.{drop_more}
 use Rattle.rc_tuple.specs.RisingSet.{In}
 use Rattle.rc_tuple.specs.RisingSetLaws.{get_or_in}
+use Rattle.rc_spec.specs.Acceptance.{IsSealed}
 use Rattle.rc_spec.specs.Fragments.{EdgeRow}
 use Rattle.rc_spec.specs.declared.spec.Spec.{Spec}
 use Rattle.rc_plan.specs.PlanRules.{IsKnown}
@@ -17,6 +18,13 @@ run_next-requires-clause-known c =
     subst (In c.statement-item.result) c.list-statement-items.ensures
     (subst (λ (x : Statement). In x c.list-statement-items.result.now) (sym c.statement-item.is) (get_or_in c.list-statement-items.result.now c.loop-statement.statement-index c.statement-item.result c.loop-statement-test.true)) in
     subst (λ (spec : Spec). IsKnown spec c.statement-item.result) (sym (c.spec-spec.ensures.value ∙ c.accepted.ensures.value)) (c.plan.ensures.accepted.known c.statement-item.result here)
+
+pub run_next-requires-clause-pattern : goal.run_next-requires-clause-pattern
+run_next-requires-clause-pattern c n m =
+    let sealed : IsSealed c.spec-spec.result.now = subst IsSealed (sym (c.spec-spec.ensures.value ∙ c.accepted.ensures.value)) c.accepted.ensures.sealed in
+    let below : n < length c.spec-spec.result.now.columns = (c.op-op.ensures.known sealed.in_range).pattern n m in
+    let few = sealed.in_range.columns in
+    omega (arith, below, few)
 
 pub run_next-requires-clause-small : goal.run_next-requires-clause-small
 run_next-requires-clause-small c e w m = c.requires.small w (subst (λ (rows : List EdgeRow). In w rows) (c.loop-statement.invariant.stays e) m)

@@ -1,7 +1,7 @@
 use Rattle.std.proofs.Common.{◌≡◌, map}
 use Rattle.std.specs.List.{range_with_len}
-use Rattle.rc_work.specs.CallColumns.{columns_at}
+use Rattle.rc_work.specs.CallColumns.{written_columns_at}
 use Rattle.rc_embed.proofs.opening.all_columns.Given as goal
 
 abbrev pub invariant-loop-op : goal.invariant-loop-op
-invariant-loop-op l = l.columns.items ≡ map (columns_at l.spec) (range_with_len 0 l.op)
+invariant-loop-op l = l.columns.items ≡ map (written_columns_at l.spec) (range_with_len 0 l.op)

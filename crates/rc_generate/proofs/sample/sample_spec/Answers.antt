@@ -17,6 +17,7 @@ same_spec : (c : goal.In_ok-ops)
       classes = c.in_ok-classes.field-0;
       places = c.in_ok-places.field-0;
       ops = c.in_ok-ops.field-0;
+      most_rows = 256;
     } in sample_graph ≡ s)
 same_spec c i = record {
   columns = (sym c.in_ok-columns.ensures) i;
@@ -26,6 +27,7 @@ same_spec c i = record {
   classes = (sym c.in_ok-classes.ensures) i;
   places = (sym c.in_ok-places.ensures) i;
   ops = (sym c.in_ok-ops.ensures) i;
+  most_rows = 256;
 }
 
 pub returns-clause-range : goal.returns-clause-range

@@ -42,4 +42,5 @@ returns c =
       classes = c.args.spec.classes;
       places = places i;
       ops = c.args.spec.ops;
+      most_rows = c.args.spec.most_rows;
     }

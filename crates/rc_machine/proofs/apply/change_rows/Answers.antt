@@ -22,10 +22,13 @@ returns-in-Remove-clause-alike g c = on_err c.remove_least.result (ap (map rever
 
 -- what Insert adds has all columns
 pub begin-requires : goal.begin-requires
-begin-requires g c n m = subst (λ w. n < w) (sym c.requires.wide.found) (all_below c.args.compiled.now.spec n (subst (In n) (c.cols.ensures.cols ∙ (subst (λ k. CanApply c.args.compiled.now.spec k c.args.args.now c.args.space.now.bindings.tuples (held_of (g.H.Holder.seen c.args.holder.now))) c.in-Insert.is c.requires.can).whole) m))
+begin-requires g c n m = subst (λ w. n < w) (sym c.requires.wide.found) (all_below c.args.compiled.now.spec n (subst (In n) (c.cols.ensures.cols ∙ (subst (λ k. CanApply c.args.compiled.now.spec k c.args.args.now c.args.space.now.old_tuple c.args.space.now.bindings.tuples (held_of (g.H.Holder.seen c.args.holder.now))) c.in-Insert.is c.requires.can).whole) m))
 
 pub add_rows-requires-clause-same : goal.add_rows-requires-clause-same
 add_rows-requires-clause-same g c =
     c.get.ensures.tuple ∙ ap (λ (z : BindingList). get_or z.tuples 0 []) (c.in_ok-push_projection-in-Insert.ensures.ok)
     ∙ ap (λ (z : BindingList). get_or (z.tuples ++ project z.columns c.args.args.now ∷ []) 0 []) c.begin.ensures
     ∙ project_all c.cols.result c.args.args.now (rising_pairs c.args.args.now c.cols.ensures.tuple) (λ n m. subst (In n) (sym c.cols.ensures.cols) m)
+
+pub replace_old-requires-clause-can : goal.replace_old-requires-clause-can
+replace_old-requires-clause-can g c = subst (λ k. CanApply c.args.compiled.now.spec k c.args.args.now c.args.space.now.old_tuple c.args.space.now.bindings.tuples (held_of (g.H.Holder.seen c.args.holder.now))) c.in-Update.is c.requires.can

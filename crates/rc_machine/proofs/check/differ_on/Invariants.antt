@@ -1,7 +1,8 @@
-use Rattle.std.proofs.Common.{◌≡◌, take, not, false}
+use Rattle.std.proofs.Common.{◌≡◌, ◌&&◌, take, not, false}
+use Rattle.rc_plan.specs.Evaluation.{stays_beside}
 use Rattle.std.specs.List.{list_any}
 use Rattle.rc_tuple.specs.Tuple.{agree_on}
 use Rattle.rc_machine.proofs.check.differ_on.Given as goal
 
 abbrev pub invariant-loop-at : goal.invariant-loop-at
-invariant-loop-at l = list_any (λ b. not (agree_on l.cols b l.args)) (take l.at l.bindings.tuples) ≡ false
+invariant-loop-at l = list_any (λ b. stays_beside l.op.kind l.op.pattern l.args b && not (agree_on l.cols b l.args)) (take l.at l.bindings.tuples) ≡ false

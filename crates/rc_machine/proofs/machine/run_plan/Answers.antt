@@ -1,4 +1,4 @@
-use Rattle.std.proofs.Common.{◌≡◌, ◌<◌, ◌≤◌, ◌∷◌, ◌++◌, [], List, Err, length, sym, ap, subst, ◌∙◌}
+use Rattle.std.proofs.Common.{◌≡◌, ◌<◌, ◌≤◌, ◌∷◌, ◌++◌, [], List, Err, None, Option, length, sym, ap, subst, ◌∙◌}
 use Rattle.rc_tuple.specs.RisingSet.{In}
 use Rattle.rc_tuple.specs.MergeLaws.{project_all}
 use Rattle.rc_tuple.specs.Tuple.{Pairs, project}
@@ -50,7 +50,7 @@ loop-at-init g c =
     let spec : Spec = c.args.compiled.now.spec in
     let plan : List Statement = c.list-plan.result.now in
     let planned : IsPlanOf spec c.args.call.now.op plan = subst (IsPlanOf spec c.args.call.now.op) (sym c.list-plan.ensures) c.plan.ensures.accepted in
-    let start : IsAt spec plan c.args.call.now plan (c.args.call.now.args ∷ []) [] = begins spec c.accepted.ensures.sealed plan c.args.call.now c.requires.fits planned in
+    let start : IsAt spec plan c.args.call.now plan (c.args.call.now.args ∷ []) None [] = begins spec c.accepted.ensures.sealed plan c.args.call.now c.requires.fits planned in
     let whole : project c.begin.new.self.columns c.args.call.now.args ≡ c.args.call.now.args =
     ap (λ (z : BindingList). project z.columns c.args.call.now.args) c.begin.ensures
     ∙ project_all c.cols.result c.args.call.now.args (rising_pairs c.args.call.now.args c.cols.ensures.tuple) (λ n m. subst (In n) (sym c.cols.ensures.cols) m) in
@@ -61,8 +61,9 @@ loop-at-init g c =
         bindings = ap (λ (z : BindingList). z.width) c.in_ok-push_projection.ensures.ok ∙ ap (λ (z : BindingList). z.width) c.begin.ensures ∙ ap (λ (z : BindingList). z.width) c.clear_for.ensures.bindings ∙ columns_are g at.After-list;
         found = ap (λ (z : BindingList). z.width) c.clear_for.ensures.found ∙ columns_are g at.After-list;
       };
-      run = subst (λ (z : List Pairs). IsAt spec plan c.args.call.now plan z (held_of (g.H.Holder.seen c.args.holder.now))) (sym args)
-          (subst (λ (z : List HeldStripe). IsAt spec plan c.args.call.now plan (c.args.call.now.args ∷ []) z) (sym c.requires.free) start);
+      run = subst (λ (z : Option Pairs). IsAt spec plan c.args.call.now plan c.push_projection.new.self.tuples z (held_of (g.H.Holder.seen c.args.holder.now))) (sym c.clear_for.ensures.old)
+          (subst (λ (z : List Pairs). IsAt spec plan c.args.call.now plan z None (held_of (g.H.Holder.seen c.args.holder.now))) (sym args)
+          (subst (λ (z : List HeldStripe). IsAt spec plan c.args.call.now plan (c.args.call.now.args ∷ []) None z) (sym c.requires.free) start));
       taken = λ h m. absurd (subst (In h) c.requires.free m);
       goes_on = goes_on_same (g.H.Holder.seen c.args.holder.now);
       sound = λ spec h. h;

@@ -8,7 +8,7 @@ use Rattle.rc_machine.proofs.machine.run_plan.Given as goal
 
 abbrev pub invariant-loop-at : goal.invariant-loop-at
 invariant-loop-at g l = record {
-  run : IsAt l.compiled.spec l.plan l.call (drop l.at l.plan) l.space.bindings.tuples (held_of (g.H.Holder.seen l.holder));
+  run : IsAt l.compiled.spec l.plan l.call (drop l.at l.plan) l.space.bindings.tuples l.space.old_tuple (held_of (g.H.Holder.seen l.holder));
   wide : AreWide l.compiled.spec l.space;
   taken : AreTakenAsOffered (g.H.Holder.seen l.holder);
   goes_on : GoesOn (g.H.Holder.seen l.fn.holder) (g.H.Holder.seen l.holder);

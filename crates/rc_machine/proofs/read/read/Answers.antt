@@ -37,6 +37,7 @@ pub loop-at-init : goal.loop-at-init
 loop-at-init g c = record {
   merged = subst (λ (z : BindingList). AreMerges [] c.args.edge (held_of (g.H.Holder.seen c.args.holder.now)) z.tuples) (sym c.begin.ensures) (merges_none c.args.edge (held_of (g.H.Holder.seen c.args.holder.now)));
   bindings = refl;
+  old = refl;
   same = refl;
 }
 
@@ -100,6 +101,7 @@ loop-at-preserved g c =
           (is g at ∙ same_default bs c.loop-at.at [] b (below g at)) c.loop-at.invariant.merged
           (subst (λ e. HasMergedAll b e (held_of (g.H.Holder.seen c.args.holder.now)) c.loop-at.space.found.tuples c.push_joined.new.found.tuples) c.of-read.ensures.edge c.in_ok-push_joined.ensures.merged);
       bindings = c.loop-at.invariant.bindings;
+      old = c.loop-at.invariant.old;
       same = c.in_ok-push_joined.ensures.same ∙ ap (λ z. with_tuples z c.push_joined.new.found.tuples) c.loop-at.invariant.same;
     }
 
@@ -119,3 +121,6 @@ returns-clause-wide g c = record {
       ∙ ap (λ (z : BindingList). z.width) c.begin.ensures ∙ c.requires.wide.found;
   found = ap (λ (z : BindingList). z.width) (c.swap.ensures.y_after ∙ c.loop-at.invariant.bindings) ∙ c.requires.wide.bindings;
 }
+
+pub returns-clause-old : goal.returns-clause-old
+returns-clause-old g c = c.loop-at.invariant.old

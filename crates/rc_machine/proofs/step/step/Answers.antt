@@ -1,4 +1,4 @@
-use Rattle.std.proofs.Common.{◌≡◌, ◌<◌, ◌≤◌, if◌then◌else◌, Some, None, ◌+◌, ◌∷◌, ◌++◌, [], Err, drop, get_or, length, subst, sym, ap, ◌∙◌, inl, refl}
+use Rattle.std.proofs.Common.{◌≡◌, ◌<◌, ◌≤◌, if◌then◌else◌, Some, None, ◌+◌, ◌∷◌, ◌++◌, [], Err, drop, filter, get_or, length, subst, sym, ap, ◌∙◌, inl, refl}
 use Rattle.std.proofs.lemmas.Option.{slice_get_within}
 use Rattle.rc_tuple.specs.RisingSet.{In}
 use Rattle.rc_tuple.specs.Tuple.{project}
@@ -9,14 +9,15 @@ use Rattle.rc_spec.specs.declared.call.Reply.TheVariants.{Conflict}
 use Rattle.rc_spec.specs.declared.items.Op.{Op}
 use Rattle.rc_spec.specs.declared.spec.Spec.{Spec}
 use Rattle.rc_fragment.specs.Holder.{AreOfOneRelation, held_of}
-use Rattle.rc_plan.specs.Evaluation.{some_differs}
+use Rattle.rc_spec.specs.Ranges.{in_ranges}
+use Rattle.rc_plan.specs.Evaluation.{answer, some_differs}
 use Rattle.rc_plan.specs.declared.statement.Statement.{Statement}
 use Rattle.rc_machine.specs.Applied.{HasApplied}
 use Rattle.rc_machine.specs.Machine.{AreAsTaken}
 use Rattle.rc_machine.specs.Run.{IsAt}
 use Rattle.rc_machine.proofs.CheckStepLemmas.{probe_step, probe_within}
 use Rattle.rc_machine.proofs.StripeLemmas.{all_below}
-use Rattle.rc_machine.proofs.GoLemmas.{absent_goes, applied_replies, applied_told, at_is, can_apply, dep_goes, emit_replies, if_err, lock_refused, locked_told, still_taken, told_same}
+use Rattle.rc_machine.proofs.GoLemmas.{absent_goes, applied_replies, applied_told, at_is, can_apply, dep_goes, emit_replies, found_goes, if_err, lock_refused, locked_told, still_taken, told_same}
 use Rattle.rc_machine.proofs.LentLemmas.{lent_goes_on}
 use Rattle.rc_machine.proofs.ReadStepLemmas.{are_good, are_readers, read_step}
 use Rattle.rc_machine.proofs.StepLemmas.{lock_above, lock_step}
@@ -26,8 +27,8 @@ use Rattle.rc_machine.proofs.step.step.Goals as goal
 
 -- the statement is the first of those that are left
 starts : (g : Over) (c : Start g) (d x : Statement) → get_or c.args.plan.now c.args.at d ≡ x
-    → IsAt c.args.compiled.now.spec c.args.plan.now c.args.call.now (x ∷ drop (c.args.at + 1) c.args.plan.now) c.args.space.now.bindings.tuples (held_of (g.H.Holder.seen c.args.holder.now))
-starts g c d x is = at_is c.args.compiled.now.spec c.args.plan.now c.args.call.now c.args.at d x c.args.space.now.bindings.tuples (held_of (g.H.Holder.seen c.args.holder.now)) c.requires.there is c.requires.run
+    → IsAt c.args.compiled.now.spec c.args.plan.now c.args.call.now (x ∷ drop (c.args.at + 1) c.args.plan.now) c.args.space.now.bindings.tuples c.args.space.now.old_tuple (held_of (g.H.Holder.seen c.args.holder.now))
+starts g c d x is = at_is c.args.compiled.now.spec c.args.plan.now c.args.call.now c.args.at d x c.args.space.now.bindings.tuples c.args.space.now.old_tuple (held_of (g.H.Holder.seen c.args.holder.now)) c.requires.there is c.requires.run
 
 -- what is held, as taken, is of one relation
 one : (g : Over) (c : Start g) → AreOfOneRelation c.args.compiled.now.spec (held_of (g.H.Holder.seen c.args.holder.now))
@@ -53,7 +54,7 @@ lock-requires-clause-known g c = (starts g (goal.at.lock-requires-clause-known g
 
 pub lock-requires-clause-above : goal.lock-requires-clause-above
 lock-requires-clause-above g c s m =
-    lock_above c.args.compiled.now.spec c.requires.sealed c.args.plan.now c.args.call.now _ _ _ _ _ _ (starts g (goal.at.lock-requires-clause-above g c).Start _ _ c.in-Lock.is) s
+    lock_above c.args.compiled.now.spec c.requires.sealed c.args.plan.now c.args.call.now _ _ _ _ _ _ _ (starts g (goal.at.lock-requires-clause-above g c).Start _ _ c.in-Lock.is) s
     m
 
 pub returns-in_err-lock-in-Lock-clause-taken : goal.returns-in_err-lock-in-Lock-clause-taken
@@ -70,7 +71,7 @@ returns-in_err-lock-in-Lock-clause-refused g c h e =
     let old = g.H.Holder.seen c.args.holder.now in
     let new = g.H.Holder.seen c.lock.new.holder in
     let n = c.in_err-lock-in-Lock.ensures.some.0 in
-    lock_refused c.args.compiled.now.spec c.args.plan.now c.args.call.now _ _ _ _ _ old new n (starts g (goal.at.returns-in_err-lock-in-Lock-clause-refused g c).Start _ _ c.in-Lock.is)
+    lock_refused c.args.compiled.now.spec c.args.plan.now c.args.call.now _ _ _ _ _ _ old new n (starts g (goal.at.returns-in_err-lock-in-Lock-clause-refused g c).Start _ _ c.in-Lock.is)
     c.in_err-lock-in-Lock.ensures.some.1
     (g.met.H.Holder.sound_rows c.lock.new.holder c.args.compiled.now.spec (c.in_err-lock-in-Lock.ensures.sound c.args.compiled.now.spec c.requires.sound)) h
     (c.in_err-lock-in-Lock.ensures.refused h (ap Err (sym is)))
@@ -81,7 +82,7 @@ returns-in_ok-lock-in-Lock-clause-taken g c =
 
 pub returns-in_ok-lock-in-Lock-clause-run : goal.returns-in_ok-lock-in-Lock-clause-run
 returns-in_ok-lock-in-Lock-clause-run g c =
-    lock_step c.args.compiled.now.spec c.requires.sealed c.args.plan.now c.args.call.now _ _ _ _ _ _ (starts g (goal.at.returns-in_ok-lock-in-Lock-clause-run g c).Start _ _ c.in-Lock.is) _ _
+    lock_step c.args.compiled.now.spec c.requires.sealed c.args.plan.now c.args.call.now _ _ _ _ _ _ _ (starts g (goal.at.returns-in_ok-lock-in-Lock-clause-run g c).Start _ _ c.in-Lock.is) _ _
     c.in_ok-lock-in-Lock.ensures.ok
 
 -- ---- Probe and Read
@@ -92,14 +93,14 @@ begin-requires g c n m =
 
 pub push_projection-requires : goal.push_projection-requires
 push_projection-requires g c n m =
-    probe_within c.args.compiled.now.spec c.requires.sealed c.args.plan.now c.args.call.now c.requires.fits _ _ _ _ (starts g (goal.at.push_projection-requires g c).Start _ _ c.in-Probe.is) n
+    probe_within c.args.compiled.now.spec c.requires.sealed c.args.plan.now c.args.call.now c.requires.fits _ _ _ _ _ (starts g (goal.at.push_projection-requires g c).Start _ _ c.in-Probe.is) n
     (subst (λ (z : BindingList). In n z.columns) c.begin.ensures m)
 
 pub returns-in_ok-push_projection-in-Probe-clause-run : goal.returns-in_ok-push_projection-in-Probe-clause-run
 returns-in_ok-push_projection-in-Probe-clause-run g c =
-    subst (λ z. IsAt c.args.compiled.now.spec c.args.plan.now c.args.call.now (drop (c.args.at + 1) c.args.plan.now) z (held_of (g.H.Holder.seen c.args.holder.now)))
+    subst (λ z. IsAt c.args.compiled.now.spec c.args.plan.now c.args.call.now (drop (c.args.at + 1) c.args.plan.now) z c.args.space.now.old_tuple (held_of (g.H.Holder.seen c.args.holder.now)))
     (sym (ap (λ (z : BindingList). z.tuples) c.in_ok-push_projection-in-Probe.ensures.ok ∙ ap (λ (z : BindingList). z.tuples ++ project z.columns c.args.call.now.args ∷ []) c.begin.ensures))
-    (probe_step c.args.compiled.now.spec c.requires.sealed c.args.plan.now c.args.call.now c.requires.fits _ _ _ _ (starts g (goal.at.returns-in_ok-push_projection-in-Probe-clause-run g c).Start _ _ c.in-Probe.is))
+    (probe_step c.args.compiled.now.spec c.requires.sealed c.args.plan.now c.args.call.now c.requires.fits _ _ _ _ _ (starts g (goal.at.returns-in_ok-push_projection-in-Probe-clause-run g c).Start _ _ c.in-Probe.is))
 
 pub returns-in_ok-push_projection-in-Probe-clause-wide : goal.returns-in_ok-push_projection-in-Probe-clause-wide
 returns-in_ok-push_projection-in-Probe-clause-wide g c = record {
@@ -113,25 +114,32 @@ read-requires-clause-known g c = (starts g (goal.at.read-requires-clause-known g
 pub read-requires-clause-good : goal.read-requires-clause-good
 read-requires-clause-good g c =
     let start = (goal.at.read-requires-clause-good g c).Start in
-    are_good c.args.compiled.now.spec c.requires.sealed c.args.plan.now c.args.call.now _ _ _ _ _ (starts g start _ _ c.in-Read.is) (one g start).0 (one g start).1
+    are_good c.args.compiled.now.spec c.requires.sealed c.args.plan.now c.args.call.now _ _ _ _ _ _ (starts g start _ _ c.in-Read.is) (one g start).0 (one g start).1
 
 pub read-requires-clause-readers : goal.read-requires-clause-readers
 read-requires-clause-readers g c =
     let start = (goal.at.read-requires-clause-readers g c).Start in
-    (are_readers c.args.compiled.now.spec c.requires.sealed c.args.plan.now c.args.call.now _ _ _ _ _ (starts g start _ _ c.in-Read.is) (one g start).0 (one g start).1)
+    (are_readers c.args.compiled.now.spec c.requires.sealed c.args.plan.now c.args.call.now _ _ _ _ _ _ (starts g start _ _ c.in-Read.is) (one g start).0 (one g start).1)
 
 pub returns-in_ok-read-in-Read-clause-run : goal.returns-in_ok-read-in-Read-clause-run
 returns-in_ok-read-in-Read-clause-run g c =
     let start = (goal.at.returns-in_ok-read-in-Read-clause-run g c).Start in
-    read_step c.args.compiled.now.spec c.requires.sealed c.args.plan.now c.args.call.now _ _ _ _ _ (starts g start _ _ c.in-Read.is) c.read.new.space.bindings.tuples c.in_ok-read-in-Read.ensures.joined (one g start).0 (one g start).1
+    subst (λ z. IsAt c.args.compiled.now.spec c.args.plan.now c.args.call.now (drop (c.args.at + 1) c.args.plan.now) c.read.new.space.bindings.tuples z (held_of (g.H.Holder.seen c.args.holder.now))) (sym c.in_ok-read-in-Read.ensures.old)
+    (read_step c.args.compiled.now.spec c.requires.sealed c.args.plan.now c.args.call.now _ _ _ _ _ _ (starts g start _ _ c.in-Read.is) c.read.new.space.bindings.tuples c.in_ok-read-in-Read.ensures.joined (one g start).0 (one g start).1)
 
 -- ---- checks
 
 pub returns-in-CheckAbsent-clause-run : goal.returns-in-CheckAbsent-clause-run
 returns-in-CheckAbsent-clause-run g c =
     let start = (goal.at.returns-in-CheckAbsent-clause-run g c).Start in
-    absent_goes c.args.compiled.now.spec c.requires.sealed c.args.plan.now c.args.call.now c.requires.fits c.requires.planned _ _ _ (one g start) (starts g start _ _ c.in-CheckAbsent.is) c.present.result
+    absent_goes c.args.compiled.now.spec c.requires.sealed c.args.plan.now c.args.call.now c.requires.fits c.requires.planned _ _ _ _ (one g start) (starts g start _ _ c.in-CheckAbsent.is) c.present.result
     c.present.ensures
+
+pub returns-in_ok-found-in-CheckFound-clause-run : goal.returns-in_ok-found-in-CheckFound-clause-run
+returns-in_ok-found-in-CheckFound-clause-run g c =
+    let start = (goal.at.returns-in_ok-found-in-CheckFound-clause-run g c).Start in
+    found_goes c.args.compiled.now.spec c.requires.sealed c.args.plan.now c.args.call.now c.requires.fits c.requires.planned _ _ _ _ (one g start) (starts g start _ _ c.in-CheckFound.is) c.found.new.old c.in_ok-found-in-CheckFound.field-0
+    c.in_ok-found-in-CheckFound.ensures
 
 pub conflict-requires-clause-some : goal.conflict-requires-clause-some
 conflict-requires-clause-some g c = ((starts g (goal.at.conflict-requires-clause-some g c).Start _ _ c.in-CheckDep.is).known _ (inl refl)).0
@@ -144,6 +152,10 @@ conflict-requires-clause-known g c =
 pub conflict-requires-clause-sealed : goal.conflict-requires-clause-sealed
 conflict-requires-clause-sealed g c = subst IsSealed (sym (spec_is g (goal.at.conflict-requires-clause-sealed g c).After-spec-spec)) c.requires.sealed
 
+pub conflict-requires-clause-pattern : goal.conflict-requires-clause-pattern
+conflict-requires-clause-pattern g c =
+    (c.op-op.ensures.known (subst IsSealed (sym (spec_is g (goal.at.conflict-requires-clause-pattern g c).After-spec-spec)) c.requires.sealed).in_range).pattern
+
 pub conflict-requires-clause-wide : goal.conflict-requires-clause-wide
 conflict-requires-clause-wide g c = c.requires.wide.bindings ∙ ap (λ (s : Spec). length s.columns) (sym (spec_is g (goal.at.conflict-requires-clause-wide g c).After-spec-spec))
 
@@ -153,8 +165,13 @@ conflict-requires-clause-tuple g c = c.requires.fits.1.tuple
 pub returns-in-CheckDep-clause-run : goal.returns-in-CheckDep-clause-run
 returns-in-CheckDep-clause-run g c =
     let at = goal.at.returns-in-CheckDep-clause-run g c in
-    dep_goes c.args.compiled.now.spec c.requires.sealed c.args.plan.now c.args.call.now c.requires.fits c.requires.planned _ _ _ (one g at.Start) c.in-CheckDep.dep (starts g at.Start _ _ c.in-CheckDep.is) c.conflict.result
-    (c.conflict.ensures ∙ ap (λ (s : Spec). if some_differs s c.in-CheckDep.dep c.args.call.now.args c.args.space.now.bindings.tuples then Some (Conflict c.in-CheckDep.dep) else None) (spec_is g at.After-spec-spec))
+    dep_goes c.args.compiled.now.spec c.requires.sealed c.args.plan.now c.args.call.now c.requires.fits c.requires.planned _ _ _ _ (one g at.Start) c.in-CheckDep.dep (starts g at.Start _ _ c.in-CheckDep.is) c.conflict.result
+    (c.conflict.ensures ∙ ap (λ (s : Spec). if some_differs s c.op-op.result.now c.in-CheckDep.dep c.args.call.now.args c.args.space.now.bindings.tuples then Some (Conflict c.in-CheckDep.dep) else None) (spec_is g at.After-spec-spec)
+    ∙ ap (λ (o : Op). if some_differs c.args.compiled.now.spec o c.in-CheckDep.dep c.args.call.now.args c.args.space.now.bindings.tuples then Some (Conflict c.in-CheckDep.dep) else None)
+    (c.op-op.ensures.value ∙ ap (λ (s : Spec). op_at s c.args.call.now.op) (spec_is g at.After-spec-spec)))
+
+pub op-op-requires : goal.op-op-requires
+op-op-requires g c = known_op g (goal.at.op-op-requires g c).After-spec-spec
 
 -- ---- Apply and Emit
 
@@ -167,7 +184,7 @@ op-requires-in-Emit g c = known_op g (goal.at.op-requires-in-Emit g c).After-spe
 pub apply-requires-clause-can : goal.apply-requires-clause-can
 apply-requires-clause-can g c =
     let start = (goal.at.apply-requires-clause-can g c).Start in
-    (can_apply c.args.compiled.now.spec c.requires.sealed c.args.plan.now c.args.call.now c.requires.fits c.requires.planned _ _ _ (one g start) (starts g start _ _ c.in-Apply.is) c.op.result.now.kind (kind_is g (goal.at.apply-requires-clause-can g c).After-spec-spec c.op.result.now c.op.ensures.value))
+    (can_apply c.args.compiled.now.spec c.requires.sealed c.args.plan.now c.args.call.now c.requires.fits c.requires.planned _ _ _ _ (one g start) (starts g start _ _ c.in-Apply.is) c.op.result.now.kind (kind_is g (goal.at.apply-requires-clause-can g c).After-spec-spec c.op.result.now c.op.ensures.value))
 
 pub returns-in_err-apply-in-Apply-clause-taken : goal.returns-in_err-apply-in-Apply-clause-taken
 returns-in_err-apply-in-Apply-clause-taken g c =
@@ -180,14 +197,14 @@ returns-in_err-apply-in-Apply-clause-stopped g c = if_err _ (subst AreAsTaken (s
 
 -- what Apply did with the bindings
 applied : (g : Over) (c : In_ok-apply-in-Apply g)
-    → HasApplied c.args.compiled.now.spec c.op.result.now.kind c.args.call.now.args c.args.space.now.bindings.tuples (held_of (g.H.Holder.seen c.args.holder.now)) (held_of (g.H.Holder.seen c.apply.new.holder)) c.in_ok-apply-in-Apply.field-0
+    → HasApplied c.args.compiled.now.spec c.op.result.now.kind c.args.call.now.args c.args.space.now.old_tuple c.args.space.now.bindings.tuples (held_of (g.H.Holder.seen c.args.holder.now)) (held_of (g.H.Holder.seen c.apply.new.holder)) c.in_ok-apply-in-Apply.field-0
 applied g c =
     c.in_ok-apply-in-Apply.ensures.ok
 
 pub returns-in_ok-apply-in-Apply-clause-run : goal.returns-in_ok-apply-in-Apply-clause-run
 returns-in_ok-apply-in-Apply-clause-run g c =
     let start = (goal.at.returns-in_ok-apply-in-Apply-clause-run g c).Start in
-    applied_replies c.args.compiled.now.spec c.requires.sealed c.args.plan.now c.args.call.now c.requires.fits c.requires.planned _ _ _ (starts g start _ _ c.in-Apply.is) (one g start) c.op.result.now.kind (kind_is g (goal.at.returns-in_ok-apply-in-Apply-clause-run g c).After-spec-spec c.op.result.now c.op.ensures.value)
+    applied_replies c.args.compiled.now.spec c.requires.sealed c.args.plan.now c.args.call.now c.requires.fits c.requires.planned _ _ _ _ (starts g start _ _ c.in-Apply.is) (one g start) c.op.result.now.kind (kind_is g (goal.at.returns-in_ok-apply-in-Apply-clause-run g c).After-spec-spec c.op.result.now c.op.ensures.value)
     (held_of (g.H.Holder.seen c.apply.new.holder)) c.in_ok-apply-in-Apply.field-0 (applied g (goal.at.returns-in_ok-apply-in-Apply-clause-run g c).In_ok-apply-in-Apply)
     (g.met.H.Holder.sound_rows c.apply.new.holder c.args.compiled.now.spec (c.in_ok-apply-in-Apply.ensures.sound c.args.compiled.now.spec c.requires.sound))
 
@@ -195,11 +212,12 @@ pub returns-in_ok-apply-in-Apply-clause-taken : goal.returns-in_ok-apply-in-Appl
 returns-in_ok-apply-in-Apply-clause-taken g c =
     let old = g.H.Holder.seen c.args.holder.now in
     let new = g.H.Holder.seen c.apply.new.holder in
-    applied_told c.args.compiled.now.spec c.op.result.now.kind c.args.call.now.args c.args.space.now.bindings.tuples old new c.in_ok-apply-in-Apply.field-0 (applied g (goal.at.returns-in_ok-apply-in-Apply-clause-taken g c).In_ok-apply-in-Apply)
+    applied_told c.args.compiled.now.spec c.op.result.now.kind c.args.call.now.args c.args.space.now.old_tuple c.args.space.now.bindings.tuples old new c.in_ok-apply-in-Apply.field-0 (applied g (goal.at.returns-in_ok-apply-in-Apply-clause-taken g c).In_ok-apply-in-Apply)
     (lent_goes_on old new c.in_ok-apply-in-Apply.ensures.lent) c.requires.taken
 
-pub returns-in_ok-emit-in-Emit-clause-run : goal.returns-in_ok-emit-in-Emit-clause-run
-returns-in_ok-emit-in-Emit-clause-run g c =
-    let start = (goal.at.returns-in_ok-emit-in-Emit-clause-run g c).Start in
-    emit_replies c.args.compiled.now.spec c.requires.sealed c.args.plan.now c.args.call.now c.requires.fits c.requires.planned _ _ _ (one g start) (starts g start _ _ c.in-Emit.is) c.op-in-Emit.result.now.kind (kind_is g (goal.at.returns-in_ok-emit-in-Emit-clause-run g c).After-spec-spec c.op-in-Emit.result.now c.op-in-Emit.ensures.value)
-    c.in_ok-emit-in-Emit.field-0 c.in_ok-emit-in-Emit.ensures
+pub returns-in_ok-reply-in-Emit-clause-run : goal.returns-in_ok-reply-in-Emit-clause-run
+returns-in_ok-reply-in-Emit-clause-run g c =
+    let start = (goal.at.returns-in_ok-reply-in-Emit-clause-run g c).Start in
+    emit_replies c.args.compiled.now.spec c.requires.sealed c.args.plan.now c.args.call.now c.requires.fits c.requires.planned _ _ _ _ (one g start) (starts g start _ _ c.in-Emit.is) c.op-in-Emit.result.now.kind (kind_is g (goal.at.returns-in_ok-reply-in-Emit-clause-run g c).After-spec-spec c.op-in-Emit.result.now c.op-in-Emit.ensures.value)
+    c.in_ok-reply-in-Emit.reply (λ outs cols is. c.in_ok-reply-in-Emit.ensures outs cols is ∙ ap (λ rs. answer c.spec-spec.result.now.most_rows outs (filter (in_ranges rs) c.args.space.now.bindings.tuples)) c.list-ranges.ensures.value
+    ∙ ap (λ (s : Spec). answer s.most_rows outs (filter (in_ranges c.args.call.now.ranges) c.args.space.now.bindings.tuples)) (spec_is g (goal.at.returns-in_ok-reply-in-Emit-clause-run g c).After-spec-spec))

@@ -3,7 +3,7 @@ use Rattle.rc_tuple.specs.RisingSet.{In}
 use Rattle.rc_spec.specs.declared.spec.Spec.{Spec}
 use Rattle.rc_spec.specs.Acceptance.{IsSealed}
 use Rattle.rc_route.specs.GoodRoutes.{all_edges}
-use Rattle.rc_query.specs.declared.probe.InsertProbe.{InsertProbe}
+use Rattle.rc_query.specs.declared.probe.PlannedProbe.{PlannedProbe}
 use Rattle.rc_query.specs.InsertPlanLaws.{probe_edges_known}
 use Rattle.rc_query.specs.Planned.{Routing, insert_probes}
 use Rattle.rc_query.specs.PlannedLaws.{chosen_routing, routing_chooses, chosen_good}
@@ -29,7 +29,7 @@ push_probes-requires-clause-edges c = λ probe m e h.
 pub returns : goal.returns
 returns c = λ route chooses.
     let spec = c.args.accepted.now in
-    let probes : List InsertProbe = insert_probes spec route c.args.pattern in
+    let probes : List PlannedProbe = insert_probes spec route c.args.pattern in
     insertion_made spec c.spec-spec.result.now c.written_classes-classes.result probes c.deref.result.now c.deref-2.result.now c.new-plan.result c.push_locks.new.plan c.push_probes.new.plan c.push_ending.new.plan
     c.spec-spec.ensures.value (c.deref.ensures.value ∙ c.in_ok-probes.ensures route chooses) (c.deref-2.ensures.value ∙ c.in_ok-probes.ensures route chooses) c.written_classes-classes.ensures c.new-plan.ensures
     c.in_ok-push_locks.ensures c.in_ok-push_probes.ensures c.in_ok-push_ending.ensures

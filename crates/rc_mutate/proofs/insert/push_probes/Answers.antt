@@ -1,10 +1,10 @@
 use Rattle.std.proofs.Common.{sym, subst}
 use Rattle.rc_tuple.specs.RisingSet.{In}
 use Rattle.rc_tuple.specs.RisingSetLaws.{get_or_in}
-use Rattle.rc_query.specs.declared.probe.InsertProbe.{InsertProbe}
+use Rattle.rc_query.specs.declared.probe.PlannedProbe.{PlannedProbe}
 use Rattle.rc_mutate.proofs.insert.push_probes.Goals as goal
 
 pub push_probe-requires-clause-edges : goal.push_probe-requires-clause-edges
 push_probe-requires-clause-edges c =
     c.requires.edges c.probe-item.result
-    (subst (λ (x : InsertProbe). In x c.args.probes.now) (sym c.probe-item.is) (get_or_in c.args.probes.now c.loop-probe.probe-index c.probe-item.result c.loop-probe-test.true))
+    (subst (λ (x : PlannedProbe). In x c.args.probes.now) (sym c.probe-item.is) (get_or_in c.args.probes.now c.loop-probe.probe-index c.probe-item.result c.loop-probe-test.true))

@@ -3,7 +3,7 @@ use Rattle.rc_tuple.specs.declared.dep.Dep.{Dep}
 use Rattle.rc_tuple.specs.ColSet.{Within}
 use Rattle.rc_spec.specs.Calls.{all_columns}
 use Rattle.rc_plan.specs.Evaluation.{dep_at}
-use Rattle.rc_query.specs.declared.probe.InsertProbe.{InsertProbe}
+use Rattle.rc_query.specs.declared.probe.PlannedProbe.{PlannedProbe}
 use Rattle.rc_query.specs.OpLaws.{union_some}
 use Rattle.rc_mutate.proofs.WriteLemmas.{dep_found, dep_among, need_known, probes_same, probes_more}
 use Rattle.rc_mutate.proofs.probes.insert_probes.Goals as goal
@@ -29,9 +29,9 @@ loop-place-preserved c = λ route chooses.
     let dep : Dep = c.index-deps-place.result in
     let found : dep_at spec (c.loop-place.place + 1) ≡ dep = dep_found spec c.spec.result.now c.list-deps.result.now c.loop-place.place dep c.spec.ensures.value c.list-deps.ensures c.loop-place-test.true c.index-deps-place.is in
     elim c.if-not-within.branch [
-      | then-not-within+in_ok-probe_for-2+in_ok-push-2 w ↦ ap (λ (v : Vec InsertProbe Global). v.items) w.probes-is
+      | then-not-within+in_ok-probe_for-2+in_ok-push-2 w ↦ ap (λ (v : Vec PlannedProbe Global). v.items) w.probes-is
           ∙ probes_more spec route c.args.pattern w.union-need.result c.loop-place.place dep c.loop-place.probes.items w.push-then-not-within.new.self.items w.in_ok-probe_for-2.field-0 found
           (sym c.within.ensures.found ∙ w.if-not-within.true) w.union-need.ensures.value (c.loop-place.invariant route chooses) (w.in_ok-probe_for-2.ensures route chooses) w.in_ok-push-2.ensures.items
-      | else-not-within w ↦ ap (λ (v : Vec InsertProbe Global). v.items) w.probes-is
+      | else-not-within w ↦ ap (λ (v : Vec PlannedProbe Global). v.items) w.probes-is
           ∙ probes_same spec route c.args.pattern c.loop-place.place dep c.loop-place.probes.items found (sym c.within.ensures.found ∙ w.if-not-within.false) (c.loop-place.invariant route chooses)
     ]

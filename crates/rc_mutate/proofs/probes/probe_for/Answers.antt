@@ -1,9 +1,9 @@
 use Rattle.std.proofs.Common.{ap, List, ℕ}
-use Rattle.rc_query.specs.declared.probe.InsertProbe.{InsertProbe}
+use Rattle.rc_query.specs.declared.probe.PlannedProbe.{PlannedProbe}
 use Rattle.rc_query.specs.PlannedLaws.{route_is_chosen}
 use Rattle.rc_mutate.proofs.probes.probe_for.Goals as goal
 
 pub returns : goal.returns
 returns c = λ route chooses.
-    ap (λ (es : List ℕ). let probe : InsertProbe = record { columns = c.args.columns; route = es; check = c.args.check } in probe)
+    ap (λ (es : List ℕ). let probe : PlannedProbe = record { columns = c.args.columns; route = es; check = c.args.check } in probe)
     (route_is_chosen c.args.accepted.now c.requires.sealed route chooses c.args.columns c.args.need c.in_ok-route.route c.in_ok-route.ensures.chosen)

@@ -1,4 +1,5 @@
-use Rattle.std.proofs.Common.{◌<◌, length, ap, ◌∙◌, subst, arith}
+use Rattle.std.proofs.Common.{◌<◌, length, refl, sym, ap, ◌∙◌, subst, arith}
+use Rattle.std.proofs.lemmas.Bool.{false≢true}
 use Rattle.std.specs.Ordering.{nat_cmp}
 use Rattle.rc_tuple.specs.RisingSet.{In, gather}
 use Rattle.rc_spec.specs.Calls.{all_columns}
@@ -9,9 +10,12 @@ pub from_list-pattern-requires : goal.from_list-pattern-requires
 from_list-pattern-requires c = λ col m.
     let below : col < length c.args.spec.now.columns = c.requires.known.pattern col (subst (In col) c.list.ensures m) in omega arith
 
-pub returns-in-Remove : goal.returns-in-Remove
-returns-in-Remove c =
+pub returns-then-not-finds_by_key : goal.returns-then-not-finds_by_key
+returns-then-not-finds_by_key c = (λ h key. absurd (false≢true (sym c.if-not-finds_by_key.true ∙ c.finds_by_key.ensures.1 key)), λ k. refl)
+
+pub returns : goal.returns
+returns c =
     let test =
-    follows_at c.list-in-Remove.result.now c.args.spec.now.deps c.from_list-pattern.result (gather nat_cmp c.args.op.now.pattern) c.all_columns.result (all_columns c.args.spec.now)
-    c.is_key.result c.list-in-Remove.ensures (c.from_list-pattern.ensures.value ∙ ap (gather nat_cmp) c.list.ensures) c.all_columns.ensures c.is_key.ensures in
-    (λ h kind. test.0 h, λ k. test.1 (k c.in-Remove.is))
+    follows_at c.list-deps.result.now c.args.spec.now.deps c.from_list-pattern.result (gather nat_cmp c.args.op.now.pattern) c.all_columns.result (all_columns c.args.spec.now)
+    c.is_key.result c.list-deps.ensures (c.from_list-pattern.ensures.value ∙ ap (gather nat_cmp) c.list.ensures) c.all_columns.ensures c.is_key.ensures in
+    (λ h key. test.0 h, λ k. test.1 (k (c.finds_by_key.ensures.0 c.if-not-finds_by_key.false)))

@@ -12,11 +12,11 @@ from_list-requires c = λ col m.
 
 pub returns-then-not-is_empty : goal.returns-then-not-is_empty
 returns-then-not-is_empty c =
-    outs_distinct c.args.op.now c.in-Query.outs c.list-outs.result.now c.from_list.result c.len.result c.is_empty.result c.in-Query.is c.list-outs.ensures
+    outs_distinct c.args.op.now c.in-Query.outs c.in-Query.ranges c.list-outs.result.now c.from_list.result c.len.result c.is_empty.result c.in-Query.is c.list-outs.ensures
     c.is_empty.ensures c.if-not-is_empty.true c.from_list.ensures.value c.len.ensures.value
 
 pub returns-else-not-is_empty : goal.returns-else-not-is_empty
 returns-else-not-is_empty c = (
   λ h. absurd (false≢true (sym (ap not c.if-not-is_empty.false) ∙ h)),
-  λ k. absurd (outs_none c.args.op.now c.in-Query.outs c.list-outs.result.now c.is_empty.result c.in-Query.is c.list-outs.ensures c.is_empty.ensures c.if-not-is_empty.false k),
+  λ k. absurd (outs_none c.args.op.now c.in-Query.outs c.in-Query.ranges c.list-outs.result.now c.is_empty.result c.in-Query.is c.list-outs.ensures c.is_empty.ensures c.if-not-is_empty.false k),
 )

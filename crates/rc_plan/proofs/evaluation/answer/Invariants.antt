@@ -1,6 +1,8 @@
 use Rattle.std.proofs.Common.{◌≡◌, take}
+use Rattle.std.specs.List.{filter}
 use Rattle.rc_spec.specs.Plain.{rows_of}
+use Rattle.rc_spec.specs.Ranges.{in_ranges}
 use Rattle.rc_plan.proofs.evaluation.answer.Given as goal
 
 abbrev pub invariant-loop-binding : goal.invariant-loop-binding
-invariant-loop-binding l = l.rows ≡ rows_of l.outs (take l.binding-index l.bindings)
+invariant-loop-binding l = l.rows ≡ rows_of l.outs (filter (in_ranges l.ranges) (take l.binding-index l.bindings))

@@ -1,7 +1,8 @@
-use Rattle.std.proofs.Common.{◌≡◌, take, not, false}
+use Rattle.std.proofs.Common.{◌≡◌, ◌&&◌, take, not, false}
 use Rattle.std.specs.List.{list_any}
 use Rattle.rc_tuple.specs.Tuple.{agree_on}
+use Rattle.rc_plan.specs.Evaluation.{stays_beside}
 use Rattle.rc_plan.proofs.evaluation.differs_on.Given as goal
 
 abbrev pub invariant-loop-binding : goal.invariant-loop-binding
-invariant-loop-binding l = list_any (λ b. not (agree_on l.cols b l.args)) (take l.binding-index l.bindings) ≡ false
+invariant-loop-binding l = list_any (λ b. stays_beside l.op.kind l.op.pattern l.args b && not (agree_on l.cols b l.args)) (take l.binding-index l.bindings) ≡ false

@@ -10,4 +10,4 @@ pub returns-in-Some : goal.returns-in-Some
 returns-in-Some c =
     let spec = c.args.spec.now in
     ap (λ found. unless_broken found (with_line spec (form_text c.args.form)))
-    (ap (λ (line : FoundLine). first_broken (tests_of spec line)) (sym c.in_ok-line.ensures) ∙ sym c.broken_rule.ensures ∙ c.in-Some.is)
+    (ap (λ (line : FoundLine). first_broken (tests_of c.args.version spec line)) (sym c.in_ok-line.ensures) ∙ sym c.broken_rule.ensures ∙ c.in-Some.is)

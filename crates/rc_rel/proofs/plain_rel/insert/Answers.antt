@@ -1,4 +1,4 @@
-use Rattle.std.proofs.Common.{◌≡◌, true, false, ℕ, List, sym, ap, subst, ◌∙◌, None, Some}
+use Rattle.std.proofs.Common.{◌≡◌, true, false, ℕ, List, [], sym, ap, subst, ◌∙◌, None, Some}
 use Rattle.rc_tuple.specs.RisingSet.{In, put}
 use Rattle.rc_tuple.specs.Tuple.{Pairs, tuple_cmp}
 use Rattle.rc_tuple.specs.declared.dep.Dep.{Dep}
@@ -14,13 +14,13 @@ from_list-requires c = λ k m. c.requires.pattern k (subst (λ (l : List ℕ). I
 
 pub returns-then-any_agrees-clause-ok : goal.returns-then-any_agrees-clause-ok
 returns-then-any_agrees-clause-ok c =
-    insert-present c.args.pattern.now c.args.deps.now c.args.args.now c.args.tuples.now.items
+    insert-present 0 c.args.pattern.now c.args.deps.now c.args.args.now [] c.args.tuples.now.items
     (agreement_found true c.from_list.result c.list.result.now c.args.pattern.now c.args.args.now c.deref.result.now c.args.tuples.now.items
     c.if-any_agrees.ensures c.from_list.ensures.value c.list.ensures c.deref.ensures.value)
 
 pub returns-in-Some-clause-ok : goal.returns-in-Some-clause-ok
 returns-in-Some-clause-ok c =
-    insert-absent c.args.pattern.now c.args.deps.now c.args.args.now c.args.tuples.now.items (Some c.in-Some.number)
+    insert-absent 0 c.args.pattern.now c.args.deps.now c.args.args.now [] c.args.tuples.now.items (Some c.in-Some.number)
     (agreement_found false c.from_list.result c.list.result.now c.args.pattern.now c.args.args.now c.deref.result.now c.args.tuples.now.items
     c.if-any_agrees.ensures c.from_list.ensures.value c.list.ensures c.deref.ensures.value)
     (ap (λ (l : List Pairs). first_broken_dependency 1 c.args.deps.now (put tuple_cmp c.args.args.now l)) (sym c.deref-3.ensures.value) ∙ sym c.in-Some.ensures)
@@ -37,7 +37,7 @@ pub returns-clause-ok : goal.returns-clause-ok
 returns-clause-ok c =
     let none : first_broken_dependency 1 c.args.deps.now (put tuple_cmp c.args.args.now c.args.tuples.now.items) ≡ None =
     ap (λ (l : List Pairs). first_broken_dependency 1 c.args.deps.now (put tuple_cmp c.args.args.now l)) (sym c.deref-3.ensures.value) ∙ sym c.in_default.ensures in
-    insert-absent c.args.pattern.now c.args.deps.now c.args.args.now c.args.tuples.now.items None
+    insert-absent 0 c.args.pattern.now c.args.deps.now c.args.args.now [] c.args.tuples.now.items None
     (agreement_found false c.from_list.result c.list.result.now c.args.pattern.now c.args.args.now c.deref.result.now c.args.tuples.now.items
     c.if-any_agrees.ensures c.from_list.ensures.value c.list.ensures c.deref.ensures.value) none
     ∙ ap (λ (l : List Pairs). let o : Outcome = record { reply = Inserted; relation = l } in o)

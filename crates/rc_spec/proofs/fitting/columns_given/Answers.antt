@@ -16,3 +16,8 @@ pub returns-in-Insert : goal.returns-in-Insert
 returns-in-Insert c =
     c.all_columns.ensures ∙ sym (gather-rising nat_cmp nat_order _ (rising_range 0 (length c.args.spec.now.columns)))
     ∙ sym (ap (λ kind. gather nat_cmp (value_columns c.args.spec.now c.args.op.now.pattern kind)) c.in-Insert.is)
+
+pub returns-in-Update : goal.returns-in-Update
+returns-in-Update c =
+    c.all_columns-in-Update.ensures ∙ sym (gather-rising nat_cmp nat_order _ (rising_range 0 (length c.args.spec.now.columns)))
+    ∙ sym (ap (λ kind. gather nat_cmp (value_columns c.args.spec.now c.args.op.now.pattern kind)) c.in-Update.is)

@@ -1,13 +1,13 @@
 use Rattle.std.proofs.Common.{◌≡◌, take, drop}
 use Rattle.std.specs.List.{AllByRecursion}
-use Rattle.rc_tuple.specs.Tuple.{IsTuple}
 use Rattle.rc_work.specs.Drafts.{IsRawTurn}
+use Rattle.rc_work.specs.Fitting.{IsOfWords}
 use Rattle.rc_work.specs.Ranking.{ranked_round}
 use Rattle.rc_work.proofs.ranking.ranked_round.Given as goal
 
 abbrev pub invariant-loop-turn : goal.invariant-loop-turn
 invariant-loop-turn l = record {
   so_far : l.ranked ≡ ranked_round l.spec l.ranks (take l.turn-index l.round);
-  tuples : AllByRecursion (λ turn. IsTuple turn.call.args) l.ranked;
+  words : AllByRecursion (λ turn. IsOfWords turn.call) l.ranked;
   left : AllByRecursion (IsRawTurn l.spec) (drop l.turn-index l.round);
 }

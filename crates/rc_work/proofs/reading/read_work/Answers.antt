@@ -1,11 +1,10 @@
 use Rattle.std.proofs.Common.{sym, subst}
 use Rattle.std.specs.List.{AllByRecursion}
 use Rattle.std.proofs.lemmas.Result.{err_from_is_err_and}
-use Rattle.rc_tuple.specs.Tuple.{IsTuple}
 use Rattle.rc_work.specs.DraftsLaws.{IsDraft-reading_all}
 use Rattle.rc_work.specs.RefusalLaws.{IsWorkRefusal-reading_all}
 use Rattle.rc_work.specs.RankingLaws.{KeepsLimits-work_with, HasThreads-work_with, RoundsFit-ranked_rounds, KnowsTexts-work_of}
-use Rattle.rc_work.specs.Fitting.{HasThreads, RoundsFit}
+use Rattle.rc_work.specs.Fitting.{HasThreads, IsOfWords, RoundsFit}
 use Rattle.rc_work.specs.Limits.{KeepsLimits, KnowsTexts}
 use Rattle.rc_work.specs.declared.work.Work.{Work}
 use Rattle.rc_work.proofs.reading.read_work.Goals as goal
@@ -26,8 +25,8 @@ returns-clause-threads c =
 pub returns-clause-fit : goal.returns-clause-fit
 returns-clause-fit c =
     let is = IsDraft-reading_all _ _ _ _ c.in_ok-draft.ensures in
-    let tuples = subst (λ (work : Work). AllByRecursion (AllByRecursion (λ turn. IsTuple turn.call.args)) work.rounds) c.in_ok-work_of.ensures.work c.in_ok-work_of.ensures.tuples in
-    subst (λ (work : Work). RoundsFit c.args.spec.now work.rounds) (sym c.in_ok-work_of.ensures.work) (RoundsFit-ranked_rounds _ _ _ c.requires.well_named is.turns tuples)
+    let words = subst (λ (work : Work). AllByRecursion (AllByRecursion (λ turn. IsOfWords turn.call)) work.rounds) c.in_ok-work_of.ensures.work c.in_ok-work_of.ensures.words in
+    subst (λ (work : Work). RoundsFit c.args.spec.now work.rounds) (sym c.in_ok-work_of.ensures.work) (RoundsFit-ranked_rounds _ _ _ c.requires.well_named is.turns words)
 
 pub returns-clause-known_texts : goal.returns-clause-known_texts
 returns-clause-known_texts c =

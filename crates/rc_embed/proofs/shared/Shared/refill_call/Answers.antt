@@ -1,28 +1,41 @@
-use Rattle.std.proofs.Common.{ℕ, ◌<◌, List, sym, subst, ap, ◌∙◌, arith}
-use Rattle.rc_tuple.specs.RisingSet.{In, AreDistinct}
-use Rattle.rc_tuple.specs.Tuple.{IsTuple, Pairs, tuple_of}
+use Rattle.std.proofs.Common.{◌≡◌, ℕ, ◌<◌, List, length, sym, subst, ap, ◌∙◌, arith}
+use Rattle.rc_spec.specs.declared.call.Call.{Call}
+use Rattle.rc_spec.specs.declared.spec.Spec.{Spec}
 use Rattle.rc_spec.specs.Calls.{Fits}
+use Rattle.rc_spec.specs.InRange.{IsInRange}
+use Rattle.rc_spec.specs.Names.{IsWellNamed}
 use Rattle.rc_row.specs.Passes.{spec_of}
-use Rattle.rc_work.specs.CallColumnsLaws.{columns_at-below, columns_at-distinct}
-use Rattle.rc_embed.proofs.AskedLemmas.{fits_call}
+use Rattle.rc_work.specs.CallColumns.{call_of, written_columns_at}
+use Rattle.rc_work.specs.CallLaws.{Fits-call_of}
+use Rattle.rc_work.specs.Fitting.{IsOfWords}
 use Rattle.rc_embed.proofs.shared.Shared.refill_call.Goals as goal
 
-pub refill-requires-clause-below : goal.refill-requires-clause-below
-refill-requires-clause-below c =
-    subst (λ (cols : List ℕ). (k : ℕ) → In k cols → k < 32) (sym c.columns.ensures.value)
-    (columns_at-below (spec_of c.args.self.now.row) c.args.op c.spec.ensures.range)
+pub overflow_cast-number : goal.overflow_cast-number
+overflow_cast-number c = let few = c.spec-spec.ensures.range.ops in let known = c.requires.known in omega arith
 
-pub refill-requires-clause-distinct : goal.refill-requires-clause-distinct
-refill-requires-clause-distinct c =
-    subst (λ (cols : List ℕ). AreDistinct cols) (sym c.columns.ensures.value)
-    (columns_at-distinct (spec_of c.args.self.now.row) c.args.op c.spec.ensures.named)
+pub refill_call-requires-clause-range : goal.refill_call-requires-clause-range
+refill_call-requires-clause-range c = subst (λ (spec : Spec). IsInRange spec) (sym c.spec-spec.ensures.value) c.spec-spec.ensures.range
 
-pub overflow_cast-call : goal.overflow_cast-call
-overflow_cast-call c = let few = c.spec.ensures.range.ops in let known = c.requires.known in omega arith
+pub refill_call-requires-clause-named : goal.refill_call-requires-clause-named
+refill_call-requires-clause-named c = subst (λ (spec : Spec). IsWellNamed spec) (sym c.spec-spec.ensures.value) c.spec-spec.ensures.named
+
+pub refill_call-requires-clause-known : goal.refill_call-requires-clause-known
+refill_call-requires-clause-known c = subst (λ (spec : Spec). c.args.op < length spec.ops) (sym c.spec-spec.ensures.value) c.requires.known
+
+pub refill_call-requires-clause-cols : goal.refill_call-requires-clause-cols
+refill_call-requires-clause-cols c = c.columns.ensures.value ∙ ap (λ (spec : Spec). written_columns_at spec c.args.op) (sym c.spec-spec.ensures.value)
+
+pub refill_call-requires-clause-count : goal.refill_call-requires-clause-count
+refill_call-requires-clause-count c = c.requires.count ∙ sym (ap (λ (cols : List ℕ). length cols) c.columns.ensures.value)
+
+pub returns-clause-call : goal.returns-clause-call
+returns-clause-call c =
+    c.in_ok-refill_call.ensures.call ∙ ap (λ (spec : Spec). call_of spec c.args.op c.args.values.now) c.spec-spec.ensures.value
 
 pub returns-clause-fits : goal.returns-clause-fits
 returns-clause-fits c =
     let spec = spec_of c.args.self.now.row in
-    let made = c.in_ok-refill.ensures.ok ∙ ap (λ (cols : List ℕ). tuple_of cols c.args.values.now) c.columns.ensures.value in
-    subst (λ (args : Pairs). Fits spec (record { op = c.args.op; args = args })) (sym made)
-    (fits_call spec c.args.op c.args.values.now c.requires c.spec.ensures.named (subst (λ (args : Pairs). IsTuple args) made c.pairs.ensures.tuple))
+    let made = c.in_ok-refill_call.ensures.call ∙ ap (λ (s : Spec). call_of s c.args.op c.args.values.now) c.spec-spec.ensures.value in
+    subst (λ (call : Call). Fits spec call) (sym made)
+    (Fits-call_of spec c.args.op c.args.values.now c.requires.known c.spec-spec.ensures.named c.requires.count
+    (subst (λ (call : Call). IsOfWords call) made c.in_ok-refill_call.ensures.words))

@@ -3,9 +3,8 @@ use Rattle.std.specs.Result.{OnErr}
 use Rattle.std.proofs.lemmas.Option.{get_or_from_slice_get}
 use Rattle.rc_tuple.specs.RisingSetLaws.{slice_get_in}
 use Rattle.rc_tuple.specs.Tuple.{Pairs, cols_of}
-use Rattle.rc_tuple.specs.declared.dep.Dep.{Dep}
 use Rattle.rc_spec.specs.declared.items.Op.{Op}
-use Rattle.rc_spec.specs.Calls.{all_columns}
+use Rattle.rc_spec.specs.Calls.{all_columns, GivesTuple}
 use Rattle.rc_spec.specs.InRange.{AreBelow}
 use Rattle.rc_spec.specs.Placement.{no_op}
 use Rattle.rc_spec.specs.Plain.{Outcome, plain, plain_by}
@@ -25,7 +24,7 @@ step-requires-clause-over c =
     let op : Op = c.requires.fits.0 in
     let read : c.op-op.result.now ≡ op = c.op-op.ensures.value ∙ get_or_from_slice_get c.args.spec.now.ops c.args.call.now.op op no_op c.requires.fits.1.known in
     λ e. subst (λ (r : List Pairs). AreOver (cols_of c.args.call.now.args) r) (sym c.self.view_is)
-    (over_arguments c.args.spec.now c.args.call.now op c.args.self.now c.requires.fits.1 c.requires.over (sym (ap (λ (o : Op). o.kind) read) ∙ e))
+    (over_arguments c.args.spec.now c.args.call.now op c.args.self.now c.requires.fits.1 c.requires.over (subst (λ (o : Op). GivesTuple o.kind) read e))
 
 pub returns-clause-ok : goal.returns-clause-ok
 returns-clause-ok c =
@@ -33,9 +32,8 @@ returns-clause-ok c =
     let read : c.op-op.result.now ≡ op = c.op-op.ensures.value ∙ get_or_from_slice_get c.args.spec.now.ops c.args.call.now.op op no_op c.requires.fits.1.known in
     same_outcome c.step.result _ (plain c.args.spec.now c.args.self.now c.args.call.now) c.step.new.tuples.items
     (plain-known c.args.spec.now c.args.self.now c.args.call.now op c.requires.fits.1.known
-    ∙ ap (λ (o : Op). plain_by o.kind o.pattern c.args.spec.now.deps c.args.call.now.args c.args.self.now) (sym read)
-    ∙ ap (λ (deps : List Dep). plain_by c.op-op.result.now.kind c.op-op.result.now.pattern deps c.args.call.now.args c.args.self.now) (sym c.list.ensures)
-    ∙ ap (λ (r : List Pairs). plain_by c.op-op.result.now.kind c.op-op.result.now.pattern c.list.result.now c.args.call.now.args r) (sym c.self.view_is))
+    ∙ ap (λ (o : Op). plain_by c.args.spec.now.most_rows o.kind o.pattern c.args.spec.now.deps c.args.call.now.args c.args.call.now.ranges c.args.self.now) (sym read)
+    ∙ ap (λ (r : List Pairs). plain_by c.args.spec.now.most_rows c.op-op.result.now.kind c.op-op.result.now.pattern c.args.spec.now.deps c.args.call.now.args c.args.call.now.ranges r) (sym c.self.view_is))
     c.step.ensures.ok
 
 pub returns-clause-over : goal.returns-clause-over

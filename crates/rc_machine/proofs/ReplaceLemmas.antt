@@ -1,0 +1,165 @@
+-- A change of two tuples, as an update makes it: the rows of the old one go, and those of the new one come.
+use Rattle.std.specs.Prelude.{◌≡◌, ℕ, ◌<◌, ◌≤◌, ◌^◌, Bool, true, false, List, [], ◌∷◌, Option, Some, cond, filter, length, map, not}
+use Rattle.std.specs.Ordering.{nat_cmp}
+use Rattle.std.proofs.Common.{refl, sym, ap, subst, ◌∙◌, arith}
+use Rattle.rc_tuple.specs.RisingSet.{In, IsRising, put}
+use Rattle.rc_tuple.specs.RisingSetLaws.{in_filter, in_map, map_in, rising_filter}
+use Rattle.rc_tuple.specs.ColSetLaws.{in_range_bounds}
+use Rattle.rc_tuple.specs.Tuple.{IsTuple, Pairs, cols_of, tuple_cmp, tuple_eq}
+use Rattle.rc_tuple.specs.Relation.{Satisfies}
+use Rattle.rc_tuple.specs.RelationLaws.{satisfies_fewer}
+use Rattle.rc_spec.specs.declared.call.Call.{Call}
+use Rattle.rc_spec.specs.declared.call.Reply.{Reply}
+use Rattle.rc_spec.specs.declared.lock.Mode.TheVariants.{Exclusive}
+use Rattle.rc_spec.specs.declared.spec.Spec.{Spec}
+use Rattle.rc_spec.specs.Acceptance.{IsSealed}
+use Rattle.rc_spec.specs.Calls.{Fits, all_columns}
+use Rattle.rc_spec.specs.CountedRows.{lowered, raised, row_in}
+use Rattle.rc_spec.specs.CountedRowsLaws.{AllHeld, AreCountedRows, AreCountedRows-rows_on, without_rows-fragments}
+use Rattle.rc_spec.specs.Fragments.{EdgeRow, edge_numbers, fragment_of, on_stripes, rows_on}
+use Rattle.rc_spec.specs.Placement.{class_of}
+use Rattle.rc_spec.specs.Plain.{plain, without}
+use Rattle.rc_spec.specs.Stripes.{physical_stripe}
+use Rattle.rc_fragment.specs.Holder.{AreOfRelation, HeldStripe}
+use Rattle.rc_plan.specs.declared.statement.Statement.{Statement}
+use Rattle.rc_plan.specs.Compiled.{IsPlanOf}
+use Rattle.rc_plan.specs.Evaluation.{RunState, eval}
+use Rattle.rc_plan.specs.Laws.{Serves}
+use Rattle.rc_plan.specs.StripeLocks.{AreIn}
+use Rattle.rc_machine.specs.Applied.{CanReplace, replaced_in}
+use Rattle.rc_machine.specs.Apply.{AreAddable, all_changed}
+use Rattle.rc_machine.specs.Machine.{HasEvaluated, HasServed, locks_of, stripes_held}
+use Rattle.rc_machine.proofs.ApplyLemmas.{Change, IsSameFrom, goes_to, lowered_leaves, raised_leaves}
+use Rattle.rc_machine.proofs.ChangeLemmas.{IsLocal, all_done, locks_kept, lowered_done, lowered_local, part_of, parts_changed, raised_local, stripes_kept}
+use Rattle.rc_machine.proofs.ConditionLemmas.{addable_at, exclusive_from, there_at}
+use Rattle.rc_machine.proofs.RunLemmas.{has_evaluated, has_served, serves, stripes_named}
+
+length_filter : {A : Type 0} (q : A → Bool) (xs : List A) → length (filter q xs) ≤ length xs
+length_filter q [] = omega arith
+length_filter q (x ∷ xs) = go (q x) (length_filter q xs)
+  where
+    go : (b : Bool) → length (filter q xs) ≤ length xs → length (cond b (x ∷ filter q xs) (filter q xs)) ≤ length (x ∷ xs)
+    go true l = omega (arith, l)
+    go false l = omega (arith, l)
+
+done_counted : (change : Change) → IsLocal change → (spec : Spec) (t : Pairs) (edges : List ℕ) (ws : List EdgeRow) → AreCountedRows ws → AreCountedRows (all_done change spec t edges ws)
+done_counted change local spec t [] ws a = a
+done_counted change local spec t (e ∷ edges) ws a = done_counted change local spec t edges (change e (row_in spec t e) ws) (local.counted e (row_in spec t e) ws a)
+
+-- a stripe with its rows now as those taken
+abbrev as_taken : HeldStripe → HeldStripe
+as_taken h = record { stripe = h.stripe; mode = h.mode; now = h.now; taken = h.now }
+
+-- ---- what an update changes can be changed
+
+module _ (spec : Spec) (sealed : IsSealed spec) (r : List Pairs) (held : List HeldStripe) (same : (h : HeldStripe) → In h held → h.now ≡ h.taken) (a : AreOfRelation spec held r)
+    (o : Pairs) (there : In o r) (named : AllHeld spec (stripes_held held) o) where
+  abbrev mid : List HeldStripe
+  mid = all_changed lowered spec o (edge_numbers spec) held
+
+  -- once the old tuple's rows are out, the stripes have the fragments of the relation without it
+  lowered_now : (h : HeldStripe) → In h mid → h.now ≡ fragment_of spec (without o r) h.stripe
+  lowered_now h m =
+      let S : List ℕ = stripes_held held in
+      let all : List EdgeRow = rows_on spec r S in
+      let part : h.now ≡ on_stripes spec (h.stripe ∷ []) (all_done lowered spec o (edge_numbers spec) all) =
+      parts_changed lowered lowered_local spec o (edge_numbers spec) held all (AreCountedRows-rows_on spec r S)
+      (λ g n. same g n ∙ a.rows g n ∙ sym (part_of spec r S g.stripe (map_in (λ (h : HeldStripe). h.stripe) g held n))) h m in
+      part ∙ ap (on_stripes spec (h.stripe ∷ [])) (lowered_done spec o (edge_numbers spec) all ∙ without_rows-fragments spec r S o a.relation.rising there named)
+      ∙ part_of spec (without o r) S h.stripe (subst (In h.stripe) (stripes_kept lowered spec o (edge_numbers spec) held) (map_in (λ (h : HeldStripe). h.stripe) h mid m))
+
+  settled : AreOfRelation spec (map as_taken mid) (without o r)
+  settled =
+      let fewer : length (without o r) ≤ length r = length_filter (λ x. not (tuple_eq x o)) r in
+      let few : length r < 2 ^ 63 = a.few in
+      record {
+        relation = record {
+          rising = rising_filter tuple_cmp (λ x. not (tuple_eq x o)) r a.relation.rising;
+          each = λ x n. a.relation.each x (in_filter (λ x. not (tuple_eq x o)) x r n).0;
+        };
+        satisfies = satisfies_fewer r (without o r) spec.deps (λ u m. (in_filter (λ x. not (tuple_eq x o)) u r m).0) a.satisfies;
+        few = omega (arith, fewer, few);
+        rows = λ h m.
+            let q : (g : HeldStripe) × In g mid × (h ≡ as_taken g) = in_map as_taken h mid m in
+            subst (λ (z : HeldStripe). z.taken ≡ fragment_of spec (without o r) z.stripe) (sym q.2) (lowered_now q.0 q.1);
+      }
+
+  settled_same : (h : HeldStripe) → In h (map as_taken mid) → h.now ≡ h.taken
+  settled_same h m =
+      let q : (g : HeldStripe) × In g mid × (h ≡ as_taken g) = in_map as_taken h mid m in
+      subst (λ (z : HeldStripe). z.now ≡ z.taken) (sym q.2) refl
+
+  -- then the new tuple's rows can be added
+  new_addable : (t : Pairs) → cols_of t ≡ all_columns spec → IsTuple t → Satisfies (put tuple_cmp t (without o r)) spec.deps → AreAddable spec t mid
+  new_addable t over tuple sat e l h m s = addable_at spec sealed (without o r) (map as_taken mid) settled_same settled t over tuple sat e l (as_taken h) (map_in as_taken h mid m) s
+
+  pub can_replace : (t : Pairs) → cols_of t ≡ all_columns spec → IsTuple t → Satisfies (put tuple_cmp t (without o r)) spec.deps → AllHeld spec (stripes_held held) t → AreIn Exclusive (locks_of held) → CanReplace spec o t held
+  can_replace t over tuple sat named_new modes = record {
+    out = record { whole = (a.relation.each o there).over; exclusive = exclusive_from spec o held named modes; there = there_at spec sealed r held same a o there };
+    put = record {
+      whole = over;
+      exclusive = exclusive_from spec t mid (λ e l. subst (In (physical_stripe spec (class_of spec e) (row_in spec t e))) (sym (stripes_kept lowered spec o (edge_numbers spec) held)) (named_new e l))
+          (subst (AreIn Exclusive) (sym (locks_kept lowered spec o (edge_numbers spec) held)) modes);
+      addable = new_addable t over tuple sat;
+    };
+  }
+
+-- ---- a run that ends with both changes
+
+module _ (spec : Spec) (sealed : IsSealed spec) (plan : List Statement) (call : Call) (fits : Fits spec call) (planned : IsPlanOf spec call.op plan)
+    (bs : List Pairs) (old : Option Pairs) (held : List HeldStripe) (same : (h : HeldStripe) → In h held → h.now ≡ h.taken) (rise : IsRising nat_cmp (stripes_held held)) (answer : Reply) (o t : Pairs)
+    (ends : (r : List Pairs) → AreOfRelation spec held r → eval spec plan call (rows_on spec r (stripes_held held))
+    ≡ record { bindings = bs; named = locks_of held; old = old; reply = Some answer; rows = all_done raised spec t (edge_numbers spec) (all_done lowered spec o (edge_numbers spec) (rows_on spec r (stripes_held held))) }) where
+  abbrev half : List HeldStripe
+  half = all_changed lowered spec o (edge_numbers spec) held
+
+  abbrev new : List HeldStripe
+  new = replaced_in spec o t held
+
+  locks_same : locks_of new ≡ locks_of held
+  locks_same = locks_kept raised spec t (edge_numbers spec) half ∙ locks_kept lowered spec o (edge_numbers spec) held
+
+  stripes_same : stripes_held new ≡ stripes_held held
+  stripes_same = stripes_kept raised spec t (edge_numbers spec) half ∙ stripes_kept lowered spec o (edge_numbers spec) held
+
+  few : (e : ℕ) → In e (edge_numbers spec) → e < length spec.edges
+  few e n = let b = in_range_bounds 0 (length spec.edges) e n in omega (arith, b.1)
+
+  before : (r : List Pairs) → AreOfRelation spec new r → AreOfRelation spec held r
+  before r a = record {
+    relation = a.relation;
+    satisfies = a.satisfies;
+    few = a.few;
+    rows = λ h m.
+        let p : (g : HeldStripe) × In g half × IsSameFrom (length spec.edges) h g = goes_to lowered lowered_leaves spec o (length spec.edges) (edge_numbers spec) held few h m in
+        let q : (g : HeldStripe) × In g new × IsSameFrom (length spec.edges) p.0 g = goes_to raised raised_leaves spec t (length spec.edges) (edge_numbers spec) half few p.0 p.1 in
+        sym p.2.taken ∙ sym q.2.taken ∙ a.rows q.0 q.1 ∙ ap (fragment_of spec r) (q.2.stripe ∙ p.2.stripe);
+  }
+
+  named : (r : List Pairs) → AreOfRelation spec new r → (eval spec plan call (rows_on spec r (stripes_held new))).named ≡ locks_of new
+  named r a = ap (λ z. (eval spec plan call (rows_on spec r z)).named) stripes_same ∙ ap (λ (z : RunState). z.named) (ends r (before r a)) ∙ sym locks_same
+
+  replied : (r : List Pairs) → AreOfRelation spec new r → (eval spec plan call (rows_on spec r (stripes_held new))).reply ≡ Some answer
+  replied r a = ap (λ z. (eval spec plan call (rows_on spec r z)).reply) stripes_same ∙ ap (λ (z : RunState). z.reply) (ends r (before r a))
+
+  rows : (r : List Pairs) → AreOfRelation spec new r → (h : HeldStripe) → In h new → h.now ≡ fragment_of spec (plain spec r call).relation h.stripe
+  rows r a' h m =
+      let a : AreOfRelation spec held r = before r a' in
+      let S : List ℕ = stripes_held held in
+      let all : List EdgeRow = rows_on spec r S in
+      let s : Serves spec plan call r (locks_of held) = serves spec sealed plan call fits planned r held a (ap (λ (z : RunState). z.named) (ends r a)) in
+      let after : all_done raised spec t (edge_numbers spec) (all_done lowered spec o (edge_numbers spec) all) ≡ rows_on spec (plain spec r call).relation S =
+      sym (ap (λ (z : RunState). z.rows) (ends r a)) ∙ ap (λ z. (eval spec plan call (rows_on spec r z)).rows) (sym (stripes_named held)) ∙ s.rows ∙ ap (rows_on spec (plain spec r call).relation) (stripes_named held) in
+      let parts : (g : HeldStripe) → In g half → g.now ≡ on_stripes spec (g.stripe ∷ []) (all_done lowered spec o (edge_numbers spec) all) =
+      parts_changed lowered lowered_local spec o (edge_numbers spec) held all (AreCountedRows-rows_on spec r S)
+      (λ g n. same g n ∙ a.rows g n ∙ sym (part_of spec r S g.stripe (map_in (λ (h : HeldStripe). h.stripe) g held n))) in
+      let part : h.now ≡ on_stripes spec (h.stripe ∷ []) (all_done raised spec t (edge_numbers spec) (all_done lowered spec o (edge_numbers spec) all)) =
+      parts_changed raised raised_local spec t (edge_numbers spec) half (all_done lowered spec o (edge_numbers spec) all) (done_counted lowered lowered_local spec o (edge_numbers spec) all (AreCountedRows-rows_on spec r S)) parts h m in
+      part ∙ ap (on_stripes spec (h.stripe ∷ [])) after
+      ∙ part_of spec (plain spec r call).relation S h.stripe (subst (In h.stripe) stripes_same (map_in (λ (h : HeldStripe). h.stripe) h new m))
+
+  pub replaced_evaluated : (r : List Pairs) → AreOfRelation spec new r → HasEvaluated spec plan call new answer
+  replaced_evaluated = has_evaluated spec sealed plan call fits planned new (subst (IsRising nat_cmp) (sym stripes_same) rise) answer named replied rows
+
+  pub replaced_served : (r : List Pairs) → AreOfRelation spec new r → HasServed spec plan call new answer r
+  replaced_served = has_served spec sealed plan call fits planned new (subst (IsRising nat_cmp) (sym stripes_same) rise) answer named replied rows

@@ -1,0 +1,35 @@
+use Rattle.std.proofs.Common.{◌≡◌, ◌<◌, ◌∙◌, List, length, sym, subst}
+use Rattle.rc_tuple.specs.RisingSet.{In}
+use Rattle.rc_spec.specs.declared.spec.Spec.{Spec}
+use Rattle.rc_spec.specs.Acceptance.{IsSealed}
+use Rattle.rc_route.specs.GoodRoutes.{all_edges}
+use Rattle.rc_query.specs.declared.probe.PlannedProbe.{PlannedProbe}
+use Rattle.rc_query.specs.UpdatePlanLaws.{update_edges_known}
+use Rattle.rc_query.specs.Planned.{Routing, update_probes}
+use Rattle.rc_query.specs.PlannedLaws.{chosen_routing, routing_chooses, chosen_good}
+use Rattle.rc_query.specs.ProgressLaws.{classes_known, in_edge}
+use Rattle.rc_mutate.proofs.WriteLemmas.{replacement_made}
+use Rattle.rc_mutate.proofs.update.plan_replacement.Goals as goal
+
+pub push_update_locks-requires : goal.push_update_locks-requires
+push_update_locks-requires c = λ k m.
+    let spec = c.spec-spec.result.now in
+    let sealed : IsSealed spec = subst IsSealed (sym c.spec-spec.ensures.value) c.spec-spec.ensures.sealed in
+    classes_known spec sealed.in_range sealed.accepted.placed (all_edges spec) (in_edge spec) k (subst (In k) c.written_classes-classes.ensures m)
+
+pub push_probes-requires-clause-edges : goal.push_probes-requires-clause-edges
+push_probes-requires-clause-edges c = λ probe m e h.
+    let spec = c.args.accepted.now in
+    let sealed : IsSealed spec = c.spec-spec.ensures.sealed in
+    let route : Routing = chosen_routing spec sealed in
+    let same : c.deref-2.result.now ≡ update_probes spec route c.args.pattern = c.deref-2.ensures.value ∙ c.in_ok-probes.ensures route (routing_chooses spec sealed) in
+    subst (λ (s : Spec). e < length s.edges) (sym c.spec-spec.ensures.value)
+    (update_edges_known spec sealed.in_range route (chosen_good spec sealed route (routing_chooses spec sealed)) c.args.pattern c.requires.known probe (subst (In probe) same m) e h)
+
+pub returns : goal.returns
+returns c = λ route chooses.
+    let spec = c.args.accepted.now in
+    let probes : List PlannedProbe = update_probes spec route c.args.pattern in
+    replacement_made spec c.spec-spec.result.now c.args.pattern c.written_classes-classes.result probes c.deref.result.now c.deref-2.result.now c.new-plan.result c.push_update_locks.new.plan c.push_probes.new.plan c.push_ending.new.plan
+    c.spec-spec.ensures.value (c.deref.ensures.value ∙ c.in_ok-probes.ensures route chooses) (c.deref-2.ensures.value ∙ c.in_ok-probes.ensures route chooses) c.written_classes-classes.ensures c.new-plan.ensures
+    c.in_ok-push_update_locks.ensures c.in_ok-push_probes.ensures c.in_ok-push_ending.ensures

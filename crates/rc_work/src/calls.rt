@@ -1,0 +1,56 @@
+//! The call that an operation's number and values make.
+
+ghost use Rattle.std.specs.Prelude.{◌≡◌, ◌<◌, ◌*◌, length, IfOk, OnOk};
+ghost use Rattle.rc_spec.specs.InRange.{IsInRange};
+ghost use Rattle.rc_spec.specs.Names.{IsWellNamed};
+ghost use Rattle.rc_spec.specs.Ranges.{AreBounded};
+ghost use Rattle.rc_work.specs.CallColumns.{call_of, ranges_of, written_columns_at};
+ghost use Rattle.rc_work.specs.Fitting.{IsOfWords};
+
+use crate::columns::range_columns;
+use rc_spec::{Call, Ranges, Spec};
+use rc_tuple::Memory;
+use std::alloc::Global;
+
+/// The ranges of the columns, with a lower and an upper bound for each.
+fn ranges_of(alloc: Global, cols: &[u8], bounds: &[u64]) -> Result<Ranges, Memory>
+    requires { length bounds.now ≡ 2 * length cols.now }
+    ensures ranges { IfOk result (λ ranges. ranges ≡ ranges_of cols.now bounds.now) }
+    ensures bounded { IfOk result AreBounded }
+{
+    let mut ranges = Ranges::new(alloc);
+    for (at, col) in cols.iter().enumerate() {
+        ranges.push(*col, bounds[2 * at], bounds[2 * at + 1])?;
+    }
+    // A call of `list` tells the check that they are bounded.
+    let _ = ranges.list();
+    Ok(ranges)
+}
+
+/// Makes the call that of the operation with this number and these values, for the columns that it is written with.
+/// Its tuple is made in the memory that the call has, and takes more only where it had room for fewer values; bounds
+/// take memory where the operation has range columns, and no other call does. After want of memory it is of no use.
+pub fn refill_call(
+    call: &mut Call,
+    spec: &Spec,
+    op: u8,
+    cols: &[u8],
+    values: &[u64],
+) -> Result<(), Memory>
+    requires range { IsInRange spec.now }
+    requires named { IsWellNamed spec.now }
+    requires known { op < length spec.now.ops }
+    requires cols { cols.now ≡ written_columns_at spec.now op }
+    requires count { length values.now ≡ length cols.now }
+    ensures call { OnOk result (call.new ≡ call_of spec.now op values.now) }
+    ensures words { OnOk result (IsOfWords call.new) }
+{
+    let ranges = range_columns(&spec.op(op).kind);
+    let given = cols.len() - 2 * ranges.len();
+    call.op = op;
+    call.args.refill(&cols[..given], &values[..given])?;
+    call.ranges = ranges_of(call.args.alloc(), ranges, &values[given..])?;
+    // A call of `pairs` tells the check that they are a tuple.
+    let _ = call.args.pairs();
+    Ok(())
+}
