@@ -54,7 +54,7 @@ static void call(struct worker *worker, int op, uint32_t count, uint64_t a, uint
 static uint64_t query(struct worker *worker, int op, uint64_t node)
 {
     call(worker, op, 1, node, 0, 0);
-    check(worker->frame.kind == RELC_ROWS, "a node has at most 256 edges");
+    check(worker->frame.kind == RELC_ROWS, "the store was opened without a limit of rows");
     return worker->frame.number;
 }
 

@@ -13,8 +13,8 @@
  * Codes.      Each function answers a code, but relc_version and those that close; RELC_DONE is 0.
  *             A call that is refused has changed nothing in the store, nor in the session but for
  *             RELC_UNSEEN; a relc_frame or a relc_operation_frame is as before but for what
- *             RELC_BUSY tells. Nothing aborts, nothing waits, and nothing is printed.
- * Memory.     Every byte that is lent is initialised: frames (= {0}), and the places that store
+ *             RELC_BUSY tells, and a relc_page but for `rows`. Nothing aborts, nothing waits, and nothing is printed.
+ * Memory.     Every byte that is lent is initialised: frames and pages (= {0}), and the places that store
  *             and session are written to (= NULL). What is lent is aligned as its type is. What one
  *             call is lent doesn't overlap, and but for a text nobody else reads or writes it
  *             meanwhile. No pointer is NULL, not even that of a text of no bytes, nor the frame of
@@ -35,11 +35,15 @@ extern "C" {
 #endif
 
 /* the version of this header and of its library: it rises where programs must be compiled anew */
-#define RELC_VERSION 1
+#define RELC_VERSION 2
 
-/* how many values of a call, or of a row, there is room for: no specification has more than 16
- * columns */
-#define RELC_VALUES 32
+/* how many values of a call there is room for: of a query those of its pattern, and a least and a
+ * greatest value of each range column, of 32 columns at most */
+#define RELC_VALUES 64
+
+/* how many values of a row, and of several rows at once */
+#define RELC_CELLS 32
+#define RELC_PAGE 1024
 
 /* the longest name of an operation, and the longest refusal */
 #define RELC_NAME 16
@@ -59,7 +63,7 @@ enum relc_code {
     RELC_PREPARED = 6,     /* a call is prepared, and neither committed nor cancelled */
     RELC_NOT_PREPARED = 7, /* no call is prepared */
     RELC_NO_ROW = 8,       /* the reply has no such row */
-    RELC_OPTIONS = 9,      /* passes or limit are out of their ranges */
+    RELC_OPTIONS = 9,      /* passes, limit or rows are out of their ranges */
     RELC_TOO_LONG = 10,    /* the text is longer than 2^24 bytes */
     RELC_LINE = 11,        /* the text breaks a line rule: refusal of the frame */
     RELC_RULE = 12,        /* the specification breaks a rule of acceptance: the same */
@@ -69,13 +73,14 @@ enum relc_code {
 
 /* kinds of a reply */
 enum relc_kind {
-    RELC_ROWS = 0,     /* a query's distinct rows, rising, at most 256: number of them */
-    RELC_MANY = 1,     /* a query has more than 256: their number */
+    RELC_ROWS = 0,     /* a query's distinct rows, rising: number of them */
+    RELC_MANY = 1,     /* a query has more than the store was opened for: their number */
     RELC_INSERTED = 2, /* the tuple was added */
     RELC_PRESENT = 3,  /* a tuple with the same pattern values is there */
     RELC_CONFLICT = 4, /* it would break the dependency with this number, counted from 1 */
     RELC_REMOVED = 5,  /* the tuple was taken out: its values are row 0 */
-    RELC_ABSENT = 6    /* no tuple matches */
+    RELC_ABSENT = 6,   /* no tuple matches */
+    RELC_UPDATED = 7   /* the tuple is in the place of another, whose values are row 0 */
 };
 
 /* what a busy stripe had; session number n is the one that was begun as the n-th, from 0 */
@@ -91,6 +96,8 @@ typedef struct relc_open_frame {
     uint32_t length;               /* told: how many bytes the refusal has; 0 but for RELC_LINE
                                       and RELC_RULE */
     uint64_t limit;                /* asked: how many calls each session may make, 1 to 2^48 */
+    uint64_t rows;                 /* asked: the most rows that a query tells one by one, 1 to
+                                      2^32 - 1, or 0 for no limit; of more it tells the number */
     uint64_t seed[2];              /* asked: the secret of the store's hash tables: two numbers
                                       drawn at random (getrandom) and told to nobody, where who
                                       chooses the values isn't trusted; else any, as 0 */
@@ -102,12 +109,14 @@ typedef struct relc_open_frame {
 typedef struct relc_operation_frame {
     uint32_t length;              /* asked: how many bytes the name has, at most RELC_NAME */
     uint32_t op;                  /* told: the number by which it is called */
-    uint32_t kind;                /* told: 0 for a query, 1 for an insert, 2 for a remove */
+    uint32_t kind;                /* told: 0 for a query, 1 for an insert, 2 for a remove, 3 for an
+                                     update */
     uint32_t count;               /* told: how many values a call gives */
     uint64_t width;               /* told: how many values a row of its reply has */
     uint8_t name[RELC_NAME];      /* asked */
     uint8_t columns[RELC_VALUES]; /* told: the columns of a call's values, by their numbers in the
-                                     specification */
+                                     specification; a range column twice, for its least and for
+                                     its greatest value */
 } relc_operation_frame;
 
 /* What a session is asked, and what it tells. What isn't told stays as it was. */
@@ -127,9 +136,16 @@ typedef struct relc_frame {
                                      session has seen */
     uint64_t row;                 /* asked by relc_row: which row, from 0 */
     uint64_t width;               /* told by relc_row: how many values it has */
-    uint64_t cells[RELC_VALUES];  /* told by relc_row: its values, in the order of the query's
-                                     outputs, or of the columns of the tuple that was removed */
+    uint64_t cells[RELC_CELLS];   /* told by relc_row: its values, in the order of the query's
+                                     outputs, or of the columns of the tuple that was there */
 } relc_frame;
+
+/* Several rows of a reply at once. */
+typedef struct relc_page {
+    uint64_t row;              /* asked: the first of the rows, from 0 */
+    uint64_t rows;             /* told: how many rows were copied */
+    uint64_t cells[RELC_PAGE]; /* told: their values, one row behind the other */
+} relc_page;
 
 /* The RELC_VERSION of the library, for programs that load it as they start: where it is another
  * than the one that they were compiled with, they call nothing else. */
@@ -178,6 +194,12 @@ uint32_t relc_learn(relc_session *session, relc_frame *frame);
 /* Copies row `row` into `cells`: of the reply of the prepared call, where one is, else of the last
  * call that was made. RELC_DONE or RELC_NO_ROW. */
 uint32_t relc_row(relc_session *session, relc_frame *frame);
+
+/* Copies the rows from `row` on into `cells`, one behind the other, as many as there is room for,
+ * and tells how many: of the reply of which relc_row copies one. Each has as many values as the
+ * operation's `width`; the cells behind them stay as they were. RELC_DONE, or RELC_NO_ROW with
+ * `rows` 0. */
+uint32_t relc_rows(relc_session *session, relc_page *page);
 
 /* Closes a store, where it isn't NULL. Its sessions may go on. */
 void relc_close_store(relc_store *store);

@@ -14,13 +14,14 @@
 /* The sizes and places of the structs of rc_embed. The numbers are copied from them by hand, and
  * are those of sys.rs; that what a field is told comes at that place is what the tests see. */
 #define LIES(kind, field, at) _Static_assert(offsetof(kind, field) == (at), #kind " " #field)
-_Static_assert(sizeof(relc_open_frame) == 96, "OpenFrame");
+_Static_assert(sizeof(relc_open_frame) == 104, "OpenFrame");
 LIES(relc_open_frame, passes, 0);
 LIES(relc_open_frame, length, 4);
 LIES(relc_open_frame, limit, 8);
-LIES(relc_open_frame, seed, 16);
-LIES(relc_open_frame, refusal, 32);
-_Static_assert(sizeof(relc_operation_frame) == 72, "OperationFrame");
+LIES(relc_open_frame, rows, 16);
+LIES(relc_open_frame, seed, 24);
+LIES(relc_open_frame, refusal, 40);
+_Static_assert(sizeof(relc_operation_frame) == 104, "OperationFrame");
 LIES(relc_operation_frame, length, 0);
 LIES(relc_operation_frame, op, 4);
 LIES(relc_operation_frame, kind, 8);
@@ -28,21 +29,25 @@ LIES(relc_operation_frame, count, 12);
 LIES(relc_operation_frame, width, 16);
 LIES(relc_operation_frame, name, 24);
 LIES(relc_operation_frame, columns, 40);
-_Static_assert(sizeof(relc_frame) == 584, "Frame");
+_Static_assert(sizeof(relc_frame) == 840, "Frame");
 LIES(relc_frame, op, 0);
 LIES(relc_frame, count, 4);
 LIES(relc_frame, values, 8);
-LIES(relc_frame, kind, 264);
-LIES(relc_frame, found, 268);
-LIES(relc_frame, stripe, 272);
-LIES(relc_frame, who, 276);
-LIES(relc_frame, number, 280);
-LIES(relc_frame, place, 288);
-LIES(relc_frame, nth, 296);
-LIES(relc_frame, seen, 304);
-LIES(relc_frame, row, 312);
-LIES(relc_frame, width, 320);
-LIES(relc_frame, cells, 328);
+LIES(relc_frame, kind, 520);
+LIES(relc_frame, found, 524);
+LIES(relc_frame, stripe, 528);
+LIES(relc_frame, who, 532);
+LIES(relc_frame, number, 536);
+LIES(relc_frame, place, 544);
+LIES(relc_frame, nth, 552);
+LIES(relc_frame, seen, 560);
+LIES(relc_frame, row, 568);
+LIES(relc_frame, width, 576);
+LIES(relc_frame, cells, 584);
+_Static_assert(sizeof(relc_page) == 8208, "Page");
+LIES(relc_page, row, 0);
+LIES(relc_page, rows, 8);
+LIES(relc_page, cells, 16);
 
 #define CHECK(what)                                                        \
     do {                                                                   \
@@ -59,6 +64,14 @@ static const char GRAPH[] =
     "lock k1 8 src\nlock k2 4 src\nplace e1 k1\nplace e2 k2\nplace e3 k2\n"
     "op ins insert src dst\nop del remove src dst\nop succ query src -> dst weight\nend\n";
 
+/* the graph with an update of a weight and a query for the targets in a range */
+static const char GRAPH2[] =
+    "relc 2\ncol src num\ncol dst num\ncol weight num\nfd src dst -> weight\n"
+    "node root\nnode u src\nnode w src dst\nnode z src dst weight\n"
+    "edge e1 root u hash src\nedge e2 u w ordered dst\nedge e3 w z singleton weight\n"
+    "lock k1 8 src\nlock k2 4 src\nplace e1 k1\nplace e2 k2\nplace e3 k2\n"
+    "op ins insert src dst\nop set update src dst\nop near query src : dst -> dst weight\nend\n";
+
 /* pairs, each value of which is in one */
 static const char PAIRS[] =
     "relc 1\ncol left num\ncol right num\nfd left -> right\nfd right -> left\n"
@@ -66,12 +79,18 @@ static const char PAIRS[] =
     "lock k1 4 left\nlock k2 4 right\nplace e1 k1\nplace e2 k2\n"
     "op pair insert left\nend\n";
 
-static relc_store *opened_by(const char *text, uint32_t passes, uint64_t limit)
+static relc_store *opened_for(const char *text, uint32_t passes, uint64_t limit, uint64_t rows)
 {
-    relc_open_frame frame = {.passes = passes, .limit = limit, .seed = {passes, limit}};
+    relc_open_frame frame = {
+        .passes = passes, .limit = limit, .rows = rows, .seed = {passes, limit}};
     relc_store *store = NULL;
     CHECK(relc_open((const uint8_t *)text, strlen(text), &frame, &store) == RELC_DONE);
     return store;
+}
+
+static relc_store *opened_by(const char *text, uint32_t passes, uint64_t limit)
+{
+    return opened_for(text, passes, limit, 0);
 }
 
 static relc_store *opened(uint32_t passes, uint64_t limit)
@@ -118,13 +137,16 @@ static void test_opening(void)
 {
     char *wrong = strdup(GRAPH);
     memcpy(strstr(wrong, "lock k2 4 src"), "lock k2 4 dst", 13);
-    CHECK(refused("relc 2\n", 1, "refused S1 line 1") == RELC_LINE);
+    CHECK(refused("relc 3\n", 1, "refused S1 line 1") == RELC_LINE);
     CHECK(refused(wrong, 1, "refused P5 edge e2") == RELC_RULE);
     CHECK(refused(GRAPH, 0, "") == RELC_OPTIONS);
     CHECK(refused(GRAPH, 256, "") == RELC_OPTIONS);
     relc_open_frame idle = {.passes = 1, .limit = 0};
     relc_store *none = NULL;
     CHECK(relc_open((const uint8_t *)GRAPH, strlen(GRAPH), &idle, &none) == RELC_OPTIONS);
+    CHECK(none == NULL);
+    relc_open_frame many = {.passes = 1, .limit = 1, .rows = (uint64_t)1 << 32};
+    CHECK(relc_open((const uint8_t *)GRAPH, strlen(GRAPH), &many, &none) == RELC_OPTIONS);
     CHECK(none == NULL);
     free(wrong);
     char *blank = malloc((1 << 24) + 2);
@@ -203,7 +225,7 @@ static void test_calls(void)
 /* The kinds of a reply that the one above doesn't have. */
 static void test_many_and_conflicts(void)
 {
-    relc_store *store = opened(1, 300);
+    relc_store *store = opened_for(GRAPH, 1, 300, 256);
     relc_session *session = session_of(store);
     uint32_t ins = operation(store, "ins").op, succ = operation(store, "succ").op;
     relc_close_store(store);
@@ -226,6 +248,73 @@ static void test_many_and_conflicts(void)
     ask(&frame, 0, 2, 7, 6, 0);
     CHECK(relc_try_call(session, &frame) == RELC_DONE);
     CHECK(frame.kind == RELC_CONFLICT && frame.number == 2 && frame.nth == 1);
+    relc_close_session(session);
+}
+
+/* A reply of more rows than a page has room for, page by page. */
+static void test_pages(void)
+{
+    relc_store *store = opened(1, 700);
+    relc_session *session = session_of(store);
+    uint32_t ins = operation(store, "ins").op, succ = operation(store, "succ").op;
+    relc_close_store(store);
+    relc_frame frame = {0};
+    static relc_page page;
+    CHECK(relc_rows(session, &page) == RELC_NO_ROW && page.rows == 0);
+    for (uint64_t end = 0; end < 600; end++) {
+        ask(&frame, ins, 3, 1, end, 1000 + end);
+        CHECK(relc_try_call(session, &frame) == RELC_DONE && frame.kind == RELC_INSERTED);
+    }
+    ask(&frame, succ, 1, 1, 0, 0);
+    CHECK(relc_try_call(session, &frame) == RELC_DONE);
+    CHECK(frame.kind == RELC_ROWS && frame.number == 600);
+    uint64_t row = 0;
+    for (page.row = 0; page.row < frame.number; page.row += page.rows) {
+        CHECK(relc_rows(session, &page) == RELC_DONE);
+        CHECK(page.rows == (page.row == 0 ? 512 : 88));
+        for (uint64_t at = 0; at < page.rows; at++, row++)
+            CHECK(page.cells[2 * at] == row && page.cells[2 * at + 1] == 1000 + row);
+    }
+    CHECK(row == 600 && page.cells[2 * 88] == 88); /* behind the rows the cells are as before */
+    CHECK(relc_rows(session, &page) == RELC_NO_ROW && page.rows == 0);
+    relc_close_session(session);
+}
+
+/* Updates, and queries with ranges. */
+static void test_version_two(void)
+{
+    relc_store *store = opened_by(GRAPH2, 1, 20);
+    relc_session *session = session_of(store);
+    relc_operation_frame set = operation(store, "set"), near = operation(store, "near");
+    uint32_t ins = operation(store, "ins").op;
+    relc_close_store(store);
+    CHECK(set.kind == 3 && set.count == 3 && set.width == 3);
+    CHECK(near.kind == 0 && near.count == 3 && near.width == 2);
+    CHECK(near.columns[0] == 0 && near.columns[1] == 1 && near.columns[2] == 1);
+    relc_frame frame = {0};
+    for (uint64_t end = 1; end < 6; end++) {
+        ask(&frame, ins, 3, 1, end, 10 * end);
+        CHECK(relc_try_call(session, &frame) == RELC_DONE && frame.kind == RELC_INSERTED);
+    }
+    ask(&frame, set.op, 3, 1, 2, 21);
+    CHECK(relc_try_call(session, &frame) == RELC_DONE);
+    CHECK(frame.kind == RELC_UPDATED && frame.number == 1);
+    frame.row = 0;
+    CHECK(relc_row(session, &frame) == RELC_DONE && frame.width == 3 && frame.cells[2] == 20);
+    ask(&frame, set.op, 3, 2, 2, 21);
+    CHECK(relc_try_call(session, &frame) == RELC_DONE && frame.kind == RELC_ABSENT);
+    ask(&frame, near.op, 3, 1, 2, 3);
+    CHECK(relc_try_call(session, &frame) == RELC_DONE);
+    CHECK(frame.kind == RELC_ROWS && frame.number == 2);
+    static relc_page page;
+    static const uint64_t cells[4] = {2, 21, 3, 30};
+    CHECK(relc_rows(session, &page) == RELC_DONE && page.rows == 2);
+    CHECK(memcmp(page.cells, cells, sizeof cells) == 0);
+    ask(&frame, near.op, 3, 1, 4, 3);
+    CHECK(relc_try_call(session, &frame) == RELC_DONE);
+    CHECK(frame.kind == RELC_ROWS && frame.number == 0);
+    frame.count = 1;
+    CHECK(relc_try_call(session, &frame) == RELC_VALUE_COUNT);
     relc_close_session(session);
 }
 
@@ -398,6 +487,8 @@ int main(void)
     test_opening();
     test_calls();
     test_many_and_conflicts();
+    test_pages();
+    test_version_two();
     test_busy();
     test_closing();
     test_waiting();
@@ -407,6 +498,6 @@ int main(void)
     CHECK(waiting != NULL);
     test_threads(waiting);
     relc_close_waiting(waiting);
-    puts("relc.h: 9 passed, 0 failed");
+    puts("relc.h: 11 passed, 0 failed");
     return 0;
 }

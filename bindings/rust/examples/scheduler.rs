@@ -19,8 +19,7 @@ use std::thread;
 
 const PROCESSORS: u64 = 4;
 
-/// How many processes each processor spawns. (A query lists up to 256 rows, and of more tells the
-/// number: `rows` answers an error then. All processes together are fewer.)
+/// How many processes each processor spawns.
 const SPAWNED: u64 = 60;
 
 const RUNNABLE: u64 = 0;
@@ -74,9 +73,9 @@ impl Processes {
 
     /// Spawns processes; then runs each runnable one that it gets hold of, and lets it sleep at the
     /// next processor; and kills each sleeping one. It acts on what `take` answers, since a process
-    /// may have moved on since the queue was read. There is no update: between `take` and `spawn`
-    /// the process isn't there, so that no other thread can run it, nor find it, and a processor
-    /// that finds all queues empty in that time leaves.
+    /// may have moved on since the queue was read. Between `take` and `spawn` the process isn't
+    /// there, so that no other thread can run it, nor find it (after an update it would be), and a
+    /// processor that finds all queues empty in that time leaves.
     fn work(&self, cpu: u64) -> Result<Work, Error> {
         let mut session = self.store.session()?;
         for pid in cpu * SPAWNED..(cpu + 1) * SPAWNED {

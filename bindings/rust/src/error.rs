@@ -13,13 +13,13 @@ pub enum Found {
     Latch(u32),
 }
 
-/// A query has more rows than the 256 that an answer lists: so many.
+/// A query has more rows than its store was opened to list: so many.
 #[derive(Clone, Copy, Debug, PartialEq, Eq)]
 pub struct Many(pub u64);
 
 impl fmt::Display for Many {
     fn fmt(&self, f: &mut fmt::Formatter<'_>) -> fmt::Result {
-        write!(f, "{} rows, and an answer lists at most 256", self.0)
+        write!(f, "{} rows, which are more than the store lists", self.0)
     }
 }
 
@@ -68,7 +68,8 @@ pub enum Error {
     /// The session has looked, and has seen less than what was to be learned. What a session of
     /// this store has seen is never refused so: it is built so, but that isn't proved.
     Unseen,
-    /// The query was answered, but with more rows than an answer lists: `Answer::rows` says so.
+    /// The query was answered, but with more rows than its store was opened to list: `Answer::rows`
+    /// and `Session::query` say so.
     Many(Many),
 }
 

@@ -9,7 +9,7 @@
 //! let successors = store.query::<1, 2>("succ")?;
 //! let mut session = store.session()?;
 //! assert_eq!(session.call(insert, [1, 2, 10])?, relc::Inserted::Added);
-//! for [node, weight] in session.call(successors, [1])?.rows()? {
+//! for [node, weight] in session.query(successors, [1])? {
 //!     println!("{node} {weight}");
 //! }
 //! # Ok(())
@@ -27,6 +27,6 @@ mod sys;
 mod waiting;
 
 pub use error::{Error, Found, Many};
-pub use operation::{Answer, Insert, Inserted, Operation, Query, Remove};
-pub use session::{Position, Prepared, Seen, Session};
+pub use operation::{Answer, Insert, Inserted, Operation, Query, Remove, Update, Updated};
+pub use session::{Position, Prepared, Rows, Seen, Session};
 pub use store::{Options, Store};

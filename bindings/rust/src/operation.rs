@@ -1,7 +1,7 @@
 //! Operations that were looked up, and what their calls answer.
 
 use crate::error::Many;
-use crate::session::Session;
+use crate::session::{Rows, Session};
 use crate::sys;
 
 /// The number of an operation, and of its store among all that the program opened.
@@ -11,7 +11,8 @@ pub struct Number {
     pub(crate) store: u64,
 }
 
-/// An operation of a store, which takes `N` values: an [`Insert`], a [`Remove`] or a [`Query`].
+/// An operation of a store, which takes `N` values: an [`Insert`], an [`Update`], a [`Remove`] or a
+/// [`Query`].
 pub trait Operation<const N: usize>: Copy + Sealed<Reading = Self::Reply> {
     /// What its calls answer.
     type Reply;
@@ -100,21 +101,60 @@ impl<const K: usize, const N: usize> Sealed for Remove<K, N> {
     }
 }
 
-/// A query by a pattern of `K` values, whose rows have `N`.
+/// An update to tuples of `N` values, in the order of the columns.
+#[derive(Clone, Copy, Debug)]
+pub struct Update<const N: usize>(pub(crate) Number);
+
+/// What an update answers.
+#[derive(Clone, Copy, Debug, PartialEq, Eq)]
+#[must_use = "an update may change nothing: `Absent` and `Conflict` are no errors"]
+pub enum Updated<const N: usize> {
+    /// The tuple is in the place of this one, which had its pattern values.
+    Replaced([u64; N]),
+    /// No tuple has its pattern values.
+    Absent,
+    /// It would break the dependency with this number, counted from 1.
+    Conflict(u64),
+}
+
+impl<const N: usize> Operation<N> for Update<N> {
+    type Reply = Updated<N>;
+}
+
+impl<const N: usize> Sealed for Update<N> {
+    type Reading = Updated<N>;
+
+    fn number(&self) -> Number {
+        self.0
+    }
+
+    fn read(session: &mut Session) -> Updated<N> {
+        match session.frame.kind {
+            sys::UPDATED => Updated::Replaced(row(session, 0)),
+            sys::ABSENT => Updated::Absent,
+            sys::CONFLICT => Updated::Conflict(session.frame.number),
+            kind => no_such_kind(kind),
+        }
+    }
+}
+
+/// A query whose rows have `N` values. It takes `K`: those of its pattern, and then for each range
+/// column the least value and the greatest, both of which count.
 #[derive(Clone, Copy, Debug)]
 pub struct Query<const K: usize, const N: usize>(pub(crate) Number);
 
-/// What a query answers. Where more than 256 rows are no error, match on it in place of `rows`.
+/// What a query answers. (`Session::query` lends the rows in place of listing them.) Where more rows
+/// than the store was opened for are no error, match on it in place of `rows`.
 #[derive(Clone, Debug, PartialEq, Eq)]
 pub enum Answer<const N: usize> {
-    /// Its distinct rows, rising, at most 256.
+    /// Its distinct rows, rising.
     Rows(Vec<[u64; N]>),
-    /// It has more: so many.
+    /// It has more than `Options::rows` says: so many.
     Many(u64),
 }
 
 impl<const N: usize> Answer<N> {
-    /// The rows, or how many they are where they are more than 256.
+    /// The rows, or how many they are where they are more than the store was opened for.
     pub fn rows(self) -> Result<Vec<[u64; N]>, Many> {
         match self {
             Answer::Rows(rows) => Ok(rows),
@@ -137,7 +177,7 @@ impl<const K: usize, const N: usize> Sealed for Query<K, N> {
     fn read(session: &mut Session) -> Answer<N> {
         let number = session.frame.number;
         match session.frame.kind {
-            sys::ROWS => Answer::Rows((0..number).map(|at| row(session, at)).collect()),
+            sys::ROWS => Answer::Rows(Rows::new(session, number).collect()),
             sys::MANY => Answer::Many(number),
             kind => no_such_kind(kind),
         }

@@ -1,9 +1,9 @@
 //! Sessions.
 
-use crate::error::{Error, Found};
-use crate::operation::Operation;
+use crate::error::{Error, Found, Many};
+use crate::operation::{Operation, Query};
 use crate::store::{Begun, Shared};
-use crate::sys::{self, Frame};
+use crate::sys::{self, Frame, Page};
 use std::ffi::c_void;
 use std::mem::ManuallyDrop;
 use std::sync::Arc;
@@ -60,6 +60,8 @@ pub struct Session {
     /// It has made all its calls.
     spent: bool,
     pub(crate) frame: Box<Frame>,
+    /// Where rows are read, many at a time; none before the first.
+    page: Option<Box<Page>>,
 }
 
 impl Drop for Session {
@@ -85,6 +87,7 @@ impl Session {
             begun: ManuallyDrop::new(begun),
             spent: false,
             frame: Box::new(Frame::new()),
+            page: None,
         }
     }
 
@@ -208,6 +211,37 @@ impl Session {
             .ok()
     }
 
+    /// Reads the rows from `row` on into the page, as many as it has room for, and answers how many.
+    fn turn(&mut self, row: u64) -> u64 {
+        let page = self.page.get_or_insert_with(|| Box::new(Page::new()));
+        page.row = row;
+        // SAFETY: `&mut self` lets one call at a time use the session, and the page is initialised
+        // and lent for the call.
+        unsafe { sys::relc_rows(self.begun.handle.0.as_ptr(), &mut **page) };
+        page.rows
+    }
+
+    /// Calls the query as `call` does, and lends its rows one by one, rising, with no list of them:
+    /// `Many` where they are more than the store was opened for.
+    pub fn query<const K: usize, const N: usize>(
+        &mut self,
+        query: Query<K, N>,
+        values: [u64; K],
+    ) -> Result<Rows<'_, N>, Error> {
+        self.put(&query, values)?;
+        let code = self.ask_waiting(sys::relc_try_call);
+        self.shared.events.ring();
+        if code != sys::DONE {
+            return Err(self.error(code));
+        }
+        self.position();
+        let number = self.frame.number;
+        match self.frame.kind {
+            sys::MANY => Err(Error::Many(Many(number))),
+            _ => Ok(Rows::new(self, number)),
+        }
+    }
+
     /// Calls the operation, and waits for nobody: the reply, with the call's place in the history.
     pub fn try_call_placed<const N: usize, O: Operation<N>>(
         &mut self,
@@ -304,6 +338,53 @@ impl Session {
         }
     }
 }
+
+/// The rows of a session's last reply, each of `N` values.
+pub struct Rows<'s, const N: usize> {
+    session: &'s mut Session,
+    /// The next row, how many rows are in the page from which it comes, and how many there are.
+    next: u64,
+    page_end: u64,
+    count: u64,
+}
+
+impl<'s, const N: usize> Rows<'s, N> {
+    pub(crate) fn new(session: &'s mut Session, count: u64) -> Rows<'s, N> {
+        Rows {
+            session,
+            next: 0,
+            page_end: 0,
+            count,
+        }
+    }
+}
+
+impl<const N: usize> Iterator for Rows<'_, N> {
+    type Item = [u64; N];
+
+    fn next(&mut self) -> Option<[u64; N]> {
+        if self.next == self.count {
+            return None;
+        }
+        if self.next == self.page_end {
+            self.page_end += self.session.turn(self.next);
+        }
+        if self.next == self.page_end {
+            return None;
+        }
+        let page = self.session.page.as_ref()?;
+        let at = N * (self.next - page.row) as usize;
+        self.next += 1;
+        page.cells.get(at..at + N)?.try_into().ok()
+    }
+
+    fn size_hint(&self) -> (usize, Option<usize>) {
+        let left = (self.count - self.next) as usize;
+        (left, Some(left))
+    }
+}
+
+impl<const N: usize> ExactSizeIterator for Rows<'_, N> {}
 
 /// A call that has its reply and holds its stripes. One that is dropped is cancelled.
 #[must_use = "a prepared call that is dropped is cancelled"]

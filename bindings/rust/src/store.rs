@@ -1,12 +1,13 @@
 //! Stores.
 
 use crate::error::Error;
-use crate::operation::{Insert, Number, Query, Remove};
+use crate::operation::{Insert, Number, Query, Remove, Update};
 use crate::session::Session;
 use crate::sys;
 use crate::waiting::EventCount;
 use std::ffi::c_void;
 use std::hash::{BuildHasher, Hasher, RandomState};
+use std::num::NonZeroU32;
 use std::ptr::{self, NonNull};
 use std::sync::atomic::{AtomicU64, Ordering::Relaxed};
 use std::sync::{Arc, Mutex, MutexGuard, PoisonError};
@@ -18,6 +19,8 @@ pub struct Options {
     pub sessions: u32,
     /// How many calls each may make over all that it is handed out to, 1 to 2^48.
     pub limit: u64,
+    /// The most rows that a query lists; of more it answers their number. None sets no limit.
+    pub rows: Option<NonZeroU32>,
 }
 
 impl Options {
@@ -26,6 +29,7 @@ impl Options {
         Options {
             sessions,
             limit: 1 << 48,
+            rows: None,
         }
     }
 }
@@ -117,6 +121,7 @@ impl Store {
             passes: options.sessions,
             length: 0,
             limit: options.limit,
+            rows: options.rows.map_or(0, |rows| u64::from(rows.get())),
             seed: drawn_seed(),
             refusal: [0; sys::REFUSAL],
         };
@@ -181,6 +186,11 @@ impl Store {
         self.operation(name, sys::INSERT, N, None).map(Insert)
     }
 
+    /// The update with this name, to tuples of `N` values.
+    pub fn update<const N: usize>(&self, name: &str) -> Result<Update<N>, Error> {
+        self.operation(name, sys::UPDATE, N, Some(N)).map(Update)
+    }
+
     /// The remove with this name, by a pattern of `K` values, of tuples of `N`.
     pub fn remove<const K: usize, const N: usize>(
         &self,
@@ -189,7 +199,8 @@ impl Store {
         self.operation(name, sys::REMOVE, K, Some(N)).map(Remove)
     }
 
-    /// The query with this name, by a pattern of `K` values, for rows of `N`.
+    /// The query with this name, for rows of `N` values. `K` counts the values of its pattern, and two
+    /// for each range column.
     pub fn query<const K: usize, const N: usize>(&self, name: &str) -> Result<Query<K, N>, Error> {
         self.operation(name, sys::QUERY, K, Some(N)).map(Query)
     }

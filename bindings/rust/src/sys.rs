@@ -3,8 +3,12 @@
 use std::ffi::c_void;
 use std::mem::{offset_of, size_of};
 
-/// The most values of a call or of a row.
-pub const VALUES: usize = 32;
+/// The most values of a call.
+pub const VALUES: usize = 64;
+/// The most values of a row.
+pub const CELLS: usize = 32;
+/// The most values of several rows at once.
+pub const PAGE: usize = 1024;
 /// The longest name of an operation.
 pub const NAME: usize = 16;
 /// The longest refusal.
@@ -31,6 +35,7 @@ pub const PRESENT: u32 = 3;
 pub const CONFLICT: u32 = 4;
 pub const REMOVED: u32 = 5;
 pub const ABSENT: u32 = 6;
+pub const UPDATED: u32 = 7;
 
 // What a busy stripe had.
 pub const WRITER: u32 = 0;
@@ -41,12 +46,14 @@ pub const LATCH: u32 = 2;
 pub const QUERY: u32 = 0;
 pub const INSERT: u32 = 1;
 pub const REMOVE: u32 = 2;
+pub const UPDATE: u32 = 3;
 
 #[repr(C)]
 pub struct OpenFrame {
     pub passes: u32,
     pub length: u32,
     pub limit: u64,
+    pub rows: u64,
     pub seed: [u64; 2],
     pub refusal: [u8; REFUSAL],
 }
@@ -77,7 +84,14 @@ pub struct Frame {
     pub seen: u64,
     pub row: u64,
     pub width: u64,
-    pub cells: [u64; VALUES],
+    pub cells: [u64; CELLS],
+}
+
+#[repr(C)]
+pub struct Page {
+    pub row: u64,
+    pub rows: u64,
+    pub cells: [u64; PAGE],
 }
 
 /// Compares the size of a struct, and the place of each of its fields, with the given numbers.
@@ -89,10 +103,11 @@ macro_rules! lies {
 
 // The structs of rc_embed. The numbers are copied from them by hand, and are those of test.c; that
 // what a field is told comes at that place is what the tests see.
-lies!(OpenFrame, 96, passes 0, length 4, limit 8, seed 16, refusal 32);
-lies!(OperationFrame, 72, length 0, op 4, kind 8, count 12, width 16, name 24, columns 40);
-lies!(Frame, 584, op 0, count 4, values 8, kind 264, found 268, stripe 272, who 276);
-lies!(Frame, 584, number 280, place 288, nth 296, seen 304, row 312, width 320, cells 328);
+lies!(OpenFrame, 104, passes 0, length 4, limit 8, rows 16, seed 24, refusal 40);
+lies!(OperationFrame, 104, length 0, op 4, kind 8, count 12, width 16, name 24, columns 40);
+lies!(Frame, 840, op 0, count 4, values 8, kind 520, found 524, stripe 528, who 532);
+lies!(Frame, 840, number 536, place 544, nth 552, seen 560, row 568, width 576, cells 584);
+lies!(Page, 8208, row 0, rows 8, cells 16);
 
 impl Frame {
     /// A frame of zeros: every byte that is lent is initialised.
@@ -111,7 +126,18 @@ impl Frame {
             seen: 0,
             row: 0,
             width: 0,
-            cells: [0; VALUES],
+            cells: [0; CELLS],
+        }
+    }
+}
+
+impl Page {
+    /// A page of zeros.
+    pub fn new() -> Page {
+        Page {
+            row: 0,
+            rows: 0,
+            cells: [0; PAGE],
         }
     }
 }
@@ -130,6 +156,7 @@ unsafe extern "C" {
     pub fn relc_commit(session: *mut c_void, frame: *mut Frame) -> u32;
     pub fn relc_cancel(session: *mut c_void, frame: *mut Frame) -> u32;
     pub fn relc_row(session: *mut c_void, frame: *mut Frame) -> u32;
+    pub fn relc_rows(session: *mut c_void, page: *mut Page) -> u32;
     pub fn relc_learn(session: *mut c_void, frame: *mut Frame) -> u32;
     pub fn relc_close_store(store: *mut c_void);
     pub fn relc_close_session(session: *mut c_void);

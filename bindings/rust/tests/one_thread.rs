@@ -3,12 +3,17 @@
 mod common;
 
 use common::{Random, graph, specification};
-use relc::{Answer, Error, Found, Inserted, Many, Options, Store};
+use relc::{Answer, Error, Found, Inserted, Many, Options, Store, Updated};
 use std::collections::BTreeMap;
+use std::num::NonZeroU32;
 
 #[test]
 fn follows_a_map() {
-    let graph = graph(Options::sessions(1));
+    let options = Options {
+        rows: NonZeroU32::new(256),
+        ..Options::sessions(1)
+    };
+    let graph = graph(options);
     let mut session = graph.store.session().unwrap();
     let mut map: BTreeMap<(u64, u64), u64> = BTreeMap::new();
     let mut random = Random(88172645463325252);
@@ -69,7 +74,7 @@ fn follows_a_map() {
 fn refuses_texts() {
     let open = |text: &str| Store::open(text, Options::sessions(1)).err();
     let refused = |why: &str| Some(Error::Refused(why.into()));
-    assert_eq!(open("relc 2\n"), refused("refused S1 line 1"));
+    assert_eq!(open("relc 3\n"), refused("refused S1 line 1"));
     assert_eq!(
         open(&specification().replace("col weight num", "col weight what")),
         refused("refused S2 line 5")
@@ -86,7 +91,10 @@ fn refuses_texts() {
         );
     }
     for limit in [0, (1 << 48) + 1] {
-        let options = Options { sessions: 1, limit };
+        let options = Options {
+            limit,
+            ..Options::sessions(1)
+        };
         assert_eq!(
             Store::open(specification(), options).err(),
             Some(Error::Options)
@@ -213,11 +221,85 @@ fn tells_which_dependency_breaks() {
     assert_eq!(session.call(load, [8, 2, 5, 70]), Ok(Inserted::Conflict(2)));
 }
 
+/// The graph with an update of a weight, and a query for the targets in a range.
+fn version_two() -> String {
+    specification().replace("relc 1", "relc 2").replace(
+        "\nend",
+        "\nop set update src dst\nop near query src : dst -> dst weight\nend",
+    )
+}
+
+#[test]
+fn updates() {
+    let store = Store::open(&version_two(), Options::sessions(1)).unwrap();
+    let insert = store.insert::<3>("ins").unwrap();
+    let set = store.update::<3>("set").unwrap();
+    let find = store.query::<2, 1>("find").unwrap();
+    let mut session = store.session().unwrap();
+    assert_eq!(session.call(set, [1, 2, 10]), Ok(Updated::Absent));
+    assert_eq!(session.call(insert, [1, 2, 10]), Ok(Inserted::Added));
+    let (reply, _) = session.begin(set, [1, 2, 11]).unwrap().commit();
+    assert_eq!(reply, Updated::Replaced([1, 2, 10]));
+    assert_eq!(session.call(find, [1, 2]), Ok(Answer::Rows(vec![[11]])));
+    assert_eq!(
+        store.update::<3>("ins").err(),
+        Some(Error::Kind("ins".into()))
+    );
+}
+
+#[test]
+fn asks_for_ranges() {
+    let store = Store::open(&version_two(), Options::sessions(1)).unwrap();
+    let insert = store.insert::<3>("ins").unwrap();
+    let near = store.query::<3, 2>("near").unwrap();
+    let mut session = store.session().unwrap();
+    for (dst, weight) in [(2, 10), (3, 7), (5, 1)] {
+        assert_eq!(session.call(insert, [1, dst, weight]), Ok(Inserted::Added));
+    }
+    let mut rows = |low, high| {
+        let rows = session.query(near, [1, low, high]);
+        rows.unwrap().collect::<Vec<_>>()
+    };
+    assert_eq!(rows(2, 3), [[2, 10], [3, 7]]);
+    assert_eq!(rows(4, 3), [[0; 2]; 0]);
+    assert_eq!(rows(0, u64::MAX), [[2, 10], [3, 7], [5, 1]]);
+}
+
+#[test]
+fn lists_every_row_of_a_long_reply() {
+    let graph = graph(Options::sessions(1));
+    let mut session = graph.store.session().unwrap();
+    for dst in 0..100_000 {
+        assert_eq!(session.call(graph.ins, [1, dst, 7]), Ok(Inserted::Added));
+    }
+    let rows = session.query(graph.succ, [1]).unwrap();
+    assert_eq!(rows.len(), 100_000);
+    assert!(rows.eq((0..100_000).map(|dst| [dst, 7])));
+}
+
+#[test]
+fn lends_rows_page_by_page() {
+    let graph = graph(Options::sessions(1));
+    let mut session = graph.store.session().unwrap();
+    for dst in 0..1500 {
+        assert_eq!(
+            session.call(graph.ins, [1, dst, dst / 2]),
+            Ok(Inserted::Added)
+        );
+    }
+    let rows = session.query(graph.succ, [1]).unwrap();
+    assert_eq!(rows.len(), 1500);
+    assert!(rows.eq((0..1500).map(|dst| [dst, dst / 2])));
+    assert_eq!(session.query(graph.succ, [2]).unwrap().next(), None);
+    let listed = session.call(graph.succ, [1]).unwrap().rows().unwrap();
+    assert_eq!(listed.len(), 1500);
+}
+
 #[test]
 fn ends_calls_at_the_limit() {
     let options = Options {
-        sessions: 1,
         limit: 2,
+        ..Options::sessions(1)
     };
     let graph = graph(options);
     let mut session = graph.store.session().unwrap();
@@ -233,8 +315,8 @@ fn ends_calls_at_the_limit() {
 #[test]
 fn hands_out_no_session_without_calls() {
     let options = Options {
-        sessions: 1,
         limit: 2,
+        ..Options::sessions(1)
     };
     let graph = graph(options);
     let mut session = graph.store.session().unwrap();
