@@ -18,7 +18,14 @@ import sys
 
 MOST_BYTES = 16777216
 MOST_CALLS = 20000
-LIMITS = {"col": 16, "fd": 32, "node": 16, "edge": 24, "lock": 16, "place": 24, "op": 32}
+LIMITS = {"fd": 32, "node": 16, "edge": 24, "lock": 16, "place": 24, "op": 32}
+MOST_COLUMNS = {1: 16, 2: 32}
+
+
+def limits_of(version):
+    """How many lines of each kind a text of the version may have."""
+    return {"col": MOST_COLUMNS[version], **LIMITS}
+
 SECTIONS = ["col", "fd", "node", "edge", "lock", "place", "op", "end"]
 KINDS = ["hash", "ordered", "list", "singleton"]
 
@@ -91,15 +98,27 @@ def value_of(digits, most):
 
 
 # What a line says: its kind, its own name, lists that name no column twice, a list that may, the nodes, edges and classes
-# that it names, its number, and what else there is to know of it.
-FIELDS = "kind name lists free named number value"
-Form = collections.namedtuple("Form", FIELDS, defaults=(None, (), (), (), None, None))
+# that it names, its number, what else there is to know of it, and how many columns at the end of its list are ranges.
+FIELDS = "kind name lists free named number value ranges"
+Form = collections.namedtuple("Form", FIELDS, defaults=(None, (), (), (), None, None, 0))
 
 
-def form_of(words):
+def query_of(name, words, outputs, version):
+    """A query of these words before its arrow; None where a `:` has no word behind it."""
+    if version == 1 or ":" not in words:
+        return Form("op", name, [words], outputs, value="query")
+    at = words.index(":")
+    ranges = words[at + 1 :]
+    if not ranges:
+        return None
+    # a column may stand but once in both together
+    return Form("op", name, [words[:at] + ranges], outputs, value="query", ranges=len(ranges))
+
+
+def form_of(words, version):
     """The form of a line of a specification, or None."""
     first, rest = words[0], words[1:]
-    if words == ["relc", "1"] or words == ["end"]:
+    if words == ["relc", str(version)] or words == ["end"]:
         return Form(first)
     if first == "col" and len(rest) == 2 and rest[1] in ("num", "text"):
         return Form("col", rest[0], value=rest[1])
@@ -114,15 +133,16 @@ def form_of(words):
         return Form("lock", rest[0], [rest[2:]], number=value_of(rest[1], 65535))
     if first == "place" and len(rest) == 2:
         return Form("place", named=[("edge", rest[0]), ("lock", rest[1])])
-    if first == "op" and len(rest) >= 2 and rest[1] in ("insert", "remove"):
+    changes = ("insert", "remove") if version == 1 else ("insert", "remove", "update")
+    if first == "op" and len(rest) >= 2 and rest[1] in changes:
         return Form("op", rest[0], [rest[2:]], value=rest[1])
     if first == "op" and len(rest) >= 2 and rest[1] == "query" and rest[2:].count("->") == 1:
         at = rest.index("->", 2)
-        return Form("op", rest[0], [rest[2:at]], rest[at + 1 :], value="query")
+        return query_of(rest[0], rest[2:at], rest[at + 1 :], version)
     return None
 
 
-def broken_by(form, spec, last):
+def broken_by(form, spec, last, version):
     """The first of S3 to S7 that a line breaks behind the lines of `spec`, the last of section `last`; or None."""
     columns = {item.name for item in spec["col"]}
     if form.name is not None:
@@ -135,7 +155,8 @@ def broken_by(form, spec, last):
         return "S4"
     if form.number is not None and form.number > 65535:
         return "S5"
-    if form.kind in LIMITS and len(spec[form.kind]) == LIMITS[form.kind]:
+    limits = limits_of(version)
+    if form.kind in limits and len(spec[form.kind]) == limits[form.kind]:
         return "S6"
     is_early = form.kind == "end" and not (spec["col"] and spec["node"])
     return "S7" if form.kind == "relc" or SECTIONS.index(form.kind) < last or is_early else None
@@ -144,15 +165,16 @@ def broken_by(form, spec, last):
 def read_spec(lines):
     """The specification of the next lines, up to `end`: of each kind the forms of its lines."""
     number, words = lines.next("S1")
-    if words != ["relc", "1"]:
+    if words not in (["relc", "1"], ["relc", "2"]):
         raise Broken("S1", number)
+    version = int(words[1])
     spec, last = {kind: [] for kind in SECTIONS}, 0
     while True:
         number, words = lines.next("S8")
         form = None
         if words is not None and all(isinstance(word, str) for word in words):
-            form = form_of(words)
-        rule = "S2" if form is None else broken_by(form, spec, last)
+            form = form_of(words, version)
+        rule = "S2" if form is None else broken_by(form, spec, last, version)
         if rule is not None:
             raise Broken(rule, number)
         spec[form.kind].append(form)
@@ -174,13 +196,22 @@ def has_form(words):
     return is_call and all(isinstance(word, Text) or is_digits(word) for word in words[2:])
 
 
+def columns_given(op, columns):
+    """The columns of a call's values, in order: a range column twice."""
+    if op.value in ("insert", "update"):
+        return columns
+    listed = op.lists[0]
+    ranges = listed[len(listed) - op.ranges :]
+    return listed[: len(listed) - op.ranges] + [column for column in ranges for _ in range(2)]
+
+
 def broken_by_call(spec, name, values):
     """The first of W1 to W3 that a call breaks, or None."""
     ops = [op for op in spec["op"] if op.name == name]
     if not ops:
         return "W1"
     kinds = {item.name: item.value for item in spec["col"]}
-    wanted = list(kinds) if ops[0].value == "insert" else ops[0].lists[0]
+    wanted = columns_given(ops[0], list(kinds))
     if len(values) != len(wanted):
         return "W2"
     if any(isinstance(value, Text) != (kinds[column] == "text") for column, value in zip(wanted, values)):
@@ -373,7 +404,7 @@ def limits(file):
     for last, more in FURTHER:
         kind = last.partition(" ")[0]
         body = ["use largest", change(last, last + "\n" + more)]
-        file.case("%d lines %s are one too many" % (LIMITS[kind] + 1, kind), body, None, "check")
+        file.case("%d lines %s are one too many" % (limits_of(1)[kind] + 1, kind), body, None, "check")
     for name, text in ("bare", BARE), ("bare_report", BARE_REPORT), ("call", CALL), ("call_plan", CALL_PLAN):
         file.text(name, lines_of(text))
     for stripes in 256, 257, 65535, 65536:

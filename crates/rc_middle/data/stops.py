@@ -4,10 +4,11 @@
 
 Nothing is taken from what the program prints: a relation is a Python list, each call goes through all of it, and is answered
 as docs/RULES.md says. A plan locks classes in rising order, and takes of each
-the stripes on which its bindings fall. An insert binds all columns from the start. A query or a remove binds what the patterns
+the stripes on which its bindings fall, or all. An insert and an update bind all columns from the start. A query or a remove binds what the patterns
 of the tuples that it has read so far give: below, each class that an operation locks stands with the columns that are read
 before. A class is locked for each tuple with the call's values in them; where none was to be read, for the call itself. What is
-added or taken out makes room before any row changes: edge by edge, but once for edges that follow each other on one stripe.
+added or taken out makes room before any row changes: edge by edge, but once for edges that follow each other on one stripe. An
+update takes the old tuple out, and then adds the new one.
 
 A row of an edge is a tuple's part over the edge's target. Its stripe is, with h = 7,
 for each column of the edge's class h = 31 h + value, then h modulo the stripes of the class, behind those of the classes before.
@@ -18,12 +19,14 @@ COLUMNS = {
     "graph": ["src", "dst", "weight"],
     "scheduler": ["ns", "pid", "state", "cpu"],
     "seats": ["id", "name", "seat"],
+    "moves": ["id", "name", "seat"],
 }
 
 DEPENDENCIES = {
     "graph": [(["src", "dst"], ["weight"])],
     "scheduler": [(["ns", "pid"], ["state", "cpu"])],
     "seats": [(["id"], ["name", "seat"]), (["seat"], ["id"])],
+    "moves": [(["id"], ["name", "seat"]), (["seat"], ["id"])],
 }
 
 # The kind, the pattern and the outputs of each operation.
@@ -44,7 +47,15 @@ OPERATIONS = {
         "byseat": ("query", ["seat"], ["id"]),
         "drop": ("remove", ["id"], []),
     },
+    "moves": {
+        "add": ("insert", ["id"], []),
+        "byseat": ("query", ["seat"], ["id"]),
+        "move": ("update", ["id"], []),
+    },
 }
+
+# The kinds whose calls give a value for each column.
+WHOLE = ["insert", "update"]
 
 
 # The name, the stripes and the columns of each class.
@@ -53,6 +64,7 @@ CLASSES = {
     "graph_by_targets": [("k1", 8, ["src"]), ("k2", 4, ["dst"])],
     "scheduler": [("ka", 4, ["ns"]), ("kb", 4, ["state"]), ("kc", 4, ["ns", "pid"])],
     "seats": [("k1", 4, ["id"]), ("k2", 4, ["seat"])],
+    "moves": [("k1", 4, ["id"]), ("k2", 4, ["seat"])],
 }
 
 # The name, the class and the target of each edge.
@@ -72,8 +84,10 @@ EDGES = {
     "seats": [("e1", "k1", ["id", "name", "seat"]), ("e2", "k2", ["id", "seat"])],
 }
 EDGES["graph_by_targets"] = EDGES["graph"]
+EDGES["moves"] = EDGES["seats"]
 
-# The classes that an operation locks, in order, each with the columns that were read before, if any was read.
+# The classes that an operation locks, in order, each with the columns that were read before, if any was read; or with ALL.
+ALL = "all"
 LOCKS = {
     "graph": {
         "ins": [("k1", None), ("k2", None)],
@@ -89,6 +103,11 @@ LOCKS = {
     "seats": {
         "add": [("k1", None), ("k2", None)],
         "drop": [("k1", None), ("k2", ["id"])],
+        "byseat": [("k2", None)],
+    },
+    "moves": {
+        "add": [("k1", None), ("k2", None)],
+        "move": [("k1", None), ("k2", ALL)],
         "byseat": [("k2", None)],
     },
 }
@@ -107,16 +126,20 @@ class Model:
         self.dependencies = DEPENDENCIES[subject]
         self.operations = OPERATIONS[subject]
         self.tuples = []
+        self.changed = []
 
     def answer(self, name, values):
-        """The reply to a call, which is made."""
+        """The reply to a call, which is made; `changed` has the tuples that went or came then, in that order."""
         kind, pattern, outputs = self.operations[name]
-        given = dict(zip(self.columns if kind == "insert" else pattern, values))
+        given = dict(zip(self.columns if kind in WHOLE else pattern, values))
+        self.changed = []
         matching = [t for t in self.tuples if all(t[c] == given[c] for c in pattern)]
         if kind == "query":
             return self.rows(sorted({tuple(t[c] for c in outputs) for t in matching}))
         if kind == "remove":
             return self.remove(matching)
+        if kind == "update":
+            return self.update(given, matching)
         return self.insert(given, matching)
 
     def rows(self, rows):
@@ -127,22 +150,43 @@ class Model:
             return "absent"
         [gone] = matching
         self.tuples.remove(gone)
+        self.changed = [gone]
         return "removed" + row(gone[c] for c in self.columns)
 
     def insert(self, new, matching):
         if matching:
             return "present"
-        for number, (left, right) in enumerate(self.dependencies, start=1):
-            for t in self.tuples:
-                if all(t[c] == new[c] for c in left) and any(t[c] != new[c] for c in right):
-                    return f"conflict {number}"
+        broken = self.broken(new, self.tuples)
+        if broken is not None:
+            return f"conflict {broken}"
         self.tuples.append(new)
+        self.changed = [new]
         return "inserted"
+
+    def update(self, new, matching):
+        if not matching:
+            return "absent"
+        [old] = matching
+        others = [t for t in self.tuples if t is not old]
+        broken = self.broken(new, others)
+        if broken is not None:
+            return f"conflict {broken}"
+        self.tuples = others + [new]
+        self.changed = [old, new]
+        return "updated" + row(old[c] for c in self.columns)
+
+    def broken(self, new, tuples):
+        """The number of the first dependency that these with the new one break."""
+        for number, (left, right) in enumerate(self.dependencies, start=1):
+            for t in tuples:
+                if all(t[c] == new[c] for c in left) and any(t[c] != new[c] for c in right):
+                    return number
+        return None
 
     def call_text(self, name, values):
         """The call with its values by columns, `_` where it gives none."""
         kind, pattern, _ = self.operations[name]
-        given = dict(zip(self.columns if kind == "insert" else pattern, values))
+        given = dict(zip(self.columns if kind in WHOLE else pattern, values))
         last = max(self.columns.index(column) for column in given)
         return " ".join([name] + [str(given.get(column, "_")) for column in self.columns[: last + 1]])
 
@@ -165,14 +209,25 @@ class Striped:
                 return start + h % stripes
             start += stripes
 
+    def band(self, name):
+        """All stripes of the class."""
+        start = 0
+        for other, stripes, _ in CLASSES[self.subject]:
+            if other == name:
+                return list(range(start, start + stripes))
+            start += stripes
+
     def given(self, name, values):
         kind, pattern, _ = self.model.operations[name]
-        return dict(zip(self.model.columns if kind == "insert" else pattern, values))
+        return dict(zip(self.model.columns if kind in WHOLE else pattern, values))
 
     def takes(self, name, values):
         """The stripes that the call's plan takes, in order."""
         given, taken = self.given(name, values), []
         for locked, read in LOCKS[self.subject][name]:
+            if read == ALL:
+                taken += self.band(locked)
+                continue
             bindings = [given]
             if read is not None:
                 bindings = [t for t in self.model.tuples if all(t[c] == given[c] for c in read)]
@@ -180,10 +235,12 @@ class Striped:
             taken += sorted({self.stripe(locked, b) for b in bindings})
         return taken
 
-    def owns(self, before):
-        """How often room is made for the tuple that came or went since."""
-        changed = [t for t in before + self.model.tuples if t not in before or t not in self.model.tuples]
-        stripes = [self.stripe(name, t) for t in changed for _, name, _ in EDGES[self.subject]]
+    def owns(self):
+        """How often room was made for the tuples that went or came, one after the other."""
+        return sum(self.owns_for(t) for t in self.model.changed)
+
+    def owns_for(self, changed):
+        stripes = [self.stripe(name, changed) for _, name, _ in EDGES[self.subject]]
         return sum(at == 0 or stripe != stripes[at - 1] for at, stripe in enumerate(stripes))
 
     def rows(self):
@@ -196,9 +253,9 @@ class Striped:
 
     def told(self, name, values):
         """What is told of a call, which is made."""
-        takes, before = self.takes(name, values), list(self.model.tuples)
+        takes = self.takes(name, values)
         reply = self.model.answer(name, values)
-        owns = self.owns(before)
+        owns = self.owns()
         lines = [f"take {n + 1} held same rows" for n in range(len(takes))]
         lines.append(f"take {len(takes) + 1} none same rows")
         lines += [f"own {n + 1} memory same rows" for n in range(owns)]
@@ -273,6 +330,20 @@ def on_seats():
     ]
 
 
+def on_moves():
+    """An update refused at its first half and at its second; in its own place; to a seat that is taken; of nobody."""
+    return [
+        ("move", [1, 4, 5]),
+        ("add", [1, 4, 5]),
+        ("add", [2, 6, 7]),
+        ("move", [1, 4, 6]),
+        ("move", [1, 4, 6]),
+        ("move", [1, 9, 6]),
+        ("move", [2, 6, 6]),
+        ("byseat", [6]),
+    ]
+
+
 def main():
     print("# Written by stops.py, which says where the answers come from. Each call is stopped before it is made, as another holds a")
     print("# stripe that it takes, or as memory is wanted: at its first take, its second and so on, and then at each own, by which it")
@@ -284,6 +355,7 @@ def main():
     stops("stops calls on graphs by targets", "graph_by_targets", on_targets(), ["inserted", "removed"])
     stops("stops calls on schedulers", "scheduler", on_schedulers(), common)
     stops("stops calls on seats", "seats", on_seats(), ["inserted", "conflict 2", "rows(", "removed"])
+    stops("stops calls on seats that move", "moves", on_moves(), ["inserted", "conflict 2", "updated", "absent", "rows("])
 
 
 main()

@@ -90,6 +90,10 @@ fn is_known(accepted: &Accepted, statement: &Statement) -> bool
         Statement::Probe { cols } => cols.within(spec.all_columns()),
         Statement::Read { edge, .. } => (edge as usize) < spec.edges.list().len(),
         Statement::CheckDep { dep } => 0 < dep && dep as usize <= spec.deps.list().len(),
-        Statement::CheckAbsent | Statement::Apply | Statement::Emit | Statement::Commit => true,
+        Statement::CheckAbsent
+        | Statement::CheckFound
+        | Statement::Apply
+        | Statement::Emit
+        | Statement::Commit => true,
     }
 }

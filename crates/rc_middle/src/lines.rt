@@ -3,7 +3,7 @@
 use crate::stop::Stop;
 use rc_reader::number_among;
 use rc_rel::Step;
-use rc_spec::{Call, Reply, RowList, Spec};
+use rc_spec::{Call, Ranges, Reply, RowList, Spec};
 use rc_tuple::{ColSet, Tuple, Vals};
 use std::alloc::Global;
 
@@ -76,6 +76,7 @@ fn reply_with(alloc: Global, text: &str) -> Result<Reply, Stop> {
         "conflict" => Ok(Reply::Conflict(small(number(rest)?)?)),
         "many" => Ok(Reply::Many(number(rest)?)),
         "removed" => Ok(Reply::Removed(tuple(alloc, rest)?)),
+        "updated" => Ok(Reply::Updated(tuple(alloc, rest)?)),
         "rows" => Ok(Reply::Rows(rows(alloc, rest)?)),
         _ => Err(Stop::Line),
     }
@@ -89,15 +90,33 @@ fn op_number(spec: &Spec, name: &str) -> u8 {
     }
 }
 
-/// The call of a line `OP VALUES`.
+/// Bounds, with a slash between them: of each the number of its column, the least value and the greatest.
+fn ranges(alloc: Global, text: &str) -> Result<Ranges, Stop> {
+    let bounds = rows(alloc, text)?;
+    let mut found = Ranges::new(alloc);
+    for at in 0..bounds.len() {
+        let row = bounds.row(at);
+        if row.len() != 3 || row[0] >= 32 {
+            return Err(Stop::Line);
+        }
+        found.push(row[0] as u8, row[1], row[2])?;
+    }
+    Ok(found)
+}
+
+/// The call of a line `OP VALUES` or `OP VALUES : BOUNDS`.
 pub(crate) fn call_of(alloc: Global, spec: &Spec, text: &str) -> Result<Call, Stop> {
     let Some((name, values)) = text.split_once(' ') else {
         return Err(Stop::Line);
     };
-    let args = tuple(alloc, values)?;
+    let (values, ranges) = match values.split_once(" : ") {
+        Some((values, bounds)) => (values, ranges(alloc, bounds)?),
+        None => (values, Ranges::new(alloc)),
+    };
     Ok(Call {
         op: op_number(spec, name),
-        args,
+        args: tuple(alloc, values)?,
+        ranges,
     })
 }
 

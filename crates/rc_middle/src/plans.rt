@@ -40,6 +40,7 @@ fn read_word(line: &str) -> Result<Statement, Stop> {
             cols: ColSet::empty(),
         }),
         "absent" => Ok(Statement::CheckAbsent),
+        "found" => Ok(Statement::CheckFound),
         "apply" => Ok(Statement::Apply),
         "emit" => Ok(Statement::Emit),
         "commit" => Ok(Statement::Commit),

@@ -1,7 +1,7 @@
 //! Rows, calls, replies and entries, as lines have them.
 
 use rc_rel::{Entry, Step};
-use rc_spec::{CountedRow, Mode, Reply, RowList};
+use rc_spec::{CountedRow, Mode, Range, Reply, RowList};
 use rc_text::{push_bytes, push_u64};
 use rc_tuple::{Memory, Tuple};
 
@@ -84,14 +84,26 @@ pub(crate) fn push_reply(out: &mut Vec<u8>, reply: &Reply) -> Result<(), Memory>
             push_bytes(out, b"removed")?;
             push_tuple(out, tuple)
         }
+        Reply::Updated(tuple) => {
+            push_bytes(out, b"updated")?;
+            push_tuple(out, tuple)
+        }
         Reply::Absent => push_bytes(out, b"absent"),
     }
 }
 
-/// Appends the number of the operation, the arguments and the reply.
+/// Appends the bounds of a column in brackets.
+fn push_range(out: &mut Vec<u8>, range: &Range) -> Result<(), Memory> {
+    push_values(out, &[u64::from(range.col), range.lo, range.hi])
+}
+
+/// Appends the number of the operation, the arguments, the bounds and the reply.
 fn push_step(out: &mut Vec<u8>, step: &Step) -> Result<(), Memory> {
     push_number(out, u64::from(step.call.op))?;
     push_tuple(out, &step.call.args)?;
+    for range in step.call.ranges.list() {
+        push_range(out, range)?;
+    }
     push_bytes(out, b"=")?;
     push_reply(out, &step.reply)
 }

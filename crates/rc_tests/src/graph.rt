@@ -4,7 +4,7 @@ use rc_mutate::compile;
 use rc_place::accept;
 use rc_plan::Compiled;
 use rc_reader::read_spec_only;
-use rc_spec::Call;
+use rc_spec::{Call, Ranges};
 use rc_tuple::{Memory, Tuple};
 use std::alloc::Global;
 use std::test::Fail;
@@ -40,22 +40,31 @@ pub(crate) fn compiled(alloc: Global) -> Result<Compiled, Fail> {
     Ok(compile(alloc, accepted)?)
 }
 
+/// A call without bounds.
+fn call(alloc: Global, op: u8, args: Tuple) -> Call {
+    Call {
+        op,
+        args,
+        ranges: Ranges::new(alloc),
+    }
+}
+
 /// The call that inserts an edge.
 pub(crate) fn insert(alloc: Global, from: u64, to: u64, weight: u64) -> Result<Call, Memory> {
     let args = Tuple::from_columns(alloc, &[0, 1, 2], &[from, to, weight])?;
-    Ok(Call { op: 0, args })
+    Ok(call(alloc, 0, args))
 }
 
 /// The call that removes an edge.
 pub(crate) fn remove(alloc: Global, from: u64, to: u64) -> Result<Call, Memory> {
     let args = Tuple::from_columns(alloc, &[0, 1], &[from, to])?;
-    Ok(Call { op: 1, args })
+    Ok(call(alloc, 1, args))
 }
 
 /// The call that finds the edges of a source.
 pub(crate) fn successors(alloc: Global, from: u64) -> Result<Call, Memory> {
     let args = Tuple::from_columns(alloc, &[0], &[from])?;
-    Ok(Call { op: 2, args })
+    Ok(call(alloc, 2, args))
 }
 
 /// Calls about the edges of one source, and about those of two others.
