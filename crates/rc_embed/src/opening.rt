@@ -3,7 +3,7 @@
 ghost use Rattle.std.specs.Prelude.{◌≡◌, ◌<◌, ◌≤◌, ◌^◌, ◌↔◌, [], Err, IfErr, IfOk, IfSome, IsTrue};
 ghost use Rattle.std.specs.Prelude.{length, option_copied};
 ghost use Rattle.std.specs.Arc.{arc_value};
-ghost use Rattle.rc_spec.specs.InRange.{HasColumnAndNode, IsInRange};
+ghost use Rattle.rc_spec.specs.InRange.{IsInRange};
 ghost use Rattle.rc_spec.specs.Names.{IsWellNamed, op_names};
 ghost use Rattle.rc_reader.specs.Names.{number_among};
 ghost use Rattle.rc_row.specs.Passes.{spec_of};
@@ -24,7 +24,7 @@ use rc_mutate::compile;
 use rc_place::{AcceptFault, accept};
 use rc_reader::{ReadRefusal, number_among, read_spec_only};
 use rc_row::{Keeping, Pass};
-use rc_spec::{Accepted, Call, Ranges, Spec};
+use rc_spec::{Accepted, Call, Ranges, Spec, WellFormed};
 use rc_store::{Quiet, Store};
 use rc_tuple::{Cols, Memory, Tuple};
 use rc_work::written_columns_at;
@@ -125,17 +125,15 @@ pub fn open(alloc: Global, text: &[u8], options: Options) -> Result<OpenStore, O
 
 /// Reads a specification that stands alone, which has then the most rows of a reply that are asked
 /// for.
-fn read_asked(alloc: Global, text: &[u8], options: Options) -> Result<Spec, OpenFault>
+fn read_asked(alloc: Global, text: &[u8], options: Options) -> Result<WellFormed, OpenFault>
     requires { length text.now ≤ 2 ^ 24 }
     ensures read { IfOk result (IsAskedBy text.now options) }
-    ensures range { IfOk result IsInRange }
     ensures named { IfOk result IsWellNamed }
-    ensures populated { IfOk result HasColumnAndNode }
     ensures unread { IfErr result (IsUnreadFor text.now) }
 {
     match read_spec_only(alloc, text) {
         Ok(mut spec) => {
-            spec.most_rows = options.most_rows();
+            spec.set_most_rows(options.most_rows());
             Ok(spec)
         }
         Err(ReadRefusal::Memory) => Err(OpenFault::Memory),
@@ -153,7 +151,7 @@ fn read_accepted(alloc: Global, text: &[u8], options: Options) -> Result<Accepte
     match accept(alloc, spec) {
         Ok(accepted) => Ok(accepted),
         Err(AcceptFault::Memory) => Err(OpenFault::Memory),
-        Err(AcceptFault::Refused(spec, refusal)) => Err(OpenFault::Rule(spec, refusal)),
+        Err(AcceptFault::Refused(spec, refusal)) => Err(OpenFault::Rule(spec.into_spec(), refusal)),
     }
 }
 

@@ -4,13 +4,12 @@ ghost use Rattle.std.specs.Prelude.{◌≡◌, ◌<◌, ◌+◌, [], ◌∷◌, 
 ghost use Rattle.rc_spec.specs.declared.items.ColKind.TheVariants.{Num};
 ghost use Rattle.rc_spec.specs.declared.items.OpKind.TheVariants.{Query};
 ghost use Rattle.rc_spec.specs.Acceptance.{IsAccepted};
-ghost use Rattle.rc_spec.specs.InRange.{IsInRange, HasColumnAndNode};
 ghost use Rattle.rc_spec.specs.Names.{IsWellNamed};
 ghost use Rattle.rc_generate.specs.Sample.{sample_graph};
 
 use rc_spec::{
     Class, Classes, ColKind, Column, Columns, Deps, Edge, EdgeKind, Edges, MAX_ROWS, Name, Node,
-    Nodes, Op, OpKind, Ops, Place, Places, Spec,
+    Nodes, Op, OpKind, Ops, Place, Places, Spec, WellFormed,
 };
 use rc_tuple::{ColSet, Cols, Dep, Memory};
 use std::alloc::Global;
@@ -197,14 +196,12 @@ fn ops(alloc: Global) -> Result<Ops, Memory>
 /// The sample specification: a directed graph with weights, decomposed by the source of an edge, in a hashed map, and then
 /// by its target, in order. Two lock classes are striped by the source. It has operations to add an edge, to take one out,
 /// to find the targets of a source and to find a weight. (PLDI 2011 and 2012 use such a graph throughout.)
-pub fn sample_spec(alloc: Global) -> Result<Spec, Memory>
+pub fn sample_spec(alloc: Global) -> Result<WellFormed, Memory>
     ensures value { IfOk result (λ spec. spec ≡ sample_graph) }
-    ensures range { IfOk result IsInRange }
     ensures named { IfOk result IsWellNamed }
-    ensures populated { IfOk result HasColumnAndNode }
     ensures accepted { IfOk result IsAccepted }
 {
-    Ok(Spec {
+    Ok(WellFormed::new(Spec {
         columns: columns(alloc)?,
         deps: deps(alloc)?,
         nodes: nodes(alloc)?,
@@ -213,5 +210,5 @@ pub fn sample_spec(alloc: Global) -> Result<Spec, Memory>
         places: places(alloc)?,
         ops: ops(alloc)?,
         most_rows: MAX_ROWS,
-    })
+    }))
 }

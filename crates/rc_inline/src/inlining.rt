@@ -7,7 +7,7 @@ ghost use Rattle.rc_inline.specs.Inlining.{inlined};
 
 use crate::contraction::{contracted, first_inlinable};
 use rc_graph::order_nodes;
-use rc_spec::Accepted;
+use rc_spec::{Accepted, WellFormed};
 use rc_tuple::Memory;
 use std::alloc::Global;
 
@@ -25,7 +25,7 @@ pub fn inline(alloc: Global, accepted: Accepted) -> Result<Accepted, Memory>
 {
     let mut inlined = accepted;
     while let Some(edge) = first_inlinable(inlined.spec()) {
-        let spec = contracted(inlined.into_spec(), edge);
+        let spec = WellFormed::new(contracted(inlined.into_spec(), edge));
         // A contraction keeps all rules, so only the order of the nodes is found anew.
         let order = order_nodes(alloc, &spec)?;
         inlined = Accepted::seal(spec, order);

@@ -1,14 +1,13 @@
 //! Specifications that are read from texts, accepted, and given their plans, and the items that words name.
 
 ghost use Rattle.std.specs.Prelude.{◌<◌, length, IfOk};
-ghost use Rattle.rc_spec.specs.InRange.{HasColumnAndNode, IsInRange};
 
 use crate::stop::Stop;
 use rc_mutate::compile;
 use rc_place::{AcceptFault, accept};
 use rc_plan::Compiled;
 use rc_reader::{ReadRefusal, number_among, read_spec};
-use rc_spec::{Accepted, Named, Spec};
+use rc_spec::{Accepted, Named, Spec, WellFormed};
 use rc_text::MAX_TEXT_BYTES;
 use rc_tuple::ColSet;
 use std::alloc::Global;
@@ -34,10 +33,7 @@ pub(crate) fn behind_spec(text: &str) -> Result<&str, Stop> {
 }
 
 /// The specification, accepted.
-fn sealed(alloc: Global, spec: Spec) -> Result<Accepted, Stop>
-    requires range { IsInRange spec }
-    requires populated { HasColumnAndNode spec }
-{
+fn sealed(alloc: Global, spec: WellFormed) -> Result<Accepted, Stop> {
     match accept(alloc, spec) {
         Ok(accepted) => Ok(accepted),
         Err(AcceptFault::Memory) => Err(Stop::Memory),

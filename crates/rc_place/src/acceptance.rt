@@ -1,11 +1,10 @@
 ghost use Rattle.std.specs.Prelude.{◌≡◌, IfOk, IfErr, IsOk};
 ghost use Rattle.rc_spec.specs.Acceptance.{IsAccepted, IsFirstBroken, IsItemOf};
-ghost use Rattle.rc_spec.specs.InRange.{IsInRange, HasColumnAndNode};
 ghost use Rattle.rc_place.specs.Fault.{IfHandedBack};
 
 use crate::judging::judge;
 use rc_graph::order_nodes;
-use rc_spec::{Accepted, Refusal, Spec};
+use rc_spec::{Accepted, Refusal, WellFormed};
 use rc_tuple::Memory;
 use std::alloc::Global;
 
@@ -15,17 +14,14 @@ pub enum AcceptFault {
     /// Memory was wanted and not given.
     Memory,
     /// The specification as it was, its first broken rule and the first item that breaks it.
-    Refused(Spec, Refusal),
+    Refused(WellFormed, Refusal),
 }
 
 /// Tests a specification by all rules, and keeps it if it meets them: step by step of the table, each at all items of its
-/// kind. It is refused for the first broken rule and the first item that breaks it, and handed back as it was. The
-/// specification is in range and has a column and a node. Memory is taken for the order of the nodes alone. (PLDI 2011,
-/// adequacy; PLDI 2012, lock placement.)
+/// kind. It is refused for the first broken rule and the first item that breaks it, and handed back as it was.
+/// Memory is taken for the order of the nodes alone. (PLDI 2011, adequacy; PLDI 2012, lock placement.)
 #[tactic(auto, using(rc_spec::specs::AcceptanceLaws::first_broken_item))]
-pub fn accept(alloc: Global, spec: Spec) -> Result<Accepted, AcceptFault>
-    requires range { IsInRange spec }
-    requires populated { HasColumnAndNode spec }
+pub fn accept(alloc: Global, spec: WellFormed) -> Result<Accepted, AcceptFault>
     ensures value { IfOk result (λ accepted. accepted ≡ spec) }
     ensures accepted { IsOk result → IsAccepted spec }
     ensures same { IfErr result (IfHandedBack (λ back refusal. back ≡ spec)) }

@@ -3,7 +3,7 @@
 ghost use Rattle.std.specs.Prelude.{◌≡◌, ◌<◌, ◌↔◌, IsTrue, map};
 ghost use Rattle.rc_spec.specs.Acceptance.{AreOfKind, IsKept, Keeps, checks, count_of, item_checks, kind_of, step, step_checks, steps};
 ghost use Rattle.rc_spec.specs.First.{Judges};
-ghost use Rattle.rc_spec.specs.InRange.{HasColumnAndNode, IsInRange};
+ghost use Rattle.rc_spec.specs.InRange.{IsWellFormed};
 
 use crate::ops::{keeps_o1, keeps_o2, keeps_o3};
 use crate::placement::{keeps_p1, keeps_p2, keeps_p3, keeps_p4, keeps_p5, keeps_p6};
@@ -49,8 +49,7 @@ fn steps() -> [Step; 11]
 
 /// Whether the item with this number keeps the rule.
 fn keeps(spec: &Spec, rule: Rule, number: u8) -> bool
-    requires range { IsInRange spec.now }
-    requires populated { HasColumnAndNode spec.now }
+    requires formed { IsWellFormed spec.now }
     requires known { number < count_of spec.now (kind_of rule) }
     ensures { IsTrue result ↔ Keeps spec.now rule number }
 {
@@ -76,8 +75,7 @@ fn keeps(spec: &Spec, rule: Rule, number: u8) -> bool
 
 /// Tests the item with this number by some rules of its kind, one after another.
 fn judge_item(spec: &Spec, kind: ItemKind, rules: &[Rule], number: u8) -> Result<(), Refusal>
-    requires range { IsInRange spec.now }
-    requires populated { HasColumnAndNode spec.now }
+    requires formed { IsWellFormed spec.now }
     requires known { number < count_of spec.now kind }
     requires of_kind { AreOfKind (step kind rules.now) }
     ensures { Judges (IsKept spec.now) (item_checks (step kind rules.now) number) result }
@@ -93,8 +91,7 @@ fn judge_item(spec: &Spec, kind: ItemKind, rules: &[Rule], number: u8) -> Result
 
 /// Tests all items of a kind by some rules, item by item.
 fn judge_items(spec: &Spec, kind: ItemKind, rules: &[Rule]) -> Result<(), Refusal>
-    requires range { IsInRange spec.now }
-    requires populated { HasColumnAndNode spec.now }
+    requires formed { IsWellFormed spec.now }
     requires of_kind { AreOfKind (step kind rules.now) }
     ensures { Judges (IsKept spec.now) (step_checks spec.now (step kind rules.now)) result }
 {
@@ -106,8 +103,7 @@ fn judge_items(spec: &Spec, kind: ItemKind, rules: &[Rule]) -> Result<(), Refusa
 
 /// Tests a specification by all rules, in the order of the steps. Takes no memory.
 pub fn judge(spec: &Spec) -> Result<(), Refusal>
-    requires range { IsInRange spec.now }
-    requires populated { HasColumnAndNode spec.now }
+    requires formed { IsWellFormed spec.now }
     ensures { Judges (IsKept spec.now) (checks spec.now) result }
 {
     let steps = steps();

@@ -71,3 +71,8 @@ pub record IsInRange (spec : Spec) : Type 0 where
 pub record HasColumnAndNode (spec : Spec) : Type 0 where
   pub column : 0 < length spec.columns
   pub node : 0 < length spec.nodes
+
+-- a specification in range, with a column and a node
+pub record IsWellFormed (spec : Spec) : Type 0 where
+  pub in_range : IsInRange spec
+  pub populated : HasColumnAndNode spec

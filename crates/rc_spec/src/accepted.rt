@@ -1,21 +1,21 @@
 ghost use Rattle.std.specs.Prelude.{◌≡◌, ◌<◌, length};
-ghost use Rattle.rc_spec.specs.Acceptance.{IsSealed};
+ghost use Rattle.rc_spec.specs.Acceptance.{IsAccepted, IsSealed};
 ghost use Rattle.rc_spec.specs.Order.{IsTopologicalOrder};
 ghost use Rattle.rc_spec.specs.Placement.{class_of};
 
-use crate::Spec;
+use crate::{Spec, WellFormed};
 use rc_tuple::SmallList;
 use std::marker::Model;
 
 /// Node numbers, in an order in which each edge leads forward.
 pub type NodeOrder = SmallList<u8>;
 
-/// A specification that meets all rules: it is in range, its decomposition is adequate and well placed, and each
-/// operation keeps its rule. It keeps the order of the nodes that the test of the graph found, so that nobody looks
+/// A specification that meets all rules: its decomposition is adequate and well placed, and each operation keeps its
+/// rule. It keeps the order of the nodes that the test of the graph found, so that nobody looks
 /// for it again; contracts see the specification alone.
 #[derive(Debug, Drop)]
 pub struct Accepted {
-    spec: Spec,
+    spec: WellFormed,
     order: NodeOrder,
 }
 
@@ -31,10 +31,9 @@ impl Model for Accepted {
 }
 
 impl Accepted {
-    /// Keeps a specification that meets all rules, is in range, and has a column and a node, with an order of its nodes
-    /// in which each edge leads forward.
-    pub fn seal(spec: Spec, order: NodeOrder) -> Accepted
-        requires sealed { IsSealed spec }
+    /// Keeps a specification that meets all rules, with an order of its nodes in which each edge leads forward.
+    pub fn seal(spec: WellFormed, order: NodeOrder) -> Accepted
+        requires accepted { IsAccepted spec }
         requires order { IsTopologicalOrder spec order }
         ensures { result ≡ spec }
     {
@@ -53,7 +52,7 @@ impl Accepted {
     pub fn into_spec(self) -> Spec
         ensures { result ≡ self }
     {
-        self.spec
+        self.spec.into_spec()
     }
 
     /// All nodes in topological order: at each place stands the first written node whose edges all come from nodes

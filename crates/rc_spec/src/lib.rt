@@ -18,6 +18,7 @@ mod row_ends;
 mod row_list;
 mod spec;
 mod stripes;
+mod well_formed;
 
 pub use accepted::{Accepted, NodeOrder};
 pub use call::{Call, Reply};
@@ -39,3 +40,4 @@ pub use refusal::{Item, ItemKind, Refusal, Rule, print_refusal};
 pub use row_list::RowList;
 pub use spec::{Classes, Columns, Deps, Edges, Nodes, Ops, Places, Spec};
 pub use stripes::{band_start, mix, physical_stripe, stripe_of, stripe_total};
+pub use well_formed::WellFormed;

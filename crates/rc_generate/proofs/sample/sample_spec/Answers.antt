@@ -1,4 +1,4 @@
-use Rattle.std.proofs.Common.{◌≡◌, sym, subst}
+use Rattle.std.proofs.Common.{◌≡◌, ◌∙◌, sym, subst}
 use Rattle.rc_spec.specs.declared.spec.Spec.{Spec}
 use Rattle.rc_spec.specs.Acceptance.{IsAccepted}
 use Rattle.rc_spec.specs.InRange.{IsInRange, HasColumnAndNode}
@@ -6,9 +6,10 @@ use Rattle.rc_spec.specs.Names.{IsWellNamed}
 use Rattle.rc_generate.specs.Sample.{sample_graph}
 use Rattle.rc_generate.specs.SampleLaws.{sample_is_in_range, sample_is_well_named, sample_has_column_and_node}
 use Rattle.rc_generate.specs.SampleAcceptance.{sample_is_accepted}
+use Rattle.rc_generate.proofs.sample.sample_spec.Goals.{In_ok-ops}
 use Rattle.rc_generate.proofs.sample.sample_spec.Goals as goal
 
-same_spec : (c : goal.In_ok-ops)
+same_spec : (c : In_ok-ops)
     → (let s : Spec = record {
       columns = c.in_ok-columns.field-0;
       deps = c.in_ok-deps.field-0;
@@ -30,14 +31,19 @@ same_spec c i = record {
   most_rows = 256;
 }
 
-pub returns-clause-range : goal.returns-clause-range
-returns-clause-range c = subst IsInRange (same_spec c) sample_is_in_range
+pub new-requires : goal.new-requires
+new-requires c =
+    let sample = subst IsInRange (same_spec c) sample_is_in_range in
+    let populated = subst HasColumnAndNode (same_spec c) sample_has_column_and_node in
+    record { in_range = sample; populated = populated }
+
+pub returns-clause-value : goal.returns-clause-value
+returns-clause-value c = c.new.ensures ∙ sym (same_spec (goal.at.returns-clause-value c).In_ok-ops)
 
 pub returns-clause-named : goal.returns-clause-named
-returns-clause-named c = subst IsWellNamed (same_spec c) sample_is_well_named
-
-pub returns-clause-populated : goal.returns-clause-populated
-returns-clause-populated c = subst HasColumnAndNode (same_spec c) sample_has_column_and_node
+returns-clause-named c =
+    subst IsWellNamed (same_spec (goal.at.returns-clause-named c).In_ok-ops ∙ sym c.new.ensures) sample_is_well_named
 
 pub returns-clause-accepted : goal.returns-clause-accepted
-returns-clause-accepted c = subst IsAccepted (same_spec c) sample_is_accepted
+returns-clause-accepted c =
+    subst IsAccepted (same_spec (goal.at.returns-clause-accepted c).In_ok-ops ∙ sym c.new.ensures) sample_is_accepted

@@ -1,5 +1,6 @@
-use Rattle.std.proofs.Common.{◌<◌, length, sym, subst}
+use Rattle.std.proofs.Common.{◌<◌, ◌∙◌, ap, length, sym, subst}
 use Rattle.rc_spec.specs.declared.spec.Spec.{Spec}
+use Rattle.rc_spec.specs.Placement.{class_of}
 use Rattle.rc_spec.specs.PlacementLaws.{class_of_known}
 use Rattle.rc_spec.proofs.accepted.Accepted.class_of.Goals as goal
 
@@ -8,4 +9,5 @@ returns-clause-known c =
     let spec : Spec = c.self.inside.spec in
     let once = c.self.invariant.sealed.accepted.placed.p1 c.args.edge (subst (λ (s : Spec). c.args.edge < length s.edges) (sym c.self.view_is) c.requires) in
     let known = class_of_known spec c.args.edge c.self.invariant.sealed.in_range once in
-    subst (λ (s : Spec). c.class_of.result < length s.classes) c.self.view_is (subst (λ k. k < length spec.classes) (sym c.class_of.ensures) known)
+    let found = c.class_of.ensures ∙ ap (λ (s : Spec). class_of s c.args.edge) c.deref.ensures.value in
+    subst (λ (s : Spec). c.class_of.result < length s.classes) c.self.view_is (subst (λ k. k < length spec.classes) (sym found) known)
