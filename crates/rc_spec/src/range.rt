@@ -54,6 +54,13 @@ impl Ranges {
         self.items.push(Range { col, lo, hi })
     }
 
+    /// Takes all bounds out, and keeps the memory.
+    pub fn clear(&mut self)
+        ensures { self.new ≡ [] }
+    {
+        self.items.clear()
+    }
+
     /// The bounds, in order.
     pub fn list(&self) -> &[Range]
         ensures value { result.now ≡ self.now }

@@ -39,6 +39,15 @@ impl<T> SmallList<T> {
         Ok(())
     }
 
+    /// Takes all items out, and keeps their memory.
+    pub fn clear(&mut self)
+    where
+        T: Drop,
+        ensures { self.new ≡ [] }
+    {
+        self.items.clear();
+    }
+
     /// The items, in order.
     pub fn list(&self) -> &[T]
         ensures { result.now ≡ self.now }

@@ -1,6 +1,6 @@
 //! The call that an operation's number and values make.
 
-ghost use Rattle.std.specs.Prelude.{◌≡◌, ◌<◌, ◌*◌, length, IfOk, OnOk};
+ghost use Rattle.std.specs.Prelude.{◌≡◌, ◌<◌, ◌*◌, length, OnOk};
 ghost use Rattle.rc_spec.specs.InRange.{IsInRange};
 ghost use Rattle.rc_spec.specs.Names.{IsWellNamed};
 ghost use Rattle.rc_spec.specs.Ranges.{AreBounded};
@@ -10,26 +10,25 @@ ghost use Rattle.rc_work.specs.Fitting.{IsOfWords};
 use crate::columns::range_columns;
 use rc_spec::{Call, Ranges, Spec};
 use rc_tuple::Memory;
-use std::alloc::Global;
 
-/// The ranges of the columns, with a lower and an upper bound for each.
-fn ranges_of(alloc: Global, cols: &[u8], bounds: &[u64]) -> Result<Ranges, Memory>
+/// Makes the ranges those of the columns, with a lower and an upper bound for each, in the memory that they have.
+fn refill_ranges(ranges: &mut Ranges, cols: &[u8], bounds: &[u64]) -> Result<(), Memory>
     requires { length bounds.now ≡ 2 * length cols.now }
-    ensures ranges { IfOk result (λ ranges. ranges ≡ ranges_of cols.now bounds.now) }
-    ensures bounded { IfOk result AreBounded }
+    ensures ranges { OnOk result (ranges.new ≡ ranges_of cols.now bounds.now) }
+    ensures bounded { OnOk result (AreBounded ranges.new) }
 {
-    let mut ranges = Ranges::new(alloc);
+    ranges.clear();
     for (at, col) in cols.iter().enumerate() {
         ranges.push(*col, bounds[2 * at], bounds[2 * at + 1])?;
     }
     // A call of `list` tells the check that they are bounded.
     let _ = ranges.list();
-    Ok(ranges)
+    Ok(())
 }
 
 /// Makes the call that of the operation with this number and these values, for the columns that it is written with.
-/// Its tuple is made in the memory that the call has, and takes more only where it had room for fewer values; bounds
-/// take memory where the operation has range columns, and no other call does. After want of memory it is of no use.
+/// Its tuple and its bounds are made in the memory that the call has, and take more only where it had room for fewer. After
+/// want of memory it is of no use.
 pub fn refill_call(
     call: &mut Call,
     spec: &Spec,
@@ -49,7 +48,7 @@ pub fn refill_call(
     let given = cols.len() - 2 * ranges.len();
     call.op = op;
     call.args.refill(&cols[..given], &values[..given])?;
-    call.ranges = ranges_of(call.args.alloc(), ranges, &values[given..])?;
+    refill_ranges(&mut call.ranges, ranges, &values[given..])?;
     // A call of `pairs` tells the check that they are a tuple.
     let _ = call.args.pairs();
     Ok(())

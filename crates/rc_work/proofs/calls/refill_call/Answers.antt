@@ -22,8 +22,8 @@ refill-requires-clause-distinct c =
     (sym (columns_given c.args.spec.now c.args.op c.args.cols.now c.range_columns-ranges.result.now c.requires.cols (ranges_found c.args.spec.now c.args.op c.op.result.now c.range_columns-ranges.result.now c.requires.known c.op.ensures.value c.range_columns-ranges.ensures)))
     (columns_at-distinct c.args.spec.now c.args.op c.requires.named)
 
-pub ranges_of-requires : goal.ranges_of-requires
-ranges_of-requires c =
+pub refill_ranges-requires : goal.refill_ranges-requires
+refill_ranges-requires c =
     let ranges = ranges_found c.args.spec.now c.args.op c.op.result.now c.range_columns-ranges.result.now c.requires.known c.op.ensures.value c.range_columns-ranges.ensures in
     let count = c.requires.count ∙ ap (λ (cols : List ℕ). length cols) c.requires.cols in
     ap (λ (bounds : List ℕ). length bounds) (bounds_left c.args.spec.now c.args.op c.args.cols.now c.range_columns-ranges.result.now c.requires.cols ranges c.args.values.now)
@@ -37,9 +37,9 @@ returns-clause-call c =
     let cols = columns_given spec c.args.op c.args.cols.now c.range_columns-ranges.result.now c.requires.cols ranges in
     let given = count_given spec c.args.op c.args.cols.now c.range_columns-ranges.result.now c.requires.cols ranges in
     let left = bounds_left spec c.args.op c.args.cols.now c.range_columns-ranges.result.now c.requires.cols ranges c.args.values.now in
-    same_call c.args.op c.refill.new.self _ c.in_ok-call.field-0 _
+    same_call c.args.op c.refill.new.self _ c.refill_ranges.new.ranges _
     (c.in_ok-refill.ensures.ok
     ∙ ap (λ (l : List ℕ). tuple_of l (take (length c.args.cols.now - 2 * length c.range_columns-ranges.result.now) c.args.values.now)) cols
     ∙ ap (λ n. tuple_of (columns_at spec c.args.op) (take n c.args.values.now)) given)
-    (c.in_ok-call.ensures.ranges ∙ ap (ranges_of c.range_columns-ranges.result.now) left
+    (c.in_ok-refill_ranges.ensures.ranges ∙ ap (ranges_of c.range_columns-ranges.result.now) left
     ∙ ap (λ (l : List ℕ). ranges_of l (drop (length (columns_at spec c.args.op)) c.args.values.now)) ranges)

@@ -1,6 +1,6 @@
 use Rattle.std.proofs.Common.{◌≡◌, ◌*◌, ◌++◌, drop}
 use Rattle.rc_work.specs.CallColumns.{ranges_of}
-use Rattle.rc_work.proofs.calls.ranges_of.Given as goal
+use Rattle.rc_work.proofs.calls.refill_ranges.Given as goal
 
 -- the ranges so far, and those that are left
 abbrev pub invariant-loop-at : goal.invariant-loop-at
