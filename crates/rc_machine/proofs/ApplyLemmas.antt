@@ -1,13 +1,13 @@
--- A tuple's rows on held stripes, edge by edge.
-use Rattle.std.specs.Prelude.{◌≡◌, ℕ, suc, pred, ◌+◌, ◌<◌, ◌≤◌, ◌^◌, ◌==◌, Bool, true, false, List, [], ◌∷◌, ◌++◌, Some, cond, drop, get_or, length, map}
-use Rattle.std.specs.List.{range_with_len}
-use Rattle.std.proofs.Common.{inl, inr, refl, sym, ap, subst, ◌∙◌, arith, zero-add}
+-- Rows that are changed on held stripes, one after another.
+use Rattle.std.specs.Prelude.{◌≡◌, ℕ, zero, suc, pred, ◌+◌, ◌<◌, ◌≤◌, ◌^◌, ◌==◌, Bool, true, false, List, [], ◌∷◌, ◌++◌, cond, drop, get_or, length, map, take}
+use Rattle.std.specs.declared.cmp.Ordering.TheVariants.{Less}
+use Rattle.std.specs.Ordering.{nat_cmp}
+use Rattle.std.proofs.Common.{inl, inr, refl, sym, ap, subst, ◌∙◌, arith}
 use Rattle.std.proofs.lemmas.Bool.{and_parts, eqb-true}
-use Rattle.std.proofs.lemmas.List.{length-map}
-use Rattle.std.proofs.lemmas.List.FromFn.{get_or-map-range_with_len, length-map-range_with_len}
-use Rattle.rc_tuple.specs.RisingSet.{In}
-use Rattle.rc_tuple.specs.RisingSetLaws.{in_map, map_in}
-use Rattle.rc_tuple.specs.ColSetLaws.{in_range_bounds, range_with_len_more, rising_range}
+use Rattle.std.proofs.lemmas.List.{take_all, take_more}
+use Rattle.rc_tuple.specs.RisingSet.{In, IsRising}
+use Rattle.rc_tuple.specs.RisingSetLaws.{get_or_in, in_map, map_in, nat_order, not_below_itself}
+use Rattle.rc_tuple.specs.ColSetLaws.{in_range_bounds, rising_range}
 use Rattle.rc_tuple.specs.Tuple.{Pairs, cols_of, tuple_eq}
 use Rattle.rc_tuple.specs.TupleLaws.{cols-project}
 use Rattle.rc_spec.specs.declared.spec.Spec.{Spec}
@@ -19,14 +19,14 @@ use Rattle.rc_spec.specs.CountedRowsLaws.{in_with_count, with_count_old}
 use Rattle.rc_spec.specs.Decomposition.{bound, edge_at}
 use Rattle.rc_spec.specs.Fragments.{EdgeRow, edge_numbers}
 use Rattle.rc_fragment.specs.declared.shape.EdgeShape.{EdgeShape}
-use Rattle.rc_fragment.specs.Fragment.{HasAlone, HasColumns, HasSingle, IsThere, edge_table, shape_of}
-use Rattle.rc_fragment.specs.Holder.{CanLower, CanRaise, HasRoom, HeldStripe, Holding, IsHeldExclusive, changed_at, held_of, with_change, with_change_at, with_now}
+use Rattle.rc_fragment.specs.Fragment.{IsThere}
+use Rattle.rc_fragment.specs.Holder.{CanLower, CanRaise, HasRoom, HeldStripe, Holding, changed_at, held_of, with_change, with_change_at, with_now}
 use Rattle.rc_fragment.specs.HoldingLaws.{held-change}
-use Rattle.rc_machine.specs.Apply.{AreAddable, AreAllThere, AreExclusive, HasRoomFor, IsAddable, IsSameButLent, all_changed, place_in, stripe_in}
+use Rattle.rc_machine.specs.Apply.{CanAdd, CanSub, HasRoomFor, IsAddable, IsSameButLent, all_changed, all_placed, edges_of, stripe_in}
 use Rattle.rc_machine.specs.declared.places.RowPlace.{RowPlace}
 use Rattle.rc_machine.proofs.LentLemmas.{lent_again, lent_new}
 use Rattle.rc_machine.proofs.PlaceLemmas.{next_room, rest_room}
-use Rattle.rc_machine.proofs.ReadLemmas.{shape_in_table, target_rises}
+use Rattle.rc_machine.proofs.ReadLemmas.{target_rises}
 
 -- ---- the columns of a row
 
@@ -73,171 +73,185 @@ raised_leaves e row ws v a = (in_other e row (suc (count_at e row ws)) ws v a, o
 pub lowered_leaves : LeavesOthers lowered
 lowered_leaves e row ws v a = (in_other e row (pred (count_at e row ws)) ws v a, other_in e row (pred (count_at e row ws)) ws v a)
 
--- ---- stripes with some edges changed
+-- ---- stripes on which rows of other edges are changed
 
--- a stripe as before, but for the rows of the first edges
-pub record IsSameFrom (k : ℕ) (old new : HeldStripe) : Type 0 where
+-- a stripe as before, but for rows of other edges
+pub record IsSameAt (e : ℕ) (old new : HeldStripe) : Type 0 where
   pub stripe : new.stripe ≡ old.stripe
   pub mode : new.mode ≡ old.mode
   pub taken : new.taken ≡ old.taken
-  pub here : (v : EdgeRow) → k ≤ v.0 → In v new.now → In v old.now
-  pub there : (v : EdgeRow) → k ≤ v.0 → In v old.now → In v new.now
+  pub here : (v : EdgeRow) → v.0 ≡ e → In v new.now → In v old.now
+  pub there : (v : EdgeRow) → v.0 ≡ e → In v old.now → In v new.now
 
-pub same_from_itself : (k : ℕ) (h : HeldStripe) → IsSameFrom k h h
-same_from_itself k h = record { stripe = refl; mode = refl; taken = refl; here = λ v l m. m; there = λ v l m. m }
+same_at_itself : (e : ℕ) (h : HeldStripe) → IsSameAt e h h
+same_at_itself e h = record { stripe = refl; mode = refl; taken = refl; here = λ v q m. m; there = λ v q m. m }
 
-same_from_more : (k : ℕ) (a b c : HeldStripe) → IsSameFrom k a b → IsSameFrom k b c → IsSameFrom k a c
-same_from_more k a b c f g = record { stripe = g.stripe ∙ f.stripe; mode = g.mode ∙ f.mode; taken = g.taken ∙ f.taken; here = λ v l m. f.here v l (g.here v l m); there = λ v l m. g.there v l (f.there v l m) }
+same_at_more : (e : ℕ) (a b c : HeldStripe) → IsSameAt e a b → IsSameAt e b c → IsSameAt e a c
+same_at_more e a b c f g = record { stripe = g.stripe ∙ f.stripe; mode = g.mode ∙ f.mode; taken = g.taken ∙ f.taken; here = λ v q m. f.here v q (g.here v q m); there = λ v q m. g.there v q (f.there v q m) }
 
-module _ (change : Change) (leaves : LeavesOthers change) (spec : Spec) (t : Pairs) where
-  one_changed : (k e : ℕ) (s : ℕ) (h : HeldStripe) → e < k → IsSameFrom k h (with_now s (change e (row_in spec t e)) h)
-  one_changed k e s h l = go (h.stripe == s)
+same_at_back : (e : ℕ) (a b : HeldStripe) → IsSameAt e a b → IsSameAt e b a
+same_at_back e a b f = record { stripe = sym f.stripe; mode = sym f.mode; taken = sym f.taken; here = f.there; there = f.here }
+
+-- each stripe after is one from before, and each from before is one after
+pub record AreSameAt (e : ℕ) (old new : List HeldStripe) : Type 0 where
+  pub came : (h : HeldStripe) → In h new → (g : HeldStripe) × In g old × IsSameAt e g h
+  pub goes : (g : HeldStripe) → In g old → (h : HeldStripe) × In h new × IsSameAt e g h
+
+all_same : (e : ℕ) (held : List HeldStripe) → AreSameAt e held held
+all_same e held = record { came = λ h m. (h, m, same_at_itself e h); goes = λ h m. (h, m, same_at_itself e h) }
+
+same_more : (e : ℕ) (a b c : List HeldStripe) → AreSameAt e a b → AreSameAt e b c → AreSameAt e a c
+same_more e a b c f g = record {
+  came = λ h m. let q = g.came h m in let p = f.came q.0 q.1 in (p.0, p.1, same_at_more e p.0 q.0 h p.2 q.2);
+  goes = λ h m. let q = f.goes h m in let p = g.goes q.0 q.1 in (p.0, p.1, same_at_more e h q.0 p.0 q.2 p.2);
+}
+
+pub same_back : (e : ℕ) (a b : List HeldStripe) → AreSameAt e a b → AreSameAt e b a
+same_back e a b f = record {
+  came = λ h m. let q = f.goes h m in (q.0, q.1, same_at_back e h q.0 q.2);
+  goes = λ h m. let q = f.came h m in (q.0, q.1, same_at_back e q.0 h q.2);
+}
+
+module _ (change : Change) (leaves : LeavesOthers change) where
+  one_changed : (e d : ℕ) (row : Pairs) (s : ℕ) (h : HeldStripe) → (d ≡ e → ⊥) → IsSameAt e h (with_now s (change d row) h)
+  one_changed e d row s h other = go (h.stripe == s)
     where
-      apart : (v : EdgeRow) → k ≤ v.0 → v.0 ≡ e → ⊥
-      apart v m q = omega (arith, l, m, q)
+      apart : (v : EdgeRow) → v.0 ≡ e → v.0 ≡ d → ⊥
+      apart v p q = other (sym q ∙ p)
 
-      go : (b : Bool) → IsSameFrom k h (cond b (record { stripe = h.stripe; mode = h.mode; now = change e (row_in spec t e) h.now; taken = h.taken }) h)
+      go : (b : Bool) → IsSameAt e h (cond b (record { stripe = h.stripe; mode = h.mode; now = change d row h.now; taken = h.taken }) h)
       go true = record {
         stripe = refl;
         mode = refl;
         taken = refl;
-        here = λ v m n. (leaves e (row_in spec t e) h.now v (apart v m)).0 n;
-        there = λ v m n. (leaves e (row_in spec t e) h.now v (apart v m)).1 n;
+        here = λ v q n. (leaves d row h.now v (apart v q)).0 n;
+        there = λ v q n. (leaves d row h.now v (apart v q)).1 n;
       }
-      go false = same_from_itself k h
+      go false = same_at_itself e h
 
-  -- each stripe after is one from before, and each from before is one after
-  pub came_from : (k : ℕ) (edges : List ℕ) (held : List HeldStripe) → ((e : ℕ) → In e edges → e < k) → (h : HeldStripe) → In h (all_changed change spec t edges held) → (g : HeldStripe) × In g held × IsSameFrom k g h
-  came_from k [] held f h m = (h, m, same_from_itself k h)
-  came_from k (e ∷ edges) held f h m =
-      let next : List HeldStripe = changed_at (stripe_in spec t e) (change e (row_in spec t e)) held in
-      let q : (g : HeldStripe) × In g next × IsSameFrom k g h = came_from k edges next (λ d n. f d (inr n)) h m in
-      let p : (g : HeldStripe) × In g held × (q.0 ≡ with_now (stripe_in spec t e) (change e (row_in spec t e)) g) = in_map (with_now (stripe_in spec t e) (change e (row_in spec t e))) q.0 held q.1 in
-      (p.0, p.1, same_from_more k p.0 q.0 h (subst (λ z. IsSameFrom k p.0 z) (sym p.2) (one_changed k e (stripe_in spec t e) p.0 (f e (inl refl)))) q.2)
+  one_same : (e d : ℕ) (row : Pairs) (s : ℕ) (held : List HeldStripe) → (d ≡ e → ⊥) → AreSameAt e held (changed_at s (change d row) held)
+  one_same e d row s held other = record {
+    came = λ h m. let q = in_map (with_now s (change d row)) h held m in (q.0, q.1, subst (IsSameAt e q.0) (sym q.2) (one_changed e d row s q.0 other));
+    goes = λ h m. (with_now s (change d row) h, map_in (with_now s (change d row)) h held m, one_changed e d row s h other);
+  }
 
-  pub goes_to : (k : ℕ) (edges : List ℕ) (held : List HeldStripe) → ((e : ℕ) → In e edges → e < k) → (g : HeldStripe) → In g held → (h : HeldStripe) × In h (all_changed change spec t edges held) × IsSameFrom k g h
-  goes_to k [] held f g m = (g, m, same_from_itself k g)
-  goes_to k (e ∷ edges) held f g m =
-      let one : HeldStripe → HeldStripe = with_now (stripe_in spec t e) (change e (row_in spec t e)) in
-      let q : (h : HeldStripe) × In h (all_changed change spec t edges (changed_at (stripe_in spec t e) (change e (row_in spec t e)) held)) × IsSameFrom k (one g) h =
-      goes_to k edges (changed_at (stripe_in spec t e) (change e (row_in spec t e)) held) (λ d n. f d (inr n)) (one g) (map_in one g held m) in
-      (q.0, q.1, same_from_more k g (one g) q.0 (one_changed k e (stripe_in spec t e) g (f e (inl refl))) q.2)
+  pub placed_same : (e : ℕ) (places : List RowPlace) (held : List HeldStripe) → ((p : RowPlace) → In p places → p.edge ≡ e → ⊥) → AreSameAt e held (all_placed change places held)
+  placed_same e [] held f = all_same e held
+  placed_same e (p ∷ places) held f =
+      let next : List HeldStripe = changed_at p.stripe (change p.edge p.row) held in
+      same_more e held next (all_placed change places next) (one_same e p.edge p.row p.stripe held (f p (inl refl))) (placed_same e places next (λ q m. f q (inr m)))
 
-  pub one_more : (edges : List ℕ) (e : ℕ) (held : List HeldStripe) → all_changed change spec t (edges ++ e ∷ []) held ≡ changed_at (stripe_in spec t e) (change e (row_in spec t e)) (all_changed change spec t edges held)
-  one_more [] e held = refl
-  one_more (d ∷ edges) e held = one_more edges e (changed_at (stripe_in spec t d) (change d (row_in spec t d)) held)
+  -- so it is with a tuple's rows of other edges
+  pub changed_same : (spec : Spec) (t : Pairs) (e : ℕ) (edges : List ℕ) (held : List HeldStripe) → ((d : ℕ) → In d edges → d ≡ e → ⊥) → AreSameAt e held (all_changed change spec t edges held)
+  changed_same spec t e [] held f = all_same e held
+  changed_same spec t e (d ∷ edges) held f =
+      let next : List HeldStripe = changed_at (stripe_in spec t d) (change d (row_in spec t d)) held in
+      same_more e held next (all_changed change spec t edges next) (one_same e d (row_in spec t d) (stripe_in spec t d) held (f d (inl refl))) (changed_same spec t e edges next (λ c m. f c (inr m)))
 
-  first_edges : (k e : ℕ) → In e (range_with_len 0 k) → e < k
-  first_edges k e m = let b : (0 ≤ e) × (e < 0 + k) = in_range_bounds 0 k e m in omega (arith, b.1)
+  -- the stripes themselves stay, as no edge has the number of all
+  pub stripes_stay : (spec : Spec) (t : Pairs) (held : List HeldStripe) → AreSameAt (length spec.edges) held (all_changed change spec t (edge_numbers spec) held)
+  stripes_stay spec t held = changed_same spec t (length spec.edges) (edge_numbers spec) held (λ d m q. let b = in_range_bounds 0 (length spec.edges) d m in omega (arith, b.1, q))
 
-  -- the next edge's stripe is still held for a change
-  pub still_exclusive : (k : ℕ) (held : List HeldStripe) → IsHeldExclusive held (stripe_in spec t k) → IsHeldExclusive (all_changed change spec t (range_with_len 0 k) held) (stripe_in spec t k)
-  still_exclusive k held x =
-      let q : (h : HeldStripe) × In h (all_changed change spec t (range_with_len 0 k) held) × IsSameFrom k x.0 h = goes_to k (range_with_len 0 k) held (first_edges k) x.0 x.1 in
-      (q.0, q.1, q.2.stripe ∙ x.2, q.2.mode ∙ x.3)
+-- ---- what can be changed there
 
-  pub still_there : (k : ℕ) (held : List HeldStripe) → ((h : HeldStripe) → In h held → h.stripe ≡ stripe_in spec t k → IsThere h.now k (row_in spec t k))
-      → (h : HeldStripe) → In h (all_changed change spec t (range_with_len 0 k) held) → h.stripe ≡ stripe_in spec t k → IsThere h.now k (row_in spec t k)
-  still_there k held f h m s =
-      let q : (g : HeldStripe) × In g held × IsSameFrom k g h = came_from k (range_with_len 0 k) held (first_edges k) h m in
-      let r : IsThere q.0.now k (row_in spec t k) = f q.0 q.1 (sym q.2.stripe ∙ s) in
-      (r.0, q.2.there (k, row_in spec t k, r.0) (omega arith) r.1)
+-- a row that can be added, or taken out, still can be
+pub can_add_same : (table : List EdgeShape) (old new : List HeldStripe) (p : RowPlace) → AreSameAt p.edge old new → CanAdd table old p → CanAdd table new p
+can_add_same table old new p same can =
+    let x = can.exclusive in
+    let held = same.goes x.0 x.1 in
+    record {
+      known = can.known;
+      columns = can.columns;
+      exclusive = (held.0, held.1, held.2.stripe ∙ x.2, held.2.mode ∙ x.3);
+      addable = λ h m s.
+          let q = same.came h m in
+          let r : IsAddable table p.edge p.row q.0.now = can.addable q.0 q.1 (sym q.2.stripe ∙ s) in
+          let back : (u : Pairs) → IsThere h.now p.edge u → IsThere q.0.now p.edge u = λ u n. (n.0, q.2.here (p.edge, u, n.0) refl n.1) in
+          record {
+            small = λ w n e. r.small w (q.2.here w e n) e;
+            alone = λ shape has_shape u n. r.alone shape has_shape u (back u n);
+            single = λ shape has_shape kind u n. r.single shape has_shape kind u (back u n);
+          };
+    }
 
-  pub still_addable : (k : ℕ) (held : List HeldStripe) → ((h : HeldStripe) → In h held → h.stripe ≡ stripe_in spec t k → IsAddable spec t k h.now)
-      → (h : HeldStripe) → In h (all_changed change spec t (range_with_len 0 k) held) → h.stripe ≡ stripe_in spec t k → IsAddable spec t k h.now
-  still_addable k held f h m s =
-      let q : (g : HeldStripe) × In g held × IsSameFrom k g h = came_from k (range_with_len 0 k) held (first_edges k) h m in
-      let r : IsAddable spec t k q.0.now = f q.0 q.1 (sym q.2.stripe ∙ s) in
-      let back : (u : Pairs) → IsThere h.now k u → IsThere q.0.now k u = λ u n. (n.0, q.2.here (k, u, n.0) (omega arith) n.1) in
-      record {
-        small = λ w n e. r.small w (q.2.here w (omega (arith, e)) n) e;
-        alone = λ shape has_shape u n. r.alone shape has_shape u (back u n);
-        single = λ shape has_shape kind u n. r.single shape has_shape kind u (back u n);
-      }
+pub can_sub_same : (table : List EdgeShape) (old new : List HeldStripe) (p : RowPlace) → AreSameAt p.edge old new → CanSub table old p → CanSub table new p
+can_sub_same table old new p same can =
+    let x = can.exclusive in
+    let held = same.goes x.0 x.1 in
+    record {
+      known = can.known;
+      exclusive = (held.0, held.1, held.2.stripe ∙ x.2, held.2.mode ∙ x.3);
+      there = λ h m s.
+          let q = same.came h m in
+          let r : IsThere q.0.now p.edge p.row = can.there q.0 q.1 (sym q.2.stripe ∙ s) in
+          (r.0, q.2.there (p.edge, p.row, r.0) refl r.1);
+    }
 
-pub next_range : (n : ℕ) → range_with_len 0 (n + 1) ≡ range_with_len 0 n ++ n ∷ []
-next_range n = range_with_len_more 0 n ∙ ap (λ z. range_with_len 0 n ++ z ∷ []) (zero-add n)
+pub may_raise : (s : Holding) (p : RowPlace) → CanAdd s.table (held_of s) p → CanRaise s p.stripe p.edge p.row
+may_raise s p can = record {
+  known = can.known;
+  columns = can.columns;
+  small = λ h m q. small_count p.edge p.row h.now (can.addable h m q).small;
+  alone = λ h m q. (can.addable h m q).alone;
+  single = λ h m q. (can.addable h m q).single;
+}
 
--- ---- the rows that a call changes, one after another
+pub may_lower : (s : Holding) (p : RowPlace) → CanSub s.table (held_of s) p → CanLower s p.stripe p.edge p.row
+may_lower s p can = record { known = can.known; there = can.there }
 
--- the rows of the first edges are changed, and there is room for those of the others
-pub record AreChangedFirst (change : Change) (spec : Spec) (t : Pairs) (places : List RowPlace) (n : ℕ) (old new : Holding) : Type 0 where
-  pub held : held_of new ≡ all_changed change spec t (range_with_len 0 n) (held_of old)
+-- ---- rows that are changed one after another
+
+one_more : (change : Change) (places : List RowPlace) (p : RowPlace) (held : List HeldStripe) → all_placed change (places ++ p ∷ []) held ≡ changed_at p.stripe (change p.edge p.row) (all_placed change places held)
+one_more change [] p held = refl
+one_more change (q ∷ places) p held = one_more change places p (changed_at q.stripe (change q.edge q.row) held)
+
+-- the first rows are changed, and there is room for the others
+pub record AreChangedFirst (change : Change) (places : List RowPlace) (n : ℕ) (old new : Holding) : Type 0 where
+  pub held : held_of new ≡ all_placed change (take n places) (held_of old)
   pub room : HasRoomFor (drop n places) new
   pub lent : IsSameButLent old new
 
-module _ (change : Change) (leaves : LeavesOthers change) (spec : Spec) (t : Pairs) (places : List RowPlace) (are : places ≡ map (place_in spec t) (edge_numbers spec)) (old mid : Holding) where
-  as_many : length places ≡ length spec.edges
-  as_many = ap length are ∙ length-map-range_with_len (place_in spec t) 0 (length spec.edges)
+pub none_changed : (change : Change) (places : List RowPlace) (old new : Holding) → held_of new ≡ held_of old → HasRoomFor places new → IsSameButLent old new → AreChangedFirst change places 0 old new
+none_changed change places old new held room lent = record { held = held; room = room; lent = lent }
 
-  module _ (n : ℕ) (p : RowPlace) (l : n < length places) (is : p ≡ get_or places n p) (f : AreChangedFirst change spec t places n old mid) where
-    pub known : n < length spec.edges
-    known = subst (λ k. n < k) as_many l
+-- after the last row all are changed
+pub all_are_changed : (change : Change) (places : List RowPlace) (n : ℕ) (old new : Holding) → length places ≤ n → AreChangedFirst change places n old new → held_of new ≡ all_placed change places (held_of old)
+all_are_changed change places n old new l f = f.held ∙ ap (λ ps. all_placed change ps (held_of old)) (take_all n places l)
 
-    place_is : p ≡ place_in spec t n
-    place_is = is ∙ ap (λ ps. get_or ps n p) are ∙ get_or-map-range_with_len (place_in spec t) 0 (length spec.edges) n n p known (zero-add n)
+-- the edges of the first rows are below the next one's
+before_it : (places : List RowPlace) (n : ℕ) (p : RowPlace) → IsRising nat_cmp (edges_of places) → n < length places → p ≡ get_or places n p → (q : RowPlace) → In q (take n places) → q.edge ≡ p.edge → ⊥
+before_it [] n p rising l is q m same = omega (arith, l)
+before_it (x ∷ places) zero p rising l is q m same = m
+before_it (x ∷ places) (suc n) p rising l is q (inl e) same =
+    let later : In p places = subst (λ z. In z places) (sym is) (get_or_in places n p (omega (arith, l))) in
+    let less : nat_cmp x.edge p.edge ≡ Less = rising.0 p.edge (map_in (λ (p : RowPlace). p.edge) p places later) in
+    let is_less : nat_cmp p.edge p.edge ≡ Less = subst (λ k. nat_cmp k p.edge ≡ Less) (sym (ap (λ (z : RowPlace). z.edge) e) ∙ same) less in
+    not_below_itself nat_cmp nat_order p.edge p.edge is_less is_less
+before_it (x ∷ places) (suc n) p rising l is q (inr m) same = before_it places n p rising.1 (omega (arith, l)) is q m same
 
-    -- the next edge's stripe is held for a change, and has room for it
-    pub next_exclusive : AreExclusive spec t (held_of old) → IsHeldExclusive (held_of mid) p.stripe
-    next_exclusive x =
-        subst (λ (z : RowPlace). IsHeldExclusive (held_of mid) z.stripe) (sym place_is)
-        (subst (λ (held : List HeldStripe). IsHeldExclusive held (stripe_in spec t n)) (sym f.held) (still_exclusive change leaves spec t n (held_of old) (x n known)))
+module _ (change : Change) (leaves : LeavesOthers change) (places : List RowPlace) (rising : IsRising nat_cmp (edges_of places)) (old mid : Holding)
+    (n : ℕ) (p : RowPlace) (l : n < length places) (is : p ≡ get_or places n p) (f : AreChangedFirst change places n old mid) where
+  same : AreSameAt p.edge (held_of old) (held_of mid)
+  same = subst (AreSameAt p.edge (held_of old)) (sym f.held) (placed_same change leaves p.edge (take n places) (held_of old) (before_it places n p rising l is))
 
-    pub next_has_room : HasRoom mid p.stripe
-    next_has_room = next_room n places p mid l (sym is) f.room
+  table : mid.table ≡ old.table
+  table = ap (λ (s : Holding). s.table) f.lent
 
-    pub one_changed_more : (new : Holding) → new ≡ with_change_at p.stripe (change p.edge p.row) mid → AreChangedFirst change spec t places (n + 1) old new
-    one_changed_more new e = record {
-      held = ap held_of e ∙ held-change p.stripe (change p.edge p.row) mid
-          ∙ ap (λ (z : RowPlace). changed_at z.stripe (change z.edge z.row) (held_of mid)) place_is
-          ∙ ap (changed_at (stripe_in spec t n) (change n (row_in spec t n))) f.held
-          ∙ sym (one_more change leaves spec t (range_with_len 0 n) n (held_of old))
-          ∙ sym (ap (λ edges. all_changed change spec t edges (held_of old)) (next_range n));
-      room = rest_room n places p mid l (sym is) f.room (change p.edge p.row) new e;
-      lent = lent_again old mid new f.lent (lent_new mid new (map (with_change p.stripe (change p.edge p.row)) mid.lent) e);
-    }
+  -- the next row has room, and can be changed as before
+  pub next_has_room : HasRoom mid p.stripe
+  next_has_room = next_room n places p mid l (sym is) f.room
 
-    mid_table : old.table ≡ edge_table spec → mid.table ≡ edge_table spec
-    mid_table e = ap (λ (s : Holding). s.table) f.lent ∙ e
+  pub next_can_add : CanAdd old.table (held_of old) p → CanAdd mid.table (held_of mid) p
+  next_can_add can = subst (λ z. CanAdd z (held_of mid) p) (sym table) (can_add_same old.table (held_of old) (held_of mid) p same can)
 
-    known_in : old.table ≡ edge_table spec → n < length mid.table
-    known_in e = subst (λ k. n < k) (sym (ap length (mid_table e) ∙ length-map spec.edges (shape_of spec))) known
+  pub next_can_sub : CanSub old.table (held_of old) p → CanSub mid.table (held_of mid) p
+  next_can_sub can = subst (λ z. CanSub z (held_of mid) p) (sym table) (can_sub_same old.table (held_of old) (held_of mid) p same can)
 
-    -- the next row is there, or can be added
-    pub next_there : AreAllThere spec t (held_of old) → old.table ≡ edge_table spec → CanLower mid p.stripe p.edge p.row
-    next_there x table = subst (λ (z : RowPlace). CanLower mid z.stripe z.edge z.row) (sym place_is) (record {
-      known = known_in table;
-      there = λ h m. still_there change leaves spec t n (held_of old) (x n known) h (subst (In h) f.held m);
-    })
-
-    pub next_addable : IsSealed spec → cols_of t ≡ all_columns spec → AreAddable spec t (held_of old) → old.table ≡ edge_table spec → CanRaise mid p.stripe p.edge p.row
-    next_addable sealed whole x table = subst (λ (z : RowPlace). CanRaise mid z.stripe z.edge z.row) (sym place_is) (record {
-      known = known_in table;
-      columns = subst (λ ss. HasColumns ss n (row_in spec t n)) (sym (mid_table table)) (λ shape has.
-          let same : Some (shape_of spec (edge_at spec n)) ≡ Some shape = sym (shape_in_table spec n known) ∙ has in
-          let shape_is : shape_of spec (edge_at spec n) ≡ shape = cc in
-          cols_of-row_in spec sealed t whole n known ∙ ap (λ (z : EdgeShape). z.target) shape_is);
-      small = λ h m s. small_count n (row_in spec t n) h.now (addable h m s).small;
-      alone = λ h m s. subst (λ ss. HasAlone ss h.now n (row_in spec t n)) (sym (mid_table table)) (addable h m s).alone;
-      single = λ h m s. subst (λ ss. HasSingle ss h.now n (row_in spec t n)) (sym (mid_table table)) (addable h m s).single;
-    })
-      where
-        addable : (h : HeldStripe) → In h (held_of mid) → h.stripe ≡ stripe_in spec t n → IsAddable spec t n h.now
-        addable h m s = still_addable change leaves spec t n (held_of old) (x n known) h (subst (In h) f.held m) s
-
-  -- after the last row all are changed
-  pub all_are_changed : (n : ℕ) → n ≡ length places → AreChangedFirst change spec t places n old mid → held_of mid ≡ all_changed change spec t (edge_numbers spec) (held_of old)
-  all_are_changed n e f = f.held ∙ ap (λ k. all_changed change spec t (range_with_len 0 k) (held_of old)) (e ∙ as_many)
-
-  pub none_changed : held_of mid ≡ held_of old → HasRoomFor places mid → IsSameButLent old mid → AreChangedFirst change spec t places 0 old mid
-  none_changed held room lent = record { held = held; room = room; lent = lent }
-
-  -- the places are on stripes held for a change
-  pub places_exclusive : AreExclusive spec t (held_of old) → (p : RowPlace) → In p places → IsHeldExclusive (held_of old) p.stripe
-  places_exclusive x p m =
-      let q : (e : ℕ) × In e (edge_numbers spec) × (p ≡ place_in spec t e) = in_map (place_in spec t) p (edge_numbers spec) (subst (In p) are m) in
-      let b : (0 ≤ q.0) × (q.0 < 0 + length spec.edges) = in_range_bounds 0 (length spec.edges) q.0 q.1 in
-      subst (λ (z : RowPlace). IsHeldExclusive (held_of old) z.stripe) (sym q.2) (x q.0 (omega (arith, b.1)))
-
-pub few_places : (spec : Spec) → IsSealed spec → (t : Pairs) (places : List RowPlace) → places ≡ map (place_in spec t) (edge_numbers spec) → length places < 2 ^ 16
-few_places spec sealed t places are = let n : length places ≡ length spec.edges = ap length are ∙ length-map-range_with_len (place_in spec t) 0 (length spec.edges) in omega (arith, sealed.in_range)
+  pub one_changed_more : (new : Holding) → new ≡ with_change_at p.stripe (change p.edge p.row) mid → AreChangedFirst change places (n + 1) old new
+  one_changed_more new e = record {
+    held = ap held_of e ∙ held-change p.stripe (change p.edge p.row) mid ∙ ap (changed_at p.stripe (change p.edge p.row)) f.held
+        ∙ sym (one_more change (take n places) p (held_of old))
+        ∙ ap (λ ps. all_placed change ps (held_of old)) (sym (take_more places n p l ∙ ap (λ z. take n places ++ z ∷ []) (sym is)));
+    room = rest_room n places p mid l (sym is) f.room (change p.edge p.row) new e;
+    lent = lent_again old mid new f.lent (lent_new mid new (map (with_change p.stripe (change p.edge p.row)) mid.lent) e);
+  }

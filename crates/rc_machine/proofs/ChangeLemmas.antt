@@ -1,12 +1,11 @@
 -- A change of rows on held stripes is the change of all rows, and ends a run as evaluation does.
 use Rattle.std.specs.Prelude.{◌≡◌, ℕ, suc, pred, ◌<◌, ◌==◌, ◌⊎◌, Bool, true, false, List, [], ◌∷◌, Option, Some, cond, length}
 use Rattle.std.specs.Ordering.{nat_cmp}
-use Rattle.std.proofs.Common.{inl, inr, refl, sym, ap, subst, ◌∙◌, arith}
+use Rattle.std.proofs.Common.{inl, inr, refl, sym, ap, subst, ◌∙◌}
 use Rattle.std.proofs.lemmas.Bool.{and_parts, eq-eqb, eqb-true, false≢true}
 use Rattle.rc_tuple.specs.RisingSet.{In, IsRising}
 use Rattle.rc_tuple.specs.RisingSetLaws.{filter-filter, filter_in, has_in, in_filter, in_has, in_map, map_in, rising_filter, same_rising}
 use Rattle.rc_tuple.specs.ColSet.{has}
-use Rattle.rc_tuple.specs.ColSetLaws.{in_range_bounds}
 use Rattle.rc_tuple.specs.Tuple.{Pairs, tuple_eq}
 use Rattle.rc_tuple.specs.TupleLaws.{same_from_test}
 use Rattle.rc_spec.specs.declared.call.Call.{Call}
@@ -30,7 +29,7 @@ use Rattle.rc_plan.specs.StripeLocks.{stripes_of}
 use Rattle.rc_machine.specs.Apply.{all_changed, stripe_in}
 use Rattle.rc_machine.specs.Machine.{HasEvaluated, HasServed, locks_of, stripes_held}
 use Rattle.rc_machine.specs.Run.{IsAt}
-use Rattle.rc_machine.proofs.ApplyLemmas.{Change, IsSameFrom, LeavesOthers, goes_to}
+use Rattle.rc_machine.proofs.ApplyLemmas.{Change, IsSameAt, LeavesOthers, stripes_stay}
 use Rattle.rc_machine.proofs.CheckStepLemmas.{evaluated}
 use Rattle.rc_machine.proofs.RunLemmas.{has_evaluated, has_served, serves, stripes_named}
 use Rattle.rc_plan.specs.Search.{updating}
@@ -220,8 +219,7 @@ module _ (spec : Spec) (sealed : IsSealed spec) (plan : List Statement) (call : 
     satisfies = a.satisfies;
     few = a.few;
     rows = λ h m.
-        let q : (g : HeldStripe) × In g (all_changed change spec t (edge_numbers spec) held) × IsSameFrom (length spec.edges) h g =
-        goes_to change leaves spec t (length spec.edges) (edge_numbers spec) held (λ e n. let b = in_range_bounds 0 (length spec.edges) e n in omega (arith, b.1)) h m in
+        let q : (g : HeldStripe) × In g (all_changed change spec t (edge_numbers spec) held) × IsSameAt (length spec.edges) h g = (stripes_stay change leaves spec t held).goes h m in
         sym q.2.taken ∙ a.rows q.0 q.1 ∙ ap (fragment_of spec r) q.2.stripe;
   }
 

@@ -1,11 +1,10 @@
 -- A run goes on from statement to statement.
 use Rattle.std.specs.Prelude.{◌≡◌, ℕ, ◌+◌, ◌<◌, Bool, true, false, List, [], ◌∷◌, ◌++◌, None, Option, Some, IfErr, Result, Ok, Err, cond, filter, drop, get_or, length, take}
 use Rattle.std.specs.Ordering.{nat_cmp}
-use Rattle.std.proofs.Common.{inl, inr, refl, sym, ap, subst, ◌∙◌, arith}
+use Rattle.std.proofs.Common.{inl, inr, refl, sym, ap, subst, ◌∙◌}
 use Rattle.std.proofs.lemmas.List.{drop_more}
 use Rattle.rc_tuple.specs.RisingSet.{In, gather, put}
 use Rattle.rc_tuple.specs.RisingSetLaws.{append_in_left, append_in_right, gather_in, in_append, in_gather, in_map, map_in, nat_order}
-use Rattle.rc_tuple.specs.ColSetLaws.{in_range_bounds}
 use Rattle.rc_tuple.specs.Tuple.{Pairs, tuple_cmp}
 use Rattle.rc_tuple.specs.Relation.{Satisfies}
 use Rattle.rc_spec.specs.declared.call.Call.{Call}
@@ -40,7 +39,7 @@ use Rattle.rc_machine.specs.Apply.{all_changed}
 use Rattle.rc_machine.specs.Locks.{AreLocked, HasLocked, HasRefusedOne}
 use Rattle.rc_machine.specs.Machine.{AreAsTaken, AreTakenAsOffered, HasReplied, IsRefused, locks_of, rows_taken, stripes_held}
 use Rattle.rc_machine.specs.Run.{HasGoneOn, HasKeptLeast, IsAt, IsOn}
-use Rattle.rc_machine.proofs.ApplyLemmas.{Change, IsSameFrom, LeavesOthers, came_from, lowered_leaves, raised_leaves}
+use Rattle.rc_machine.proofs.ApplyLemmas.{Change, IsSameAt, LeavesOthers, lowered_leaves, raised_leaves, stripes_stay}
 use Rattle.rc_machine.proofs.ChangeLemmas.{IsLocal, all_done, changed_evaluated, changed_served, lowered_done, lowered_local, raised_done, raised_local}
 use Rattle.rc_machine.proofs.CheckStepLemmas.{absent_step, dep_step, ends_evaluated, ends_served, evaluated, whole_tuple}
 use Rattle.rc_machine.proofs.ConditionLemmas.{found_whole, insert_addable, insert_exclusive, is_insert, remove_exclusive, remove_there, tuple_named}
@@ -279,8 +278,7 @@ told_same old new on is told = told_now old new on (held_of old) told is
 -- and so it is after a change
 told_after : (spec : Spec) (change : Change) → LeavesOthers change → (t : Pairs) (s : Holding) (held : List HeldStripe) → AreTold s held → AreTold s (all_changed change spec t (edge_numbers spec) held)
 told_after spec change leaves t s held told h m =
-    let few : (e : ℕ) → In e (edge_numbers spec) → e < length spec.edges = λ e n. let b = in_range_bounds 0 (length spec.edges) e n in omega (arith, b.1) in
-    let q : (g : HeldStripe) × In g held × IsSameFrom (length spec.edges) g h = came_from change leaves spec t (length spec.edges) (edge_numbers spec) held few h m in
+    let q : (g : HeldStripe) × In g held × IsSameAt (length spec.edges) g h = (stripes_stay change leaves spec t held).came h m in
     subst (λ n. AreOffered (offered_at s n) h.taken) (sym q.2.stripe) (subst (λ ws. AreOffered (offered_at s q.0.stripe) ws) (sym q.2.taken) (told q.0 q.1))
 
 pub applied_told : (spec : Spec) (kind : OpKind) (t : Pairs) (found : Option Pairs) (bs : List Pairs) (old new : Holding) (answer : Reply) → HasApplied spec kind t found bs (held_of old) (held_of new) answer → GoesOn old new

@@ -1,8 +1,10 @@
 mod ApplyLemmas
 mod CheckLemmas
+mod DifferLemmas
 pub mod LentLemmas
 mod LockLemmas
 mod PlaceLemmas
+mod PlacedLemmas
 mod ReadLemmas
 mod SeekLemmas
 pub mod RevertLemmas
@@ -14,6 +16,7 @@ pub mod ChangeLemmas
 pub mod ConditionLemmas
 pub mod UpdateLemmas
 pub mod ReplaceLemmas
+mod SharedLemmas
 pub mod GoLemmas
 mod EmitLemmas
 mod StripeLemmas

@@ -4,7 +4,6 @@ use Rattle.std.specs.Ordering.{nat_cmp}
 use Rattle.std.proofs.Common.{refl, sym, ap, subst, ◌∙◌, arith}
 use Rattle.rc_tuple.specs.RisingSet.{In, IsRising, put}
 use Rattle.rc_tuple.specs.RisingSetLaws.{in_filter, in_map, map_in, rising_filter}
-use Rattle.rc_tuple.specs.ColSetLaws.{in_range_bounds}
 use Rattle.rc_tuple.specs.Tuple.{IsTuple, Pairs, cols_of, tuple_cmp, tuple_eq}
 use Rattle.rc_tuple.specs.Relation.{Satisfies}
 use Rattle.rc_tuple.specs.RelationLaws.{satisfies_fewer}
@@ -29,7 +28,7 @@ use Rattle.rc_plan.specs.StripeLocks.{AreIn}
 use Rattle.rc_machine.specs.Applied.{CanReplace, replaced_in}
 use Rattle.rc_machine.specs.Apply.{AreAddable, all_changed}
 use Rattle.rc_machine.specs.Machine.{HasEvaluated, HasServed, locks_of, stripes_held}
-use Rattle.rc_machine.proofs.ApplyLemmas.{Change, IsSameFrom, goes_to, lowered_leaves, raised_leaves}
+use Rattle.rc_machine.proofs.ApplyLemmas.{Change, IsSameAt, lowered_leaves, raised_leaves, stripes_stay}
 use Rattle.rc_machine.proofs.ChangeLemmas.{IsLocal, all_done, locks_kept, lowered_done, lowered_local, part_of, parts_changed, raised_local, stripes_kept}
 use Rattle.rc_machine.proofs.ConditionLemmas.{addable_at, exclusive_from, there_at}
 use Rattle.rc_machine.proofs.RunLemmas.{has_evaluated, has_served, serves, stripes_named}
@@ -95,6 +94,7 @@ module _ (spec : Spec) (sealed : IsSealed spec) (r : List Pairs) (held : List He
 
   pub can_replace : (t : Pairs) → cols_of t ≡ all_columns spec → IsTuple t → Satisfies (put tuple_cmp t (without o r)) spec.deps → AllHeld spec (stripes_held held) t → AreIn Exclusive (locks_of held) → CanReplace spec o t held
   can_replace t over tuple sat named_new modes = record {
+    counted = λ h m. subst AreCountedRows (sym (same h m ∙ a.rows h m)) (AreCountedRows-rows_on spec r (h.stripe ∷ []));
     out = record { whole = (a.relation.each o there).over; exclusive = exclusive_from spec o held named modes; there = there_at spec sealed r held same a o there };
     put = record {
       whole = over;
@@ -122,17 +122,14 @@ module _ (spec : Spec) (sealed : IsSealed spec) (plan : List Statement) (call : 
   stripes_same : stripes_held new ≡ stripes_held held
   stripes_same = stripes_kept raised spec t (edge_numbers spec) half ∙ stripes_kept lowered spec o (edge_numbers spec) held
 
-  few : (e : ℕ) → In e (edge_numbers spec) → e < length spec.edges
-  few e n = let b = in_range_bounds 0 (length spec.edges) e n in omega (arith, b.1)
-
   before : (r : List Pairs) → AreOfRelation spec new r → AreOfRelation spec held r
   before r a = record {
     relation = a.relation;
     satisfies = a.satisfies;
     few = a.few;
     rows = λ h m.
-        let p : (g : HeldStripe) × In g half × IsSameFrom (length spec.edges) h g = goes_to lowered lowered_leaves spec o (length spec.edges) (edge_numbers spec) held few h m in
-        let q : (g : HeldStripe) × In g new × IsSameFrom (length spec.edges) p.0 g = goes_to raised raised_leaves spec t (length spec.edges) (edge_numbers spec) half few p.0 p.1 in
+        let p : (g : HeldStripe) × In g half × IsSameAt (length spec.edges) h g = (stripes_stay lowered lowered_leaves spec o held).goes h m in
+        let q : (g : HeldStripe) × In g new × IsSameAt (length spec.edges) p.0 g = (stripes_stay raised raised_leaves spec t half).goes p.0 p.1 in
         sym p.2.taken ∙ sym q.2.taken ∙ a.rows q.0 q.1 ∙ ap (fragment_of spec r) (q.2.stripe ∙ p.2.stripe);
   }
 

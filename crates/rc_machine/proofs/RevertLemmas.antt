@@ -1,13 +1,11 @@
 -- Changes taken back.
 use Rattle.std.specs.Prelude.{◌≡◌, ℕ, ◌==◌, Bool, true, false, List, [], ◌∷◌, cond, map}
 use Rattle.std.proofs.Common.{inl, inr, refl, sym, ap, ◌∙◌}
-use Rattle.rc_tuple.specs.Tuple.{Pairs}
-use Rattle.rc_spec.specs.declared.spec.Spec.{Spec}
-use Rattle.rc_spec.specs.CountedRows.{row_in}
 use Rattle.rc_spec.specs.Fragments.{EdgeRow}
 use Rattle.rc_fragment.specs.Holder.{HeldStripe, changed_at, reverted}
-use Rattle.rc_machine.specs.Apply.{all_changed, stripe_in}
+use Rattle.rc_machine.specs.Apply.{all_placed}
 use Rattle.rc_machine.specs.Machine.{AreAsTaken}
+use Rattle.rc_machine.specs.declared.places.RowPlace.{RowPlace}
 use Rattle.rc_machine.proofs.ApplyLemmas.{Change}
 
 one_back : (s : ℕ) (f : List EdgeRow → List EdgeRow) (held : List HeldStripe) → map reverted (changed_at s f held) ≡ map reverted held
@@ -20,9 +18,9 @@ one_back s f (h ∷ held) = go (h.stripe == s) (one_back s f held)
     go false ih = ap (λ z. reverted h ∷ z) ih
 
 -- changes leave the rows as taken
-pub taken_alike : (change : Change) (spec : Spec) (t : Pairs) (edges : List ℕ) (held : List HeldStripe) → map reverted (all_changed change spec t edges held) ≡ map reverted held
-taken_alike change spec t [] held = refl
-taken_alike change spec t (e ∷ edges) held = taken_alike change spec t edges (changed_at (stripe_in spec t e) (change e (row_in spec t e)) held) ∙ one_back (stripe_in spec t e) (change e (row_in spec t e)) held
+pub taken_alike : (change : Change) (places : List RowPlace) (held : List HeldStripe) → map reverted (all_placed change places held) ≡ map reverted held
+taken_alike change [] held = refl
+taken_alike change (p ∷ places) held = taken_alike change places (changed_at p.stripe (change p.edge p.row) held) ∙ one_back p.stripe (change p.edge p.row) held
 
 -- a stripe as taken is what a revert makes of it
 pub reverted_same : (held : List HeldStripe) → AreAsTaken held → map reverted held ≡ held

@@ -11,7 +11,7 @@ use Rattle.rc_spec.specs.Calls.{all_columns}
 use Rattle.rc_spec.specs.CountedRows.{lowered, raised}
 use Rattle.rc_spec.specs.Fragments.{edge_numbers}
 use Rattle.rc_fragment.specs.Holder.{HeldStripe, reverted}
-use Rattle.rc_machine.specs.Apply.{AreAddable, AreAllThere, AreExclusive, all_changed}
+use Rattle.rc_machine.specs.Apply.{AreAddable, AreAllCounted, AreAllThere, AreExclusive, all_changed}
 
 -- the tuple's rows can be added
 pub record CanInsert (spec : Spec) (t : Pairs) (held : List HeldStripe) : Type 0 where
@@ -25,8 +25,9 @@ pub record CanRemove (spec : Spec) (t : Pairs) (held : List HeldStripe) : Type 0
   pub exclusive : AreExclusive spec t held
   pub there : AreAllThere spec t held
 
--- the rows of the old tuple can be taken out, and then the new one's be added
+-- the rows of each stripe are counted, those of the old tuple can be taken out, and then the new one's be added
 pub record CanReplace (spec : Spec) (o t : Pairs) (held : List HeldStripe) : Type 0 where
+  pub counted : AreAllCounted held
   pub out : CanRemove spec o held
   pub put : CanInsert spec t (all_changed lowered spec o (edge_numbers spec) held)
 

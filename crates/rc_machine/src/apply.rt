@@ -1,8 +1,8 @@
 //! Apply: a tuple's rows added to all edges, or taken out of them.
 
-ghost use Rattle.std.specs.Prelude.{◌≡◌, ℕ, Some, length, IfOk, OnErr, OnOk};
-ghost use Rattle.std.specs.List.{range_with_len};
-ghost use Rattle.rc_tuple.specs.RisingSet.{In};
+ghost use Rattle.std.specs.Prelude.{◌≡◌, ℕ, ◌<◌, ◌^◌, Some, length, take, IfOk, OnErr, OnOk};
+ghost use Rattle.std.specs.Ordering.{nat_cmp};
+ghost use Rattle.rc_tuple.specs.RisingSet.{In, IsRising};
 ghost use Rattle.rc_tuple.specs.Tuple.{Pairs};
 ghost use Rattle.rc_spec.specs.Acceptance.{IsSealed};
 ghost use Rattle.rc_spec.specs.CountedRows.{lowered, raised};
@@ -11,11 +11,13 @@ ghost use Rattle.rc_spec.specs.declared.spec.Spec.{Spec};
 ghost use Rattle.rc_fragment.specs.Fragment.{edge_table};
 ghost use Rattle.rc_fragment.specs.Holder.{held_of};
 ghost use Rattle.rc_machine.specs.Applied.{AreTakenAlike, CanApply, CanInsert, CanRemove, CanReplace, HasApplied, HasRemoved, HasReplaced, replaced_in};
-ghost use Rattle.rc_machine.specs.Apply.{IsSameButLent, all_changed};
+ghost use Rattle.rc_machine.specs.Apply.{CanAdd, CanSub, IsSameButLent, all_changed, all_placed, edges_of};
 ghost use Rattle.rc_machine.specs.Machine.{AreAsTaken};
 ghost use Rattle.rc_machine.specs.Workspace.{AreWide};
+ghost use Rattle.rc_machine.specs.declared.places.RowPlace.{RowPlace};
 
-use crate::places::{RowPlace, make_room, place_rows};
+use crate::differing::differing;
+use crate::places::{RowPlace, make_room, place_rows, place_rows_with};
 use crate::workspace::Workspace;
 use rc_bindings::{Binding, Bindings};
 use rc_fragment::Holder;
@@ -148,7 +150,8 @@ fn replace_old<H: Holder>(
     Ok(Reply::Updated(old))
 }
 
-/// Takes the old tuple's rows out and adds the new one's. Where memory is wanted some rows may be changed.
+/// Takes the old tuple's rows out and adds the new one's, but for those that both have. Where memory is wanted some rows
+/// may be changed.
 fn replace<H: Holder>(
     holder: &mut H,
     compiled: &Compiled,
@@ -166,17 +169,20 @@ fn replace<H: Holder>(
     ensures lent { IsSameButLent (H.seen holder.old) (H.seen holder.new) }
     ensures sound { (spec : Spec) → H.is_sound holder.old spec → H.is_sound holder.new spec }
 {
+    let cols = differing(old, args);
     found.begin(old.cols());
     found.push_projection(old)?;
-    sub_rows(holder, compiled, old, &found.get(0), places)?;
+    let gone = place_rows_with(compiled, cols, old, &found.get(0), places)?;
+    sub_placed(holder, &places[..gone])?;
     found.begin(args.cols());
     found.push_projection(args)?;
-    add_rows(holder, compiled, args, &found.get(0), places)
+    let come = place_rows_with(compiled, cols, args, &found.get(0), places)?;
+    add_placed(holder, &places[..come])
 }
 
 /// Adds the tuple's row to each edge, on the stripe on which it falls. Where memory is wanted the rows of the first
 /// edges may be added.
-pub(crate) fn add_rows<H: Holder>(
+fn add_rows<H: Holder>(
     holder: &mut H,
     compiled: &Compiled,
     tuple: &Tuple,
@@ -189,20 +195,16 @@ pub(crate) fn add_rows<H: Holder>(
     requires table { (H.seen holder.old).table ≡ edge_table compiled.now.spec }
     requires can { CanInsert compiled.now.spec tuple.now (held_of (H.seen holder.old)) }
     ensures ok { OnOk result (held_of (H.seen holder.new) ≡ all_changed raised compiled.now.spec tuple.now (edge_numbers compiled.now.spec) (held_of (H.seen holder.old))) }
-    ensures some { (n : ℕ) × (held_of (H.seen holder.new) ≡ all_changed raised compiled.now.spec tuple.now (range_with_len 0 n) (held_of (H.seen holder.old))) }
+    ensures some { (n : ℕ) × (held_of (H.seen holder.new) ≡ all_changed raised compiled.now.spec tuple.now (take n (edge_numbers compiled.now.spec)) (held_of (H.seen holder.old))) }
     ensures lent { IsSameButLent (H.seen holder.old) (H.seen holder.new) }
     ensures sound { (spec : Spec) → H.is_sound holder.old spec → H.is_sound holder.new spec }
 {
     place_rows(compiled, tuple, binding, places)?;
-    make_room(holder, places)?;
-    for place in places.iter() {
-        holder.add_row(place.stripe, place.edge, &place.row)?;
-    }
-    Ok(())
+    add_placed(holder, places)
 }
 
 /// Takes the tuple's row out of each edge, on the stripe on which it falls. Where memory is wanted the rows stay.
-pub(crate) fn sub_rows<H: Holder>(
+fn sub_rows<H: Holder>(
     holder: &mut H,
     compiled: &Compiled,
     tuple: &Tuple,
@@ -220,8 +222,38 @@ pub(crate) fn sub_rows<H: Holder>(
     ensures sound { (spec : Spec) → H.is_sound holder.old spec → H.is_sound holder.new spec }
 {
     place_rows(compiled, tuple, binding, places)?;
+    sub_placed(holder, places)
+}
+
+/// Adds each row to its edge, on its stripe. Where memory is wanted the first rows may be added.
+fn add_placed<H: Holder>(holder: &mut H, places: &[RowPlace]) -> Result<(), Memory>
+    requires few { length places.now < 2 ^ 16 }
+    requires rising { IsRising nat_cmp (edges_of places.now) }
+    requires can { (p : RowPlace) → In p places.now → CanAdd (H.seen holder.old).table (held_of (H.seen holder.old)) p }
+    ensures ok { OnOk result (held_of (H.seen holder.new) ≡ all_placed raised places.now (held_of (H.seen holder.old))) }
+    ensures some { (n : ℕ) × (held_of (H.seen holder.new) ≡ all_placed raised (take n places.now) (held_of (H.seen holder.old))) }
+    ensures lent { IsSameButLent (H.seen holder.old) (H.seen holder.new) }
+    ensures sound { (spec : Spec) → H.is_sound holder.old spec → H.is_sound holder.new spec }
+{
     make_room(holder, places)?;
-    for place in places.iter() {
+    for place in places {
+        holder.add_row(place.stripe, place.edge, &place.row)?;
+    }
+    Ok(())
+}
+
+/// Takes each row out of its edge, on its stripe. Where memory is wanted the rows stay.
+fn sub_placed<H: Holder>(holder: &mut H, places: &[RowPlace]) -> Result<(), Memory>
+    requires few { length places.now < 2 ^ 16 }
+    requires rising { IsRising nat_cmp (edges_of places.now) }
+    requires can { (p : RowPlace) → In p places.now → CanSub (H.seen holder.old).table (held_of (H.seen holder.old)) p }
+    ensures ok { OnOk result (held_of (H.seen holder.new) ≡ all_placed lowered places.now (held_of (H.seen holder.old))) }
+    ensures err { OnErr result (held_of (H.seen holder.new) ≡ held_of (H.seen holder.old)) }
+    ensures lent { IsSameButLent (H.seen holder.old) (H.seen holder.new) }
+    ensures sound { (spec : Spec) → H.is_sound holder.old spec → H.is_sound holder.new spec }
+{
+    make_room(holder, places)?;
+    for place in places {
         holder.sub_row(place.stripe, place.edge, &place.row);
     }
     Ok(())

@@ -3,6 +3,7 @@
 
 mod apply;
 mod check;
+mod differing;
 mod edge_read;
 mod emit;
 mod lock;

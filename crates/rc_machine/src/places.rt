@@ -1,6 +1,6 @@
 //! The rows of a tuple in all edges, each with the stripe on which it falls, and room for a change of each.
 
-ghost use Rattle.std.specs.Prelude.{◌≡◌, ◌==◌, ◌<◌, ◌≤◌, ◌^◌, length, map, count_by, IfSome, OnOk};
+ghost use Rattle.std.specs.Prelude.{◌≡◌, ◌==◌, ◌<◌, ◌≤◌, ◌^◌, length, map, take, count_by, IfOk, IfSome, OnOk};
 ghost use Rattle.rc_tuple.specs.RisingSet.{In};
 ghost use Rattle.rc_tuple.specs.Tuple.{cols_of};
 ghost use Rattle.rc_spec.specs.Acceptance.{IsSealed};
@@ -10,14 +10,14 @@ ghost use Rattle.rc_spec.specs.Placement.{class_of};
 ghost use Rattle.rc_spec.specs.Stripes.{physical_stripe};
 ghost use Rattle.rc_spec.specs.declared.spec.Spec.{Spec};
 ghost use Rattle.rc_fragment.specs.Holder.{IsHeldExclusive, held_of};
-ghost use Rattle.rc_machine.specs.Apply.{HasRoomFor, IsSameButLent, IsStripeOf, count_on, place_in};
+ghost use Rattle.rc_machine.specs.Apply.{HasRoomFor, IsSameButLent, IsStripeOf, count_on, edges_with, place_in};
 ghost use Rattle.rc_machine.specs.declared.places.RowPlace.{RowPlace};
 
 use crate::stripe::stripe_of;
 use rc_bindings::Binding;
 use rc_fragment::Holder;
 use rc_plan::Compiled;
-use rc_tuple::{Memory, Tuple};
+use rc_tuple::{ColSet, Memory, Tuple};
 use std::alloc::Global;
 
 /// A row of an edge, and the stripe on which it falls.
@@ -60,6 +60,40 @@ pub(crate) fn place_rows(
         place_row(compiled, tuple, edge, stripe, &mut places[edge as usize])?;
     }
     Ok(())
+}
+
+/// Makes the first places those of the tuple's row in each edge whose target has one of the columns, as `place_rows` makes
+/// all of them, and tells how many they are. The others keep their memory for a later call.
+pub(crate) fn place_rows_with(
+    compiled: &Compiled,
+    cols: ColSet,
+    tuple: &Tuple,
+    binding: &Binding,
+    places: &mut Vec<RowPlace>,
+) -> Result<usize, Memory>
+    requires sealed { IsSealed compiled.now.spec }
+    requires same { binding.now.tuple ≡ tuple.now }
+    requires wide { binding.now.width ≡ length compiled.now.spec.columns }
+    requires whole { cols_of tuple.now ≡ all_columns compiled.now.spec }
+    ensures within { IfOk result (λ count. count ≤ length places.new.items) }
+    ensures first { IfOk result (λ count. take count places.new.items ≡ map (place_in compiled.now.spec tuple.now) (edges_with compiled.now.spec cols)) }
+{
+    let all = compiled.accepted().spec().edges.list().len();
+    resize(places, all, tuple.alloc())?;
+    let mut count = 0;
+    let mut last = None;
+    for edge in 0..all as u8 {
+        let resolved = compiled.edge(edge);
+        if resolved.target.inter(cols).is_empty() {
+            continue;
+        }
+        let class = resolved.class;
+        let stripe = stripe_after(compiled, class, binding, last);
+        last = Some(ClassStripe { class, stripe });
+        place_row(compiled, tuple, edge, stripe, &mut places[count])?;
+        count += 1;
+    }
+    Ok(count)
 }
 
 /// The number, among all stripes, of the class's stripe on which the binding falls, where the last one was found before.

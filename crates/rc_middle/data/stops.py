@@ -8,7 +8,7 @@ the stripes on which its bindings fall, or all. An insert and an update bind all
 of the tuples that it has read so far give: below, each class that an operation locks stands with the columns that are read
 before. A class is locked for each tuple with the call's values in them; where none was to be read, for the call itself. What is
 added or taken out makes room before any row changes: edge by edge, but once for edges that follow each other on one stripe. An
-update takes the old tuple out, and then adds the new one.
+update takes out the old tuple's rows, and then adds the new one's; it leaves those that both have, and makes no room for them.
 
 A row of an edge is a tuple's part over the edge's target. Its stripe is, with h = 7,
 for each column of the edge's class h = 31 h + value, then h modulo the stripes of the class, behind those of the classes before.
@@ -20,6 +20,7 @@ COLUMNS = {
     "scheduler": ["ns", "pid", "state", "cpu"],
     "seats": ["id", "name", "seat"],
     "moves": ["id", "name", "seat"],
+    "states": ["pid", "state", "cpu"],
 }
 
 DEPENDENCIES = {
@@ -27,6 +28,7 @@ DEPENDENCIES = {
     "scheduler": [(["ns", "pid"], ["state", "cpu"])],
     "seats": [(["id"], ["name", "seat"]), (["seat"], ["id"])],
     "moves": [(["id"], ["name", "seat"]), (["seat"], ["id"])],
+    "states": [(["pid"], ["state", "cpu"])],
 }
 
 # The kind, the pattern and the outputs of each operation.
@@ -52,6 +54,11 @@ OPERATIONS = {
         "byseat": ("query", ["seat"], ["id"]),
         "move": ("update", ["id"], []),
     },
+    "states": {
+        "spawn": ("insert", ["pid"], []),
+        "bystate": ("query", ["state"], ["pid"]),
+        "set": ("update", ["pid"], []),
+    },
 }
 
 # The kinds whose calls give a value for each column.
@@ -65,6 +72,7 @@ CLASSES = {
     "scheduler": [("ka", 4, ["ns"]), ("kb", 4, ["state"]), ("kc", 4, ["ns", "pid"])],
     "seats": [("k1", 4, ["id"]), ("k2", 4, ["seat"])],
     "moves": [("k1", 4, ["id"]), ("k2", 4, ["seat"])],
+    "states": [("names", 4, ["pid"]), ("queues", 4, ["state"])],
 }
 
 # The name, the class and the target of each edge.
@@ -82,6 +90,11 @@ EDGES = {
         ("e5", "kc", ["ns", "pid", "state", "cpu"]),
     ],
     "seats": [("e1", "k1", ["id", "name", "seat"]), ("e2", "k2", ["id", "seat"])],
+    "states": [
+        ("e1", "names", ["pid", "state", "cpu"]),
+        ("e2", "queues", ["state"]),
+        ("e3", "queues", ["pid", "state", "cpu"]),
+    ],
 }
 EDGES["graph_by_targets"] = EDGES["graph"]
 EDGES["moves"] = EDGES["seats"]
@@ -109,6 +122,11 @@ LOCKS = {
         "add": [("k1", None), ("k2", None)],
         "move": [("k1", None), ("k2", ALL)],
         "byseat": [("k2", None)],
+    },
+    "states": {
+        "spawn": [("names", None), ("queues", None)],
+        "set": [("names", None), ("queues", ALL)],
+        "bystate": [("queues", None)],
     },
 }
 LOCKS["graph_by_targets"] = LOCKS["graph"]
@@ -236,11 +254,19 @@ class Striped:
         return taken
 
     def owns(self):
-        """How often room was made for the tuples that went or came, one after the other."""
-        return sum(self.owns_for(t) for t in self.model.changed)
+        """How often room was made for the rows that went or came: for those of one tuple after those of the other."""
+        return sum(self.owns_for(t, self.changed_edges()) for t in self.model.changed)
 
-    def owns_for(self, changed):
-        stripes = [self.stripe(name, changed) for _, name, _ in EDGES[self.subject]]
+    def changed_edges(self):
+        """The edges of which rows went or came: all, but for those in which the two tuples of an update have one row."""
+        edges = EDGES[self.subject]
+        if len(self.model.changed) < 2:
+            return edges
+        old, new = self.model.changed
+        return [edge for edge in edges if any(old[c] != new[c] for c in edge[2])]
+
+    def owns_for(self, changed, edges):
+        stripes = [self.stripe(name, changed) for _, name, _ in edges]
         return sum(at == 0 or stripe != stripes[at - 1] for at, stripe in enumerate(stripes))
 
     def rows(self):
@@ -344,6 +370,21 @@ def on_moves():
     ]
 
 
+def on_states():
+    """Rows of a state that processes share: left by an update of the processor, and else one fewer and one more, or the last."""
+    return [
+        ("spawn", [1, 0, 5]),
+        ("spawn", [2, 0, 6]),
+        ("set", [1, 0, 7]),
+        ("set", [2, 1, 6]),
+        ("set", [1, 1, 8]),
+        ("set", [1, 1, 8]),
+        ("bystate", [1]),
+        ("set", [2, 0, 8]),
+        ("set", [3, 0, 8]),
+    ]
+
+
 def main():
     print("# Written by stops.py, which says where the answers come from. Each call is stopped before it is made, as another holds a")
     print("# stripe that it takes, or as memory is wanted: at its first take, its second and so on, and then at each own, by which it")
@@ -355,6 +396,7 @@ def main():
     stops("stops calls on graphs by targets", "graph_by_targets", on_targets(), ["inserted", "removed"])
     stops("stops calls on schedulers", "scheduler", on_schedulers(), common)
     stops("stops calls on seats", "seats", on_seats(), ["inserted", "conflict 2", "rows(", "removed"])
+    stops("stops calls on processes in states", "states", on_states(), ["inserted", "updated", "absent", "rows("])
     stops("stops calls on seats that move", "moves", on_moves(), ["inserted", "conflict 2", "updated", "absent", "rows("])
 
 

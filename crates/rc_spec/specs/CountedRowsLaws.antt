@@ -146,6 +146,47 @@ count-with_count e row n ws a f other = go (is_row_at f other (e, row, n)) refl
     go true g = let k : (e ≡ f) × (row ≡ other) = at_true f other (e, row, n) g in here k.0 k.1 (zero_or_more n)
     go false g = there g (zero_or_more (count_at f other ws))
 
+-- two counts that are set, of rows of two edges
+
+-- a row of another edge
+other_edge : (d e : ℕ) (u row : Pairs) (n : ℕ) → (d ≡ e → ⊥) → is_row_at d u (e, row, n) ≡ false
+other_edge d e u row n apart = go (is_row_at d u (e, row, n)) refl
+  where
+    go : (b : Bool) → is_row_at d u (e, row, n) ≡ b → b ≡ false
+    go true g = absurd (apart (sym (at_true d u (e, row, n) g).0))
+    go false g = refl
+
+count-apart : (d e : ℕ) (u row : Pairs) (n : ℕ) (ws : List EdgeRow) → AreCountedRows ws → (d ≡ e → ⊥) → count_at d u (with_count e row n ws) ≡ count_at d u ws
+count-apart d e u row n ws a apart = count-with_count e row n ws a d u ∙ ap (λ b. cond b n (count_at d u ws)) (other_edge d e u row n apart)
+
+with_count-apart : (d e : ℕ) (u row : Pairs) (m n : ℕ) (ws : List EdgeRow) → AreCountedRows ws → (d ≡ e → ⊥) → with_count d u m (with_count e row n ws) ≡ with_count e row n (with_count d u m ws)
+with_count-apart d e u row m n ws a apart =
+    let first : AreCountedRows (with_count d u m ws) = AreCountedRows-with_count d u m ws a in
+    let second : AreCountedRows (with_count e row n ws) = AreCountedRows-with_count e row n ws a in
+    same_counts (with_count d u m (with_count e row n ws)) (with_count e row n (with_count d u m ws))
+    (AreCountedRows-with_count d u m (with_count e row n ws) second) (AreCountedRows-with_count e row n (with_count d u m ws) first)
+    (λ x v. count-with_count d u m (with_count e row n ws) second x v
+    ∙ ap (λ k. cond (is_row_at x v (d, u, m)) m k) (count-with_count e row n ws a x v)
+    ∙ go x v (is_row_at x v (d, u, m)) (is_row_at x v (e, row, n)) refl refl
+    ∙ sym (ap (λ k. cond (is_row_at x v (e, row, n)) n k) (count-with_count d u m ws a x v))
+    ∙ sym (count-with_count e row n (with_count d u m ws) first x v))
+  where
+    go : (x : ℕ) (v : Pairs) (b c : Bool) → is_row_at x v (d, u, m) ≡ b → is_row_at x v (e, row, n) ≡ c → cond b m (cond c n (count_at x v ws)) ≡ cond c n (cond b m (count_at x v ws))
+    go x v true true p q = absurd (apart ((at_true x v (d, u, m) p).0 ∙ sym (at_true x v (e, row, n) q).0))
+    go x v true false p q = refl
+    go x v false true p q = refl
+    go x v false false p q = refl
+
+-- changes of the counts of rows of two edges may be made in either order
+pub recounts-apart : (f g : ℕ → ℕ) (d e : ℕ) (u row : Pairs) (ws : List EdgeRow) → AreCountedRows ws → (d ≡ e → ⊥)
+    → with_count d u (f (count_at d u (with_count e row (g (count_at e row ws)) ws))) (with_count e row (g (count_at e row ws)) ws)
+    ≡ with_count e row (g (count_at e row (with_count d u (f (count_at d u ws)) ws))) (with_count d u (f (count_at d u ws)) ws)
+recounts-apart f g d e u row ws a apart =
+    let m : ℕ = f (count_at d u ws) in
+    let n : ℕ = g (count_at e row ws) in
+    ap (λ k. with_count d u (f k) (with_count e row n ws)) (count-apart d e u row n ws a apart) ∙ with_count-apart d e u row m n ws a apart
+    ∙ sym (ap (λ k. with_count e row (g k) (with_count d u m ws)) (count-apart e d row u m ws a (λ q. apart (sym q))))
+
 -- a tuple's rows in some edges
 
 pub hits : Spec → Pairs → ℕ → Pairs → List ℕ → ℕ
@@ -185,6 +226,23 @@ count-lowered x u ws a e row = count-with_count x u (pred (count_at x u ws)) ws 
         let c : count_at x u ws ≡ count_at e row ws = ap (λ z. count_at z u ws) k.0 ∙ ap (λ z. count_at e z ws) k.1 in
         let d : pred (count_at x u ws) ≡ count_at e row ws - 1 = less_one (count_at x u ws) (count_at e row ws) c in d
     go false g = omega arith
+
+-- a row that is there, taken out once and put back
+pub raised-lowered : (e : ℕ) (row : Pairs) (n : ℕ) (ws : List EdgeRow) → AreCountedRows ws → In (e, row, n) ws → raised e row (lowered e row ws) ≡ ws
+raised-lowered e row n ws a there =
+    let low : AreCountedRows (lowered e row ws) = AreCountedRows-with_count e row (pred (count_at e row ws)) ws a in
+    same_counts (raised e row (lowered e row ws)) ws (AreCountedRows-with_count e row (suc (count_at e row (lowered e row ws))) (lowered e row ws) low) a
+    (λ x u. count-raised e row (lowered e row ws) low x u ∙ ap (λ k. k + cond (is_row_at x u (e, row, 0)) 1 0) (count-lowered e row ws a x u) ∙ go x u (is_row_at x u (e, row, 0)) refl)
+  where
+    some : 0 < count_at e row ws
+    some = subst (λ k. 0 < k) (sym (in_count ws a (e, row, n) there)) (a.positive (e, row, n) there)
+
+    go : (x : ℕ) (u : Pairs) (b : Bool) → is_row_at x u (e, row, 0) ≡ b → (count_at x u ws - cond b 1 0) + cond b 1 0 ≡ count_at x u ws
+    go x u true g =
+        let k : (e ≡ x) × (row ≡ u) = at_true x u (e, row, 0) g in
+        let c : count_at e row ws ≡ count_at x u ws = ap (λ z. count_at z row ws) k.0 ∙ ap (λ z. count_at x z ws) k.1 in
+        let l : 0 < count_at e row ws = some in omega arith
+    go x u false g = omega arith
 
 pub count-all_raised : (spec : Spec) (t : Pairs) (es : List ℕ) (ws : List EdgeRow) → AreCountedRows ws → (e : ℕ) (row : Pairs) → count_at e row (all_raised spec t es ws) ≡ count_at e row ws + hits spec t e row es
 unfolding hits

@@ -1,13 +1,15 @@
-use Rattle.std.proofs.Common.{◌<◌, ◌++◌, ◌∷◌, [], ap, get_or, subst, sym, ◌∙◌, map}
+use Rattle.std.proofs.Common.{◌<◌, ◌++◌, ◌∷◌, [], ap, get_or, subst, sym, take, ◌∙◌, map}
 use Rattle.rc_tuple.specs.MergeLaws.{project_all}
 use Rattle.rc_tuple.specs.RisingSet.{In}
 use Rattle.rc_tuple.specs.Tuple.{project}
 use Rattle.rc_tuple.specs.TupleLaws.{rising_pairs}
 use Rattle.rc_bindings.specs.Bindings.{BindingList}
 use Rattle.rc_machine.specs.Applied.{CanApply}
+use Rattle.rc_machine.specs.Apply.{place_in}
+use Rattle.rc_machine.proofs.PlacedLemmas.{placed_changed}
 use Rattle.rc_machine.proofs.StripeLemmas.{all_below}
-use Rattle.std.specs.List.{range_with_len}
 use Rattle.rc_spec.specs.CountedRows.{raised}
+use Rattle.rc_spec.specs.Fragments.{edge_numbers}
 use Rattle.rc_fragment.specs.Holder.{held_of, reverted}
 use Rattle.rc_machine.proofs.ReadLemmas.{at_err, on_err}
 use Rattle.rc_machine.proofs.RevertLemmas.{taken_alike}
@@ -15,7 +17,11 @@ use Rattle.rc_machine.proofs.apply.change_rows.Goals as goal
 
 pub returns-in_err-add_rows-in-Insert-clause-alike : goal.returns-in_err-add_rows-in-Insert-clause-alike
 returns-in_err-add_rows-in-Insert-clause-alike g c =
-    at_err _ (ap (map reverted) c.add_rows.ensures.some.1 ∙ taken_alike raised c.args.compiled.now.spec c.args.args.now (range_with_len 0 c.add_rows.ensures.some.0) (held_of (g.H.Holder.seen c.args.holder.now)))
+    let spec = c.args.compiled.now.spec in
+    let t = c.args.args.now in
+    let edges = take c.add_rows.ensures.some.0 (edge_numbers spec) in
+    let held = held_of (g.H.Holder.seen c.args.holder.now) in
+    at_err _ (ap (map reverted) (c.add_rows.ensures.some.1 ∙ sym (placed_changed raised spec t edges held)) ∙ taken_alike raised (map (place_in spec t) edges) held)
 
 pub returns-in-Remove-clause-alike : goal.returns-in-Remove-clause-alike
 returns-in-Remove-clause-alike g c = on_err c.remove_least.result (ap (map reverted)) c.remove_least.ensures.err

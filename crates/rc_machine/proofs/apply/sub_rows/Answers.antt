@@ -1,58 +1,35 @@
-use Rattle.std.proofs.Common.{◌≡◌, map, subst, sym, ◌∙◌, arith}
+use Rattle.std.proofs.Common.{◌≡◌, ap, map, subst, sym, ◌∙◌}
 use Rattle.rc_spec.specs.CountedRows.{lowered}
 use Rattle.rc_spec.specs.Fragments.{edge_numbers}
-use Rattle.rc_fragment.specs.Holder.{Holding}
-use Rattle.rc_machine.specs.Apply.{HasRoomFor, place_in}
-use Rattle.rc_machine.proofs.ApplyLemmas.{all_are_changed, few_places, next_there, next_exclusive, next_has_room, none_changed, one_changed_more, places_exclusive, lowered_leaves}
+use Rattle.rc_fragment.specs.Holder.{held_of}
+use Rattle.rc_machine.specs.Apply.{CanSub, all_placed, place_in}
+use Rattle.rc_machine.proofs.PlacedLemmas.{all_edges, can_sub_in, each_place, few_places, places_rise, placed_changed}
+use Rattle.rc_machine.proofs.ReadLemmas.{on_ok}
 use Rattle.rc_machine.proofs.apply.sub_rows.Given.{Over}
-use Rattle.rc_machine.proofs.apply.sub_rows.Goals.{After-deref, After-deref-place-items}
+use Rattle.rc_machine.proofs.apply.sub_rows.Goals.{After-deref}
 use Rattle.rc_machine.proofs.apply.sub_rows.Goals as goal
 
 -- the places are those of the tuple's rows
-lent_places : (g : Over) (c : After-deref g) → c.deref.result.now ≡ map (place_in c.args.compiled.now.spec c.args.tuple.now) (edge_numbers c.args.compiled.now.spec)
-lent_places g c = c.deref.ensures.value ∙ c.in_ok-place_rows.ensures
+placed : (g : Over) (c : After-deref g) → c.deref.result.now ≡ map (place_in c.args.compiled.now.spec c.args.tuple.now) (edge_numbers c.args.compiled.now.spec)
+placed g c = c.deref.ensures.value ∙ c.in_ok-place_rows.ensures
 
-places : (g : Over) (c : After-deref-place-items g) → c.deref-place-items.result.now ≡ map (place_in c.args.compiled.now.spec c.args.tuple.now) (edge_numbers c.args.compiled.now.spec)
-places g c = c.deref-place-items.ensures.value ∙ c.in_ok-place_rows.ensures
+pub sub_placed-requires-clause-few : goal.sub_placed-requires-clause-few
+sub_placed-requires-clause-few g c =
+    let spec = c.args.compiled.now.spec in few_places spec c.requires.sealed c.args.tuple.now (edge_numbers spec) (all_edges spec) c.deref.result.now (placed g c)
 
-pub make_room-requires-clause-few : goal.make_room-requires-clause-few
-make_room-requires-clause-few g c = few_places c.args.compiled.now.spec c.requires.sealed c.args.tuple.now c.deref.result.now (lent_places g c)
+pub sub_placed-requires-clause-rising : goal.sub_placed-requires-clause-rising
+sub_placed-requires-clause-rising g c =
+    let spec = c.args.compiled.now.spec in places_rise spec c.requires.sealed c.args.tuple.now (edge_numbers spec) (all_edges spec) c.deref.result.now (placed g c)
 
-pub make_room-requires-clause-exclusive : goal.make_room-requires-clause-exclusive
-make_room-requires-clause-exclusive g c = places_exclusive lowered lowered_leaves c.args.compiled.now.spec c.args.tuple.now c.deref.result.now (lent_places g c) (g.H.Holder.seen c.args.holder.now) (g.H.Holder.seen c.args.holder.now) c.requires.can.exclusive
-
-pub loop-place-init : goal.loop-place-init
-loop-place-init g c =
-    let new : Holding = g.H.Holder.seen c.make_room.new.holder in
-    record {
-      rows = none_changed lowered lowered_leaves c.args.compiled.now.spec c.args.tuple.now c.deref-place-items.result.now (places g c) (g.H.Holder.seen c.args.holder.now) new
-          c.in_ok-make_room.ensures.held (subst (λ ps. HasRoomFor ps new) (c.deref.ensures.value ∙ sym c.deref-place-items.ensures.value) c.in_ok-make_room.ensures.room) c.in_ok-make_room.ensures.lent;
-      sound = c.in_ok-make_room.ensures.sound;
-    }
-
-pub sub_row-requires-clause-exclusive : goal.sub_row-requires-clause-exclusive
-sub_row-requires-clause-exclusive g c =
-    next_exclusive lowered lowered_leaves c.args.compiled.now.spec c.args.tuple.now c.deref-place-items.result.now (places g (goal.at.sub_row-requires-clause-exclusive g c).After-deref-place-items) (g.H.Holder.seen c.args.holder.now) (g.H.Holder.seen c.loop-place.holder)
-    c.loop-place.place-index c.place-item.result c.loop-place-test.true c.place-item.is c.loop-place.invariant.rows c.requires.can.exclusive
-
-pub sub_row-requires-clause-owned : goal.sub_row-requires-clause-owned
-sub_row-requires-clause-owned g c =
-    next_has_room lowered lowered_leaves c.args.compiled.now.spec c.args.tuple.now c.deref-place-items.result.now (places g (goal.at.sub_row-requires-clause-owned g c).After-deref-place-items) (g.H.Holder.seen c.args.holder.now) (g.H.Holder.seen c.loop-place.holder)
-    c.loop-place.place-index c.place-item.result c.loop-place-test.true c.place-item.is c.loop-place.invariant.rows
-
-pub sub_row-requires-clause-can : goal.sub_row-requires-clause-can
-sub_row-requires-clause-can g c =
-    next_there lowered lowered_leaves c.args.compiled.now.spec c.args.tuple.now c.deref-place-items.result.now (places g (goal.at.sub_row-requires-clause-can g c).After-deref-place-items) (g.H.Holder.seen c.args.holder.now) (g.H.Holder.seen c.loop-place.holder)
-    c.loop-place.place-index c.place-item.result c.loop-place-test.true c.place-item.is c.loop-place.invariant.rows c.requires.can.there c.requires.table
-
-pub loop-place-preserved : goal.loop-place-preserved
-loop-place-preserved g c = record {
-  rows = one_changed_more lowered lowered_leaves c.args.compiled.now.spec c.args.tuple.now c.deref-place-items.result.now (places g (goal.at.loop-place-preserved g c).After-deref-place-items) (g.H.Holder.seen c.args.holder.now) (g.H.Holder.seen c.loop-place.holder)
-      c.loop-place.place-index c.place-item.result c.loop-place-test.true c.place-item.is c.loop-place.invariant.rows (g.H.Holder.seen c.sub_row.new.self) c.sub_row.ensures.value;
-  sound = λ spec h. c.sub_row.ensures.sound spec (c.loop-place.invariant.sound spec h);
-}
+pub sub_placed-requires-clause-can : goal.sub_placed-requires-clause-can
+sub_placed-requires-clause-can g c =
+    let spec = c.args.compiled.now.spec in
+    let held = held_of (g.H.Holder.seen c.args.holder.now) in
+    each_place spec c.requires.sealed c.args.tuple.now (edge_numbers spec) (all_edges spec) c.deref.result.now (placed g c) (CanSub (g.H.Holder.seen c.args.holder.now).table held)
+    (λ e m. subst (λ z. CanSub z held (place_in spec c.args.tuple.now e)) (sym c.requires.table) (can_sub_in spec c.args.tuple.now held c.requires.can e ((all_edges spec).known e m)))
 
 pub returns-clause-ok : goal.returns-clause-ok
 returns-clause-ok g c =
-    all_are_changed lowered lowered_leaves c.args.compiled.now.spec c.args.tuple.now c.deref-place-items.result.now (places g (goal.at.returns-clause-ok g c).After-deref-place-items) (g.H.Holder.seen c.args.holder.now) (g.H.Holder.seen c.loop-place.holder)
-    c.loop-place.place-index (omega arith) c.loop-place.invariant.rows
+    let spec = c.args.compiled.now.spec in
+    let held = held_of (g.H.Holder.seen c.args.holder.now) in
+    on_ok c.sub_placed.result (λ is. is ∙ ap (λ ps. all_placed lowered ps held) (placed g (goal.at.returns-clause-ok g c).After-deref) ∙ placed_changed lowered spec c.args.tuple.now (edge_numbers spec) held) c.sub_placed.ensures.ok
