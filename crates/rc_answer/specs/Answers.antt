@@ -12,7 +12,7 @@ use Rattle.rc_query.specs.Planned.{IsPlanned}
 use Rattle.rc_rel.specs.declared.entry.Entry.{Entry}
 use Rattle.rc_rel.specs.History.{replay}
 use Rattle.rc_reader.specs.Grammar.{Broken, Reading, spec_reading, spec_of}
-use Rattle.rc_reader.specs.RuleText.{rule_text}
+use Rattle.rc_reader.specs.RuleText.{line_rule_text}
 use Rattle.rc_work.specs.declared.work.Work.{Work}
 use Rattle.rc_work.specs.LineRules.{op_number}
 use Rattle.rc_work.specs.Printed.{words_text}
@@ -34,7 +34,7 @@ size_text = printed_lines (codes "refused size" ∷ [])
 
 -- the first broken line rule with its line
 abbrev pub refusal_line : Broken → List ℕ
-refusal_line broken = words_text (codes "refused" ∷ rule_text broken.rule ∷ codes "line" ∷ decimal broken.line ∷ [])
+refusal_line broken = words_text (codes "refused" ∷ line_rule_text broken.rule ∷ codes "line" ∷ decimal broken.line ∷ [])
 
 abbrev pub line_refusal_text : Broken → List ℕ
 line_refusal_text broken = printed_lines (refusal_line broken ∷ [])

@@ -1,5 +1,5 @@
-//! Stores for callers in other languages: each function takes a handle and a frame, and answers a
-//! code. What is done stands in `rc_embed`; here are the handles alone. (`bindings/c/relc.h` says
+//! Stores for callers in other languages: each function takes a handle and a frame, or a page, and
+//! answers a code. What is done stands in `rc_embed`; here are the handles alone. (`bindings/c/relc.h` says
 //! what each function wants.)
 #![tactic(auto)]
 

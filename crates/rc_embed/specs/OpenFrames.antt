@@ -11,7 +11,7 @@ use Rattle.rc_spec.specs.Placement.{op_at}
 use Rattle.rc_spec.specs.RefusalText.{refusal_text}
 use Rattle.rc_reader.specs.declared.refusal.LineRule.{LineRule}
 use Rattle.rc_reader.specs.Names.{number_among}
-use Rattle.rc_reader.specs.RuleText.{rule_text}
+use Rattle.rc_reader.specs.RuleText.{line_rule_text}
 use Rattle.rc_work.specs.CallColumns.{written_columns_at}
 use Rattle.rc_embed.specs.declared.fault.OpenFault.{OpenFault}
 use Rattle.rc_embed.specs.declared.fault.OpenFault.TheVariants.{Memory, Options, TooLong, Line}
@@ -50,7 +50,7 @@ session_code sessions.NoneLeft = codes.none_left
 -- the refusal of a text for its first broken line rule
 abbrev pub line_text : LineRule → ℕ → List ℕ
 line_text rule line =
-    text.codes "refused " ++ rule_text rule ++ text.codes " line " ++ text.decimal line
+    text.codes "refused " ++ line_rule_text rule ++ text.codes " line " ++ text.decimal line
 
 -- the refusal of a text, as the command line prints it, and nothing for other faults
 abbrev pub fault_text : OpenFault → List ℕ

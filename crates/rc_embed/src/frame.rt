@@ -64,7 +64,7 @@ pub const MAX_PAGE: usize = 1024;
 pub struct Page {
     /// Asked: the first of the rows.
     pub row: u64,
-    /// Told: how many rows there are.
+    /// Told: how many rows were copied.
     pub rows: u64,
     /// Told: the rows' values, one row behind the other.
     pub cells: [u64; MAX_PAGE],

@@ -1,6 +1,5 @@
 pub mod Bytes
 pub mod BytesLaws
 pub mod Counts
-pub mod CountsLaws
 pub mod Faults
 pub mod Streams

@@ -12,7 +12,7 @@ use Rattle.rc_reader.specs.declared.version.Version.{Version}
 use Rattle.rc_reader.specs.declared.version.Version.TheVariants.{One, Two}
 use Rattle.rc_reader.specs.TextLimits.{KeepsRanges, HasUpdates}
 use Rattle.rc_reader.specs.Versions.{is_version}
-use Rattle.rc_reader.specs.Forms.{FormText, header_line, column_line, dependency_line, node_line, edge_line, lock_line, place_line, query_line, insert_line, remove_line, update_line, end_line, keyword_of, column_kind_of, edge_kind_of, stripes_of, stripes_at, split_at_arrow, split_ranges, header_form, column_form, dependency_of, dependency_by, node_form, edge_form, lock_form, place_form, query_of, query_by, query_form, update_form, operation_form, end_form, form_by, form_of}
+use Rattle.rc_reader.specs.Forms.{FormText, header_line, column_line, dependency_line, node_line, edge_line, lock_line, place_line, query_line, insert_line, remove_line, update_line, end_line, keyword_of, column_kind_of, edge_kind_of, stripes_read, stripes_at, split_at_arrow, split_ranges, header_form, column_form, dependency_of, dependency_by, node_form, edge_form, lock_form, place_form, query_of, query_by, query_form, update_form, operation_form, end_form, form_by, form_of}
 
 -- the right list of a dependency has a word, and a number of stripes is not above 65,535; ranges and updates are those
 -- of the version
@@ -52,8 +52,8 @@ same_number x y e = cc
 
 stripes_formed : (word : List ℕ) (stripes : Option ℕ) → stripes_at word ≡ Some stripes → unwrap_or stripes 0 ≤ 65535
 stripes_formed word stripes e =
-    elim (is_number word) as (λ v. cond v (Some (stripes_of word)) None ≡ Some stripes → unwrap_or stripes 0 ≤ 65535) [
-      | true ↦ λ h. subst (λ (s : Option ℕ). unwrap_or s 0 ≤ 65535) (let same : stripes_of word ≡ stripes = cc in same) (few_stripes (number_of word))
+    elim (is_number word) as (λ v. cond v (Some (stripes_read word)) None ≡ Some stripes → unwrap_or stripes 0 ≤ 65535) [
+      | true ↦ λ h. subst (λ (s : Option ℕ). unwrap_or s 0 ≤ 65535) (let same : stripes_read word ≡ stripes = cc in same) (few_stripes (number_of word))
       | false ↦ λ h. absurd cc
     ] e
 

@@ -3,7 +3,7 @@ use Rattle.std.proofs.Common.{◌≡◌, ℕ, ◌<◌, ◌||◌, not, eqb, false
 use Rattle.std.proofs.lemmas.Bool.{or_parts, cases_Bool, false≢true, not-false, eqb-true}
 use Rattle.std.specs.Ordering.{nat_cmp}
 use Rattle.rc_tuple.specs.RisingSet.{In, AreDistinct, gather}
-use Rattle.rc_tuple.specs.RisingSetLaws.{in_append, append_in_left, append_in_right, in_filter, filter_in, gather_in, in_gather, in_has, has_in, put_new, nat_order}
+use Rattle.rc_tuple.specs.RisingSetLaws.{in_append, append_in_right, in_filter, filter_in, gather_in, in_gather, in_has, has_in, put_new, nat_order}
 use Rattle.rc_tuple.specs.ColSet.{has, inter}
 use Rattle.rc_reader.specs.Names.{has_repeat}
 
@@ -49,10 +49,6 @@ distinct_append (x ∷ xs) ys first second apart = (
   (λ m. elim (in_append x xs ys m) [ inl here ↦ first.0 here | inr there ↦ apart x (inl refl) there ]),
   distinct_append xs ys first.1 second (λ y m n. apart y (inr m) n),
 )
-
-pub distinct_left : {A : Type 0} (xs ys : List A) → AreDistinct (xs ++ ys) → AreDistinct xs
-distinct_left [] ys distinct = tt
-distinct_left (x ∷ xs) ys distinct = ((λ m. distinct.0 (append_in_left x xs ys m)), distinct_left xs ys distinct.1)
 
 pub distinct_right : {A : Type 0} (xs ys : List A) → AreDistinct (xs ++ ys) → AreDistinct ys
 distinct_right [] ys distinct = distinct

@@ -41,7 +41,7 @@ pub fn mix(hash: u32, value: u64) -> u32
 }
 
 /// How many stripes the classes have.
-fn stripes_of(classes: &[Class]) -> u32
+fn total_of(classes: &[Class]) -> u32
     requires { sum_by (λ class. class.stripes) classes.now ≤ 256 }
     ensures { result ≡ sum_by (λ class. class.stripes) classes.now }
 {
@@ -58,7 +58,7 @@ pub fn band_start(spec: &Spec, class: u8) -> u32
     requires few { stripe_total spec.now ≤ 256 }
     ensures { result ≡ band_start spec.now class }
 {
-    stripes_of(&spec.classes.list()[..class as usize])
+    total_of(&spec.classes.list()[..class as usize])
 }
 
 /// How many stripes all classes have together, at most 256.
@@ -66,7 +66,7 @@ pub fn stripe_total(spec: &Spec) -> u32
     requires few { stripe_total spec.now ≤ 256 }
     ensures { result ≡ stripe_total spec.now }
 {
-    stripes_of(spec.classes.list())
+    total_of(spec.classes.list())
 }
 
 /// The number, among all stripes, of the class's stripe on which the tuple falls.

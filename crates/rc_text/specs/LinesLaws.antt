@@ -6,7 +6,7 @@ use Rattle.std.proofs.lemmas.Bool.{ne_eqb, eqb-false, eqb-true, and_parts, not-t
 use Rattle.std.proofs.lemmas.List.{length-drop, length-take-le, drop-drop, get_or-drop}
 use Rattle.std.proofs.lemmas.List.Sums.{sum_by-cons, sum_by_more, sum_by-take-le}
 use Rattle.rc_text.specs.Bytes.{is_text_byte}
-use Rattle.rc_text.specs.Lines.{onto_first, lines_of, past_end_of, without_last, bytes_of_line, content_among, TextPlace, start_of, lines_from, IsLineStart, IsLine, lacks_line_feed, printed_lines, IsPrintable, bytes_of_content}
+use Rattle.rc_text.specs.Lines.{onto_first, lines_of, past_end_of, without_last, bytes_of_line, content_among, TextPlace, lines_from, IsLineStart, IsLine, lacks_line_feed, printed_lines, IsPrintable, bytes_of_content}
 
 -- how long the first line is
 abbrev pub first_length : List ℕ → ℕ
@@ -92,10 +92,6 @@ sum_lines (b ∷ bs) =
       | true ↦ omega (arith, sum_by-cons length (b ∷ []) (lines_of bs), sum_lines bs)
       | false ↦ omega (arith, onto_first-sum b (lines_of bs), sum_lines bs)
     ]
-
--- a text begins where its first line does
-pub start-start_of : (text : List ℕ) → IsLineStart (start_of text)
-start-start_of text = record { first = omega arith; last = omega arith; before = refl }
 
 -- the start of a line is within the text
 pub start-within : (place : TextPlace) → IsLineStart place → place.at ≤ length place.text

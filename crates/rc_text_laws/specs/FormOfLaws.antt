@@ -8,7 +8,7 @@ use Rattle.rc_spec.specs.declared.items.ColKind.{ColKind}
 use Rattle.rc_spec.specs.declared.items.ColKind.TheVariants.{Num, Text}
 use Rattle.rc_spec.specs.declared.items.EdgeKind.{EdgeKind}
 use Rattle.rc_spec.specs.declared.items.EdgeKind.TheVariants as edge_kinds
-use Rattle.rc_reader.specs.Forms.{FormText, header_line, column_line, dependency_line, node_line, edge_line, lock_line, place_line, query_line, insert_line, remove_line, update_line, end_line, is_arrow, is_colon, split_at_arrow, split_at_colon, split_ranges, stripes_of, dependency_of, dependency_by, query_of, query_by, form_of}
+use Rattle.rc_reader.specs.Forms.{FormText, header_line, column_line, dependency_line, node_line, edge_line, lock_line, place_line, query_line, insert_line, remove_line, update_line, end_line, is_arrow, is_colon, split_at_arrow, split_at_colon, split_ranges, stripes_read, dependency_of, dependency_by, query_of, query_by, form_of}
 use Rattle.rc_reader.specs.TextLimits.{HasUpdates}
 use Rattle.rc_reader.specs.declared.version.Version.{Version}
 use Rattle.rc_reader.specs.declared.version.Version.TheVariants.{One, Two}
@@ -103,7 +103,7 @@ edge_read version name from to edge_kinds.List key = refl
 edge_read version name from to edge_kinds.Singleton key = refl
 
 lock_read : (version : Version) (name digits : List ℕ) (number : Option ℕ) (columns : List (List ℕ)) → is_number digits ≡ true
-    → stripes_of digits ≡ number
+    → stripes_read digits ≡ number
     → form_of version (codes "lock" ∷ name ∷ digits ∷ columns) ≡ Some (lock_line name number columns)
 unfolding form_of
 lock_read version name digits number columns are_digits value =

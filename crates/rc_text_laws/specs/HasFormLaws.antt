@@ -6,7 +6,7 @@ use Rattle.std.specs.Str.{bytes_eq}
 use Rattle.std.proofs.lemmas.List.{append-nil, take-append-drop}
 use Rattle.std.proofs.lemmas.Slice.Eq.{bytes_eq-Decides}
 use Rattle.rc_text.specs.Numbers.{is_number}
-use Rattle.rc_reader.specs.Forms.{FormText, header_line, column_line, edge_line, lock_line, insert_line, remove_line, is_arrow, is_colon, split_by, split_at_arrow, ranges_by, split_ranges, stripes_of, header_form, column_form, dependency_of, dependency_by, node_form, edge_form, lock_form, place_form, query_of, query_by, query_form, update_form, operation_form, end_form, form_of}
+use Rattle.rc_reader.specs.Forms.{FormText, header_line, column_line, edge_line, lock_line, insert_line, remove_line, is_arrow, is_colon, split_by, split_at_arrow, ranges_by, split_ranges, stripes_read, header_form, column_form, dependency_of, dependency_by, node_form, edge_form, lock_form, place_form, query_of, query_by, query_form, update_form, operation_form, end_form, form_of}
 use Rattle.rc_reader.specs.Versions.{version_word}
 use Rattle.rc_reader.specs.declared.version.Version.{Version}
 use Rattle.rc_reader.specs.declared.version.Version.TheVariants.{One, Two}
@@ -174,7 +174,7 @@ module _ (version : Version) where
   lock_gives (name ∷ digits ∷ columns) =
       elim (is_number digits) as (λ v. is_number digits ≡ v
       → Gives (codes "lock" ∷ name ∷ digits ∷ columns)
-      (option_map (λ stripes. lock_line name stripes columns) (cond v (Some (stripes_of digits)) None))) [
+      (option_map (λ stripes. lock_line name stripes columns) (cond v (Some (stripes_read digits)) None))) [
         | true ↦ λ e. (digits, refl, e, refl)
         | false ↦ λ _. tt
       ] refl

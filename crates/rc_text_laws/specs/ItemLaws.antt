@@ -32,7 +32,7 @@ use Rattle.rc_reader.specs.Forms.{FormText, header_line, end_line, is_arrow}
 use Rattle.rc_reader.specs.Grammar.{is_end}
 use Rattle.rc_text_laws.specs.Written.{column_kind_word, edge_kind_word, asked_words, words_of_form, LackArrow, LackColon, MayAsk, HasForm, ArePlain, CanBeLine, written_line, name_at, names_at, column_names_at, column_form_of, dependency_form_of, node_form_of, edge_form_of, class_form_of, place_form_of, operation_form_by, operation_form_of, item_forms, spec_lines, CanBeWritten}
 use Rattle.rc_text_laws.specs.WordsLaws.{plain_name, plain_append}
-use Rattle.rc_text_laws.specs.LineLaws.{line_printable, stripes_of-decimal}
+use Rattle.rc_text_laws.specs.LineLaws.{line_printable, stripes_read-decimal}
 use Rattle.rc_text_laws.specs.SectionsLaws.{neither, below_map, list_plain, list_lacks_arrow, list_lacks_colon}
 
 -- the line of an item is read as what it says, and is not `end`
@@ -130,7 +130,7 @@ module _ (version : Version) (spec : Spec) (can : CanBeWritten spec) (keeps : Ke
       let name = own_plain (λ (class : Class). class.name) spec.classes x can.well_named.classes here in
       let number = plain-number (decimal x.stripes) digits in
       let columns = list_plain spec can x.cols (can.in_range.known_classes x here).below in
-      item version (class_form_of spec x) (decimal x.stripes, refl, digits, stripes_of-decimal x.stripes few)
+      item version (class_form_of spec x) (decimal x.stripes, refl, digits, stripes_read-decimal x.stripes few)
       ((refl, refl), (name, (number, columns))) refl
 
   place_written : (x : Place) → In x spec.places → IsItemLine version (place_form_of spec x)

@@ -16,7 +16,7 @@ use Rattle.rc_text_laws.specs.Kinds.{line_form}
 use Rattle.rc_text_laws.specs.WordsLaws.{line_is_read}
 use Rattle.rc_text_laws.specs.FormOfLaws.{form_read}
 use Rattle.rc_text_laws.specs.HasFormLaws.{form_is_exact}
-use Rattle.rc_text_laws.specs.LineLaws.{stripes_of-decimal}
+use Rattle.rc_text_laws.specs.LineLaws.{stripes_read-decimal}
 
 -- ---- what a line does
 
@@ -77,7 +77,7 @@ module _ (version : Version) where
       → HasForm version (words_of_form version (lock_line name number columns)) (lock_line name number columns)
   lock_has_form name None columns few = (codes "65536", refl, refl, refl)
   lock_has_form name (Some n) columns few =
-      (decimal n, refl, is_number-decimal n (small n few), stripes_of-decimal n few)
+      (decimal n, refl, is_number-decimal n (small n few), stripes_read-decimal n few)
 
   -- the words of a form have it
   has_own : (words : List (List ℕ)) (form : FormText) → IsFormed version form → HasForm version words form

@@ -9,7 +9,7 @@ use Rattle.std.proofs.lemmas.Str.Parse.{IsNumeralModel, numerals_by_value}
 use Rattle.rc_text.specs.Lines.{IsPrintable}
 use Rattle.rc_text.specs.Numbers.{number_of}
 use Rattle.rc_spec.specs.declared.spec.Spec.{Spec}
-use Rattle.rc_reader.specs.Forms.{FormText, header_line, column_line, dependency_line, node_line, edge_line, lock_line, place_line, query_line, insert_line, remove_line, update_line, end_line, stripes_of}
+use Rattle.rc_reader.specs.Forms.{FormText, header_line, column_line, dependency_line, node_line, edge_line, lock_line, place_line, query_line, insert_line, remove_line, update_line, end_line, stripes_read}
 use Rattle.rc_reader.specs.Versions.{version_word}
 use Rattle.rc_reader.specs.declared.version.Version.{Version}
 use Rattle.rc_reader.specs.Rules.{after_form}
@@ -67,8 +67,8 @@ own : IsNumeralModel (λ ds. list_all is_ascii_digit ds ≡ true) number_of
 own = numerals_by_value _ (search rules)
 
 -- a number of stripes that is written is read
-pub stripes_of-decimal : (n : ℕ) → n ≤ 65535 → stripes_of (decimal n) ≡ Some n
-stripes_of-decimal n small =
+pub stripes_read-decimal : (n : ℕ) → n ≤ 65535 → stripes_read (decimal n) ≡ Some n
+stripes_read-decimal n small =
     let large : 65536 ≤ 2 ^ 64 = lit≤ tt in
     let value : number_of (decimal n) ≡ n = digits_value-decimal own n (omega (arith, large, small)) in
     let few : ltb 65535 n ≡ false =

@@ -6,7 +6,7 @@ use Rattle.std.proofs.lemmas.List.{length-append, length-map, append_assoc, appe
 use Rattle.std.specs.Ordering.{nat_cmp}
 use Rattle.rc_tuple.specs.ColSet.{inter}
 use Rattle.rc_tuple.specs.RisingSet.{In, AreDistinct, gather}
-use Rattle.rc_tuple.specs.RisingSetLaws.{append_in_right}
+use Rattle.rc_tuple.specs.RisingSetLaws.{append_in_right, distinct_left}
 use Rattle.rc_tuple.specs.declared.dep.Dep.{Dep}
 use Rattle.rc_spec.specs.declared.items.Column.{Column}
 use Rattle.rc_spec.specs.declared.items.Node.{Node}
@@ -21,7 +21,7 @@ use Rattle.rc_spec.specs.InRange.{AreBelow, IsSetBelow, HasOutsAmong}
 use Rattle.rc_spec.specs.Names.{column_names, node_names, edge_names, class_names, op_names, is_name, AreNames}
 use Rattle.rc_spec.specs.Ranges.{range_columns}
 use Rattle.rc_spec.specs.Spec.{empty}
-use Rattle.rc_reader.specs.MembersLaws.{distinct_left, distinct_right, distinct_apart, test_from_apart}
+use Rattle.rc_reader.specs.MembersLaws.{distinct_right, distinct_apart, test_from_apart}
 use Rattle.rc_reader.specs.TextLimits.{KeepsVersion}
 use Rattle.rc_reader.specs.declared.version.Version.{Version}
 use Rattle.rc_reader.specs.Forms.{FormText}

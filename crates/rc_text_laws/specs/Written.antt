@@ -20,7 +20,7 @@ use Rattle.rc_spec.specs.declared.items.OpKind.TheVariants as kinds
 use Rattle.rc_spec.specs.declared.spec.Spec.{Spec}
 use Rattle.rc_spec.specs.InRange.{IsInRange, HasColumnAndNode}
 use Rattle.rc_spec.specs.Names.{column_names, node_names, edge_names, class_names, IsWellNamed}
-use Rattle.rc_reader.specs.Forms.{FormText, header_line, column_line, dependency_line, node_line, edge_line, lock_line, place_line, query_line, insert_line, remove_line, update_line, end_line, is_arrow, is_colon, stripes_of}
+use Rattle.rc_reader.specs.Forms.{FormText, header_line, column_line, dependency_line, node_line, edge_line, lock_line, place_line, query_line, insert_line, remove_line, update_line, end_line, is_arrow, is_colon, stripes_read}
 use Rattle.rc_reader.specs.TextLimits.{KeepsTextLimits, HasUpdates}
 use Rattle.rc_reader.specs.Versions.{version_word}
 use Rattle.rc_reader.specs.declared.version.Version.{Version}
@@ -83,7 +83,7 @@ HasForm version words (dependency_line left right) =
     (words ≡ words_of_form version (dependency_line left right)) × LackArrow left × LackArrow right × (0 < length right)
 HasForm version words (lock_line name number columns) =
     (digits : List ℕ) × (words ≡ codes "lock" ∷ name ∷ digits ∷ columns) × (is_number digits ≡ true)
-    × (stripes_of digits ≡ number)
+    × (stripes_read digits ≡ number)
 HasForm version words (query_line name pattern ranges outs) =
     (words ≡ words_of_form version (query_line name pattern ranges outs)) × MayAsk version pattern ranges
     × LackArrow (asked_words pattern ranges) × LackArrow outs
@@ -102,7 +102,7 @@ pub record DifferInNumber (words others : List (List ℕ)) : Type 0 where
   pub others_are : others ≡ codes "lock" ∷ name ∷ second ∷ columns
   pub first_number : is_number first ≡ true
   pub second_number : is_number second ≡ true
-  pub same : stripes_of first ≡ stripes_of second
+  pub same : stripes_read first ≡ stripes_read second
 
 -- each of these words can be written plain
 abbrev pub ArePlain : List (List ℕ) → Type 0

@@ -15,7 +15,7 @@ use Rattle.std.proofs.lemmas.Bool.{false≢true, and_parts, and_from, or_cases, 
 use Rattle.std.proofs.lemmas.List.{drop_more, take_more, append_assoc}
 use Rattle.std.proofs.lemmas.Cmp.{nat_cmp_total, nat_list_cmp_total, ranked, by_ranked}
 use Rattle.std.proofs.lemmas.Map.Lookups.{exact_bytes}
-use Rattle.rc_tuple.specs.RisingSet.{In, IsRising, put, gather}
+use Rattle.rc_tuple.specs.RisingSet.{AreDistinct, In, IsRising, put, gather}
 use Rattle.rc_tuple.specs.ColSet.{has}
 
 -- a total order in which only equal elements tie
@@ -174,6 +174,11 @@ append_in_left z [] ys h = absurd h
 pub append_in_right : {A : Type 0} (z : A) (xs ys : List A) → In z ys → In z (xs ++ ys)
 append_in_right z [] ys h = h
 append_in_right z (x ∷ xs) ys h = inr (append_in_right z xs ys h)
+
+-- the first part of a list in which no element stands twice
+pub distinct_left : {A : Type 0} (xs ys : List A) → AreDistinct (xs ++ ys) → AreDistinct xs
+distinct_left [] ys distinct = tt
+distinct_left (x ∷ xs) ys distinct = ((λ m. distinct.0 (append_in_left x xs ys m)), distinct_left xs ys distinct.1)
 
 pub in_flat_map : {A B : Type 0} (f : A → List B) (z : B) (xs : List A) → In z (flat_map f xs) → (x : A) × In x xs × In z (f x)
 in_flat_map f z [] h = absurd h

@@ -1,12 +1,12 @@
 -- Laws of the columns to which calls give values.
-use Rattle.std.proofs.Common.{◌≡◌, ℕ, ◌+◌, ◌*◌, ◌<◌, ◌≤◌, List, [], ◌∷◌, ◌++◌, Option, Some, None, length, inl, inr, refl, ap, subst, arith}
+use Rattle.std.proofs.Common.{◌≡◌, ℕ, ◌+◌, ◌*◌, ◌<◌, ◌≤◌, List, [], ◌∷◌, ◌++◌, Option, Some, None, length, inl, inr, refl, ap, arith}
 use Rattle.std.specs.List.{slice_get}
 use Rattle.std.specs.Option.{option_map_or}
 use Rattle.std.specs.Ordering.{nat_cmp}
 use Rattle.std.proofs.lemmas.List.{length-append}
 use Rattle.std.proofs.lemmas.List.FromFn.{length-range_with_len}
 use Rattle.rc_tuple.specs.RisingSet.{In, IsRising, AreDistinct}
-use Rattle.rc_tuple.specs.RisingSetLaws.{append_in_left, in_append, nat_order, not_below_itself, slice_get_in}
+use Rattle.rc_tuple.specs.RisingSetLaws.{distinct_left, in_append, nat_order, not_below_itself, slice_get_in}
 use Rattle.rc_tuple.specs.ColSetLaws.{in_range_bounds, rising_range}
 use Rattle.rc_spec.specs.Calls.{value_columns}
 use Rattle.rc_spec.specs.InRange.{AreBelow, IsInRange}
@@ -32,10 +32,6 @@ below_by spec pattern Insert below c m = omega (arith, (in_range_bounds 0 (lengt
 below_by spec pattern Remove below c m = below c m
 below_by spec pattern Update below c m = omega (arith, (in_range_bounds 0 (length spec.columns) c m).1)
 
-distinct_left : (xs ys : List ℕ) → AreDistinct (xs ++ ys) → AreDistinct xs
-distinct_left [] ys distinct = tt
-distinct_left (x ∷ xs) ys distinct = ((λ m. distinct.0 (append_in_left x xs ys m)), distinct_left xs ys distinct.1)
-
 distinct_by : (spec : Spec) (pattern : List ℕ) (kind : OpKind) → AreDistinct (pattern ++ range_columns kind)
     → AreDistinct (value_columns spec pattern kind)
 distinct_by spec pattern (Query outs ranges) distinct = distinct_left pattern ranges distinct
@@ -60,22 +56,11 @@ distinct_at spec n (Some op) named is = distinct_by spec op.pattern op.kind (nam
 pub columns_at-distinct : (spec : Spec) (n : ℕ) → IsWellNamed spec → AreDistinct (columns_at spec n)
 columns_at-distinct spec n named = distinct_at spec n (slice_get spec.ops n) named refl
 
--- so there are at most 32
-pub columns_at-few : (spec : Spec) (n : ℕ) → IsWellNamed spec → IsInRange spec → length (columns_at spec n) ≤ 32
-columns_at-few spec n named range =
-    length-distinct-le 32 (columns_at spec n) (columns_at-distinct spec n named) (columns_at-below spec n range)
-
 -- ---- what a call is written with
 
 pub length-twice : (cols : List ℕ) → length (twice cols) ≡ 2 * length cols
 length-twice [] = refl
 length-twice (c ∷ cols) = omega (arith, length-twice cols)
-
-in_twice : (cols : List ℕ) (c : ℕ) → In c (twice cols) → In c cols
-in_twice [] c m = absurd m
-in_twice (x ∷ cols) c (inl e) = inl e
-in_twice (x ∷ cols) c (inr (inl e)) = inl e
-in_twice (x ∷ cols) c (inr (inr m)) = inr (in_twice cols c m)
 
 -- the columns of a call's tuple, and then its range columns, each twice
 pub written_columns_at-parts : (spec : Spec) (n : ℕ) → written_columns_at spec n ≡ columns_at spec n ++ twice (ranges_at spec n)
@@ -95,22 +80,6 @@ length-written_columns_at spec n =
       length-append (columns_at spec n) (twice (ranges_at spec n)),
       length-twice (ranges_at spec n),
     )
-
-ranges_below : (spec : Spec) (n : ℕ) (found : Option Op) → IsInRange spec → slice_get spec.ops n ≡ found
-    → (c : ℕ) → In c (option_map_or (λ (op : Op). range_columns op.kind) found []) → c < 32
-ranges_below spec n None range is c m = absurd m
-ranges_below spec n (Some op) range is c m =
-    omega (arith, range.columns, (range.known_ops op (slice_get_in spec.ops n op is)).ranges c m)
-
-pub ranges_at-below : (spec : Spec) (n : ℕ) → IsInRange spec → (c : ℕ) → In c (ranges_at spec n) → c < 32
-ranges_at-below spec n range = ranges_below spec n (slice_get spec.ops n) range refl
-
-pub written_columns_at-below : (spec : Spec) (n : ℕ) → IsInRange spec → (c : ℕ) → In c (written_columns_at spec n) → c < 32
-written_columns_at-below spec n range c m =
-    elim (in_append c (columns_at spec n) (twice (ranges_at spec n)) (subst (In c) (written_columns_at-parts spec n) m)) [
-      | inl h ↦ columns_at-below spec n range c h
-      | inr h ↦ ranges_at-below spec n range c (in_twice (ranges_at spec n) c h)
-    ]
 
 few_by : (columns : ℕ) (pattern ranges : List ℕ) → columns ≤ 32 → AreBelow columns pattern → AreBelow columns ranges
     → AreDistinct (pattern ++ ranges) → length pattern + length ranges ≤ 32

@@ -1,9 +1,8 @@
 -- Where the lines of a report stand.
-use Rattle.std.proofs.Common.{◌≡◌, ℕ, zero, suc, ◌+◌, ◌-◌, ◌<◌, ◌≤◌, List, [], ◌∷◌, ◌++◌, length, take, drop, get_or, map, Some, refl, sym, ap, ◌∙◌, arith}
+use Rattle.std.proofs.Common.{◌≡◌, ℕ, zero, suc, ◌+◌, ◌-◌, ◌<◌, ◌≤◌, List, [], ◌∷◌, ◌++◌, length, map, Some, refl, sym, ap, ◌∙◌, arith}
 use Rattle.std.specs.Prelude.{codes}
 use Rattle.std.specs.List.{slice_get, enumerate_from}
-use Rattle.std.proofs.lemmas.List.{length-map, length-append, append_assoc, take-append-drop, take_more}
-use Rattle.std.proofs.lemmas.Option.{slice_get_within, get_or_from_slice_get}
+use Rattle.std.proofs.lemmas.List.{length-map, length-append, append_assoc}
 use Rattle.rc_tuple.specs.Tuple.{Pairs}
 use Rattle.rc_spec.specs.declared.spec.Spec.{Spec}
 use Rattle.rc_rel.specs.declared.entry.Entry.{Entry}
@@ -107,12 +106,3 @@ length-report spec texts history rows =
 pub printed_lines-append : (xs ys : List (List ℕ)) → printed_lines (xs ++ ys) ≡ printed_lines xs ++ printed_lines ys
 printed_lines-append [] ys = refl
 printed_lines-append (x ∷ xs) ys = ap (λ l. (x ++ 10 ∷ []) ++ l) (printed_lines-append xs ys) ∙ sym (append_assoc (x ++ 10 ∷ []) (printed_lines xs) (printed_lines ys))
-
--- the text of the lines is that of the first ones and that of the others
-pub printed_lines-parts : (lines : List (List ℕ)) (i : ℕ) → printed_lines lines ≡ printed_lines (take i lines) ++ printed_lines (drop i lines)
-printed_lines-parts lines i = ap printed_lines (sym (take-append-drop i lines)) ∙ printed_lines-append (take i lines) (drop i lines)
-
-pub printed_lines_next : (lines : List (List ℕ)) (i : ℕ) (line : List ℕ) → slice_get lines i ≡ Some line → printed_lines (take (i + 1) lines) ≡ printed_lines (take i lines) ++ printed_lines (line ∷ [])
-printed_lines_next lines i line h =
-    ap printed_lines (take_more lines i [] (slice_get_within lines i line h)) ∙ printed_lines-append (take i lines) (get_or lines i [] ∷ [])
-    ∙ ap (λ l. printed_lines (take i lines) ++ printed_lines (l ∷ [])) (get_or_from_slice_get lines i line [] h)
