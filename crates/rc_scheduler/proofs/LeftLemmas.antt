@@ -1,6 +1,6 @@
 -- What legal steps keep.
 use Rattle.std.specs.Prelude.{nat_le}
-use Rattle.std.proofs.Common.{◌≡◌, ℕ, zero, suc, ◌+◌, ◌<◌, Bool, true, false, cond, not, List, [], ◌∷◌, ◌++◌, Option, Some, None, length, refl, sym, ap, ◌∙◌, inl, inr, subst, arith}
+use Rattle.std.proofs.Common.{◌≡◌, ℕ, zero, suc, ◌<◌, Bool, true, false, cond, not, List, [], ◌∷◌, ◌++◌, Option, Some, None, length, refl, sym, ap, inl, inr, subst, arith}
 use Rattle.std.proofs.lemmas.Option.{same_Some}
 use Rattle.std.specs.List.{list_any, filter, slice_get}
 use Rattle.rc_tuple.specs.RisingSet.{In, put}
@@ -13,7 +13,7 @@ use Rattle.rc_spec.specs.declared.items.OpKind.{OpKind}
 use Rattle.rc_spec.specs.declared.items.OpKind.TheVariants.{Query, Insert, Remove, Update}
 use Rattle.rc_spec.specs.declared.call.Call.{Call}
 use Rattle.rc_spec.specs.declared.call.Reply.{Reply}
-use Rattle.rc_spec.specs.declared.call.Reply.TheVariants.{Rows, Many, Inserted, Present, Removed, Updated}
+use Rattle.rc_spec.specs.declared.call.Reply.TheVariants.{Rows, Many, Inserted, Present, Conflict, Removed, Updated, Absent}
 use Rattle.rc_spec.specs.declared.range.Range.{Range}
 use Rattle.rc_spec.specs.declared.spec.Spec.{Spec}
 use Rattle.rc_spec.specs.Plain.{Outcome, first_broken_dependency, inserted_unless, removed_first, updated_first, updated_unless, without, plain_by, plain_at, plain, rows_of}
@@ -22,7 +22,7 @@ use Rattle.rc_rel.specs.declared.entry.Entry.{Entry}
 use Rattle.rc_rel.specs.declared.entry.Step.{Step}
 use Rattle.rc_rel.specs.History.{AreLegalFrom, after_steps, steps_of}
 use Rattle.rc_rel.specs.HistoryLaws.{after_steps-append}
-use Rattle.rc_scheduler.specs.Left.{IsInsertOf, KeepsTuple, TookOut}
+use Rattle.rc_scheduler.specs.Left.{IsPutOf, KeepsTuple, TookOut}
 
 -- ---- one step keeps what it doesn't take out
 
@@ -77,48 +77,66 @@ kept_after spec r (s ∷ steps) t m legal apart =
     (λ took. apart s (inl refl) (subst (TookOut t) (sym legal.0) took)))
     legal.1 (λ z n. apart z (inr n))
 
--- ---- an insert that added its tuple
+-- ---- one step that put its tuple in, anew or in the place of another
 
-rows_no_insert : (b : Bool) (rows : List (List ℕ)) → cond b (Rows rows) (Many (length rows)) ≡ Inserted → ⊥
-rows_no_insert true rows e = cc
-rows_no_insert false rows e = cc
+-- the reply tells so
+abbrev pub Puts : Reply → Type 0
+Puts (Rows rows) = ⊥
+Puts (Many n) = ⊥
+Puts Inserted = Unit {0}
+Puts Present = ⊥
+Puts (Conflict n) = ⊥
+Puts (Removed t) = ⊥
+Puts (Updated t) = Unit {0}
+Puts Absent = ⊥
 
-added_inserted : (b : Bool) (broken : Option ℕ) (args : Pairs) (r : List Pairs)
-    → (cond b (let o : Outcome = record { reply = Present; relation = r } in o) (inserted_unless broken (put tuple_cmp args r) r)).reply ≡ Inserted
+rows_put : (b : Bool) (rows : List (List ℕ)) → Puts (cond b (Rows rows) (Many (length rows))) → ⊥
+rows_put true rows h = h
+rows_put false rows h = h
+
+put_inserted : (b : Bool) (broken : Option ℕ) (args : Pairs) (r : List Pairs)
+    → Puts (cond b (let o : Outcome = record { reply = Present; relation = r } in o) (inserted_unless broken (put tuple_cmp args r) r)).reply
     → In args (cond b (let o : Outcome = record { reply = Present; relation = r } in o) (inserted_unless broken (put tuple_cmp args r) r)).relation
-added_inserted true broken args r e = cc
-added_inserted false None args r e = put_new tuple_cmp tuple_order args r
-added_inserted false (Some n) args r e = cc
+put_inserted true broken args r h = absurd h
+put_inserted false None args r h = put_new tuple_cmp tuple_order args r
+put_inserted false (Some n) args r h = absurd h
 
-removed_no_insert : (found r : List Pairs) → (removed_first found r).reply ≡ Inserted → ⊥
-removed_no_insert [] r e = cc
-removed_no_insert (u ∷ us) r e = cc
+removed_put : (found r : List Pairs) → Puts (removed_first found r).reply → ⊥
+removed_put [] r h = h
+removed_put (u ∷ us) r h = h
 
-unless_no_insert : (broken : Option ℕ) (old : Pairs) (w r : List Pairs) → (updated_unless broken old w r).reply ≡ Inserted → ⊥
-unless_no_insert None old w r e = cc
-unless_no_insert (Some n) old w r e = cc
+put_unless : (broken : Option ℕ) (old args : Pairs) (w r : List Pairs) → Puts (updated_unless broken old (put tuple_cmp args w) r).reply
+    → In args (updated_unless broken old (put tuple_cmp args w) r).relation
+put_unless None old args w r h = put_new tuple_cmp tuple_order args w
+put_unless (Some n) old args w r h = absurd h
 
-updated_no_insert : (found : List Pairs) (deps : List Dep) (args : Pairs) (r : List Pairs) → (updated_first found deps args r).reply ≡ Inserted → ⊥
-updated_no_insert [] deps args r e = cc
-updated_no_insert (old ∷ others) deps args r e =
-    unless_no_insert (first_broken_dependency 1 deps (put tuple_cmp args (without old r))) old (put tuple_cmp args (without old r)) r e
+put_updated : (found : List Pairs) (deps : List Dep) (args : Pairs) (r : List Pairs) → Puts (updated_first found deps args r).reply
+    → In args (updated_first found deps args r).relation
+put_updated [] deps args r h = absurd h
+put_updated (old ∷ others) deps args r h =
+    put_unless (first_broken_dependency 1 deps (put tuple_cmp args (without old r))) old args (without old r) r h
 
-added_by : (most : ℕ) (kind : OpKind) (pattern : List ℕ) (deps : List Dep) (args : Pairs) (ranges : List Range) (r : List Pairs)
-    → (plain_by most kind pattern deps args ranges r).reply ≡ Inserted → In args (plain_by most kind pattern deps args ranges r).relation
-added_by most (Query outs cols) pattern deps args ranges r e =
-    let rows : List (List ℕ) = rows_of outs (filter (is_asked args ranges) r) in absurd (rows_no_insert (nat_le (length rows) most) rows e)
-added_by most Insert pattern deps args ranges r e =
-    added_inserted (list_any (agree_on pattern args) r) (first_broken_dependency 1 deps (put tuple_cmp args r)) args r e
-added_by most Remove pattern deps args ranges r e = absurd (removed_no_insert (filter (matches args) r) r e)
-added_by most Update pattern deps args ranges r e = absurd (updated_no_insert (filter (agree_on pattern args) r) deps args r e)
+put_by : (most : ℕ) (kind : OpKind) (pattern : List ℕ) (deps : List Dep) (args : Pairs) (ranges : List Range) (r : List Pairs)
+    → Puts (plain_by most kind pattern deps args ranges r).reply → In args (plain_by most kind pattern deps args ranges r).relation
+put_by most (Query outs cols) pattern deps args ranges r h =
+    let rows : List (List ℕ) = rows_of outs (filter (is_asked args ranges) r) in absurd (rows_put (nat_le (length rows) most) rows h)
+put_by most Insert pattern deps args ranges r h =
+    put_inserted (list_any (agree_on pattern args) r) (first_broken_dependency 1 deps (put tuple_cmp args r)) args r h
+put_by most Remove pattern deps args ranges r h = absurd (removed_put (filter (matches args) r) r h)
+put_by most Update pattern deps args ranges r h = put_updated (filter (agree_on pattern args) r) deps args r h
 
-added_at : (most : ℕ) (op : Option Op) (deps : List Dep) (args : Pairs) (ranges : List Range) (r : List Pairs)
-    → (plain_at most op deps args ranges r).reply ≡ Inserted → In args (plain_at most op deps args ranges r).relation
-added_at most (Some op) deps args ranges r e = added_by most op.kind op.pattern deps args ranges r e
-added_at most None deps args ranges r e = cc
+put_at : (most : ℕ) (op : Option Op) (deps : List Dep) (args : Pairs) (ranges : List Range) (r : List Pairs)
+    → Puts (plain_at most op deps args ranges r).reply → In args (plain_at most op deps args ranges r).relation
+put_at most (Some op) deps args ranges r h = put_by most op.kind op.pattern deps args ranges r h
+put_at most None deps args ranges r h = absurd h
 
-pub added_after : (spec : Spec) (r : List Pairs) (call : Call) → (plain spec r call).reply ≡ Inserted → In call.args (plain spec r call).relation
-added_after spec r call e = added_at spec.most_rows (slice_get spec.ops call.op) spec.deps call.args call.ranges r e
+pub put_after : (spec : Spec) (r : List Pairs) (call : Call) → Puts (plain spec r call).reply → In call.args (plain spec r call).relation
+put_after spec r call h = put_at spec.most_rows (slice_get spec.ops call.op) spec.deps call.args call.ranges r h
+
+-- an entry that put its tuple in has one step, whose reply tells so
+pub put_step : (call : Call) (e : Entry) → IsPutOf call e → (reply : Reply) × Puts reply × (e.steps ≡ record { call = call; reply = reply } ∷ [])
+put_step call e (inl is) = (Inserted, tt, is)
+put_step call e (inr w) = (Updated w.0, tt, w.1)
 
 -- ---- histories
 
@@ -134,25 +152,26 @@ steps_keep t entries keeps s m e =
     let place = in_slice_get at.0 entries at.1 in
     keeps place.0 at.0 place.1 s at.2 e
 
--- the steps of an entry that inserts a tuple, and of entries behind it that keep it
-inserted_first : (spec : Spec) (r : List Pairs) (call : Call) (steps : List Step) (more : List Step) → steps ≡ record { call = call; reply = Inserted } ∷ []
-    → AreLegalFrom spec r (steps ++ more) → ((s : Step) → In s more → TookOut call.args s.reply → ⊥) → In call.args (after_steps spec r (steps ++ more))
-inserted_first spec r call steps more is legal keeps =
-    let first : Step = record { call = call; reply = Inserted } in
-    let whole : AreLegalFrom spec r (first ∷ more) = subst (λ (l : List Step). AreLegalFrom spec r (l ++ more)) is legal in
-    subst (λ (l : List Step). In call.args (after_steps spec r (l ++ more))) (sym is)
-    (kept_after spec (plain spec r call).relation more call.args (added_after spec r call (sym whole.0)) whole.1 keeps)
+-- the steps of an entry that puts a tuple in, and of entries behind it that keep it
+put_first : (spec : Spec) (r : List Pairs) (call : Call) (e : Entry) (more : List Step) → IsPutOf call e
+    → AreLegalFrom spec r (e.steps ++ more) → ((s : Step) → In s more → TookOut call.args s.reply → ⊥) → In call.args (after_steps spec r (e.steps ++ more))
+put_first spec r call e more is legal keeps =
+    let one = put_step call e is in
+    let first : Step = record { call = call; reply = one.0 } in
+    let whole : AreLegalFrom spec r (first ∷ more) = subst (λ (l : List Step). AreLegalFrom spec r (l ++ more)) one.2 legal in
+    subst (λ (l : List Step). In call.args (after_steps spec r (l ++ more))) (sym one.2)
+    (kept_after spec (plain spec r call).relation more call.args (put_after spec r call (subst Puts whole.0 one.1)) whole.1 keeps)
 
-pub inserted_left : (spec : Spec) (r : List Pairs) (entries : List Entry) (i : ℕ) (e : Entry) (call : Call) → AreLegalFrom spec r (steps_of entries)
-    → slice_get entries i ≡ Some e → IsInsertOf call e
+pub put_left : (spec : Spec) (r : List Pairs) (entries : List Entry) (i : ℕ) (e : Entry) (call : Call) → AreLegalFrom spec r (steps_of entries)
+    → slice_get entries i ≡ Some e → IsPutOf call e
     → ((j : ℕ) (x : Entry) → i < j → slice_get entries j ≡ Some x → KeepsTuple call.args x)
     → In call.args (after_steps spec r (steps_of entries))
-inserted_left spec r [] i e call legal is insert keeps = cc
-inserted_left spec r (x ∷ entries) zero e call legal is insert keeps =
+put_left spec r [] i e call legal is puts keeps = cc
+put_left spec r (x ∷ entries) zero e call legal is puts keeps =
     let same : x ≡ e = same_Some x e is in
-    inserted_first spec r call x.steps (steps_of entries) (ap (λ (y : Entry). y.steps) same ∙ insert) legal
+    put_first spec r call x (steps_of entries) (subst (IsPutOf call) (sym same) puts) legal
     (steps_keep call.args entries (λ j y at. let later : 0 < suc j = omega arith in keeps (suc j) y later at))
-inserted_left spec r (x ∷ entries) (suc i) e call legal is insert keeps =
+put_left spec r (x ∷ entries) (suc i) e call legal is puts keeps =
     subst (λ (l : List Pairs). In call.args l) (sym (after_steps-append spec r x.steps (steps_of entries)))
-    (inserted_left spec (after_steps spec r x.steps) entries i e call (legal_rest spec r x.steps (steps_of entries) legal) is insert
+    (put_left spec (after_steps spec r x.steps) entries i e call (legal_rest spec r x.steps (steps_of entries) legal) is puts
     (λ j y later at. let next : suc i < suc j = omega (arith, later) in keeps (suc j) y next at))

@@ -1,4 +1,4 @@
--- That a process which was spawned, and not taken, is left.
+-- That a process which was spawned or changed, and then neither taken out nor changed, is left.
 use Rattle.std.specs.Prelude.{◌≡◌, ◌⊎◌, ℕ, ◌<◌, true, List, [], ◌∷◌, Some}
 use Rattle.std.specs.List.{slice_get}
 use Rattle.rc_tuple.specs.RisingSet.{In}
@@ -15,11 +15,19 @@ use Rattle.rc_embed.specs.declared.session.Position.{Position}
 use Rattle.rc_embed.specs.declared.session.State.TheVariants.{Idle}
 use Rattle.rc_embed.specs.Session.{HasCalled, SessionSeen, call_in}
 use Rattle.rc_scheduler.specs.declared.processes.Process.{Process}
-use Rattle.rc_scheduler.specs.Processes.{HasSpawned, IsLeft, process_values}
+use Rattle.rc_scheduler.specs.Processes.{HasChanged, HasSpawned, IsLeft, process_values}
 
 -- the entry is of one call, an insert that added its tuple
 abbrev pub IsInsertOf : Call → Entry → Type 0
 IsInsertOf call e = e.steps ≡ record { call = call; reply = Inserted } ∷ []
+
+-- the entry is of one call, an update that put its tuple in the place of this one
+abbrev pub IsUpdateOf : Call → Pairs → Entry → Type 0
+IsUpdateOf call t e = e.steps ≡ record { call = call; reply = Updated t } ∷ []
+
+-- the entry is of one call that put its tuple in, anew or in the place of another
+abbrev pub IsPutOf : Call → Entry → Type 0
+IsPutOf call e = IsInsertOf call e ⊎ ((t : Pairs) × IsUpdateOf call t e)
 
 -- the call that has this reply took the tuple out: it removed it, or put another in its place
 abbrev pub TookOut : Pairs → Reply → Type 0
@@ -37,19 +45,27 @@ SpawnsStand = (old new : SessionSeen) (op : ℕ) (process : Process)
     × In (record { place = h.at.place; entry = e }) (core_of pass).own
     × IsInsertOf (call_in old op (process_values process)) e
 
+-- and so does one that changed a process
+abbrev pub ChangesStand : Type 0
+ChangesStand = (old new : SessionSeen) (op : ℕ) (process : Process)
+    (h : HasChanged old op process true new)
+    → (pass : PassSeen) × (e : Entry) × (t : Pairs) × (new.state ≡ Idle pass)
+    × In (record { place = h.at.place; entry = e }) (core_of pass).own
+    × IsUpdateOf (call_in old op (process_values process)) t e
+
 -- what stands among the entries of a session's pass stays there through a call
 abbrev pub CallsKeepEntries : Type 0
 CallsKeepEntries = (old new : SessionSeen) (op : ℕ) (values : List ℕ) (at : Position)
     (h : HasCalled old op values new at)
     → (w : Placed) → In w (core_of h.before).own → In w (core_of h.after).own
 
--- a tuple that an entry of a pass inserted, and that no later entry of the history took out, is
+-- a tuple that an entry of a pass put in, and that no later entry of the history took out, is
 -- left
-abbrev pub SpawnedAreLeft : Type 0
-SpawnedAreLeft = (store : StoreSeen) (passes : List PassSeen) (left : List Pairs)
+abbrev pub ProcessesAreLeft : Type 0
+ProcessesAreLeft = (store : StoreSeen) (passes : List PassSeen) (left : List Pairs)
     (h : IsLeft store passes left)
     → (k : ℕ) (pass : PassSeen) → slice_get passes k ≡ Some pass
-    → (w : Placed) (call : Call) → In w (core_of pass).own → IsInsertOf call w.entry
+    → (w : Placed) (call : Call) → In w (core_of pass).own → IsPutOf call w.entry
     → ((j : ℕ) (e : Entry) → w.place < j → slice_get h.is.history j ≡ Some e
     → KeepsTuple call.args e)
     → In call.args left

@@ -1,7 +1,7 @@
 -- Processes, and what calls make of them.
 use Rattle.std.specs.Prelude.{◌≡◌, ◌↔◌, ℕ, Bool, true, false, List, [], ◌∷◌, Some, codes}
 use Rattle.rc_tuple.specs.Tuple.{Pairs}
-use Rattle.rc_spec.specs.declared.call.Reply.TheVariants.{Inserted, Removed}
+use Rattle.rc_spec.specs.declared.call.Reply.TheVariants.{Inserted, Removed, Updated}
 use Rattle.rc_spec.specs.declared.spec.Spec.{Spec}
 use Rattle.rc_spec.specs.Names.{op_names}
 use Rattle.rc_reader.specs.Names.{number_among}
@@ -26,9 +26,17 @@ pub record HasSpawned (old : SessionSeen) (op : ℕ) (process : Process) (is_new
   pub called : HasCalled old op (process_values process) new at
   pub told : is_new ≡ true ↔ new.last ≡ Some Inserted
 
+-- The session has made the call of the operation with the process's values, and there was one of its
+-- name exactly where the process came in the place of a tuple.
+pub record HasChanged (old : SessionSeen) (op : ℕ) (process : Process) (is_there : Bool)
+    (new : SessionSeen) : Type 0 where
+  pub at : Position
+  pub called : HasCalled old op (process_values process) new at
+  pub told : is_there ≡ true ↔ (t : Pairs) × (new.last ≡ Some (Updated t))
+
 -- The session has made the call of the operation with the name, and the process was there exactly
 -- where a tuple was taken out.
-pub record HasTaken (old : SessionSeen) (op : ℕ) (name : List ℕ) (is_there : Bool)
+pub record HasKilled (old : SessionSeen) (op : ℕ) (name : List ℕ) (is_there : Bool)
     (new : SessionSeen) : Type 0 where
   pub at : Position
   pub called : HasCalled old op name new at
@@ -37,7 +45,8 @@ pub record HasTaken (old : SessionSeen) (op : ℕ) (name : List ℕ) (is_there :
 -- the operations of these names have these numbers
 pub record HasNumbers (spec : Spec) (operations : Operations) : Type 0 where
   pub spawn : Some operations.spawn ≡ number_among (op_names spec.ops) (codes "spawn")
-  pub take : Some operations.take ≡ number_among (op_names spec.ops) (codes "take")
+  pub change : Some operations.change ≡ number_among (op_names spec.ops) (codes "change")
+  pub kill : Some operations.kill ≡ number_among (op_names spec.ops) (codes "kill")
   pub queue : Some operations.queue ≡ number_among (op_names spec.ops) (codes "queue")
 
 -- These are the processes that a closed store leaves: they are the relation after its history, in

@@ -1,11 +1,17 @@
 //! Laws of the scheduler.
 
-ghost use Rattle.rc_scheduler.specs.Left.{CallsKeepEntries, SpawnedAreLeft, SpawnsStand};
+ghost use Rattle.rc_scheduler.specs.Left.{CallsKeepEntries, ChangesStand, ProcessesAreLeft, SpawnsStand};
 
 /// A call that spawned a process stands among the entries of its session's pass, as the insert of
 /// that process that was answered `Inserted`.
 pub fn spawns_stand()
     ensures { SpawnsStand }
+{}
+
+/// A call that changed a process stands among them too, as the update to that process that was answered
+/// `Updated`.
+pub fn changes_stand()
+    ensures { ChangesStand }
 {}
 
 /// An entry of a session's pass stays through the session's calls. A session that is given back gives
@@ -14,8 +20,8 @@ pub fn entries_stay()
     ensures { CallsKeepEntries }
 {}
 
-/// A process that a call spawned, and that no later call of the history took out, is among those
-/// that are left. (PLDI 2012, serializable transactions.)
-pub fn spawned_are_left()
-    ensures { SpawnedAreLeft }
+/// A process that a call spawned, or to which one changed another, and that no later call of the history
+/// took out or changed, is among those that are left. (PLDI 2012, serializable transactions.)
+pub fn processes_are_left()
+    ensures { ProcessesAreLeft }
 {}

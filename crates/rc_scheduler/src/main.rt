@@ -7,10 +7,10 @@
 //! thread has both sessions, so that no call finds another in its way; with threads, `Busy` is to be
 //! tried again.
 //!
-//! What is promised is of a process (`laws`): a call that spawned it stands among its session's
-//! entries, where it stays through later calls, and where no later call of the history took it, it
-//! is left when the store is closed. Which calls the processors make, and what they print, no clause
-//! says: `stdout` shows it.
+//! What is promised is of a process (`laws`): a call that spawned it, or changed it, stands among its
+//! session's entries, where it stays through later calls, and where no later call of the history took
+//! the process out or changed it, it is left when the store is closed. Which calls the processors make,
+//! and what they print, no clause says: `stdout` shows it.
 #![tactic(auto)]
 
 mod fault;

@@ -2,7 +2,7 @@
 
 ghost use Rattle.std.specs.Prelude.{◌≡◌, IfOk, [], ◌∷◌};
 ghost use Rattle.rc_embed.specs.Refused.{Answers};
-ghost use Rattle.rc_scheduler.specs.Processes.{HasSpawned, HasTaken, IsLeft, process_values};
+ghost use Rattle.rc_scheduler.specs.Processes.{HasChanged, HasKilled, HasSpawned, IsLeft, process_values};
 
 use crate::fault::Fault;
 use rc_embed::{CallFault, OpenStore, Session};
@@ -47,10 +47,23 @@ pub fn spawn(session: &mut Session, op: u32, process: Process) -> Result<bool, C
     }
 }
 
+/// Changes the process with its name to this one by the operation with this number, in one step; whether
+/// there was one. Faults are those of `Session::try_call`, and leave all as it was. Costs a call.
+pub fn change(session: &mut Session, op: u32, process: Process) -> Result<bool, CallFault>
+    ensures { Answers (λ is_there. HasChanged session.old op process is_there session.new)
+        session.old op (process_values process) session.new result }
+{
+    session.try_call(op, &process.values())?;
+    match session.reply() {
+        Some(Reply::Updated(_)) => Ok(true),
+        _ => Ok(false),
+    }
+}
+
 /// Takes the process with this name out by the operation with this number; whether there was one.
 /// Faults are those of `Session::try_call`, and leave all as it was. Costs a call.
-pub fn take(session: &mut Session, op: u32, ns: u64, pid: u64) -> Result<bool, CallFault>
-    ensures { Answers (λ is_there. HasTaken session.old op (ns ∷ pid ∷ []) is_there session.new)
+pub fn kill(session: &mut Session, op: u32, ns: u64, pid: u64) -> Result<bool, CallFault>
+    ensures { Answers (λ is_there. HasKilled session.old op (ns ∷ pid ∷ []) is_there session.new)
         session.old op (ns ∷ pid ∷ []) session.new result }
 {
     session.try_call(op, &[ns, pid])?;

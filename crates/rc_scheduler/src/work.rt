@@ -5,7 +5,7 @@ ghost use Rattle.rc_row.specs.Passes.{spec_of};
 ghost use Rattle.rc_scheduler.specs.Processes.{HasNumbers};
 
 use crate::fault::Fault;
-use crate::processes::{Process, close, spawn, take};
+use crate::processes::{Process, change, close, kill, spawn};
 use rc_embed::{CallFault, OpenStore, Options, Session, open};
 use rc_maps::Seed;
 use rc_tuple::Tuples;
@@ -13,9 +13,10 @@ use std::alloc::Global;
 use std::io::Print;
 
 /// Two ways to a process, by its name and through the queue of a state at a processor. Each call takes
-/// one stripe of a class, chosen by what it knows or has found by then. (docs/CHOOSING.md works this
-/// specification through.)
-const SCHEDULER: &[u8] = b"relc 1
+/// one stripe of a class, chosen by what it knows or has found by then; but a change doesn't know which
+/// queue its process leaves, and takes all stripes of the queues, which are few for that. (docs/CHOOSING.md
+/// works such a specification through, and says what the update costs.)
+const SCHEDULER: &[u8] = b"relc 2
 col ns num
 col pid num
 col state num
@@ -28,12 +29,13 @@ edge e1 root p hash ns pid
 edge e2 root q hash state cpu
 edge e3 q p ordered ns pid
 lock names 16 ns pid
-lock queues 16 state cpu
+lock queues 4 state cpu
 place e1 names
 place e2 queues
 place e3 queues
 op spawn insert ns pid
-op take remove ns pid
+op change update ns pid
+op kill remove ns pid
 op queue query state cpu -> ns pid
 end
 ";
@@ -54,7 +56,8 @@ const SPAWNED: u64 = 3;
 #[derive(Clone, Copy, Debug)]
 struct Operations {
     spawn: u32,
-    take: u32,
+    change: u32,
+    kill: u32,
     queue: u32,
 }
 
@@ -65,7 +68,8 @@ impl Operations {
     {
         Some(Operations {
             spawn: store.operation(b"spawn")?,
-            take: store.operation(b"take")?,
+            change: store.operation(b"change")?,
+            kill: store.operation(b"kill")?,
             queue: store.operation(b"queue")?,
         })
     }
@@ -164,7 +168,7 @@ fn spawn_all<R: Print>(
 }
 
 /// Runs the processes that are runnable at a processor, a few at most: each sleeps at the other
-/// processor then. Between the two calls the process isn't there; an update would keep it in sight.
+/// processor then. It changes in one step, so that nobody sees it twice, or not at all.
 fn run_all<R: Print>(
     rt: &R,
     operations: Operations,
@@ -177,18 +181,15 @@ fn run_all<R: Print>(
         let Some((ns, pid)) = first_in(session, operations, RUNNABLE, cpu)? else {
             return Ok(());
         };
-        // A process that somebody else has taken meanwhile is theirs.
-        if !take(session, operations.take, ns, pid)? {
-            continue;
-        }
         let process = Process {
             ns,
             pid,
             state: SLEEPING,
             cpu: if cpu == 0 { 1 } else { 0 },
         };
-        let is_new = spawn(session, operations.spawn, process)?;
-        println!(rt; "processor {cpu}: ran {ns} {pid}, new {is_new}")?;
+        // One that somebody else has killed meanwhile isn't there, and isn't put in again.
+        let is_there = change(session, operations.change, process)?;
+        println!(rt; "processor {cpu}: ran {ns} {pid}, there {is_there}")?;
     }
     Ok(())
 }
@@ -205,8 +206,8 @@ fn kill_one<R: Print>(
     let Some((ns, pid)) = first_in(session, operations, SLEEPING, cpu)? else {
         return Ok(());
     };
-    let is_taken = take(session, operations.take, ns, pid)?;
-    println!(rt; "processor {cpu}: killed {ns} {pid}, taken {is_taken}")?;
+    let is_there = kill(session, operations.kill, ns, pid)?;
+    println!(rt; "processor {cpu}: killed {ns} {pid}, there {is_there}")?;
     Ok(())
 }
 
