@@ -318,6 +318,111 @@ static void test_version_two(void)
     relc_close_session(session);
 }
 
+/* adds the columns from this one on to a text */
+static void add_columns(char *text, int from)
+{
+    for (int at = from; at < 32; at++)
+        sprintf(text + strlen(text), " c%d", at);
+}
+
+/* A relation of 32 columns, with queries that take 33, 63 and 64 values: a pattern and bounds. */
+static relc_store *opened_wide(void)
+{
+    char text[2048] = "relc 2\n";
+    for (int at = 0; at < 32; at++)
+        sprintf(text + strlen(text), "col c%d num\n", at);
+    strcat(text, "fd c0 ->");
+    add_columns(text, 1);
+    strcat(text, "\nnode root\nnode x");
+    add_columns(text, 0);
+    strcat(text, "\nedge e root x hash c0\nlock k 4 c0\nplace e k\nop add insert c0\nop put update c0");
+    strcat(text, "\nop half query c0 :");
+    add_columns(text, 16);
+    strcat(text, " -> c1\nop near query c0 :");
+    add_columns(text, 1);
+    strcat(text, " ->");
+    add_columns(text, 0);
+    strcat(text, "\nop all query :");
+    add_columns(text, 0);
+    strcat(text, " -> c0\nend\n");
+    return opened_by(text, 1, 20);
+}
+
+/* sets the bounds of the columns from this one on, behind a pattern or not: of each the values of
+ * the tuples that begin with `low` and with `high` */
+static void ask_between(relc_frame *frame, int from, int at, uint64_t low, uint64_t high)
+{
+    for (int column = from; column < 32; column++) {
+        frame->values[at++] = low + (uint64_t)column;
+        frame->values[at++] = high + (uint64_t)column;
+    }
+}
+
+static uint64_t rows_of(relc_session *session, relc_frame *frame)
+{
+    CHECK(relc_try_call(session, frame) == RELC_DONE && frame->kind == RELC_ROWS);
+    return frame->number;
+}
+
+/* Each value of a frame counts, the last too. */
+static void test_wide(void)
+{
+    relc_store *store = opened_wide();
+    relc_session *session = session_of(store);
+    relc_operation_frame half = operation(store, "half"), near = operation(store, "near");
+    relc_operation_frame all = operation(store, "all");
+    uint32_t add = operation(store, "add").op, put = operation(store, "put").op;
+    relc_close_store(store);
+    CHECK(half.count == 33 && half.width == 1 && near.count == 63 && near.width == 32);
+    CHECK(all.count == 64 && all.width == 1);
+    for (int at = 0; at < 64; at++)
+        CHECK(all.columns[at] == at / 2 && (at == 63 || near.columns[at] == (at + 1) / 2));
+    CHECK(half.columns[0] == 0 && half.columns[1] == 16 && half.columns[32] == 31);
+
+    relc_frame frame = {.op = add, .count = 32};
+    for (uint64_t first = 100; first < 300; first += 100) {
+        for (uint64_t at = 0; at < 32; at++)
+            frame.values[at] = first + at;
+        CHECK(relc_try_call(session, &frame) == RELC_DONE && frame.kind == RELC_INSERTED);
+    }
+
+    ask(&frame, near.op, 63, 100, 0, 0);
+    ask_between(&frame, 1, 1, 100, 100);
+    frame.row = 0;
+    CHECK(rows_of(session, &frame) == 1 && relc_row(session, &frame) == RELC_DONE);
+    for (uint64_t at = 0; at < 32; at++)
+        CHECK(frame.width == 32 && frame.cells[at] == 100 + at);
+    frame.values[62] = 130; /* the greatest value of c31, which is 131 */
+    CHECK(rows_of(session, &frame) == 0);
+
+    ask(&frame, half.op, 33, 200, 0, 0);
+    ask_between(&frame, 16, 1, 150, 250);
+    CHECK(rows_of(session, &frame) == 1);
+    frame.values[31] = 232; /* the least value of c31, which is 231 */
+    CHECK(rows_of(session, &frame) == 0);
+
+    ask(&frame, all.op, 64, 0, 0, 0);
+    ask_between(&frame, 0, 0, 100, 200);
+    CHECK(rows_of(session, &frame) == 2);
+    frame.values[63] = 230;
+    CHECK(rows_of(session, &frame) == 1 && relc_row(session, &frame) == RELC_DONE);
+    CHECK(frame.cells[0] == 100);
+    frame.values[62] = 132;
+    frame.values[63] = 231;
+    CHECK(rows_of(session, &frame) == 1 && relc_row(session, &frame) == RELC_DONE);
+    CHECK(frame.cells[0] == 200);
+
+    frame.op = put;
+    frame.count = 32;
+    for (uint64_t at = 0; at < 32; at++)
+        frame.values[at] = at == 31 ? 7 : 200 + at;
+    CHECK(relc_try_call(session, &frame) == RELC_DONE && frame.kind == RELC_UPDATED);
+    CHECK(relc_row(session, &frame) == RELC_DONE && frame.width == 32 && frame.cells[31] == 231);
+    frame.count = 64;
+    CHECK(relc_try_call(session, &frame) == RELC_VALUE_COUNT);
+    relc_close_session(session);
+}
+
 /* Two sessions read a stripe, and a third one wants to write it; then it writes, and one of the two
  * wants to read. The stripe has another number than any kind of what is found. */
 static void test_busy(void)
@@ -489,6 +594,7 @@ int main(void)
     test_many_and_conflicts();
     test_pages();
     test_version_two();
+    test_wide();
     test_busy();
     test_closing();
     test_waiting();
@@ -498,6 +604,6 @@ int main(void)
     CHECK(waiting != NULL);
     test_threads(waiting);
     relc_close_waiting(waiting);
-    puts("relc.h: 11 passed, 0 failed");
+    puts("relc.h: 12 passed, 0 failed");
     return 0;
 }

@@ -6,6 +6,7 @@ use common::{Random, graph, specification};
 use relc::{Answer, Error, Found, Inserted, Many, Options, Store, Updated};
 use std::collections::BTreeMap;
 use std::num::NonZeroU32;
+use std::ops::RangeInclusive;
 
 #[test]
 fn follows_a_map() {
@@ -263,6 +264,92 @@ fn asks_for_ranges() {
     assert_eq!(rows(2, 3), [[2, 10], [3, 7]]);
     assert_eq!(rows(4, 3), [[0; 2]; 0]);
     assert_eq!(rows(0, u64::MAX), [[2, 10], [3, 7], [5, 1]]);
+}
+
+/// Of the 300 rows that the pattern finds, those in the range are told, or else how many there are.
+#[test]
+fn counts_the_rows_in_a_range() {
+    let options = Options {
+        rows: NonZeroU32::new(256),
+        ..Options::sessions(1)
+    };
+    let store = Store::open(&version_two(), options).unwrap();
+    let insert = store.insert::<3>("ins").unwrap();
+    let near = store.query::<3, 2>("near").unwrap();
+    let mut session = store.session().unwrap();
+    for dst in 0..300 {
+        let added = session.call(insert, [1, dst, 1000 - dst]);
+        assert_eq!(added, Ok(Inserted::Added));
+    }
+    let mut rows = |low, high| session.call(near, [1, low, high]).unwrap();
+    let those = |range: RangeInclusive<u64>| {
+        let rows = range.map(|dst| [dst, 1000 - dst]);
+        Answer::Rows(rows.collect())
+    };
+    assert_eq!(rows(0, 255), those(0..=255));
+    assert_eq!(rows(44, u64::MAX), those(44..=299));
+    assert_eq!(rows(7, 7), those(7..=7));
+    assert_eq!(rows(0, 256), Answer::Many(257));
+    assert_eq!(rows(0, u64::MAX), Answer::Many(300));
+    assert_eq!(rows(300, u64::MAX), Answer::Rows(vec![]));
+}
+
+/// A relation of 32 columns, with queries that take 33, 63 and 64 values: a pattern and bounds.
+fn wide() -> String {
+    let names = |from: usize| {
+        let names = (from..32).map(|at| format!(" c{at}"));
+        names.collect::<String>()
+    };
+    let columns: String = (0..32).map(|at| format!("col c{at} num\n")).collect();
+    format!(
+        "relc 2\n{columns}fd c0 ->{}\nnode root\nnode x{}\nedge e root x hash c0\nlock k 4 c0
+place e k\nop add insert c0\nop half query c0 :{} -> c1\nop near query c0 :{} ->{}
+op all query :{} -> c0\nend\n",
+        names(1),
+        names(0),
+        names(16),
+        names(1),
+        names(0),
+        names(0),
+    )
+}
+
+#[test]
+fn takes_sixty_four_values() {
+    let store = Store::open(&wide(), Options::sessions(1)).unwrap();
+    let add = store.insert::<32>("add").unwrap();
+    let half = store.query::<33, 1>("half").unwrap();
+    let near = store.query::<63, 32>("near").unwrap();
+    let all = store.query::<64, 1>("all").unwrap();
+    let mut session = store.session().unwrap();
+    // each column of a tuple has the next number
+    let tuple = |first: u64| std::array::from_fn::<u64, 32, _>(|at| first + at as u64);
+    for first in [100, 200] {
+        assert_eq!(session.call(add, tuple(first)), Ok(Inserted::Added));
+    }
+    // the bounds of a column are its values in the two tuples
+    let bound = |at: usize| (if at % 2 == 0 { 100 } else { 200 }) + at as u64 / 2;
+    let mut values = std::array::from_fn::<u64, 64, _>(bound);
+    assert_eq!(
+        session.call(all, values),
+        Ok(Answer::Rows(vec![[100], [200]]))
+    );
+    values[63] -= 1;
+    assert_eq!(session.call(all, values), Ok(Answer::Rows(vec![[100]])));
+    values[62] += 1;
+    assert_eq!(session.call(all, values), Ok(Answer::Rows(vec![])));
+
+    let mut values = std::array::from_fn::<u64, 63, _>(|at| 200 + (at as u64 + 1) / 2);
+    let found = session.call(near, values);
+    assert_eq!(found, Ok(Answer::Rows(vec![tuple(200)])));
+    values[61] += 1;
+    assert_eq!(session.call(near, values), Ok(Answer::Rows(vec![])));
+
+    let mut values =
+        std::array::from_fn::<u64, 33, _>(|at| if at == 0 { 100 } else { bound(at + 31) });
+    assert_eq!(session.call(half, values), Ok(Answer::Rows(vec![[101]])));
+    values[32] = 130;
+    assert_eq!(session.call(half, values), Ok(Answer::Rows(vec![])));
 }
 
 #[test]

@@ -13,6 +13,7 @@ import os
 import sys
 
 import model
+import specifications
 
 COLOURS = ["#1b6ca8", "#b5442f", "#3c7d3c", "#7a4a9e", "#a0720b", "#0b7a75", "#a03668", "#555555"]
 LINES = {"hash": "solid", "ordered": "dashed", "list": "bold", "singleton": "dotted"}
@@ -152,19 +153,19 @@ def failed_case(name, words, text, number, written):
 def dot_cases():
     lines = HEAD.split("\n")
     drawn = [
-        ("the graph", model.GRAPH),
-        ("the scheduler", model.SCHEDULER),
-        ("the seats", model.SEATS),
+        ("the graph", specifications.GRAPH),
+        ("the scheduler", specifications.SCHEDULER),
+        ("the seats", specifications.SEATS),
         ("a specification in Graphviz's words", KEYWORDS),
-        ("containers of all kinds", model.KINDS),
-        ("the largest specification", "\n".join(model.largest_spec())),
+        ("containers of all kinds", specifications.KINDS),
+        ("the largest specification", "\n".join(specifications.largest_spec())),
     ]
     for name, text in drawn:
         lines += dot_case(name + " is drawn", text)
         ops = list(model.read_spec(text.split("\n")).ops)
         for op in ops if len(ops) < 9 else [ops[0], ops[8], ops[-1]]:
             lines += dot_case("%s is drawn with the plan of %s" % (name, op), text, op)
-    graph, cut = model.GRAPH, "\n".join(model.GRAPH.split("\n")[:-1])
+    graph, cut = specifications.GRAPH, "\n".join(specifications.GRAPH.split("\n")[:-1])
     count = len(cut.split("\n"))
     lines += commented_case("a text with comments and empty lines is drawn", graph)
     name = "a text with comments and empty lines is drawn with the plan of succ"

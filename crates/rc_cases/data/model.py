@@ -1,16 +1,19 @@
 #!/usr/bin/env python3
-"""Writes generated.case: what the rules of docs/RULES.md give for texts that are too long to be worked out by hand.
+"""Writes generated.case and generated2.case: what the rules of docs/RULES.md give for texts of both versions that are too long
+to be worked out by hand.
 
 It is a second writing of the rules, as plain as can be, and shares nothing with the program: a relation is a list of
 tuples, a plan is made of sets of names. It takes its specifications to be accepted, and tests no rule of lines.
 
-    python3 model.py            writes generated.case beside itself
+    python3 model.py            writes both beside itself
     python3 model.py plan       prints the plans of the specification on standard input
     python3 model.py run        prints the plans and the report of the specification and workload on standard input
 """
 
 import os
 import sys
+
+import specifications
 
 MOST_ROWS = 256
 
@@ -30,11 +33,19 @@ class Spec:
         self.classes = []  # names
         self.stripes = {}  # name: how many, and the columns that choose one
         self.place = {}  # edge: class
-        self.ops = {}  # name: its kind, its pattern and its outputs, as written
+        self.ops = {}  # name: its kind, its pattern, its range columns and its outputs, as written
+
+    def call_columns(self, op):
+        """The column of each value of a call of the operation."""
+        kind, pattern, ranges, _ = self.ops[op]
+        if kind in ("insert", "update"):
+            return list(self.columns)
+        return pattern + [column for column in ranges for _ in ("least", "greatest")]
 
 
-def split_at_arrow(words):
-    at = words.index("->")
+def split_at(sign, words):
+    """The words before the first such sign, and those behind it; all are before one that isn't there."""
+    at = words.index(sign) if sign in words else len(words)
     return words[:at], words[at + 1 :]
 
 
@@ -52,7 +63,7 @@ def read_spec(lines):
             spec.columns.append(rest[0])
             spec.kinds[rest[0]] = rest[1]
         elif kind == "fd":
-            left, right = split_at_arrow(rest)
+            left, right = split_at("->", rest)
             spec.deps.append((set(left), set(right)))
         elif kind == "node":
             spec.nodes[rest[0]] = set(rest[1:])
@@ -65,8 +76,9 @@ def read_spec(lines):
         elif kind == "place":
             spec.place[rest[0]] = rest[1]
         elif kind == "op":
-            pattern, outs = split_at_arrow(rest[2:]) if rest[1] == "query" else (rest[2:], [])
-            spec.ops[rest[0]] = (rest[1], pattern, outs)
+            asked, outs = split_at("->", rest[2:])
+            pattern, ranges = split_at(":", asked)
+            spec.ops[rest[0]] = (rest[1], pattern, ranges, outs)
 
 
 def words_of(line):
@@ -119,20 +131,32 @@ def first_broken(spec, relation):
     return None
 
 
+def put(spec, relation, rest, new):
+    """Leaves the other tuples with the new one, or names the first dependency that these break."""
+    broken = first_broken(spec, rest + [new])
+    if broken is None:
+        relation[:] = sorted(set(rest + [new]))
+    return broken
+
+
 def step(spec, relation, op, values):
-    """The reply of a call as it is printed; the relation, a list of tuples, is changed."""
-    kind, pattern, outs = spec.ops[op]
-    if kind == "insert":
+    """The reply of a call as it is printed; the relation, a rising list of tuples, is changed."""
+    kind, pattern, ranges, outs = spec.ops[op]
+    if kind in ("insert", "update"):
         new = tuple(values)
-        if any(values_of(spec, row, pattern) == values_of(spec, new, pattern) for row in relation):
+        there = [row for row in relation if values_of(spec, row, pattern) == values_of(spec, new, pattern)]
+        if kind == "insert" and there:
             return "present"
-        broken = first_broken(spec, relation + [new])
+        if kind == "update" and not there:
+            return "absent"
+        broken = put(spec, relation, [row for row in relation if row not in there[:1]], new)
         if broken is not None:
             return "conflict %d" % broken
-        relation.append(new)
-        relation.sort()
-        return "inserted"
-    matching = [row for row in relation if values_of(spec, row, pattern) == tuple(values)]
+        return "updated " + printed_tuple(there[0]) if there else "inserted"
+    known, bounds = tuple(values[: len(pattern)]), values[len(pattern) :]
+    matching = [row for row in relation if values_of(spec, row, pattern) == known]
+    for least, column, greatest in zip(bounds[::2], ranges, bounds[1::2]):
+        matching = [row for row in matching if least <= values_of(spec, row, [column])[0] <= greatest]
     if kind == "remove":
         if not matching:
             return "absent"
@@ -278,8 +302,8 @@ def classes_with_edges(spec):
     return [name for name in spec.classes if name in spec.place.values()]
 
 
-def query_plan(spec, pattern, outs):
-    route = route_for(spec, pattern, pattern | outs)
+def query_plan(spec, pattern, wanted):
+    route = route_for(spec, pattern, pattern | wanted)
     lines, locked = search(spec, pattern, route, {spec.place[name] for name in route}, True)
     return lines + ending("emit", locked)
 
@@ -291,12 +315,10 @@ def remove_plan(spec, pattern):
     return lines + [lock_line(name, True) for name in left] + ending("apply", wanted)
 
 
-def insert_plan(spec, pattern):
-    probes = [(pattern, pattern, "absent")]
-    for number, (left, right) in enumerate(spec.deps, 1):
-        if not pattern <= left:
-            probes.append((left, left | right, "check %d" % number))
-    lines, everywhere = [], set()
+def searched_plan(spec, probes, everywhere):
+    """The plan of an insert or an update, which looks for each probe's need by its columns, before a check. All stripes are locked
+    of these classes, and of those under which a probe reads whose columns don't choose a stripe."""
+    lines, everywhere = [], set(everywhere)
     for columns, need, check in probes:
         lines.append(" ".join(["probe"] + in_order(spec, columns)))
         bound = set(columns)
@@ -311,16 +333,36 @@ def insert_plan(spec, pattern):
     return locks + lines + ending("apply", wanted)
 
 
+def checked_dependencies(spec, pattern):
+    """The dependencies whose left side doesn't hold the whole pattern, with the statements that check them."""
+    numbered = enumerate(spec.deps, 1)
+    return [(left, right, "check %d" % number) for number, (left, right) in numbered if not pattern <= left]
+
+
+def insert_plan(spec, pattern):
+    probes = [(pattern, pattern, "absent")]
+    probes += [(left, left | right, check) for left, right, check in checked_dependencies(spec, pattern)]
+    return searched_plan(spec, probes, [])
+
+
+def update_plan(spec, pattern):
+    probes = [(pattern, set(spec.columns), "found")]
+    probes += [(left, left | right | pattern, check) for left, right, check in checked_dependencies(spec, pattern)]
+    return searched_plan(spec, probes, [name for name in spec.classes if not spec.stripes[name][1] <= pattern])
+
+
 def plans_of(spec):
     lines = []
-    for op, (kind, pattern, outs) in spec.ops.items():
+    for op, (kind, pattern, ranges, outs) in spec.ops.items():
         lines.append("plan " + op)
         if kind == "query":
-            lines += query_plan(spec, set(pattern), set(outs))
+            lines += query_plan(spec, set(pattern), set(ranges + outs))
         elif kind == "remove":
             lines += remove_plan(spec, set(pattern))
-        else:
+        elif kind == "insert":
             lines += insert_plan(spec, set(pattern))
+        else:
+            lines += update_plan(spec, set(pattern))
     return lines
 
 
@@ -370,10 +412,11 @@ def generated_work(call_of, seed, count):
     return lines + ["end"]
 
 
-def any_work(spec, seed, count):
-    """A workload of three threads that makes every operation of a specification, over four values. The 32 calls of a round
-    are of one thread, so that it has one history."""
+def any_work(spec, seed, count, inserts=1):
+    """A workload of three threads that makes every operation of a specification, over four values, and the inserts so much more
+    often. The 32 calls of a round are of one thread, so that it has one history."""
     ops, texts, number = list(spec.ops), ["", "a", "a b", "b"], seed
+    ops += [op for op in spec.ops if spec.ops[op][0] == "insert"] * (inserts - 1)
     lines = ["work 3"]
     for place in range(count):
         if place % 32 == 0:
@@ -381,10 +424,12 @@ def any_work(spec, seed, count):
         number = next_number(number)
         op = ops[(number >> 20) % len(ops)]
         words = ["%d" % (place // 32 % 3), op]
-        kind, pattern, _ = spec.ops[op]
-        for column in spec.columns if kind == "insert" else pattern:
+        _, pattern, ranges, _ = spec.ops[op]
+        for at, column in enumerate(spec.call_columns(op)):
             number = next_number(number)
             value = (number >> 20) % 4
+            if len(ranges) > 2 and at >= len(pattern) and (number >> 24) % 32:
+                value = 3 * ((at - len(pattern)) % 2)  # of many ranges most hold all values
             words.append(printed_value(value if spec.kinds[column] == "num" else texts[value]))
         lines.append(" ".join(words))
     return lines + ["end"]
@@ -396,256 +441,6 @@ def many_rows():
     return lines + ["0 succ 1", "0 ins 1 256 0", "0 succ 1", "end"]
 
 
-# ---- specifications
-
-GRAPH = """relc 1
-col src num
-col dst num
-col weight num
-fd src dst -> weight
-node root
-node u src
-node w src dst
-node z src dst weight
-edge e1 root u hash src
-edge e2 u w ordered dst
-edge e3 w z singleton weight
-lock k1 8 src
-lock k2 4 src
-place e1 k1
-place e2 k2
-place e3 k2
-op ins insert src dst
-op del remove src dst
-op succ query src -> dst weight
-op find query src dst -> weight
-end"""
-
-SCHEDULER = """relc 1
-col ns num
-col pid num
-col state text
-col cpu num
-fd ns pid -> state cpu
-node root
-node y ns
-node t state
-node w ns pid state
-node z ns pid state cpu
-edge e1 root y hash ns
-edge e2 y w hash pid
-edge e3 root t hash state
-edge e4 t w list ns pid
-edge e5 w z singleton cpu
-lock ka 4 ns
-lock kb 4 state
-lock kc 4 ns pid
-place e1 ka
-place e2 ka
-place e3 kb
-place e4 kb
-place e5 kc
-op spawn insert ns pid
-op kill remove ns pid
-op bystate query state -> ns pid
-end"""
-
-SEATS = """relc 1
-col id num
-col name num
-col seat num
-fd id -> name seat
-fd seat -> id
-node root
-node p id name seat
-node q id seat
-edge e1 root p hash id
-edge e2 root q hash seat
-lock k1 4 id
-lock k2 4 seat
-place e1 k1
-place e2 k2
-op add insert id
-op byseat query seat -> id
-op drop remove id
-end"""
-
-
-BY_TARGETS = GRAPH.replace("ordered dst", "hash dst").replace("lock k2 4 src", "lock k2 4 dst")
-
-WEIGHTS = """relc 1
-col src num
-col dst num
-col weight num
-fd src dst -> weight
-fd weight -> src
-node root
-node u src
-node w src dst weight
-edge e1 root u hash src
-edge e2 u w ordered dst
-lock k 4 src
-place e1 k
-place e2 k
-op add insert src dst
-op put insert weight dst
-op drop remove src dst
-op succ query src -> dst weight
-op of query weight -> src
-end"""
-
-ONE_NUMBER = """relc 1
-col n num
-fd -> n
-node root
-node u n
-edge e root u hash n
-lock k 4 n
-place e k
-op put insert n
-op take remove n
-op all query -> n
-end"""
-
-APART = """relc 1
-col a num
-col b num
-col c num
-fd a -> b c
-node root
-node nab a b
-node nac a c
-edge e1 root nab hash a
-edge e2 root nac ordered a
-lock k1 2 a
-lock k2 1
-place e1 k1
-place e2 k2
-op put insert a
-op add insert a b c
-op take remove a
-op both query a -> c b
-op all query -> b c
-op by query c -> a
-end"""
-
-TWO_PATHS = """relc 1
-col a num
-col b text
-col c num
-fd a b -> c
-node root
-node na a
-node nab a b
-node nc c
-node nabc a b c
-edge e3 root nc hash c
-edge e4 nc nabc hash a b
-edge e1 root na hash a
-edge e2 na nab hash b
-lock k0 2 c
-lock k1 2 a
-place e1 k1
-place e2 k1
-place e3 k0
-place e4 k0
-op ins insert a b
-op put insert b a c
-op del remove b a
-op all query a -> b c
-op pairs query c -> b a
-end"""
-
-KINDS = """relc 1
-col a num
-col b text
-col c num
-col d text
-fd a b c -> d
-node root
-node u a
-node w a b
-node x a b c
-node z a b c d
-edge e1 root u hash a
-edge e2 u w ordered b
-edge e3 w x list c
-edge e4 x z singleton d
-lock k 1
-place e1 k
-place e2 k
-place e3 k
-place e4 k
-op ins insert a b c
-op del remove c b a
-op get query a b c -> d
-op under query b -> d a
-op all query -> c b
-end"""
-
-CYCLE = """relc 1
-col a num
-col b num
-col c num
-fd a -> b
-fd b -> c
-fd c -> a
-node root
-node p a b c
-node q a b c
-node r a b c
-edge e1 root p list a
-edge e2 root q ordered b
-edge e3 root r hash c
-lock k 1
-lock l 8 c
-place e1 k
-place e2 k
-place e3 l
-op put insert a b c
-op add insert b
-op has query a -> b c
-op take remove c
-op drop remove a
-end"""
-
-# Each is used by generated calls of its own.
-OTHERS = [
-    ("a graph that is striped by targets", BY_TARGETS),
-    ("a graph where a weight has one source", WEIGHTS),
-    ("at most one number", ONE_NUMBER),
-    ("two maps of one key", APART),
-    ("two paths to one tuple", TWO_PATHS),
-    ("containers of all kinds", KINDS),
-    ("three columns that determine one another", CYCLE),
-]
-
-
-def largest_spec():
-    """As many columns, nodes, edges, classes, stripes and operations as a text may have: the nodes stand in a row, each
-    with one column more, and the later ones are entered from the root too."""
-    columns = "abcdefghijklmnop"
-    lines = ["relc 1"] + ["col %s num" % column for column in columns]
-    lines += ["fd a -> " + " ".join(columns[1:]), "fd b c -> a", "fd p -> d e", "node root"]
-    nodes = [columns[:number] for number in range(1, 15)] + [columns]
-    lines += [" ".join(["node n%d" % number, *node]) for number, node in enumerate(nodes, 1)]
-    before = "root"
-    for number, node in enumerate(nodes, 1):
-        key = node[len(nodes[number - 2]) :] if number > 1 else node
-        lines.append(" ".join(["edge e%d %s n%d hash" % (number, before, number), *key]))
-        before = "n%d" % number
-    entered = list(enumerate(nodes, 1))[6:]
-    lines += [" ".join(["edge f%d root n%d hash" % (number, number), *node]) for number, node in entered]
-    lines += ["lock k%d 16 a" % number for number in range(1, 17)]
-    lines += ["place e%d k%d" % (number, number) for number in range(1, 16)]
-    lines += ["place f%d k%d" % (number, number) for number, _ in entered]
-    lines += ["op ins%d insert %s %s" % (number, *columns[number : number + 2]) for number in range(8)]
-    lines += ["op del%d remove a %s" % (number, columns[number + 1]) for number in range(8)]
-    for number, column in enumerate(columns):
-        lines.append("op ask%d query %s -> %s" % (number, column, " ".join(columns.replace(column, ""))))
-    return lines + ["end"]
-
-
 # ---- the file
 
 HEAD = """# Cases that are too long to be worked out by hand. model.py, beside this file, writes it: a second writing of the rules, over
@@ -653,6 +448,13 @@ HEAD = """# Cases that are too long to be worked out by hand. model.py, beside t
 #
 # There are workloads of 512 generated calls of four threads on the three examples, and of 160 of three threads on others; a
 # query of 256 rows and one of 257; and the plans of a specification that is as large as can be."""
+
+
+HEAD_2 = """# Cases of the second version that are too long to be worked out by hand. model.py, beside this file, writes it, as it does
+# generated.case. Don't change the cases here.
+#
+# There are workloads of 96 generated calls of three threads, which make every operation of a specification over four values,
+# updates and queries with ranges among them. The last have 32 columns."""
 
 
 def quoted(lines):
@@ -672,19 +474,33 @@ def run_case(name, text, work):
 def generated_cases():
     lines = HEAD.split("\n")
     for name, text, call_of in [
-        ("a graph", GRAPH, graph_call),
-        ("a scheduler", SCHEDULER, scheduler_call),
-        ("seats", SEATS, seats_call),
+        ("a graph", specifications.GRAPH, graph_call),
+        ("a scheduler", specifications.SCHEDULER, scheduler_call),
+        ("seats", specifications.SEATS, seats_call),
     ]:
         lines += run_case("512 generated calls on %s" % name, text, generated_work(call_of, 7, 512))
-    for name, text in OTHERS:
+    for name, text in specifications.OTHERS:
         work = any_work(read_spec(text.split("\n")), 11, 160)
         lines += run_case("160 generated calls on " + name, text, work)
-    lines += run_case("256 rows are answered and 257 are counted", GRAPH, many_rows())
-    largest = largest_spec()
+    lines += run_case("256 rows are answered and 257 are counted", specifications.GRAPH, many_rows())
+    largest = specifications.largest_spec()
     plans = plans_of(read_spec(list(largest))) + ["end"]
     lines += write_case("plan", "the largest specification is planned", largest, [], plans)
     lines += write_case("check", "the largest specification is accepted", largest, [], ["accepted"])
+    return "\n".join(lines) + "\n"
+
+
+def generated_cases_2():
+    lines = HEAD_2.split("\n")
+    for name, text, times in specifications.SECONDS:
+        for seed in range(13, 13 + times):
+            work = any_work(read_spec(text.split("\n")), seed, 96, inserts=4)
+            again = "" if seed == 13 else ", again"
+            lines += run_case("96 generated calls on " + name + again, text, work)
+    widest = specifications.widest_spec()
+    lines += write_case("check", "the widest specification is accepted", widest, [], ["accepted"])
+    work = any_work(read_spec(list(widest)), 13, 96, inserts=4)
+    lines += run_case("96 generated calls on the widest specification", "\n".join(widest), work)
     return "\n".join(lines) + "\n"
 
 
@@ -696,9 +512,10 @@ def main():
         answer += report_of(spec, read_calls(lines[1:])) if sys.argv[1] == "run" else ["end"]
         print("\n".join(answer))
         return
-    path = os.path.join(os.path.dirname(os.path.abspath(__file__)), "generated.case")
-    with open(path, "w", encoding="ascii") as file:
-        file.write(generated_cases())
+    folder = os.path.dirname(os.path.abspath(__file__))
+    for name, cases in [("generated.case", generated_cases()), ("generated2.case", generated_cases_2())]:
+        with open(os.path.join(folder, name), "w", encoding="ascii") as file:
+            file.write(cases)
 
 
 if __name__ == "__main__":
