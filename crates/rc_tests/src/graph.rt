@@ -40,31 +40,31 @@ pub(crate) fn compiled(alloc: Global) -> Result<Compiled, Fail> {
     Ok(compile(alloc, accepted)?)
 }
 
-/// A call without bounds.
-fn call(alloc: Global, op: u8, args: Tuple) -> Call {
+/// A call without values and bounds, which is to be filled.
+pub(crate) fn blank(alloc: Global) -> Call {
     Call {
-        op,
-        args,
+        op: 0,
+        args: Tuple::empty(alloc),
         ranges: Ranges::new(alloc),
     }
 }
 
-/// The call that inserts an edge.
-pub(crate) fn insert(alloc: Global, from: u64, to: u64, weight: u64) -> Result<Call, Memory> {
-    let args = Tuple::from_columns(alloc, &[0, 1, 2], &[from, to, weight])?;
-    Ok(call(alloc, 0, args))
+/// Makes it the call that inserts an edge.
+pub(crate) fn fill_insert(call: &mut Call, from: u64, to: u64, weight: u64) -> Result<(), Memory> {
+    call.op = 0;
+    call.args.refill(&[0, 1, 2], &[from, to, weight])
 }
 
-/// The call that removes an edge.
-pub(crate) fn remove(alloc: Global, from: u64, to: u64) -> Result<Call, Memory> {
-    let args = Tuple::from_columns(alloc, &[0, 1], &[from, to])?;
-    Ok(call(alloc, 1, args))
+/// Makes it the call that removes an edge.
+pub(crate) fn fill_remove(call: &mut Call, from: u64, to: u64) -> Result<(), Memory> {
+    call.op = 1;
+    call.args.refill(&[0, 1], &[from, to])
 }
 
-/// The call that finds the edges of a source.
-pub(crate) fn successors(alloc: Global, from: u64) -> Result<Call, Memory> {
-    let args = Tuple::from_columns(alloc, &[0], &[from])?;
-    Ok(call(alloc, 2, args))
+/// Makes it the call that finds the edges of a source.
+pub(crate) fn fill_successors(call: &mut Call, from: u64) -> Result<(), Memory> {
+    call.op = 2;
+    call.args.refill(&[0], &[from])
 }
 
 /// Calls about the edges of one source, and about those of two others.
@@ -83,15 +83,24 @@ pub(crate) struct Calls {
 }
 
 impl Calls {
-    /// The calls about this source.
-    pub(crate) fn of(alloc: Global, source: u32) -> Result<Calls, Memory> {
+    /// Five calls that are to be filled.
+    pub(crate) fn blank(alloc: Global) -> Calls {
+        Calls {
+            insert: blank(alloc),
+            insert_another: blank(alloc),
+            insert_next: blank(alloc),
+            insert_fourth: blank(alloc),
+            successors: blank(alloc),
+        }
+    }
+
+    /// Makes them the calls about this source.
+    pub(crate) fn fill(&mut self, source: u32) -> Result<(), Memory> {
         let source = u64::from(source);
-        Ok(Calls {
-            insert: insert(alloc, source, 2, 10)?,
-            insert_another: insert(alloc, source, 3, 7)?,
-            insert_next: insert(alloc, source + 1, 5, 1)?,
-            insert_fourth: insert(alloc, source + 4, 5, 1)?,
-            successors: successors(alloc, source)?,
-        })
+        fill_insert(&mut self.insert, source, 2, 10)?;
+        fill_insert(&mut self.insert_another, source, 3, 7)?;
+        fill_insert(&mut self.insert_next, source + 1, 5, 1)?;
+        fill_insert(&mut self.insert_fourth, source + 4, 5, 1)?;
+        fill_successors(&mut self.successors, source)
     }
 }

@@ -49,13 +49,13 @@ fn asked<R: Threads + Wait + Sync>(
     alloc: Global,
     arguments: &[&str],
 ) -> Result<(u64, u64), Fail> {
+    let words = words_of(alloc, arguments)?;
+    let mut sink = MemSink::new(alloc, ROOM, ROOM, Vec::new(alloc))?;
     let mut source = Watched {
         left: GRAPH,
         asked: 0,
         ends: 0,
     };
-    let mut sink = MemSink::new(alloc, ROOM, ROOM, Vec::new(alloc))?;
-    let words = words_of(alloc, arguments)?;
     relc(
         rt,
         alloc,

@@ -22,11 +22,23 @@ const ROOM: usize = 1 << 22;
 /// The words behind the program's name, with it.
 pub(crate) fn words_of(alloc: Global, arguments: &[&str]) -> Result<Vec<String>, Memory> {
     let mut words = Vec::new(alloc);
-    words.push(String::from_str(alloc, "relc")?)?;
-    for argument in arguments {
-        words.push(String::from_str(alloc, argument)?)?;
-    }
+    push_words(alloc, &mut words, arguments)?;
     Ok(words)
+}
+
+/// Adds the program's name and the words behind it.
+fn push_words(alloc: Global, words: &mut Vec<String>, arguments: &[&str]) -> Result<(), Memory> {
+    push_word(alloc, words, "relc")?;
+    for argument in arguments {
+        push_word(alloc, words, argument)?;
+    }
+    Ok(())
+}
+
+fn push_word(alloc: Global, words: &mut Vec<String>, word: &str) -> Result<(), Memory> {
+    let word = String::from_str(alloc, word)?;
+    words.push(word)?;
+    Ok(())
 }
 
 // ---- the gate
@@ -224,8 +236,19 @@ fn goes_well<R: Threads + Wait + Sync>(
 ) -> Result<bool, Fail> {
     let gate = Watch::new(workload == Workload::Held || workload == Workload::HeldGenerated);
     let mut sink = MemSink::new(alloc, ROOM, ROOM, Vec::new(alloc))?;
-    let outcome = outcome(rt, alloc, workload, &mut sink, &gate)?;
-    Ok(is_as_it_should(alloc, workload, &outcome, sink.bytes(), &gate)?)
+    Ok(goes_well_into(rt, alloc, workload, &mut sink, &gate)?)
+}
+
+/// Whether it does where its report is written into the sink, and the gate watches.
+fn goes_well_into<R: Threads + Wait + Sync>(
+    rt: &R,
+    alloc: Global,
+    workload: Workload,
+    sink: &mut MemSink,
+    gate: &Watch,
+) -> Result<bool, Memory> {
+    let outcome = outcome(rt, alloc, workload, sink, gate)?;
+    is_as_it_should(alloc, workload, &outcome, sink.bytes(), gate)
 }
 
 /// The outcome of the words on their text, which is written into the sink.

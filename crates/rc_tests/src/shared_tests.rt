@@ -8,7 +8,7 @@ ghost use Rattle.rc_store.specs.Store.{IsFree};
 ghost use Rattle.rc_tests.specs.Free.{AreFew};
 
 use crate::gates::{TURNS, place};
-use crate::graph::{compiled, insert, remove, successors};
+use crate::graph::{blank, compiled, fill_insert, fill_remove, fill_successors};
 use crate::outcome::{Outcome, tried};
 use rc_maps::Seed;
 use rc_rel::{Entry, PlainRel, Step};
@@ -25,14 +25,14 @@ use std::thread::{self, Threads, for_each_mut};
 /// How many calls each thread makes.
 const CALLS: u64 = 500;
 
-/// The call of that number of a thread: inserts, removes and queries of few sources.
-fn call_of(alloc: Global, thread: u64, number: u64) -> Result<Call, Memory> {
+/// Makes it the call of that number of a thread: inserts, removes and queries of few sources.
+fn fill(call: &mut Call, thread: u64, number: u64) -> Result<(), Memory> {
     let mixed = number.wrapping_mul(7) ^ thread.wrapping_mul(13);
     let (from, to) = (mixed % 3, (mixed / 3) % 4);
     match mixed % 4 {
-        0 | 1 => insert(alloc, from, to, thread),
-        2 => remove(alloc, from, to),
-        _ => successors(alloc, from),
+        0 | 1 => fill_insert(call, from, to, thread),
+        2 => fill_remove(call, from, to),
+        _ => fill_successors(call, from),
     }
 }
 
@@ -42,8 +42,9 @@ fn make_calls<R: Wait>(rt: &R, alloc: Global, store: &Store<Waking>, thread: u64
     ensures pass { IsFree store.now pass.new }
     ensures number { (core_of pass.new).number ≡ (core_of pass.old).number }
 {
+    let mut call = blank(alloc);
     for number in 0..CALLS {
-        if let Ok(call) = call_of(alloc, thread, number) {
+        if fill(&mut call, thread, number).is_ok() {
             if number % 2 == 0 {
                 place(rt, store, pass, &call, &OpenGate);
             } else {

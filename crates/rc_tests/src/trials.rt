@@ -5,7 +5,7 @@ ghost use Rattle.rc_store.specs.Running.{IsRunningOn};
 ghost use Rattle.rc_store.specs.Store.{IsFree};
 
 use crate::gates::{held_after, held_before, points};
-use crate::graph::{Calls, compiled};
+use crate::graph::{Calls, blank, compiled, fill_successors};
 use crate::outcome::{Outcome, busy, rows, tried};
 use rc_maps::Seed;
 use rc_row::{Keeping, Note, Pass};
@@ -82,14 +82,25 @@ fn trials_go_well(rt: HostRuntime) -> Result<(), Fail> {
 
 /// Whether the trial goes as it should, whether passes keep their entries or not.
 fn goes_well<R: Threads + Wait + Sync>(rt: &R, alloc: Global, trial: Trial) -> Result<bool, Fail> {
+    let mut calls = Calls::blank(alloc);
+    goes_well_by(rt, alloc, &mut calls, trial)
+}
+
+/// Whether it does, by calls that it fills.
+fn goes_well_by<R: Threads + Wait + Sync>(
+    rt: &R,
+    alloc: Global,
+    calls: &mut Calls,
+    trial: Trial,
+) -> Result<bool, Fail> {
     let source = match trial {
         Trial::KeptOut(source, _, _) => source,
         _ => 1,
     };
-    let calls = Calls::of(alloc, source)?;
+    calls.fill(source)?;
     Ok(
-        goes_well_keeping(rt, alloc, Keeping::Counts, &calls, trial)?
-            && goes_well_keeping(rt, alloc, Keeping::Entries, &calls, trial)?,
+        goes_well_keeping(rt, alloc, Keeping::Counts, calls, trial)?
+            && goes_well_keeping(rt, alloc, Keeping::Entries, calls, trial)?,
     )
 }
 
@@ -328,18 +339,19 @@ fn are_told<R: Wait>(rt: &R, store: &Store<Waking>, calls: &Calls, one: Pass, tw
 
 #[test]
 fn a_quiet_store_answers_and_is_discarded(rt: HostRuntime) -> Result<(), Fail> {
-    assert!(rt; is_quiet(rt.alloc())?);
+    let mut call = blank(rt.alloc());
+    assert!(rt; is_quiet(rt.alloc(), &mut call)?);
     Ok(())
 }
 
-/// Whether a call on a quiet store finds nothing, before it is discarded.
-fn is_quiet(alloc: Global) -> Result<bool, Fail> {
-    let calls = Calls::of(alloc, 1)?;
+/// Whether a call on a quiet store, which it fills, finds nothing before the store is discarded.
+fn is_quiet(alloc: Global, call: &mut Call) -> Result<bool, Fail> {
+    fill_successors(call, 1)?;
     let compiled = compiled(alloc)?;
     let (keeping, seed) = (Keeping::Entries, Seed::fixed());
     let (store, mut passes) = Store::build(alloc, seed, compiled, 2, LIMIT, keeping, Quiet)?;
     let one = passes.remove(0);
-    let is_empty = finds_nothing(&store, one, &calls.successors);
+    let is_empty = finds_nothing(&store, one, call);
     store.discard(passes);
     Ok(is_empty)
 }
