@@ -1,13 +1,12 @@
 -- Where the lines of a report stand.
-use Rattle.std.proofs.Common.{◌≡◌, ℕ, zero, suc, ◌+◌, ◌-◌, ◌<◌, ◌≤◌, List, [], ◌∷◌, ◌++◌, length, map, Some, refl, sym, ap, ◌∙◌, arith}
+use Rattle.std.proofs.Common.{◌≡◌, ℕ, zero, suc, ◌+◌, ◌-◌, ◌<◌, ◌≤◌, List, [], ◌∷◌, ◌++◌, length, map, Some, refl, ap, ◌∙◌, arith}
 use Rattle.std.specs.Prelude.{codes}
 use Rattle.std.specs.List.{slice_get, enumerate_from}
-use Rattle.std.proofs.lemmas.List.{length-map, length-append, append_assoc}
+use Rattle.std.proofs.lemmas.List.{length-map, length-append}
 use Rattle.rc_tuple.specs.Tuple.{Pairs}
 use Rattle.rc_spec.specs.declared.spec.Spec.{Spec}
 use Rattle.rc_rel.specs.declared.entry.Entry.{Entry}
 use Rattle.rc_work.specs.Printed.{row_text}
-use Rattle.rc_text.specs.Lines.{printed_lines}
 use Rattle.rc_work.specs.Report.{entry_line, entry_lines, final_lines, count_line, report}
 
 -- ---- places in two lists, one after the other
@@ -100,9 +99,3 @@ length-report spec texts history rows =
     length-append (entry_lines spec texts history) (final_lines spec texts rows) in
     let b : length (map (row_text spec texts) rows ++ codes "end" ∷ []) ≡ length (map (row_text spec texts) rows) + 1 = length-append (map (row_text spec texts) rows) (codes "end" ∷ []) in
     omega (arith, a, b, length-entry_lines spec texts history, length-map rows (row_text spec texts))
-
--- ---- lines one after another
-
-pub printed_lines-append : (xs ys : List (List ℕ)) → printed_lines (xs ++ ys) ≡ printed_lines xs ++ printed_lines ys
-printed_lines-append [] ys = refl
-printed_lines-append (x ∷ xs) ys = ap (λ l. (x ++ 10 ∷ []) ++ l) (printed_lines-append xs ys) ∙ sym (append_assoc (x ++ 10 ∷ []) (printed_lines xs) (printed_lines ys))
