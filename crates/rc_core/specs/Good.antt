@@ -61,6 +61,12 @@ pub record IsGoodHistory (spec : Spec) (passes : ℕ) (history : List Entry) : T
   pub numbered : IsNumbered history
   pub entries : (e : Entry) → In e history → IsGoodEntry passes e
 
+-- The history is good, has all that the pass has made, at its places, and leaves the rows that the pass holds.
+pub record IsOfHistory (spec : Spec) (passes : ℕ) (history : List Entry) (u : PassState) : Type 0 where
+  pub good : IsGoodHistory spec passes history
+  pub own : u.own ≡ own_placed history u.number
+  pub rows : HaveRows spec history u.held
+
 pub record IsGood (spec : Spec) (c : CoreState) : Type 0 where
   pub passes : (k : ℕ) (u : PassState) → slice_get c.passes k ≡ Some u → IsGoodPass spec c.history c.stripes k u
   pub stripes : (p : ℕ) → p < length c.stripes → IsGoodStripe spec c.history (length c.passes) p (stripe_at c.stripes p)

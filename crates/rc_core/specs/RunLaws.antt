@@ -1,16 +1,18 @@
 -- Runs of events stay good.
-use Rattle.std.proofs.Common.{◌≡◌, ℕ, ◌<◌, List, [], ◌∷◌, length, Option, Some, None, IfSome, subst, sym}
+use Rattle.std.proofs.Common.{◌≡◌, ℕ, ◌<◌, List, [], ◌∷◌, ◌++◌, length, Option, Some, None, IfSome, subst, refl, sym, ap, ◌∙◌}
 use Rattle.std.specs.List.{slice_get}
 use Rattle.std.proofs.lemmas.Option.{slice_get-get_or}
 use Rattle.rc_spec.specs.declared.spec.Spec.{Spec}
 use Rattle.rc_plan.specs.Compiled.{SpecWithPlans, IsCompiled}
+use Rattle.rc_rel.specs.History.{own_placed}
 use Rattle.rc_rel.specs.HistoryLaws.{states_satisfy}
 use Rattle.rc_core.specs.declared.state.CoreState.{CoreState}
+use Rattle.rc_core.specs.declared.state.PassState.{PassState}
 use Rattle.rc_core.specs.declared.event.Event.{Event}
 use Rattle.rc_core.specs.declared.event.Event.TheVariants as event
 use Rattle.rc_core.specs.State.{no_pass, pass_at}
 use Rattle.rc_core.specs.Events.{IsAfter, IsAllowed, after, AreAllowed, after_all, start}
-use Rattle.rc_core.specs.Good.{IsGoodKeeper, IsGood}
+use Rattle.rc_core.specs.Good.{IsGoodKeeper, IsGood, IsOfHistory}
 use Rattle.rc_core.specs.Laws.{EventsKeepGoodness, IsSound, RunsAreSound}
 use Rattle.rc_core.specs.KeepsLaws.{lock_keeps, block_keeps, share_keeps, back_keeps, leave_keeps, unlock_keeps, learn_keeps}
 use Rattle.rc_core.specs.CommitLaws.{commit_keeps}
@@ -38,6 +40,25 @@ next_is_good compiled ok c good x (Some d) a = subst (IsGood compiled.spec) (sym
 pub runs_keep : (compiled : SpecWithPlans) → IsCompiled compiled.spec compiled.plans → (c : CoreState) → IsGood compiled.spec c → (events : List Event) → AreAllowed compiled c events → IsGood compiled.spec (after_all compiled c events)
 runs_keep compiled ok c good [] a = good
 runs_keep compiled ok c good (x ∷ events) a = runs_keep compiled ok (after compiled c x) (events_keep compiled ok c good x a.0) events a.1
+
+-- ---- one run behind another
+
+pub after_all-append : (compiled : SpecWithPlans) (c : CoreState) (xs ys : List Event) → after_all compiled c (xs ++ ys) ≡ after_all compiled (after_all compiled c xs) ys
+after_all-append compiled c [] ys = refl
+after_all-append compiled c (x ∷ xs) ys = after_all-append compiled (after compiled c x) xs ys
+
+pub AreAllowed-append : (compiled : SpecWithPlans) (c : CoreState) (xs ys : List Event) → AreAllowed compiled c xs → AreAllowed compiled (after_all compiled c xs) ys
+    → AreAllowed compiled c (xs ++ ys)
+AreAllowed-append compiled c [] ys a b = b
+AreAllowed-append compiled c (x ∷ xs) ys a b = (a.0, AreAllowed-append compiled (after compiled c x) xs ys a.1 b)
+
+-- ---- what goodness gives
+
+-- each pass is of the history
+pub of_history : (spec : Spec) (c : CoreState) (k : ℕ) (u : PassState) → IsGood spec c → slice_get c.passes k ≡ Some u → IsOfHistory spec (length c.passes) c.history u
+of_history spec c k u good is =
+    let its = good.passes k u is in
+    record { good = good.history; own = its.own ∙ ap (own_placed c.history) (sym its.number); rows = its.rows }
 
 pub good_is_sound : (spec : Spec) (c : CoreState) → IsGood spec c → IsSound spec c
 good_is_sound spec c good = record {

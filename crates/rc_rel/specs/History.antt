@@ -1,5 +1,5 @@
 -- Histories of calls on the plain relation.
-use Rattle.std.specs.Prelude.{◌≡◌, ℕ, ◌+◌, ◌==◌, List, [], ◌∷◌, filter, map, length, if◌then◌else◌}
+use Rattle.std.specs.Prelude.{◌≡◌, ℕ, ◌+◌, ◌==◌, List, [], ◌∷◌, ◌++◌, filter, take, map, length, if◌then◌else◌}
 use Rattle.std.specs.List.{range_with_len, flat_map, AllByRecursion}
 use Rattle.rc_tuple.specs.Tuple.{Pairs}
 use Rattle.rc_spec.specs.declared.spec.Spec.{Spec}
@@ -70,3 +70,22 @@ StepsFit spec steps = AllByRecursion (λ s. Fits spec s.call) steps
 
 abbrev pub AllFit : Spec → List Entry → Type 0
 AllFit spec history = AllByRecursion (λ e. StepsFit spec e.steps) history
+
+-- ---- a history as it grows
+
+-- the later history begins with the earlier one
+abbrev pub IsPrefix : List Entry → List Entry → Type 0
+IsPrefix earlier later = (more : List Entry) × (later ≡ earlier ++ more)
+
+-- ---- a history, place by place
+
+-- the relation after the first so many entries
+abbrev pub relation_at : Spec → List Entry → ℕ → List Pairs
+relation_at spec history place = replay spec (take place history)
+
+-- An entry is of one call, whose reply is the plain relation's, and which leaves the plain relation.
+pub record IsPlain (spec : Spec) (before after : List Pairs) (entry : Entry) : Type 0 where
+  pub step : Step
+  pub one : entry.steps ≡ step ∷ []
+  pub reply : step.reply ≡ (plain spec before step.call).reply
+  pub relation : after ≡ (plain spec before step.call).relation

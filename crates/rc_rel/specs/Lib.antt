@@ -5,3 +5,4 @@ pub mod KnownDeps
 pub mod HistoryLaws
 pub mod OwnLaws
 pub mod SharesLaws
+pub mod PlaceLaws

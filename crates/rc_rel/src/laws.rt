@@ -1,5 +1,6 @@
 ghost use Rattle.rc_rel.specs.HistoryLaws.{StatesSatisfy, StatesAreRelations};
 ghost use Rattle.rc_rel.specs.OwnLaws.{NumberedGoesOn, OwnAreFew, OwnEntriesAreTheHistory, OwnEntriesStand, PlacedAreOwn, ReplaysAreFew};
+ghost use Rattle.rc_rel.specs.PlaceLaws.{PlainAtEachPlace};
 ghost use Rattle.rc_rel.specs.SharesLaws.{SharesAddUp};
 
 /// Every state of a history satisfies the dependencies of its specification.
@@ -10,6 +11,12 @@ pub fn states_satisfy()
 /// Every state of a history whose calls fit is a set of tuples over all columns of its specification.
 pub fn states_are_relations()
     ensures { StatesAreRelations }
+{}
+
+/// In a legal history an entry of one call has the reply of the plain relation at its place, and leaves that of the next.
+/// (PLDI 2011, the relation's operations.)
+pub fn plain_at_each_place()
+    ensures { PlainAtEachPlace }
 {}
 
 /// A numbered history stays so with one more entry that has its pass's next number.
