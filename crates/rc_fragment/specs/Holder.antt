@@ -1,5 +1,5 @@
 -- What a holder lends a plan: the stripes that it holds, with their rows, and what it offers of the others. (PLDI 2012, two-phase plans over striped locks.)
-use Rattle.std.specs.Prelude.{◌≡◌, ℕ, pred, max, ◌+◌, ◌<◌, ◌^◌, ◌++◌, List, [], ◌∷◌, ◌⊎◌, Option, None, Some, IsSome, map, length, get_or, cond, ◌==◌}
+use Rattle.std.specs.Prelude.{◌≡◌, ℕ, pred, max, ◌+◌, ◌<◌, ◌^◌, ◌++◌, List, [], ◌∷◌, ◌⊎◌, Option, None, Some, IsSome, Result, Ok, Err, map, length, get_or, cond, ◌==◌}
 use Rattle.rc_tuple.specs.RisingSet.{In}
 use Rattle.rc_tuple.specs.Tuple.{Pairs, cols_of, project}
 use Rattle.rc_tuple.specs.Relation.{IsRelation, Satisfies}
@@ -14,6 +14,8 @@ use Rattle.rc_spec.specs.declared.spec.Spec.{Spec}
 use Rattle.rc_fragment.specs.Fragment.{HasAlone, HasColumns, HasSingle, IsThere}
 use Rattle.rc_fragment.specs.FragmentRows.{FragmentRows}
 use Rattle.rc_fragment.specs.declared.held.Held.{Held}
+use Rattle.rc_fragment.specs.declared.held.TakeStop.{TakeStop}
+use Rattle.rc_fragment.specs.declared.held.TakeStop.TheVariants as stop
 use Rattle.rc_fragment.specs.declared.shape.EdgeShape.{EdgeShape}
 
 -- ---- held stripes
@@ -180,6 +182,16 @@ IsRefusal (Some last) answer stripe mode held = (last.answer ≡ answer) × (ans
 pub record HasRefused (old new : Holding) (stripe : ℕ) (mode : Mode) (answer : Held) : Type 0 where
   pub risen : HasRisen old.refusals new.refusals
   pub last : IsRefusal new.last_refusal answer stripe mode (held_of old)
+
+-- want of memory adds nothing to the count of refused takes
+abbrev pub CountsIfHeld : TakeStop → Holding → Holding → Type 0
+CountsIfHeld stop.Memory old new = new.refusals ≡ old.refusals
+CountsIfHeld (stop.Held held) old new = Unit {0}
+
+-- nor does a take that succeeds: only an answer Held may
+abbrev pub CountsOnlyHeld : {T : Type 0} → Result T TakeStop → Holding → Holding → Type 0
+CountsOnlyHeld (Ok x) old new = new.refusals ≡ old.refusals
+CountsOnlyHeld (Err stop) old new = CountsIfHeld stop old new
 
 -- ---- soundness
 

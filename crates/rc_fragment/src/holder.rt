@@ -5,7 +5,7 @@ ghost use Rattle.rc_spec.specs.CountedRows.{lowered, raised};
 ghost use Rattle.rc_spec.specs.Stripes.{stripe_total};
 ghost use Rattle.rc_spec.specs.declared.spec.Spec.{Spec};
 ghost use Rattle.rc_fragment.specs.Fragment.{edge_table};
-ghost use Rattle.rc_fragment.specs.Holder.{AreOfOneRelation, CanLower, CanRaise, HasRefused, HasRoom, HasTaken, HasTakenNothing, Holding, IsAbove, IsHeld, IsHeldExclusive, IsLent, all_reverted, held_of, with_change_at, with_room_at};
+ghost use Rattle.rc_fragment.specs.Holder.{AreOfOneRelation, CanLower, CanRaise, CountsOnlyHeld, HasRefused, HasRoom, HasTaken, HasTakenNothing, Holding, IsAbove, IsHeld, IsHeldExclusive, IsLent, all_reverted, held_of, with_change_at, with_room_at};
 ghost use Rattle.rc_fragment.specs.declared.held.Held.{Held};
 ghost use Rattle.rc_fragment.specs.declared.held.TakeStop.TheVariants as stop;
 
@@ -26,14 +26,15 @@ pub trait Holder {
     ghost is_sound: { Self → Spec → Type 0 };
 
     /// Takes a stripe above all that are held. `Held` comes only where the count of refused takes rose in
-    /// this call, and is then the last refused take's. After a refusal or where memory is wanted nothing is
-    /// taken.
+    /// this call, and is then the last refused take's; of a sound holder the count rises with no other answer.
+    /// After a refusal or where memory is wanted nothing is taken.
     fn take(&mut self, stripe: u32, mode: Mode) -> Result<(), TakeStop>
         requires known { stripe < length (seen self.old).offered }
         requires above { IsAbove (held_of (seen self.old)) stripe }
         ensures ok { OnOk result (HasTaken (seen self.old) (seen self.new) stripe mode) }
         ensures err { OnErr result (HasTakenNothing (seen self.old) (seen self.new)) }
         ensures refused { (h : Held) → result ≡ Err (stop.Held h) → HasRefused (seen self.old) (seen self.new) stripe mode h }
+        ensures counted { (spec : Spec) → is_sound self.old spec → CountsOnlyHeld result (seen self.old) (seen self.new) }
         ensures sound { (spec : Spec) → is_sound self.old spec → is_sound self.new spec };
 
     /// Makes room for so many changes of a stripe that is held Exclusive; it may be called again. Where

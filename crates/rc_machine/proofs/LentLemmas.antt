@@ -1,8 +1,11 @@
 -- All but what is lent is the same.
-use Rattle.std.specs.Prelude.{◌≡◌, List}
+use Rattle.std.specs.Prelude.{◌≡◌, List, Result, Ok, Err}
 use Rattle.std.proofs.Common.{inl, refl, sym, ap, ◌∙◌}
 use Rattle.rc_fragment.specs.Holder.{GoesOn, Holding, LentStripe}
 use Rattle.rc_machine.specs.Apply.{IsSameButLent}
+use Rattle.rc_machine.specs.Stopped.{CountsOnlyHeld}
+use Rattle.rc_machine.specs.declared.stop.Stop.{Stop}
+use Rattle.rc_machine.specs.declared.stop.Stop.TheVariants as stop
 
 abbrev with_lent : Holding → List LentStripe → Holding
 with_lent s ls = record s { lent = ls }
@@ -24,3 +27,12 @@ lent_goes_on old new e = record {
   through = ap (λ (s : Holding). s.through) e;
   refused = inl (ap (λ (s : Holding). s.refusals) e, ap (λ (s : Holding). s.last_refusal) e);
 }
+
+-- and no refused take is counted
+pub counted_lent : {T : Type 0} (r : Result T Stop) (old new : Holding) → IsSameButLent old new → CountsOnlyHeld r old new
+counted_lent (Ok x) old new e = ap (λ (s : Holding). s.refusals) e
+counted_lent (Err stop.Memory) old new e = ap (λ (s : Holding). s.refusals) e
+counted_lent (Err (stop.Held held)) old new e = tt
+
+pub counted_same : {T : Type 0} (r : Result T Stop) (s : Holding) → CountsOnlyHeld r s s
+counted_same r s = counted_lent r s s refl

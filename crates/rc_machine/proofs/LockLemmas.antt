@@ -1,5 +1,5 @@
 -- Stripes taken one after another, in rising order.
-use Rattle.std.specs.Prelude.{◌≡◌, ℕ, zero, suc, ◌+◌, ◌<◌, ◌≤◌, List, [], ◌∷◌, ◌++◌, Option, None, Some, length, map, take, get_or}
+use Rattle.std.specs.Prelude.{◌≡◌, ℕ, zero, suc, ◌+◌, ◌<◌, ◌≤◌, List, [], ◌∷◌, ◌++◌, Option, None, Some, Result, Ok, Err, IsErr, IsErrAnd, length, map, take, get_or}
 use Rattle.std.specs.declared.cmp.Ordering.TheVariants.{Less}
 use Rattle.std.specs.Ordering.{nat_cmp}
 use Rattle.std.proofs.Common.{inl, inr, refl, sym, ap, subst, ◌∙◌, arith, add-one, append_assoc, append-nil}
@@ -19,16 +19,17 @@ use Rattle.rc_spec.specs.Placement.{IsPlaced, class_at, no_class, stripes_of_fir
 use Rattle.rc_spec.specs.PlacementLaws.{physical_stripe_below}
 use Rattle.rc_spec.specs.Stripes.{band_start, physical_stripe, stripe_total}
 use Rattle.rc_fragment.specs.declared.held.Held.{Held}
-use Rattle.rc_fragment.specs.Holder.{AreOffered, GoesOn, HasRefused, HasRisen, HasTaken, HasTakenNothing, HeldStripe, Holding, IsAbove, IsRefusal, LentStripe, RefusedTake, held_of, just_taken, offered_at}
+use Rattle.rc_fragment.specs.Holder.{AreOffered, CountsIfHeld, CountsOnlyHeld, GoesOn, HasRefused, HasRisen, HasTaken, HasTakenNothing, HeldStripe, Holding, IsAbove, IsRefusal, LentStripe, RefusedTake, held_of, just_taken, offered_at}
 use Rattle.rc_fragment.specs.HoldingLaws.{held-taken, risen_again}
 use Rattle.rc_fragment.specs.declared.held.TakeStop.{TakeStop}
 use Rattle.rc_fragment.specs.declared.held.TakeStop.TheVariants as take_stop
 use Rattle.rc_plan.specs.declared.statement.Which.{Which}
 use Rattle.rc_plan.specs.declared.statement.Which.TheVariants as which
 use Rattle.rc_plan.specs.Evaluation.{stripes_locked}
+use Rattle.rc_machine.specs.declared.stop.Stop.{Stop}
 use Rattle.rc_machine.specs.declared.stop.Stop.TheVariants as stop
 use Rattle.rc_machine.specs.Locks.{HasLocked, HasRefusedOne}
-use Rattle.rc_machine.specs.Stopped.{stopped}
+use Rattle.rc_machine.specs.Stopped.{CountsIfHeld as CountsIfHeldStop, CountsOnlyHeld as CountsOnlyHeldStop, stopped}
 
 pub less_from : (x y : ℕ) → nat_cmp x y ≡ Less → x < y
 less_from x y e = ranked x y Less (sym e)
@@ -131,3 +132,33 @@ same_held k h e = cc
 pub held_stop : (t : TakeStop) (h : Held) → stop.Held h ≡ stopped t → t ≡ take_stop.Held h
 held_stop take_stop.Memory h e = absurd (memory_or_held h e)
 held_stop (take_stop.Held k) h e = ap take_stop.Held (same_held k h e)
+
+-- ---- counted takes
+
+-- those counted since an earlier time, from which none was counted
+pub counted_since : {T : Type 0} (r : Result T TakeStop) (first old new : Holding) → old.refusals ≡ first.refusals → CountsOnlyHeld r old new → CountsOnlyHeld r first new
+counted_since (Ok x) first old new e counted = counted ∙ e
+counted_since (Err take_stop.Memory) first old new e counted = counted ∙ e
+counted_since (Err (take_stop.Held h)) first old new e counted = tt
+
+pub counted_stop_since : {T : Type 0} (r : Result T Stop) (first old new : Holding) → old.refusals ≡ first.refusals → CountsOnlyHeldStop r old new → CountsOnlyHeldStop r first new
+counted_stop_since (Ok x) first old new e counted = counted ∙ e
+counted_stop_since (Err stop.Memory) first old new e counted = counted ∙ e
+counted_stop_since (Err (stop.Held h)) first old new e counted = tt
+
+-- of an error that is handed on
+pub counted_on : {T : Type 0} (r : Result T TakeStop) (x : TakeStop) (old new : Holding) → IsErr r → IsErrAnd r (λ y. y ≡ x) → CountsIfHeld x old new → CountsOnlyHeld r old new
+counted_on (Ok y) x old new is gives counted = absurd cc
+counted_on (Err y) x old new is gives counted = subst (λ z. CountsIfHeld z old new) (sym gives) counted
+
+pub counted_stop_on : {T : Type 0} (r : Result T Stop) (x : Stop) (old new : Holding) → IsErr r → IsErrAnd r (λ y. y ≡ x) → CountsIfHeldStop x old new → CountsOnlyHeldStop r old new
+counted_stop_on (Ok y) x old new is gives counted = absurd cc
+counted_stop_on (Err y) x old new is gives counted = subst (λ z. CountsIfHeldStop z old new) (sym gives) counted
+
+-- and of a take that stopped a run
+stop_counts : (t : TakeStop) (old new : Holding) → CountsIfHeld t old new → CountsIfHeldStop (stopped t) old new
+stop_counts take_stop.Memory old new counted = counted
+stop_counts (take_stop.Held h) old new counted = tt
+
+pub counted_stopped : {T : Type 0} (r : Result T Stop) (t : TakeStop) (old new : Holding) → IsErr r → IsErrAnd r (λ y. y ≡ stopped t) → CountsIfHeld t old new → CountsOnlyHeldStop r old new
+counted_stopped r t old new is gives counted = counted_stop_on r (stopped t) old new is gives (stop_counts t old new counted)

@@ -9,12 +9,13 @@ ghost use Rattle.rc_spec.specs.Acceptance.{IsSealed};
 ghost use Rattle.rc_spec.specs.Placement.{class_at};
 ghost use Rattle.rc_spec.specs.Stripes.{physical_stripe, stripe_total};
 ghost use Rattle.rc_spec.specs.declared.spec.Spec.{Spec};
-ghost use Rattle.rc_fragment.specs.Holder.{GoesOn, IsAbove, held_of};
+ghost use Rattle.rc_fragment.specs.Holder.{CountsOnlyHeld, GoesOn, IsAbove, held_of};
 ghost use Rattle.rc_fragment.specs.declared.held.Held.{Held};
 ghost use Rattle.rc_fragment.specs.declared.held.TakeStop.TheVariants as take_stop;
 ghost use Rattle.rc_plan.specs.Evaluation.{stripes_locked};
 ghost use Rattle.rc_plan.specs.declared.statement.Which.TheVariants as which_stripes;
 ghost use Rattle.rc_machine.specs.Locks.{HasLocked, HasRefusedOne};
+ghost use Rattle.rc_machine.specs.Stopped.{CountsOnlyHeld as CountsOnlyHeldStop};
 ghost use Rattle.rc_machine.specs.declared.stop.Stop.TheVariants as stop;
 ghost use Rattle.rc_plan.specs.StripeLocks.{band};
 
@@ -44,6 +45,7 @@ pub(crate) fn lock<H: Holder>(
     ensures ok { OnOk result (HasLocked (H.seen holder.old) (H.seen holder.new) (gather nat_cmp (stripes_locked compiled.now.spec class which bindings.now.tuples)) mode) }
     ensures some { (n : ℕ) × HasLocked (H.seen holder.old) (H.seen holder.new) (take n (gather nat_cmp (stripes_locked compiled.now.spec class which bindings.now.tuples))) mode }
     ensures refused { (h : Held) → result ≡ Err (stop.Held h) → HasRefusedOne (H.seen holder.old) (H.seen holder.new) (gather nat_cmp (stripes_locked compiled.now.spec class which bindings.now.tuples)) mode h }
+    ensures counted { (spec : Spec) → H.is_sound holder.old spec → CountsOnlyHeldStop result (H.seen holder.old) (H.seen holder.new) }
     ensures goes_on { GoesOn (H.seen holder.old) (H.seen holder.new) }
     ensures sound { (spec : Spec) → H.is_sound holder.old spec → H.is_sound holder.new spec }
 {
@@ -116,6 +118,7 @@ fn take_all<H: Holder>(holder: &mut H, stripes: &[u32], mode: Mode) -> Result<()
     ensures ok { OnOk result (HasLocked (H.seen holder.old) (H.seen holder.new) stripes.now mode) }
     ensures some { (n : ℕ) × HasLocked (H.seen holder.old) (H.seen holder.new) (take n stripes.now) mode }
     ensures refused { (h : Held) → result ≡ Err (take_stop.Held h) → HasRefusedOne (H.seen holder.old) (H.seen holder.new) stripes.now mode h }
+    ensures counted { (spec : Spec) → H.is_sound holder.old spec → CountsOnlyHeld result (H.seen holder.old) (H.seen holder.new) }
     ensures goes_on { GoesOn (H.seen holder.old) (H.seen holder.new) }
     ensures sound { (spec : Spec) → H.is_sound holder.old spec → H.is_sound holder.new spec }
 {

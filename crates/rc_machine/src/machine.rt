@@ -6,6 +6,7 @@ ghost use Rattle.rc_spec.specs.declared.spec.Spec.{Spec};
 ghost use Rattle.rc_fragment.specs.Holder.{GoesOn, held_of};
 ghost use Rattle.rc_fragment.specs.declared.held.Held.{Held};
 ghost use Rattle.rc_machine.specs.Machine.{AreAsTaken, AreTakenAsOffered, HasAnswered, HasRefusedCall};
+ghost use Rattle.rc_machine.specs.Stopped.{CountsOnlyHeld};
 ghost use Rattle.rc_machine.specs.declared.stop.Stop.TheVariants as stop;
 
 use crate::Stop;
@@ -22,7 +23,7 @@ use rc_spec::{Call, Reply};
 /// Where it answers, evaluation of the plan on the rows as taken gives the reply, the held stripes and their rows now.
 /// On any relation of which the rows as taken are fragments the plain step gives the same reply, the call touches
 /// exactly the held stripes, and they have the fragments of the relation after it. After a stop each held stripe has its
-/// rows as taken. `Held` comes only where the count of refused takes rose in this call, and is then the last refused
+/// rows as taken. `Held` comes exactly where the count of refused takes rose in this call, and is then the last refused
 /// take's. What the holder offers stays.
 ///
 /// Costs, for each Read and binding, a look-up or the rows of one source, on one stripe where the binding chooses it and
@@ -41,6 +42,7 @@ pub fn run_plan<H: Holder>(
     ensures stopped { IfErr result (λ _. AreAsTaken (held_of (H.seen holder.new))) }
     ensures refused { (h : Held) → result ≡ Err (stop.Held h)
         → HasRefusedCall compiled.now call.now (H.seen holder.old) (H.seen holder.new) h }
+    ensures counted { CountsOnlyHeld result (H.seen holder.old) (H.seen holder.new) }
     ensures goes_on { GoesOn (H.seen holder.old) (H.seen holder.new) }
     ensures sound { (spec : Spec) → H.is_sound holder.old spec → H.is_sound holder.new spec }
 {

@@ -10,6 +10,7 @@ ghost use Rattle.rc_fragment.specs.declared.held.Held.{Held};
 ghost use Rattle.rc_plan.specs.Compiled.{IsPlanOf};
 ghost use Rattle.rc_machine.specs.Machine.{AreAsTaken, AreTakenAsOffered, IsRefused};
 ghost use Rattle.rc_machine.specs.Run.{HasGoneOn, IsAt};
+ghost use Rattle.rc_machine.specs.Stopped.{CountsOnlyHeld};
 ghost use Rattle.rc_machine.specs.Workspace.{AreWide, StaysWide};
 ghost use Rattle.rc_machine.specs.declared.stop.Stop.TheVariants as stop;
 
@@ -26,7 +27,7 @@ use rc_spec::{Call, Reply};
 use std::alloc::Global;
 
 /// Runs the statement with this number. The run goes on, or has answered; after a stop no held stripe is changed.
-#[tactic(auto, using(rc_fragment::specs::HoldingLaws::goes_on_same, crate::proofs::LentLemmas::lent_goes_on))]
+#[tactic(auto, using(rc_fragment::specs::HoldingLaws::goes_on_same, crate::proofs::LentLemmas::lent_goes_on, crate::proofs::LentLemmas::counted_same, crate::proofs::LentLemmas::counted_lent))]
 pub(crate) fn step<H: Holder>(
     alloc: Global,
     holder: &mut H,
@@ -49,6 +50,7 @@ pub(crate) fn step<H: Holder>(
     ensures taken { AreTakenAsOffered (H.seen holder.new) }
     ensures stopped { IfErr result (λ _. AreAsTaken (held_of (H.seen holder.new))) }
     ensures refused { (h : Held) → result ≡ Err (stop.Held h) → IsRefused compiled.now.spec plan.now call.now (H.seen holder.old) (H.seen holder.new) h }
+    ensures counted { CountsOnlyHeld result (H.seen holder.old) (H.seen holder.new) }
     ensures goes_on { GoesOn (H.seen holder.old) (H.seen holder.new) }
     ensures sound { (spec : Spec) → H.is_sound holder.old spec → H.is_sound holder.new spec }
 {

@@ -4,7 +4,8 @@ use Rattle.rc_tuple.specs.RisingSet.{In, IsRising, gather}
 use Rattle.rc_tuple.specs.RisingSetLaws.{in_gather, rising_gather, nat_order}
 use Rattle.rc_plan.specs.Evaluation.{stripes_locked}
 use Rattle.rc_machine.specs.Locks.{HasRefusedOne}
-use Rattle.rc_machine.proofs.LockLemmas.{held_stop, locked_known}
+use Rattle.rc_machine.proofs.LentLemmas.{counted_same}
+use Rattle.rc_machine.proofs.LockLemmas.{counted_stopped, held_stop, locked_known}
 use Rattle.rc_machine.proofs.lock.lock.Given.{Over}
 use Rattle.rc_machine.proofs.lock.lock.Goals.{After-deref}
 use Rattle.rc_machine.proofs.lock.lock.Goals as goal
@@ -32,3 +33,11 @@ returns-in_err-take_all-clause-refused g c h e =
     let is = rw e at given in
     subst (λ z. HasRefusedOne (g.H.Holder.seen c.args.holder.now) (g.H.Holder.seen c.take_all.new.holder) z c.args.mode h) (are g (goal.at.returns-in_err-take_all-clause-refused g c).After-deref)
     (c.in_err-take_all.ensures.refused h (ap Err (held_stop c.in_err-take_all.field-0.0 h is)))
+
+pub returns-in_err-name_stripes-clause-counted : goal.returns-in_err-name_stripes-clause-counted
+returns-in_err-name_stripes-clause-counted g c spec h = counted_same _ _
+
+pub returns-in_err-take_all-clause-counted : goal.returns-in_err-take_all-clause-counted
+returns-in_err-take_all-clause-counted g c spec h =
+    counted_stopped c.from_residual-in_err-take_all.result c.in_err-take_all.field-0.0 (g.H.Holder.seen c.args.holder.now) (g.H.Holder.seen c.take_all.new.holder)
+    c.from_residual-in_err-take_all.ensures.0 c.from_residual-in_err-take_all.ensures.1 (c.in_err-take_all.ensures.counted spec h)

@@ -1,8 +1,8 @@
-use Rattle.std.proofs.Common.{Err, ◌<◌, ℕ, get_or, length, subst, sym, ap}
+use Rattle.std.proofs.Common.{Err, ◌<◌, ℕ, get_or, length, refl, subst, sym, ap, ◌∙◌}
 use Rattle.rc_tuple.specs.RisingSetLaws.{get_or_in}
 use Rattle.rc_fragment.specs.Holder.{IsAbove, held_of}
 use Rattle.rc_fragment.specs.HoldingLaws.{goes_on_again, goes_on_same}
-use Rattle.rc_machine.proofs.LockLemmas.{locked_more, locked_none, next_above, refused_one}
+use Rattle.rc_machine.proofs.LockLemmas.{counted_on, counted_since, locked_more, locked_none, next_above, refused_one}
 use Rattle.rc_machine.proofs.lock.take_all.Given.{Over}
 use Rattle.rc_machine.proofs.lock.take_all.Goals.{In-loop-stripe}
 use Rattle.rc_machine.proofs.lock.take_all.Goals as goal
@@ -16,6 +16,7 @@ pub loop-stripe-init : goal.loop-stripe-init
 loop-stripe-init g c = record {
   locked = locked_none (g.H.Holder.seen c.args.holder.now) c.args.mode;
   goes_on = goes_on_same (g.H.Holder.seen c.args.holder.now);
+  counted = λ spec h. refl;
   sound = λ spec h. h;
 }
 
@@ -40,5 +41,14 @@ loop-stripe-preserved g c = record {
   locked = locked_more (g.H.Holder.seen c.args.holder.now) (g.H.Holder.seen c.loop-stripe.holder) c.args.stripes.now c.loop-stripe.stripe-index c.args.mode c.loop-stripe-test.true
       c.loop-stripe.invariant.locked (g.H.Holder.seen c.take.new.self) c.loop-stripe.invariant.goes_on c.in_ok-take.ensures.ok;
   goes_on = goes_on_again (g.H.Holder.seen c.args.holder.now) (g.H.Holder.seen c.loop-stripe.holder) (g.H.Holder.seen c.take.new.self) c.loop-stripe.invariant.goes_on c.in_ok-take.ensures.ok.goes_on;
+  counted = λ spec h. c.in_ok-take.ensures.counted spec (c.loop-stripe.invariant.sound spec h) ∙ c.loop-stripe.invariant.counted spec h;
   sound = λ spec h. c.in_ok-take.ensures.sound spec (c.loop-stripe.invariant.sound spec h);
 }
+
+pub returns-in_err-take-clause-counted : goal.returns-in_err-take-clause-counted
+returns-in_err-take-clause-counted g c spec h =
+    let old = g.H.Holder.seen c.loop-stripe.holder in
+    let new = g.H.Holder.seen c.take.new.self in
+    counted_since c.from_residual.result (g.H.Holder.seen c.args.holder.now) old new (c.loop-stripe.invariant.counted spec h)
+    (counted_on c.from_residual.result c.in_err-take.field-0.0 old new c.from_residual.ensures.0 c.from_residual.ensures.1
+    (c.in_err-take.ensures.counted spec (c.loop-stripe.invariant.sound spec h)))

@@ -1,4 +1,4 @@
-use Rattle.std.proofs.Common.{take}
+use Rattle.std.proofs.Common.{◌≡◌, take}
 use Rattle.rc_spec.specs.declared.spec.Spec.{Spec}
 use Rattle.rc_fragment.specs.Holder.{GoesOn}
 use Rattle.rc_machine.specs.Locks.{HasLocked}
@@ -8,5 +8,6 @@ abbrev pub invariant-loop-stripe : goal.invariant-loop-stripe
 invariant-loop-stripe g l = record {
   locked : HasLocked (g.H.Holder.seen l.fn.holder) (g.H.Holder.seen l.holder) (take l.stripe-index l.stripes) l.mode;
   goes_on : GoesOn (g.H.Holder.seen l.fn.holder) (g.H.Holder.seen l.holder);
+  counted : (spec : Spec) → g.H.Holder.is_sound l.fn.holder spec → (g.H.Holder.seen l.holder).refusals ≡ (g.H.Holder.seen l.fn.holder).refusals;
   sound : (spec : Spec) → g.H.Holder.is_sound l.fn.holder spec → g.H.Holder.is_sound l.holder spec;
 }

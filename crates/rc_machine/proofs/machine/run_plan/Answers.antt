@@ -1,4 +1,4 @@
-use Rattle.std.proofs.Common.{◌≡◌, ◌<◌, ◌≤◌, ◌∷◌, ◌++◌, [], List, Err, None, Option, length, sym, ap, subst, ◌∙◌}
+use Rattle.std.proofs.Common.{◌≡◌, ◌<◌, ◌≤◌, ◌∷◌, ◌++◌, [], List, Err, None, Option, length, refl, sym, ap, subst, ◌∙◌}
 use Rattle.rc_tuple.specs.RisingSet.{In}
 use Rattle.rc_tuple.specs.MergeLaws.{project_all}
 use Rattle.rc_tuple.specs.Tuple.{Pairs, project}
@@ -13,6 +13,8 @@ use Rattle.rc_plan.specs.Compiled.{IsPlanOf, plan_at}
 use Rattle.rc_machine.specs.Machine.{IsRefused}
 use Rattle.rc_machine.specs.Run.{IsAt}
 use Rattle.rc_machine.proofs.GoLemmas.{refused_since}
+use Rattle.rc_machine.proofs.LentLemmas.{counted_same}
+use Rattle.rc_machine.proofs.LockLemmas.{counted_stop_on, counted_stop_since}
 use Rattle.rc_machine.proofs.StepLemmas.{begins}
 use Rattle.rc_machine.proofs.machine.run_plan.Given.{Over}
 use Rattle.rc_machine.proofs.machine.run_plan.Goals.{After-list, After-list-plan}
@@ -65,6 +67,7 @@ loop-at-init g c =
           (subst (λ (z : List Pairs). IsAt spec plan c.args.call.now plan z None (held_of (g.H.Holder.seen c.args.holder.now))) (sym args)
           (subst (λ (z : List HeldStripe). IsAt spec plan c.args.call.now plan (c.args.call.now.args ∷ []) None z) (sym c.requires.free) start));
       taken = λ h m. absurd (subst (In h) c.requires.free m);
+      counted = refl;
       goes_on = goes_on_same (g.H.Holder.seen c.args.holder.now);
       sound = λ spec h. h;
     }
@@ -78,3 +81,13 @@ returns-in_err-reply-clause-refused g c h e =
     let new = g.H.Holder.seen c.step.new.holder in
     subst (λ (z : List Statement). IsRefused spec z c.args.call.now old new h) (plan_is g (goal.at.returns-in_err-reply-clause-refused g c).After-list-plan)
     (refused_since spec c.list-plan.result.now c.args.call.now old (g.H.Holder.seen c.loop-at.holder) new h c.loop-at.invariant.goes_on (c.in_err-reply.ensures.refused h (ap Err (sym is))))
+
+pub returns-in_err-push_projection-clause-counted : goal.returns-in_err-push_projection-clause-counted
+returns-in_err-push_projection-clause-counted g c = counted_same _ _
+
+pub returns-in_err-reply-clause-counted : goal.returns-in_err-reply-clause-counted
+returns-in_err-reply-clause-counted g c =
+    let old = g.H.Holder.seen c.loop-at.holder in
+    let new = g.H.Holder.seen c.step.new.holder in
+    counted_stop_since c.from_residual-in_err-reply.result (g.H.Holder.seen c.args.holder.now) old new c.loop-at.invariant.counted
+    (counted_stop_on c.from_residual-in_err-reply.result c.in_err-reply.field-0.0 old new c.from_residual-in_err-reply.ensures.0 c.from_residual-in_err-reply.ensures.1 c.in_err-reply.ensures.counted)

@@ -1,4 +1,4 @@
-use Rattle.std.proofs.Common.{drop}
+use Rattle.std.proofs.Common.{◌≡◌, drop}
 use Rattle.rc_spec.specs.declared.spec.Spec.{Spec}
 use Rattle.rc_fragment.specs.Holder.{GoesOn, held_of}
 use Rattle.rc_machine.specs.Machine.{AreTakenAsOffered}
@@ -11,6 +11,7 @@ invariant-loop-at g l = record {
   run : IsAt l.compiled.spec l.plan l.call (drop l.at l.plan) l.space.bindings.tuples l.space.old_tuple (held_of (g.H.Holder.seen l.holder));
   wide : AreWide l.compiled.spec l.space;
   taken : AreTakenAsOffered (g.H.Holder.seen l.holder);
+  counted : (g.H.Holder.seen l.holder).refusals ≡ (g.H.Holder.seen l.fn.holder).refusals;
   goes_on : GoesOn (g.H.Holder.seen l.fn.holder) (g.H.Holder.seen l.holder);
   sound : (spec : Spec) → g.H.Holder.is_sound l.fn.holder spec → g.H.Holder.is_sound l.holder spec;
 }

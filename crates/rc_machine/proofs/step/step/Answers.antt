@@ -19,6 +19,7 @@ use Rattle.rc_machine.proofs.CheckStepLemmas.{probe_step, probe_within}
 use Rattle.rc_machine.proofs.StripeLemmas.{all_below}
 use Rattle.rc_machine.proofs.GoLemmas.{absent_goes, applied_replies, applied_told, at_is, can_apply, dep_goes, emit_replies, found_goes, if_err, lock_refused, locked_told, still_taken, told_same}
 use Rattle.rc_machine.proofs.LentLemmas.{lent_goes_on}
+use Rattle.rc_machine.proofs.LockLemmas.{counted_stop_on}
 use Rattle.rc_machine.proofs.ReadStepLemmas.{are_good, are_readers, read_step}
 use Rattle.rc_machine.proofs.StepLemmas.{lock_above, lock_step}
 use Rattle.rc_machine.proofs.step.step.Given.{Over}
@@ -75,6 +76,14 @@ returns-in_err-lock-in-Lock-clause-refused g c h e =
     c.in_err-lock-in-Lock.ensures.some.1
     (g.met.H.Holder.sound_rows c.lock.new.holder c.args.compiled.now.spec (c.in_err-lock-in-Lock.ensures.sound c.args.compiled.now.spec c.requires.sound)) h
     (c.in_err-lock-in-Lock.ensures.refused h (ap Err (sym is)))
+
+pub returns-in_err-lock-in-Lock-clause-counted : goal.returns-in_err-lock-in-Lock-clause-counted
+returns-in_err-lock-in-Lock-clause-counted g c =
+    counted_stop_on c.from_residual.result c.in_err-lock-in-Lock.field-0.0 (g.H.Holder.seen c.args.holder.now) (g.H.Holder.seen c.lock.new.holder)
+    c.from_residual.ensures.0 c.from_residual.ensures.1 (c.in_err-lock-in-Lock.ensures.counted c.args.compiled.now.spec c.requires.sound)
+
+pub returns-in_ok-lock-in-Lock-clause-counted : goal.returns-in_ok-lock-in-Lock-clause-counted
+returns-in_ok-lock-in-Lock-clause-counted g c = c.in_ok-lock-in-Lock.ensures.counted c.args.compiled.now.spec c.requires.sound
 
 pub returns-in_ok-lock-in-Lock-clause-taken : goal.returns-in_ok-lock-in-Lock-clause-taken
 returns-in_ok-lock-in-Lock-clause-taken g c =
