@@ -1,6 +1,7 @@
 -- A closed row has one history.
 use Rattle.std.proofs.Common.{◌≡◌, ℕ, zero, suc, ◌+◌, ◌*◌, ◌<◌, ◌≤◌, ◌^◌, ◌||◌, List, [], ◌∷◌, ◌++◌, length, map, drop, take, get_or, Some, None, sym, refl, ap, ◌∙◌, subst, inl, inr, arith, length-append}
 use Rattle.std.specs.Prelude.{All}
+use Rattle.std.proofs.lemmas.Option.{same_Some}
 use Rattle.std.specs.List.{slice_get, range_with_len, remove}
 use Rattle.std.proofs.lemmas.Bool.{cases_eq, false≢true, eq-eqb}
 use Rattle.std.proofs.lemmas.List.{length-map, map-append}
@@ -26,15 +27,17 @@ use Rattle.rc_core.specs.SizeLaws.{few_tuples, history_law}
 use Rattle.atomic_table.specs.Table.{State, Final, Seen}
 use Rattle.rc_row.specs.declared.close.EndedPass.{EndedPass}
 use Rattle.rc_row.specs.declared.law.Key.{Key}
+use Rattle.rc_row.specs.declared.law.Refusal.{Refusal}
 use Rattle.rc_row.specs.declared.law.Standing.{Standing}
 use Rattle.rc_row.specs.declared.law.View.{View}
 use Rattle.rc_row.specs.declared.row.Row.TheInside.{Inside}
 use Rattle.rc_row.specs.Ended.{IsEndedPass, HasHistory, AreEnded}
-use Rattle.rc_row.specs.Law.{Slot, kept_of, spec_by, stripes_by, numbers_in, passes_view, AreSeatedAt, IsKept}
+use Rattle.rc_row.specs.Law.{Slot, kept_of, spec_by, stripes_by, numbers_in, passes_view, AreKnown, AreSeatedAt, AreTold, IsKept}
+use Rattle.rc_row.specs.RunLaws.{good_of, refusals_of}
 use Rattle.rc_row.specs.Passes.{PassSeen, RowSeen, core_of, spec_of}
 use Rattle.rc_row.specs.RowInside.{IsWholeRow, row_seen}
 use Rattle.rc_row.proofs.ListLemmas.{all_at, get_before, get_last}
-use Rattle.rc_row.proofs.StripeLemmas.{there, no_latch}
+use Rattle.rc_row.proofs.StripeLemmas.{there, no_latch, slot_home}
 
 -- ---- passes by number
 
@@ -109,6 +112,7 @@ pub record AreClosed (spec : Spec) (passes : List PassSeen) (slots : List Slot) 
   pub history : List Entry
   pub good : IsGoodHistory spec (length passes) history
   pub own : (k : ℕ) (pass : PassSeen) → slice_get passes k ≡ Some pass → (core_of pass).own ≡ own_placed history k
+  pub known : (k : ℕ) (pass : PassSeen) → slice_get passes k ≡ Some pass → AreKnown history pass.standing.known
   pub short : length history ≤ 255 * 2 ^ 48
   pub small : length (replay spec history) < 2 ^ 60
   pub rows : (p : ℕ) → p < length slots → get_elem? slots p ≡ some (Some (kept_of spec (fragment_of spec (replay spec history) p)))
@@ -124,6 +128,13 @@ seated_at all seat id a (x ∷ passes) zero pass f numbers e =
 seated_at all seat id a (x ∷ passes) (suc k) pass f numbers e =
     let later : numbers_of passes ≡ range_with_len (a + 1) (length passes) = cc in
     ap (slice_get all) (omega arith) ∙ seated_at all seat id (a + 1) passes k pass f.1 later e
+
+-- and was told of beginnings of the history
+known_at : (history : List Entry) (refusals : ℕ → List Refusal) (passes : List PassSeen) (k : ℕ) (pass : PassSeen) → AreTold history refusals (standings_of passes) → slice_get passes k ≡ Some pass
+    → AreKnown history pass.standing.known
+known_at history refusals [] k pass f e = cc
+known_at history refusals (x ∷ passes) zero pass f e = subst (λ (y : PassSeen). AreKnown history y.standing.known) (same_Some x pass e) f.0.known
+known_at history refusals (x ∷ passes) (suc k) pass f e = known_at history refusals passes k pass f.1 e
 
 at_place : {A : Type 0} → (xs : List A) (k : ℕ) → k < length xs → (x : A) × (slice_get xs k ≡ Some x)
 at_place [] k lt = absurd (omega arith)
@@ -156,32 +167,33 @@ module _ (key : Key) (id : ℕ) (passes : List PassSeen) (s : State Slot View) (
 
   -- nobody writes a stripe
   unwritten : (p : ℕ) → p < stripes_by key → (stripe_at kept.core.stripes p).keeper ≡ Home (fragment_of (spec_by key) (replay (spec_by key) kept.core.history) p)
-  unwritten p lt = go (stripe_at kept.core.stripes p).keeper refl (kept.good.stripes p (there key s kept p lt)).keeper
+  unwritten p lt = go (stripe_at kept.core.stripes p).keeper refl ((good_of key s kept).stripes p (there key s kept p lt)).keeper
     where
       go : (x : Keeper) → (stripe_at kept.core.stripes p).keeper ≡ x → IsGoodKeeper (spec_by key) kept.core.history (length kept.core.passes) p x → x ≡ Home (fragment_of (spec_by key) (replay (spec_by key) kept.core.history) p)
       go (Home rows) is g = ap Home g
       go (Writer k) is g =
           let u = idle_core k g in
-          let w = (kept.good.passes k u.0 u.1).writes p in
+          let w = ((good_of key s kept).passes k u.0 u.1).writes p in
           absurd (false≢true (sym (ap (λ (holds : List Hold). has (stripes_in (held_in Exclusive holds)) p) u.2) ∙ w ∙ ap (λ (x : Keeper). is_writer x k) is ∙ eq-eqb k k refl))
 
   -- nobody is counted in
   uncounted : (p : ℕ) → p < stripes_by key → (stripe_at kept.core.stripes p).counted ≡ []
   uncounted p lt = none_in (stripe_at kept.core.stripes p).counted (λ k m.
-      let u = idle_core k ((kept.good.stripes p (there key s kept p lt)).known k m) in
-      let w = (kept.good.passes k u.0 u.1).counts p in
+      let u = idle_core k (((good_of key s kept).stripes p (there key s kept p lt)).known k m) in
+      let w = ((good_of key s kept).passes k u.0 u.1).counts p in
       false≢true (sym (λ i. has (stripes_in (held_in Shared (u.2 i))) p || is_at (u.3 i) p) ∙ w ∙ has_in (stripe_at kept.core.stripes p).counted k m))
 
   pub closed_home : (p : ℕ) → p < stripes_by key → get_elem? s.homes p ≡ some (some (Some (kept_of (spec_by key) (fragment_of (spec_by key) (replay (spec_by key) kept.core.history) p))))
-  closed_home p lt = kept.shows.homes p (fragment_of (spec_by key) (replay (spec_by key) kept.core.history) p) (there key s kept p lt) (unwritten p lt) (no_latch key s kept p (uncounted p lt))
+  closed_home p lt = slot_home key s kept p (fragment_of (spec_by key) (replay (spec_by key) kept.core.history) p) lt (unwritten p lt) (no_latch key s kept p (uncounted p lt))
 
   pub closed : (slots : List Slot) → length s.homes ≡ length slots → ((k : ℕ) (y : Slot) → get_elem? s.homes k ≡ some (some y) → get_elem? slots k ≡ some y) → AreClosed (spec_by key) passes slots
   closed slots wide homes = record {
     history = kept.core.history;
-    good = subst (λ n. IsGoodHistory (spec_by key) n kept.core.history) same_many kept.good.history;
-    own = λ k pass e. (kept.good.passes k (core_of pass) (is_core k pass e)).own;
-    short = history_law (spec_by key) kept.core kept.good;
-    small = few_tuples (spec_by key) kept.core kept.good;
+    good = subst (λ n. IsGoodHistory (spec_by key) n kept.core.history) same_many (good_of key s kept).history;
+    own = λ k pass e. ((good_of key s kept).passes k (core_of pass) (is_core k pass e)).own;
+    known = λ k pass e. known_at kept.core.history (refusals_of key s kept) passes k pass (kept.views id (passes_view (standings_of passes)) at).histories e;
+    short = history_law (spec_by key) kept.core (good_of key s kept);
+    small = few_tuples (spec_by key) kept.core (good_of key s kept);
     rows = λ p lt. homes p (Some (kept_of (spec_by key) (fragment_of (spec_by key) (replay (spec_by key) kept.core.history) p))) (closed_home p (let w = kept.shows.slots in omega (arith, wide)));
   }
 
@@ -206,6 +218,7 @@ module _ (a : Inside) (row : RowSeen) (is : row_seen a ≡ row) (whole : IsWhole
     history = closed_slots.history;
     good = closed_slots.good;
     own = closed_slots.own;
+    known = closed_slots.known;
     short = closed_slots.short;
     small = closed_slots.small;
     count = wide ∙ count ∙ whole.slots;

@@ -3,25 +3,39 @@ use Rattle.std.proofs.Common.{◌≡◌, ℕ, ◌*◌, ◌+◌, ◌%◌, ◌^◌
 use Rattle.std.specs.Prelude.{slice_index}
 use Rattle.std.specs.List.{slice_get}
 use Rattle.std.proofs.lemmas.List.{get_or-set_same, get_or-set_other}
-use mathlib.Core.Option.{none}
+use mathlib.Core.Option.{some, none}
+use lib.ListN.{get_elem?}
 use Rattle.rc_rel.specs.declared.entry.Entry.{Entry}
+use Rattle.rc_rel.specs.History.{IsPrefix}
+use Rattle.rc_rel.specs.PlaceLaws.{prefix_same}
 use Rattle.rc_core.specs.declared.state.CoreState.{CoreState}
 use Rattle.rc_core.specs.declared.state.PassState.{PassState}
 use Rattle.rc_core.specs.Passes.{MayCommit, committed, learned}
+use Rattle.rc_core.specs.declared.event.Event.TheVariants as event
 use Rattle.rc_core.specs.Events.{with_pass}
-use Rattle.rc_core.specs.Good.{IsGood}
+use Rattle.rc_core.specs.Good.{IsGood, IsOfHistory}
+use Rattle.rc_core.specs.RunLaws.{of_history}
 use Rattle.rc_core.specs.ListLaws.{get_set_same}
 use Rattle.rc_core.specs.CommitLaws.{commit_keeps}
-use Rattle.rc_core.specs.KeepsLaws.{learn_keeps}
 use Rattle.rc_core.specs.SizeLaws.{history_law}
-use Rattle.atomic_table.specs.Table.{step, keeps, Allows}
+use Rattle.atomic_table.specs.Table.{State, step, keeps, Allows}
 use Rattle.rc_row.specs.declared.law.Key.{Key}
 use Rattle.rc_row.specs.declared.law.Standing.{Standing}
-use Rattle.rc_row.specs.Law.{Slot, compiled_by, spec_by, stripes_by, stripe_word, latch_word, pass_view, IsKept}
-use Rattle.rc_row.specs.Standings.{with_core, HaveOneRelation}
+use Rattle.rc_row.specs.declared.law.View.{View}
+use Rattle.rc_row.specs.Law.{Slot, AreKnown, compiled_by, spec_by, stripes_by, stripe_word, latch_word, pass_view, IsKept}
+use Rattle.rc_row.specs.Run.{OfCore, row_state}
+use Rattle.rc_row.specs.RunLaws.{good_of}
+use Rattle.rc_row.specs.Standings.{after_entry, after_look}
 use Rattle.rc_row.specs.Told.{ToldAtCommit, ToldAtLook}
-use Rattle.rc_row.proofs.MoveLemmas.{moved, its_pass, its_latch}
+use Rattle.rc_row.proofs.ListLemmas.{all_end}
+use Rattle.rc_row.proofs.MoveLemmas.{moved, its_core, its_known, its_latch, its_pass, its_place, still_known}
 use Rattle.rc_row.proofs.StripeLemmas.{has_one, still_bare}
+
+-- the pass of a seat is of the history
+at_history : (key : Key) (s : State Slot View) (kept : IsKept key s) (id : ℕ) (a : Standing) → get_elem? s.views id ≡ some (pass_view a) → IsOfHistory (spec_by key) key.passes kept.core.history a.core
+at_history key s kept id a at =
+    subst (λ n. IsOfHistory (spec_by key) n kept.core.history a.core) kept.shows.passes
+    (of_history (spec_by key) kept.core a.core.number a.core (good_of key s kept) (its_pass key s kept id a None at))
 
 -- a fetch-add on the commit word
 pub commits : (key : Key) (slots id : ℕ) (a : Standing) (carried : List (ℕ × Slot)) (e : Entry) → MayCommit (compiled_by key) a.core e
@@ -33,55 +47,71 @@ commits key slots id a carried e may s kept wide at small =
     let read : slice_index s.words 0 ≡ length kept.core.history = kept.shows.commit in
     let is : slice_get kept.core.passes a.core.number ≡ Some a.core = its_pass key s kept id a None at in
     let w : PassState = committed (compiled_by key) a.core (length kept.core.history) e in
+    let b : Standing = after_entry (compiled_by key) kept.core.history e a in
     let next : CoreState = with_pass c (c.history ++ e ∷ []) c.stripes k w in
-    let good : IsGood (spec_by key) next = commit_keeps (compiled_by key) kept.compiled c k a.core e kept.good is may in
+    let good : IsGood (spec_by key) next = commit_keeps (compiled_by key) kept.compiled c k a.core e (good_of key s kept) is may in
     let x : ℕ = (slice_index s.words 0 + 1) % 2 ^ 64 in (
-      pass_view (with_core a w),
+      pass_view b,
       keeps,
       tt,
-      moved key s kept id a None at (with_core a w) None refl (c.history ++ e ∷ []) c.stripes good (let l = longer in omega arith)
-          kept.latches refl kept.named (still_bare kept.latches a.core w (its_latch key s kept id a None at) refl) (λ j q n. refl)
+      moved key s kept id a None at b None refl (OfCore (event.Commit k e))
+          (its_place key s kept id a None at, subst (λ (u : PassState). MayCommit (compiled_by key) u e) (sym (its_core key s kept id a None at)) may) refl (refl, refl)
+          (c.history ++ e ∷ []) c.stripes kept.latches
+          (ap (λ (u : PassState). row_state (with_pass c (c.history ++ e ∷ []) c.stripes k (committed (compiled_by key) u (length c.history) e)) kept.latches) (its_core key s kept id a None at))
+          (e ∷ [], refl) told_more refl kept.named (still_bare kept.latches a.core w (its_latch key s kept id a None at) refl) (λ j q n. refl)
           (set s.words 0 x) s.homes (length-set s.words 0 x) (get_or-set_same s.words 0 x 0 (let l = kept.shows.wide in omega arith) ∙ counted)
           (λ q below. get_or-set_other s.words 0 (stripe_word q) x 0 (λ f. omega arith) ∙ kept.shows.words q below)
           (λ q below. get_or-set_other s.words 0 (latch_word (stripes_by key) q) x 0 (λ f. omega arith) ∙ kept.shows.latch_words q below)
           refl kept.shows.homes,
       record {
-        seen = subst (λ n. a.core.seen ≤ n) (sym read) (kept.good.passes k a.core is).seen;
+        before = c.history;
+        place = read;
+        at = record { goes_on = its_known key s kept id a None at; seen = ((good_of key s kept).passes k a.core is).seen; of = at_history key s kept id a at };
+        after = subst (λ n. IsOfHistory (spec_by key) n (c.history ++ e ∷ []) w) (length-set c.passes k w ∙ kept.shows.passes)
+            (of_history (spec_by key) next k w good (get_set_same c.passes k w a.core is));
+        one = has_one (spec_by key) next k w good (get_set_same c.passes k w a.core is);
         small = (let h : length (kept.core.history ++ e ∷ []) ≤ 255 * 2 ^ 48 = history_law (spec_by key) next good in let l = longer in let r = read in omega arith);
-        view = ap (λ n. pass_view (with_core a (committed (compiled_by key) a.core n e))) (sym read);
+        view = refl;
         slots = refl;
-        one = subst (λ n. HaveOneRelation (spec_by key) (committed (compiled_by key) a.core n e).held) (sym read) (has_one (spec_by key) next k w good (get_set_same c.passes k w a.core is));
       },
     )
   where
+    told_more : AreKnown (kept.core.history ++ e ∷ []) (a.known ++ (kept.core.history ++ e ∷ []) ∷ [])
+    told_more = all_end (λ (earlier : List Entry). IsPrefix earlier (kept.core.history ++ e ∷ [])) a.known (kept.core.history ++ e ∷ [])
+        (still_known kept.core.history (kept.core.history ++ e ∷ []) a.known (e ∷ [], refl) (its_known key s kept id a None at)) (prefix_same (kept.core.history ++ e ∷ []))
+
     longer : length (kept.core.history ++ e ∷ []) ≡ length kept.core.history + 1
     longer = length-append kept.core.history (e ∷ [])
 
     counted : (slice_index s.words 0 + 1) % 2 ^ 64 ≡ length (kept.core.history ++ e ∷ [])
-    counted = let l = longer in let r : slice_index s.words 0 ≡ length kept.core.history = kept.shows.commit in let h : length kept.core.history ≤ 255 * 2 ^ 48 = history_law (spec_by key) kept.core kept.good in omega arith
+    counted = let l = longer in let r : slice_index s.words 0 ≡ length kept.core.history = kept.shows.commit in let h : length kept.core.history ≤ 255 * 2 ^ 48 = history_law (spec_by key) kept.core (good_of key s kept) in omega arith
 
 -- a load of the commit word
 pub looks : (key : Key) (slots id : ℕ) (a : Standing) (carried : List (ℕ × Slot))
-    → Allows (IsKept key) slots id (pass_view a, carried) 0 (λ n. n) (ToldAtLook (step slots 0 0 0 none) (pass_view a, carried))
+    → Allows (IsKept key) slots id (pass_view a, carried) 0 (λ n. n) (ToldAtLook (Some key) (step slots 0 0 0 none) (pass_view a, carried))
 looks key slots id a carried s kept wide at small =
     let c : CoreState = kept.core in
     let found : ℕ = slice_index s.words 0 in
     let read : slice_index s.words 0 ≡ length kept.core.history = kept.shows.commit in
     let is : slice_get kept.core.passes a.core.number ≡ Some a.core = its_pass key s kept id a None at in
-    let w : PassState = learned a.core (slice_index s.words 0) in
-    let good : IsGood (spec_by key) (with_pass c c.history c.stripes a.core.number w) =
-    learn_keeps (spec_by key) kept.core a.core.number a.core kept.good is (slice_index s.words 0) (omega (arith, read)) in (
-      pass_view (with_core a w),
+    let b : Standing = after_look kept.core.history a in (
+      pass_view b,
       keeps,
       tt,
-      moved key s kept id a None at (with_core a w) None refl c.history c.stripes good (omega arith)
-          kept.latches refl kept.named (still_bare kept.latches a.core w (its_latch key s kept id a None at) refl) (λ j q n. refl)
+      moved key s kept id a None at b None refl (OfCore (event.Learn a.core.number (length kept.core.history)))
+          (its_place key s kept id a None at, omega arith) refl (refl, refl) c.history c.stripes kept.latches
+          (ap (λ (u : PassState). row_state (with_pass c c.history c.stripes a.core.number (learned u (length c.history))) kept.latches) (its_core key s kept id a None at))
+          (prefix_same c.history)
+          (all_end (λ (earlier : List Entry). IsPrefix earlier kept.core.history) a.known kept.core.history (its_known key s kept id a None at) (prefix_same kept.core.history))
+          refl kept.named (still_bare kept.latches a.core b.core (its_latch key s kept id a None at) refl) (λ j q n. refl)
           (set s.words 0 found) s.homes (length-set s.words 0 found) (get_or-set_same s.words 0 found 0 (let l = kept.shows.wide in omega arith) ∙ read)
           (λ q below. get_or-set_other s.words 0 (stripe_word q) found 0 (λ f. omega arith) ∙ kept.shows.words q below)
           (λ q below. get_or-set_other s.words 0 (latch_word (stripes_by key) q) found 0 (λ f. omega arith) ∙ kept.shows.latch_words q below)
           refl kept.shows.homes,
       record {
-        seen = subst (λ n. a.core.seen ≤ n) (sym read) (kept.good.passes a.core.number a.core is).seen;
+        history = c.history;
+        long = read;
+        at = record { goes_on = its_known key s kept id a None at; seen = ((good_of key s kept).passes a.core.number a.core is).seen; of = at_history key s kept id a at };
         view = refl;
         slots = refl;
       },

@@ -1,5 +1,5 @@
 -- Taking and freeing a latch keep the rule.
-use Rattle.std.proofs.Common.{◌≡◌, ◌≢◌, ℕ, suc, ◌<◌, ◌≤◌, ◌==◌, false, List, ◌∷◌, length, set, Option, Some, None, sym, refl, ap, ◌∙◌, subst, inl, inr, arith, length-set}
+use Rattle.std.proofs.Common.{◌≡◌, ◌≢◌, ℕ, suc, ◌-◌, ◌<◌, ◌≤◌, ◌==◌, false, List, ◌∷◌, length, set, Option, Some, None, sym, refl, ap, ◌∙◌, subst, inl, inr, arith, length-set}
 use Rattle.std.specs.Prelude.{slice_index}
 use Rattle.std.specs.List.{slice_get}
 use Rattle.std.proofs.lemmas.Bool.{cases_eq, false≢true, eq-eqb, ne_eqb, eqb-true, eqb-false}
@@ -9,24 +9,30 @@ use lib.ListN.{get_elem?}
 use prog.Atomic.{either}
 use Rattle.rc_tuple.specs.RisingSet.{In}
 use Rattle.rc_spec.specs.Fragments.{EdgeRow}
+use Rattle.rc_spec.specs.declared.lock.Found.TheVariants.{Latch}
+use Rattle.rc_spec.specs.declared.lock.Mode.TheVariants.{Shared}
+use Rattle.rc_rel.specs.PlaceLaws.{prefix_same}
+use Rattle.rc_core.specs.declared.state.CoreState.{CoreState}
+use Rattle.rc_core.specs.declared.state.PassState.{PassState}
 use Rattle.rc_core.specs.declared.state.Keeper.{Keeper}
 use Rattle.rc_core.specs.declared.state.Keeper.TheVariants.{Home}
-use Rattle.rc_core.specs.State.{stripe_at, has_writer, home_rows, shares_of}
-use Rattle.rc_core.specs.Passes.{rows_of_hold}
-use Rattle.rc_core.specs.Events.{with_pass}
-use Rattle.rc_core.specs.Good.{IsGood, IsGoodPass}
+use Rattle.rc_core.specs.State.{stripe_at, has_writer, shares_of}
+use Rattle.rc_core.specs.Passes.{other_holds, rows_of_hold}
+use Rattle.rc_core.specs.Good.{IsGoodPass}
 use Rattle.rc_core.specs.ListLaws.{each_changed}
-use Rattle.rc_core.specs.KeepsLaws.{at_below, good_home, shares_held, pass_change, rows_of_it}
+use Rattle.rc_core.specs.KeepsLaws.{good_home, shares_held, rows_of_it}
 use Rattle.atomic_table.specs.Table.{State, step, Act, keeps, takes, gives, stepped, Allows, Valid, carried_after}
 use Rattle.atomic_table.proofs.Lists.{set_here, set_else}
 use Rattle.rc_row.specs.declared.law.Key.{Key}
 use Rattle.rc_row.specs.declared.law.Standing.{Standing}
 use Rattle.rc_row.specs.declared.law.View.{View}
-use Rattle.rc_row.specs.Law.{Slot, kept_of, spec_by, stripes_by, stripe_word, latch_word, word_of, view_of, pass_view, HasLatch, HomesAre, IsKept}
+use Rattle.rc_row.specs.Law.{Slot, compiled_by, kept_of, spec_by, stripes_by, stripe_word, latch_word, word_of, view_of, pass_view, HasLatch, HomesAre, IsKept, home_of}
+use Rattle.rc_row.specs.Run.{RowStep, TakeLatch, MissLatch, FreeLatch, CanStep, after_step, pass_of, refusal_of, row_state, refusal_at}
+use Rattle.rc_row.specs.RunLaws.{good_of, state_of}
 use Rattle.rc_row.specs.Standings.{latched_out}
 use Rattle.rc_row.specs.Told.{found_in_latch, HasLatched, IsLatchedOut, LatchesOrNot, ToldAtLatch, ToldAtUnlatch}
-use Rattle.rc_row.proofs.MoveLemmas.{Home?, moved, its_pass, its_latch}
-use Rattle.rc_row.proofs.StripeLemmas.{by_true, by_false, home_is, there, latch_inside, commit_stays, moved_alone}
+use Rattle.rc_row.proofs.MoveLemmas.{Home?, Refuses, moved, its_core, its_known, its_latch, its_pass, its_place, still_core}
+use Rattle.rc_row.proofs.StripeLemmas.{by_true, by_false, home_is, there, latch_inside, commit_stays, moved_alone, out_where, slot_home}
 
 module _ (key : Key) (s : State Slot View) (kept : IsKept key s) where
   -- the latch words where one of them changes
@@ -43,28 +49,27 @@ module _ (key : Key) (s : State Slot View) (kept : IsKept key s) where
   stripe_words_stay p x q below = get_or-set_other s.words (latch_word (stripes_by key) p) (stripe_word q) x 0 (λ e. omega arith) ∙ kept.shows.words q below
 
 module _ (key : Key) (s : State Slot View) (kept : IsKept key s) (id : ℕ) (a : Standing) (l : Option ℕ) (at : get_elem? s.views id ≡ some (view_of a l)) where
-  -- the core's state stays as it is
-  pub still_good : IsGood (spec_by key) (with_pass kept.core kept.core.history kept.core.stripes a.core.number a.core)
-  still_good = let is = its_pass key s kept id a l at in pass_change (spec_by key) kept.core a.core.number a.core kept.good is a.core (kept.good.passes a.core.number a.core is)
-
   -- what a pass shares has the rows that lie at home
   shared_rows : (p : ℕ) → p < stripes_by key → In p (shares_of a.core) → (stripe_at kept.core.stripes p).keeper ≡ Home (rows_of_hold a.core.held p)
   shared_rows p lt m =
       let is : slice_get kept.core.passes a.core.number ≡ Some a.core = its_pass key s kept id a l at in
-      let mine : IsGoodPass (spec_by key) kept.core.history kept.core.stripes a.core.number a.core = kept.good.passes a.core.number a.core is in
+      let mine : IsGoodPass (spec_by key) kept.core.history kept.core.stripes a.core.number a.core = (good_of key s kept).passes a.core.number a.core is in
       let x : Keeper = (stripe_at kept.core.stripes p).keeper in
       let free : has_writer x ≡ false = mine.beside p m in
-      home_is x free ∙ ap Home (good_home (spec_by key) kept.core.history (length kept.core.passes) p x free (kept.good.stripes p (there key s kept p lt)).keeper
-      ∙ sym (rows_of_it (spec_by key) kept.core a.core.number p a.core kept.good is (there key s kept p lt) a.core.held mine.rows (shares_held a.core p m)))
+      home_is x free ∙ ap Home (good_home (spec_by key) kept.core.history (length kept.core.passes) p x free ((good_of key s kept).stripes p (there key s kept p lt)).keeper
+      ∙ sym (rows_of_it (spec_by key) kept.core a.core.number p a.core (good_of key s kept) is (there key s kept p lt) a.core.held mine.rows (shares_held a.core p m)))
 
   -- the latch of a stripe changes, with the pass that takes or frees it
-  pub moved_latch : (m : Option ℕ) (p x : ℕ) → p < stripes_by key → x ≤ length kept.core.passes → HasLatch (set kept.latches p x) m a.core
+  pub moved_latch : (m : Option ℕ) (p x : ℕ) (y : RowStep) → CanStep (compiled_by key) (state_of key s kept) y → pass_of y ≡ a.core.number → refusal_of (state_of key s kept) y ≡ None
+      → after_step (compiled_by key) (state_of key s kept) y ≡ row_state kept.core (set kept.latches p x)
+      → p < stripes_by key → x ≤ length kept.core.passes → HasLatch (set kept.latches p x) m a.core
       → ((j : ℕ) → j ≢ a.core.number → (x == suc j) ≡ (slice_index kept.latches p == suc j))
       → (homes : List Home?) → length homes ≡ length s.homes → HomesAre (spec_by key) kept.core.stripes (set kept.latches p x) homes
       → IsKept key (record { words = set s.words (latch_word (stripes_by key) p) x; homes = homes; views = set s.views id (view_of a m) })
-  moved_latch m p x lt known its others homes width right =
-      moved key s kept id a l at a m refl kept.core.history kept.core.stripes still_good (omega arith)
-      (set kept.latches p x) (length-set kept.latches p x)
+  moved_latch m p x y can mine none_refused leads lt known its others homes width right =
+      moved key s kept id a l at a m refl y can mine (subst (λ r. Refuses r a a) (sym none_refused) (refl, refl)) kept.core.history kept.core.stripes (set kept.latches p x)
+      (leads ∙ ap (λ (c : CoreState). row_state c (set kept.latches p x)) (still_core key s kept id a l at)) (prefix_same kept.core.history) (its_known key s kept id a l at)
+      (length-set kept.latches p x)
       (λ q. each_changed (λ j y. y ≤ length kept.core.passes) kept.latches p x 0 inside known (λ j n. kept.named j) q)
       its
       (λ j q n. each_changed (λ i y. (y == suc j) ≡ (slice_index kept.latches i == suc j)) kept.latches p x 0 inside (others j n) (λ i d. refl) q)
@@ -89,8 +94,10 @@ module _ (key : Key) (p id : ℕ) (a : Standing) (carried : List (ℕ × Slot)) 
       let rows : List EdgeRow = rows_of_hold a.core.held p in (
         view_of a (Some p),
         takes p (Some (kept_of (spec_by key) rows)),
-        kept.shows.homes p rows (there key s kept p lt) (shared_rows key s kept id a None at p lt held) unlatched,
-        moved_latch key s kept id a None at (Some p) p (suc k) lt (at_below kept.core.passes k a.core (its_pass key s kept id a None at))
+        slot_home key s kept p rows lt (shared_rows key s kept id a None at p lt held) unlatched,
+        moved_latch key s kept id a None at (Some p) p (suc k) (TakeLatch k p)
+            (((its_place key s kept id a None at, there key s kept p lt), subst (λ (u : PassState). In p (shares_of u)) (sym (its_core key s kept id a None at)) held), unlatched)
+            refl refl refl lt (its_place key s kept id a None at)
             (record {
               at = λ q. each_changed (λ j y. (p == j) ≡ (y == suc k)) kept.latches p (suc k) 0 inside (eq-eqb p p refl ∙ sym (eq-eqb (suc k) (suc k) refl)) (λ j n. ne_eqb p j (λ e. n (sym e)) ∙ its.at j) q;
               shares = λ q has. subst (λ n. In n (shares_of a.core)) (eqb-true p q has) held;
@@ -98,25 +105,36 @@ module _ (key : Key) (p id : ℕ) (a : Standing) (carried : List (ℕ × Slot)) 
             })
             (λ j n. ne_eqb (suc k) (suc j) (λ e. n (omega arith)) ∙ sym (ap (λ y. y == suc j) unlatched ∙ ne_eqb 0 (suc j) (λ e. omega arith)))
             (set s.homes p none) (length-set s.homes p none)
-            (λ q rows' below is clear. each_changed (λ j y. j < length kept.core.stripes → (stripe_at kept.core.stripes j).keeper ≡ Home rows' → y ≡ 0 → get_elem? (set s.homes p none) j ≡ some (some (Some (kept_of (spec_by key) rows'))))
-            kept.latches p (suc k) 0 inside (λ b i e. absurd (omega arith)) (λ j n b i e. set_else s.homes p j none n ∙ kept.shows.homes j rows' b i e) q below is clear),
+            (λ q below. each_changed (λ j y. j < length kept.core.stripes → get_elem? (set s.homes p none) j ≡ some (home_of (spec_by key) (stripe_at kept.core.stripes j).keeper (y == 0)))
+            kept.latches p (suc k) 0 inside
+            (λ b. set_here s.homes p none (let n = kept.shows.slots in omega arith)
+            ∙ sym (ap (λ t. some (home_of (spec_by key) (stripe_at kept.core.stripes p).keeper t)) (ne_eqb (suc k) 0 (λ e. omega arith)) ∙ ap some (out_where (spec_by key) (stripe_at kept.core.stripes p).keeper)))
+            (λ j n b. set_else s.homes p j none n ∙ kept.shows.homes j b) q below),
         by_true (IsLatchedOut key (pass_view a, carried) p found (view_of a (Some p), (p, Some (kept_of (spec_by key) rows)) ∷ carried)) (found == 0) (eq-eqb found 0 free) (refl, refl),
       )
 
   -- a latch that another pass has
-  latch_misses : (found : ℕ) → slice_index s.words (latch_word (stripes_by key) p) ≡ found → found ≢ 0 → LatchOwes key p id a carried s found found
-  latch_misses found read taken =
+  latch_misses : In p (shares_of a.core) → (found : ℕ) → slice_index s.words (latch_word (stripes_by key) p) ≡ found → found ≢ 0 → LatchOwes key p id a carried s found found
+  latch_misses held found read taken =
       let k : ℕ = a.core.number in
       let its : HasLatch kept.latches None a.core = its_latch key s kept id a None at in
       let word : slice_index kept.latches p ≡ found = sym (kept.shows.latch_words p lt) ∙ read in
+      let other : found - 1 ≢ k = (λ e. eqb-false found (suc k) (ap (λ n. n == suc k) (sym word) ∙ sym (its.at p)) (omega (arith, e, taken))) in
       let b : Standing = latched_out a p (found_in_latch found) in (
         pass_view b,
         keeps,
         tt,
         subst (λ (words : List ℕ). IsKept key (record { words = words; homes = s.homes; views = set s.views id (pass_view b) })) (sym (ap (set s.words (latch_word (stripes_by key) p)) (sym read) ∙ set-get_or s.words (latch_word (stripes_by key) p) 0))
-            (moved_alone key s kept id a at b refl (still_good key s kept id a None at)),
+            (moved_alone key s kept id a at b refl (its_known key s kept id a None at) (MissLatch k p) (
+              ((its_place key s kept id a None at, there key s kept p lt), subst (λ (u : PassState). In p (shares_of u)) (sym (its_core key s kept id a None at)) held),
+              found - 1,
+              word ∙ omega (arith, taken),
+              other,
+            ) refl
+            (refl, λ i. Some (refusal_at Shared p (Latch (sym word i - 1)) (other_holds (sym (its_core key s kept id a None at) i).held p)))
+            (ap (λ (c : CoreState). row_state c kept.latches) (still_core key s kept id a None at))),
         by_false (HasLatched key (pass_view a, carried) p (pass_view b, carried)) (found == 0) (ne_eqb found 0 taken) (record {
-          keeps_out = ((let n = kept.named p in let m = kept.shows.passes in omega arith), λ e. eqb-false found (suc k) (ap (λ n. n == suc k) (sym word) ∙ sym (its.at p)) (omega arith));
+          keeps_out = ((let n = kept.named p in let m = kept.shows.passes in omega arith), other);
           view = refl;
           slots = refl;
         }),
@@ -129,7 +147,7 @@ latches key slots p id a carried new lt held idle new_is s kept wide at small =
     let found : ℕ = slice_index s.words (latch_word (stripes_by key) p) in
     elim (cases_eq found 0) [
       | inl free ↦ given (either (found == 0) new found) (subst (λ n. LatchOwes key p id a carried s n found) (sym new_is ∙ ap (λ b. either b new found) (sym (eq-eqb found 0 free))) (latch_takes key p id a carried lt s kept at held idle found refl free))
-      | inr taken ↦ given (either (found == 0) new found) (subst (λ n. LatchOwes key p id a carried s n found) (ap (λ b. either b new found) (sym (ne_eqb found 0 taken))) (latch_misses key p id a carried lt s kept at found refl taken))
+      | inr taken ↦ given (either (found == 0) new found) (subst (λ n. LatchOwes key p id a carried s n found) (ap (λ b. either b new found) (sym (ne_eqb found 0 taken))) (latch_misses key p id a carried lt s kept at held found refl taken))
     ]
   where
     given : (n : ℕ) → LatchOwes key p id a carried s n (slice_index s.words (latch_word (stripes_by key) p))
@@ -152,7 +170,7 @@ unlatches key slots p id a others lt s kept wide at small =
       pass_view a,
       gives,
       tt,
-      moved_latch key s kept id a (Some p) at None p 0 lt (omega arith)
+      moved_latch key s kept id a (Some p) at None p 0 (FreeLatch k p) mine refl refl refl lt (omega arith)
           (record {
             at = λ q. each_changed (λ j y. false ≡ (y == suc k)) kept.latches p 0 0 inside (sym (ne_eqb 0 (suc k) (λ e. omega arith))) (λ j n. sym (ne_eqb p j (λ e. n (sym e))) ∙ its.at j) q;
             shares = λ q has. absurd (false≢true has);
@@ -160,9 +178,10 @@ unlatches key slots p id a others lt s kept wide at small =
           })
           (λ j n. ne_eqb 0 (suc j) (λ e. omega arith) ∙ sym (ap (λ y. y == suc j) mine ∙ ne_eqb (suc k) (suc j) (λ e. n (omega arith))))
           (set s.homes p home) (length-set s.homes p home)
-          (λ q rows' below is clear. each_changed (λ j y. j < length kept.core.stripes → (stripe_at kept.core.stripes j).keeper ≡ Home rows' → y ≡ 0 → get_elem? (set s.homes p home) j ≡ some (some (Some (kept_of (spec_by key) rows'))))
+          (λ q below. each_changed (λ j y. j < length kept.core.stripes → get_elem? (set s.homes p home) j ≡ some (home_of (spec_by key) (stripe_at kept.core.stripes j).keeper (y == 0)))
           kept.latches p 0 0 inside
-          (λ b i e. set_here s.homes p home (let n = kept.shows.slots in omega arith) ∙ ap (λ y. some (some (Some (kept_of (spec_by key) (home_rows y))))) (sym (shared_rows key s kept id a (Some p) at p lt held) ∙ i))
-          (λ j n b i e. set_else s.homes p j home n ∙ kept.shows.homes j rows' b i e) q below is clear),
+          (λ b. set_here s.homes p home (let n = kept.shows.slots in omega arith)
+          ∙ sym (λ i. some (home_of (spec_by key) (shared_rows key s kept id a (Some p) at p lt held i) (eq-eqb 0 0 refl i))))
+          (λ j n b. set_else s.homes p j home n ∙ kept.shows.homes j b) q below),
       (refl, refl),
     )

@@ -1,5 +1,5 @@
 -- Locking a stripe to write it, and unlocking it, keep the rule.
-use Rattle.std.proofs.Common.{◌≡◌, ◌≢◌, ℕ, suc, ◌*◌, ◌+◌, ◌-◌, ◌%◌, ◌^◌, ◌<◌, ◌==◌, List, ◌∷◌, length, set, Some, None, sym, refl, ap, ◌∙◌, subst, inl, inr, arith, length-set}
+use Rattle.std.proofs.Common.{true, ◌≡◌, ◌≢◌, ℕ, suc, ◌*◌, ◌+◌, ◌-◌, ◌%◌, ◌^◌, ◌<◌, ◌==◌, List, ◌∷◌, length, set, Some, None, sym, refl, ap, ◌∙◌, subst, inl, inr, arith, length-set}
 use Rattle.std.specs.Prelude.{slice_index}
 use Rattle.std.specs.List.{slice_get}
 use Rattle.std.proofs.lemmas.Bool.{cases_eq, eq-eqb, ne_eqb}
@@ -15,21 +15,25 @@ use Rattle.rc_core.specs.declared.state.CoreState.{CoreState}
 use Rattle.rc_core.specs.declared.state.Keeper.TheVariants.{Home, Writer}
 use Rattle.rc_core.specs.declared.state.PassState.{PassState}
 use Rattle.rc_core.specs.declared.state.StripeState.{StripeState}
-use Rattle.rc_core.specs.State.{stripe_at, home_rows, writes_of}
+use Rattle.rc_core.specs.declared.state.Keeper.{Keeper}
+use Rattle.rc_core.specs.State.{has_writer, stripe_at, home_rows, writes_of}
 use Rattle.rc_core.specs.Passes.{IsHigh, locked, blocked, released, rows_of_hold}
+use Rattle.rc_core.specs.declared.event.Event.TheVariants as event
 use Rattle.rc_core.specs.Events.{with_pass, with_keeper, IsUnlocked}
-use Rattle.rc_core.specs.KeepsLaws.{lock_keeps, block_keeps, unlock_keeps}
+use Rattle.rc_core.specs.KeepsLaws.{lock_keeps}
 use Rattle.atomic_table.specs.Table.{State, step, Act, keeps, takes, gives, stepped, Allows, Valid, carried_after}
 use Rattle.atomic_table.proofs.Lists.{set_here, set_else}
 use Rattle.rc_row.specs.declared.law.Key.{Key}
 use Rattle.rc_row.specs.declared.law.Standing.{Standing}
 use Rattle.rc_row.specs.declared.law.View.{View}
-use Rattle.rc_row.specs.Law.{Slot, kept_of, spec_by, stripes_by, stripe_word, writer_mark, pass_view, IsKept}
+use Rattle.rc_row.specs.Law.{Slot, home_of, kept_of, spec_by, stripes_by, stripe_word, writer_mark, pass_view, IsKept}
+use Rattle.rc_row.specs.Run.{OfCore, found_at, row_state, refusal_at}
+use Rattle.rc_row.specs.RunLaws.{good_of}
 use Rattle.rc_row.specs.Standings.{KeepsOut, with_core, refused}
 use Rattle.rc_row.specs.Told.{found_in_word, HasLocked, IsLockedOut, LocksOrNot, ToldAtLock, ToldAtUnlock}
 use Rattle.rc_core.specs.ListLaws.{get_set_same}
-use Rattle.rc_row.proofs.MoveLemmas.{its_pass}
-use Rattle.rc_row.proofs.StripeLemmas.{by_true, by_false, has_one, home_is, free_word, mark_of_writer, keeps_writer_out, there, made, homes_with, no_latch, moved_stripe, moved_alone, high_unwritten}
+use Rattle.rc_row.proofs.MoveLemmas.{its_core, its_known, its_pass, its_place}
+use Rattle.rc_row.proofs.StripeLemmas.{IsMade, by_true, by_false, has_one, home_is, free_word, mark_of_writer, keeps_writer_out, there, made, homes_with, no_latch, no_latch_written, slot_home, moved_stripe, moved_alone, high_fewer, high_unwritten, taken_word, word_tells}
 
 -- what a lock owes, where the number found in the word becomes n
 abbrev LockOwes : Key → ℕ → ℕ → Standing → List (ℕ × Slot) → State Slot View → ℕ → ℕ → Type 0
@@ -46,13 +50,16 @@ module _ (key : Key) (p id : ℕ) (a : Standing) (carried : List (ℕ × Slot)) 
       let unlocked : IsUnlocked (stripe_at kept.core.stripes p) = free_word (stripe_at kept.core.stripes p) (sym (kept.shows.words p lt) ∙ read ∙ free) in
       let rows : List EdgeRow = home_rows (stripe_at kept.core.stripes p).keeper in
       let w : PassState = locked a.core p rows in
-      let good = lock_keeps (spec_by key) c k p a.core kept.good is (there key s kept p lt) high unlocked in (
+      let good = lock_keeps (spec_by key) c k p a.core (good_of key s kept) is (there key s kept p lt) high unlocked in (
         pass_view (with_core a w),
         takes p (Some (kept_of (spec_by key) rows)),
-        kept.shows.homes p rows (there key s kept p lt) (home_is t.keeper unlocked.0) (no_latch key s kept p unlocked.1),
-        moved_stripe key s kept id a at (with_core a w) refl p (suc k) (with_keeper t (Writer k)) lt (let e = ap (λ (xs : List ℕ). length xs) unlocked.1 in omega arith) good
+        slot_home key s kept p rows lt (home_is t.keeper unlocked.0) (no_latch key s kept p unlocked.1),
+        moved_stripe key s kept id a at (with_core a w) refl (its_known key s kept id a None at) (event.Lock k p)
+            ((its_place key s kept id a None at, there key s kept p lt), subst (λ (u : PassState). IsHigh u p) (sym (its_core key s kept id a None at)) high, unlocked) refl (refl, refl)
+            p (suc k) (with_keeper t (Writer k)) lt (let e = ap (λ (xs : List ℕ). length xs) unlocked.1 in omega arith)
+            (ap (λ (u : PassState). with_pass c c.history (set c.stripes p (with_keeper t (Writer k))) k (locked u p rows)) (its_core key s kept id a None at))
             (set s.homes p none) (length-set s.homes p none)
-            (homes_with key s kept p (with_keeper t (Writer k)) (set s.homes p none) lt (λ q n. set_else s.homes p q none n) (λ r e f. cc)),
+            (homes_with key s kept p (with_keeper t (Writer k)) (set s.homes p none) lt (λ q n. set_else s.homes p q none n) (set_here s.homes p none (let n = kept.shows.slots in omega arith))),
         by_true (IsLockedOut key (pass_view a, carried) p found (pass_view (with_core a w), (p, Some (kept_of (spec_by key) rows)) ∷ carried)) (found == 0) (eq-eqb found 0 free) (record {
           rows = rows;
           view = refl;
@@ -64,16 +71,23 @@ module _ (key : Key) (p id : ℕ) (a : Standing) (carried : List (ℕ × Slot)) 
   -- a lock that finds the stripe taken
   lock_blocks : IsHigh a.core p → (found : ℕ) → slice_index s.words (stripe_word p) ≡ found → found ≢ 0 → LockOwes key p id a carried s found found
   lock_blocks high found read taken =
-      let is : slice_get kept.core.passes a.core.number ≡ Some a.core = its_pass key s kept id a None at in
+      let tells : found_in_word found ≡ found_at (stripe_at kept.core.stripes p) =
+      word_tells key (stripe_at kept.core.stripes p) found (subst (IsMade key (stripe_at kept.core.stripes p)) read (made key s kept p lt)) in
       let b : Standing = refused Exclusive a p (found_in_word found) (blocked a.core p) a.core.held in (
         pass_view b,
         keeps,
         tt,
         subst (λ (words : List ℕ). IsKept key (record { words = words; homes = s.homes; views = set s.views id (pass_view b) })) (sym (ap (set s.words (stripe_word p)) (sym read) ∙ set-get_or s.words (stripe_word p) 0))
-            (moved_alone key s kept id a at b refl (block_keeps (spec_by key) kept.core a.core.number a.core kept.good is p high)),
+            (moved_alone key s kept id a at b refl (its_known key s kept id a None at) (OfCore (event.Block a.core.number p)) (
+              (its_place key s kept id a None at, there key s kept p lt),
+              subst (λ (u : PassState). IsHigh u p) (sym (its_core key s kept id a None at)) high,
+              taken_word (stripe_at kept.core.stripes p) (λ e. taken (sym read ∙ kept.shows.words p lt ∙ e)),
+            ) refl
+            (refl, λ i. Some (refusal_at Exclusive p (tells i) (sym (its_core key s kept id a None at) i).held))
+            (ap (λ (u : PassState). row_state (with_pass kept.core kept.core.history kept.core.stripes a.core.number (blocked u p)) kept.latches) (its_core key s kept id a None at))),
         by_false (HasLocked key (pass_view a, carried) p (pass_view b, carried)) (found == 0) (ne_eqb found 0 taken) (record {
           keeps_out = subst (λ n. KeepsOut Exclusive key.passes a.core.number (found_in_word n)) read
-              (keeps_writer_out key (stripe_at kept.core.stripes p) (slice_index s.words (stripe_word p)) a.core.number (made key s kept p lt) (high_unwritten key s kept id a at p high) (λ e. taken (sym read ∙ e)));
+              (keeps_writer_out key (stripe_at kept.core.stripes p) (slice_index s.words (stripe_word p)) a.core.number (made key s kept p lt) (high_fewer key s kept id a at p lt high) (high_unwritten key s kept id a at p high) (λ e. taken (sym read ∙ e)));
           view = refl;
           slots = refl;
         }),
@@ -101,26 +115,35 @@ pub unlocks : (key : Key) (slots p id : ℕ) (a : Standing) (others : List (ℕ 
 unlocks key slots p id a others mark lt held mark_is s kept wide at small =
     let k : ℕ = a.core.number in
     let c : CoreState = kept.core in
-    let is : slice_get kept.core.passes a.core.number ≡ Some a.core = its_pass key s kept id a None at in
     let w : PassState = released a.core p in
     let x : ℕ = (slice_index s.words (stripe_word p) + (2 ^ 64 - mark)) % 2 ^ 64 in
     let rows : List EdgeRow = rows_of_hold a.core.held p in
     let t : StripeState = with_keeper (stripe_at kept.core.stripes p) (Home (rows_of_hold a.core.held p)) in
-    let home = some (Some (kept_of (spec_by key) rows)) in
-    let good = unlock_keeps (spec_by key) c k p a.core kept.good is (there key s kept p lt) held in (
+    let home = some (Some (kept_of (spec_by key) rows)) in (
       pass_view (with_core a w),
       gives,
       tt,
-      moved_stripe key s kept id a at (with_core a w) refl p x t lt left good
+      moved_stripe key s kept id a at (with_core a w) refl (its_known key s kept id a None at) (event.Unlock k p)
+          ((its_place key s kept id a None at, there key s kept p lt), subst (λ (u : PassState). In p (writes_of u)) (sym (its_core key s kept id a None at)) held) refl (refl, refl)
+          p x t lt left
+          (ap (λ (u : PassState). with_pass c c.history (set c.stripes p (with_keeper (stripe_at c.stripes p) (Home (rows_of_hold u.held p)))) k (released u p)) (its_core key s kept id a None at))
           (set s.homes p home) (length-set s.homes p home)
           (homes_with key s kept p t (set s.homes p home) lt (λ q n. set_else s.homes p q home n)
-          (λ r e f. set_here s.homes p home (let n = kept.shows.slots in omega arith) ∙ ap (λ y. some (some (Some (kept_of (spec_by key) (home_rows y))))) e)),
+          (set_here s.homes p home (let n = kept.shows.slots in omega arith)
+          ∙ ap (λ b. some (home_of (spec_by key) (Home rows) b)) (sym (eq-eqb (slice_index kept.latches p) 0 (no_latch_written key s kept p written))))),
       (λ q e. (let same : p ≡ q = omega arith in (ap (λ z. pass_view (with_core a (released a.core z))) same, refl))),
     )
   where
     mine : writer_mark (stripe_at kept.core.stripes p).keeper ≡ suc a.core.number
     mine = mark_of_writer (stripe_at kept.core.stripes p).keeper a.core.number
-        (sym ((kept.good.passes a.core.number a.core (its_pass key s kept id a None at)).writes p) ∙ has_in (writes_of a.core) p held)
+        (sym (((good_of key s kept).passes a.core.number a.core (its_pass key s kept id a None at)).writes p) ∙ has_in (writes_of a.core) p held)
+
+    written : has_writer (stripe_at kept.core.stripes p).keeper ≡ true
+    written = marked (stripe_at kept.core.stripes p).keeper mine
+      where
+        marked : (x : Keeper) → writer_mark x ≡ suc a.core.number → has_writer x ≡ true
+        marked (Home rows) e = absurd (omega arith)
+        marked (Writer j) e = refl
 
     left : (slice_index s.words (stripe_word p) + (2 ^ 64 - mark)) % 2 ^ 64 ≡ 0 + 65536 * length (stripe_at kept.core.stripes p).counted
     left = let m = made key s kept p lt in let i = m.is in let b = m.mark in let d = m.passes in let f = m.count in let g = mine in let h = small in omega arith

@@ -20,10 +20,8 @@ use Rattle.rc_spec.specs.Stripes.{stripe_total}
 use Rattle.rc_spec.specs.declared.spec.Spec.{Spec}
 use Rattle.rc_plan.specs.Compiled.{SpecWithPlans, ArePlansOf, IsCompiled}
 use Rattle.rc_core.specs.declared.state.PassState.{PassState}
-use Rattle.rc_core.specs.declared.state.StripeState.{StripeState}
-use Rattle.rc_core.specs.State.{fresh, home_rows, no_stripe, stripe_at}
+use Rattle.rc_core.specs.State.{fresh, no_stripe, stripe_at}
 use Rattle.rc_core.specs.Events as events
-use Rattle.rc_core.specs.StartLaws.{start_is_good}
 use Rattle.atomic_table.specs.Table.{opening}
 use Rattle.atomic_table.proofs.Lists.{at_map, at_index}
 use Rattle.rc_row.specs.declared.law.Key.{Key}
@@ -32,7 +30,7 @@ use Rattle.rc_row.specs.declared.law.View.{View}
 use Rattle.rc_row.specs.declared.row.Row.TheInside.{Inside}
 use Rattle.rc_row.specs.RowInside.{IsWholeRow}
 use Rattle.rc_row.specs.Standings.{start}
-use Rattle.rc_row.specs.Law.{Slot, kept_of, compiled_by, spec_by, stripes_by, stripe_word, latch_word, word_of, starts, opener, numbers_in, AreSeatedAt, HaveLatch, IsTrueView, HomesAre, IsKept}
+use Rattle.rc_row.specs.Law.{Slot, kept_of, compiled_by, spec_by, stripes_by, stripe_word, latch_word, word_of, starts, opener, numbers_in, at_first_by, AreSeatedAt, AreTold, HaveLatch, IsTrueView, home_of, HomesAre, IsKept}
 
 -- each place of a list of equal elements, and each beyond it
 same_there : {A : Type 0} → (n p : ℕ) (a : A) → get_or (replicate n a) p a ≡ a
@@ -69,14 +67,22 @@ starts_unlatched n (s ∷ more) = (
   starts_unlatched n more,
 )
 
+starts_told : (numbers : List ℕ) → AreTold [] (λ k. []) (map start numbers)
+starts_told [] = tt
+starts_told (k ∷ numbers) = (record { count = refl; last = refl; known = λ j d lt. absurd (omega arith) }, starts_told numbers)
+
 pub opens : (key : Key) (words : List ℕ) (slots : List Slot) → 1 ≤ key.passes → key.passes ≤ 255 → IsCompiled (spec_by key) (compiled_by key).plans → length slots ≡ stripes_by key
     → All (λ slot. slot ≡ Some (kept_of (spec_by key) [])) slots → words ≡ replicate (8 * suc (stripes_by key + stripes_by key)) 0 → IsKept key (opening words slots (opener key))
 opens key words slots some_pass few compiled wide empty zeros = record {
   compiled = compiled;
+  some_pass = some_pass;
+  few_passes = few;
+  run = [];
+  steps = tt;
   core = events.start (compiled_by key) key.passes;
   latches = replicate (stripes_by key) 0;
+  reached = refl;
   seat = λ k. 0;
-  good = start_is_good (compiled_by key) key.passes some_pass few;
   shows = record {
     wide = ap length zeros ∙ length-replicate (8 * suc (stripes_by key + stripes_by key)) 0;
     commit = word_there 0;
@@ -103,23 +109,23 @@ opens key words slots some_pass few compiled wide empty zeros = record {
     unlocked p = same_there (stripes_by key) p no_stripe
 
     homes : HomesAre (spec_by key) (replicate (stripes_by key) no_stripe) (replicate (stripes_by key) 0) (map some slots)
-    homes p rows lt is free =
-        at_map some slots p (Some (kept_of (spec_by key) rows))
-        (at_index slots p (Some (kept_of (spec_by key) rows)) inside (sym (empty p (Some (kept_of (spec_by key) rows)) inside ∙ ap (λ r. Some (kept_of (spec_by key) r)) none)))
+    homes p lt =
+        at_map some slots p (Some (kept_of (spec_by key) []))
+        (at_index slots p (Some (kept_of (spec_by key) [])) inside (sym (empty p (Some (kept_of (spec_by key) [])) inside)))
+        ∙ sym (λ i. some (home_of (spec_by key) (unlocked p i).keeper (eq-eqb (slice_index (replicate (stripes_by key) 0) p) 0 (same_there (stripes_by key) p 0) i)))
       where
         inside : p < length slots
         inside = let n = length-replicate (stripes_by key) no_stripe in omega arith
 
-        none : [] ≡ rows
-        none = ap home_rows (ap (λ (s : StripeState). s.keeper) (sym (unlocked p)) ∙ is)
-
-    views : (id : ℕ) (v : View) → get_elem? (opener key ∷ []) id ≡ some v → IsTrueView (map fresh (range_with_len 0 key.passes)) (replicate (stripes_by key) 0) 0 (λ k. 0) id v
-    views zero v e = subst (IsTrueView (map fresh (range_with_len 0 key.passes)) (replicate (stripes_by key) 0) 0 (λ k. 0) 0) (some-injective (opener key) v e)
+    views : (id : ℕ) (v : View) → get_elem? (opener key ∷ []) id ≡ some v → IsTrueView (at_first_by key) (λ k. []) (λ k. 0) id v
+    views zero v e = subst (IsTrueView (at_first_by key) (λ k. []) (λ k. 0) 0) (some-injective (opener key) v e)
         (record {
           passes = starts_seated (map fresh (range_with_len 0 key.passes)) (range_with_len 0 key.passes) (λ k m. fresh_at 0 key.passes k (let b = in_range_bounds 0 key.passes k m in let l = b.1 in omega arith) ∙ ap (λ j. Some (fresh j)) (omega arith));
           rising = subst (IsRising nat_cmp) (sym (numbers_of_starts (range_with_len 0 key.passes))) (range_rises 0 key.passes);
           latch = starts_unlatched (stripes_by key) (starts 0 key.passes);
+          histories = starts_told (range_with_len 0 key.passes);
           told = omega arith;
+          known = λ k d lt. absurd (omega arith);
         })
     views (suc id) v e = absurd (some-ne-none v (sym e))
 

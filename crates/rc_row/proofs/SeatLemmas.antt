@@ -7,24 +7,31 @@ use Rattle.std.proofs.lemmas.Bool.{cases_eq, false≢true, eq-eqb, ne_eqb, eqb-t
 use Rattle.std.specs.Cmp.{nat_cmp_is}
 use Rattle.std.proofs.lemmas.Cmp.{ranked}
 use Rattle.std.proofs.lemmas.List.{map-append}
+use Rattle.std.proofs.lemmas.List.Elements.{All-append}
 use Rattle.std.proofs.lemmas.List.Folds.{list_any-append}
 use mathlib.Core.Option.{some, some-injective, some-ne-none}
 use lib.ListN.{get_elem?}
 use Rattle.rc_tuple.specs.RisingSet.{In, IsRising}
+use Rattle.rc_rel.specs.declared.entry.Entry.{Entry}
+use Rattle.rc_rel.specs.History.{IsPrefix}
 use Rattle.rc_core.specs.declared.state.PassState.{PassState}
 use Rattle.rc_core.specs.Passes.{learned}
 use Rattle.rc_core.specs.ListLaws.{or_false, rising_end}
-use Rattle.rc_core.specs.KeepsLaws.{learn_keeps}
+use Rattle.rc_core.specs.declared.event.Event.TheVariants as event
+use Rattle.rc_core.specs.Events.{with_pass}
 use Rattle.atomic_table.specs.Table.{State, Splits, Joins}
 use Rattle.atomic_table.proofs.Lists.{at_set, set_else, set_again, at_longer, at_last}
 use Rattle.rc_row.specs.declared.law.Key.{Key}
+use Rattle.rc_row.specs.declared.law.Refusal.{Refusal}
 use Rattle.rc_row.specs.declared.law.Standing.{Standing}
 use Rattle.rc_row.specs.declared.law.View.{View}
-use Rattle.rc_row.specs.Law.{Slot, spec_by, pass_view, note_view, passes_view, numbers_in, AreSeatedAt, HasLatch, HaveLatch, IsTrueView, has_pass, HasSeat, IsKept}
-use Rattle.rc_row.specs.Standings.{with_core}
+use Rattle.rc_row.specs.Law.{Slot, pass_view, note_view, passes_view, numbers_in, AreKnown, AreSeatedAt, AreTold, HasLatch, HaveLatch, IsTold, IsTrueView, has_pass, HasSeat, IsKept}
+use Rattle.rc_row.specs.Run.{RowState, OfCore, row_state}
+use Rattle.rc_row.specs.RunLaws.{good_of, refusals_of, state_of}
+use Rattle.rc_row.specs.Standings.{after_learn}
 use Rattle.rc_row.specs.Seats.{undealt, dealt, noted, informed, gathered, spent}
 use Rattle.rc_row.proofs.ListLemmas.{set_there}
-use Rattle.rc_row.proofs.MoveLemmas.{its_pass}
+use Rattle.rc_row.proofs.MoveLemmas.{its_core, its_known, its_pass, its_place}
 use Rattle.rc_row.proofs.StripeLemmas.{moved_alone}
 
 at_end : {A : Type 0} → (l : List A) (a b : A) (j : ℕ) → get_elem? (l ++ a ∷ []) j ≡ some b → (get_elem? l j ≡ some b) ⊎ ((j ≡ length l) × (a ≡ b))
@@ -42,32 +49,40 @@ less_to k y lt = sym (nat_cmp_is k y Less lt)
 -- the views change, and the core's state doesn't
 reseated : (key : Key) (s : State Slot View) (kept : IsKept key s) (seat : ℕ → ℕ) (views : List View)
     → ((k : ℕ) → HasSeat s.views kept.seat k → HasSeat views seat k)
-    → ((j : ℕ) (v : View) → get_elem? views j ≡ some v → IsTrueView kept.core.passes kept.latches (length kept.core.history) seat j v)
+    → ((j : ℕ) (v : View) → get_elem? views j ≡ some v → IsTrueView (state_of key s kept) (refusals_of key s kept) seat j v)
     → IsKept key (record { words = s.words; homes = s.homes; views = views })
 reseated key s kept seat views still true_views = record {
   compiled = kept.compiled;
+  some_pass = kept.some_pass;
+  few_passes = kept.few_passes;
+  run = kept.run;
+  steps = kept.steps;
   core = kept.core;
   latches = kept.latches;
+  reached = kept.reached;
   seat = seat;
-  good = kept.good;
   shows = record { wide = kept.shows.wide; commit = kept.shows.commit; words = kept.shows.words; latch_words = kept.shows.latch_words; latch_count = kept.shows.latch_count; slots = kept.shows.slots; passes = kept.shows.passes; homes = kept.shows.homes };
   named = kept.named;
   seated = λ k lt. still k (kept.seated k lt);
   views = true_views;
 }
 
-true_note : (passes : List PassState) (latches : List ℕ) (long : ℕ) (seat : ℕ → ℕ) (id n : ℕ) → n ≤ long → IsTrueView passes latches long seat id (note_view n)
-true_note passes latches long seat id n le = record { passes = tt; rising = tt; latch = tt; told = le }
+true_note : (now : RowState) (refusals : ℕ → List Refusal) (seat : ℕ → ℕ) (id n : ℕ) (known : List (List Entry)) → n ≤ length now.core.history → AreKnown now.core.history known
+    → IsTrueView now refusals seat id (note_view n known)
+true_note now refusals seat id n known le told = record { passes = tt; rising = tt; latch = tt; histories = tt; told = le; known = told }
+
+none_known : (history : List Entry) → AreKnown history []
+none_known history k d lt = absurd (omega arith)
 
 -- a pass makes a note
 pub notes : (key : Key) (id : ℕ) (a : Standing) → Splits (IsKept key) id (pass_view a) (pass_view a) (noted (pass_view a))
 notes key id a s kept at =
-    reseated key s kept kept.seat (set s.views id (pass_view a) ++ note_view a.core.seen ∷ [])
-    (λ k x. record { view = x.view; at = at_longer (set s.views id (pass_view a)) (note_view a.core.seen ∷ []) (kept.seat k) x.view (ap (λ (l : List View). get_elem? l (kept.seat k)) (set_again s.views id (pass_view a) at) ∙ x.at); has = x.has })
-    (λ j v e. elim (at_end (set s.views id (pass_view a)) (note_view a.core.seen) v j e) [
+    reseated key s kept kept.seat (set s.views id (pass_view a) ++ note_view a.core.seen a.known ∷ [])
+    (λ k x. record { view = x.view; at = at_longer (set s.views id (pass_view a)) (note_view a.core.seen a.known ∷ []) (kept.seat k) x.view (ap (λ (l : List View). get_elem? l (kept.seat k)) (set_again s.views id (pass_view a) at) ∙ x.at); has = x.has })
+    (λ j v e. elim (at_end (set s.views id (pass_view a)) (note_view a.core.seen a.known) v j e) [
       | inl was ↦ kept.views j v (subst (λ (l : List View). get_elem? l j ≡ some v) (set_again s.views id (pass_view a) at) was)
-      | inr t ↦ subst (IsTrueView kept.core.passes kept.latches (length kept.core.history) kept.seat j) t.1
-          (true_note kept.core.passes kept.latches (length kept.core.history) kept.seat j a.core.seen (kept.good.passes a.core.number a.core (its_pass key s kept id a None at)).seen)
+      | inr t ↦ subst (IsTrueView (state_of key s kept) (refusals_of key s kept) kept.seat j) t.1
+          (true_note (state_of key s kept) (refusals_of key s kept) kept.seat j a.core.seen a.known ((good_of key s kept).passes a.core.number a.core (its_pass key s kept id a None at)).seen (its_known key s kept id a None at))
     ])
 
 -- ---- a pass moves to another seat
@@ -93,23 +108,24 @@ higher_stay passes seat id k new (x ∷ more) above a = (
   higher_stay passes seat id k new more (λ y m. above y (inr m)) a.1,
 )
 
-others_stay : (passes : List PassState) (latches : List ℕ) (long : ℕ) (seat : ℕ → ℕ) (k new j from : ℕ) (v : View) → seat k ≡ from → j ≢ from → IsTrueView passes latches long seat j v → IsTrueView passes latches long (moved_seat seat k new) j v
-others_stay passes latches long seat k new j from v is apart f = record {
-  passes = still_at passes seat (moved_seat seat k new) j v.passes (λ n e. seat_else seat k new n (λ same. apart (sym e ∙ ap seat same ∙ is)) ∙ e) f.passes;
+others_stay : (now : RowState) (refusals : ℕ → List Refusal) (seat : ℕ → ℕ) (k new j from : ℕ) (v : View) → seat k ≡ from → j ≢ from → IsTrueView now refusals seat j v → IsTrueView now refusals (moved_seat seat k new) j v
+others_stay now refusals seat k new j from v is apart f = record {
+  passes = still_at now.core.passes seat (moved_seat seat k new) j v.passes (λ n e. seat_else seat k new n (λ same. apart (sym e ∙ ap seat same ∙ is)) ∙ e) f.passes;
   rising = f.rising;
   latch = f.latch;
+  histories = f.histories;
   told = f.told;
+  known = f.known;
 }
 
 -- the opener deals a pass
 pub deals : (key : Key) (id : ℕ) (a : Standing) (more : List Standing) → Splits (IsKept key) id (passes_view (a ∷ more)) (undealt (passes_view (a ∷ more))) (dealt (passes_view (a ∷ more)))
 deals key id a more s kept at =
     let passes : List PassState = kept.core.passes in
-    let long : ℕ = length kept.core.history in
     let new : ℕ = length (set s.views id (passes_view more)) in
     let views : List View = set s.views id (passes_view more) ++ pass_view a ∷ [] in
     let now : ℕ → ℕ = moved_seat kept.seat a.core.number new in
-    let mine : IsTrueView kept.core.passes kept.latches (length kept.core.history) kept.seat id (passes_view (a ∷ more)) = kept.views id (passes_view (a ∷ more)) at in
+    let mine : IsTrueView (state_of key s kept) (refusals_of key s kept) kept.seat id (passes_view (a ∷ more)) = kept.views id (passes_view (a ∷ more)) at in
     reseated key s kept now views
     (λ k x. elim (cases_eq k a.core.number) [
       | inl e ↦ record {
@@ -135,40 +151,44 @@ deals key id a more s kept at =
     ])
     (λ j v e. elim (at_end (set s.views id (passes_view more)) (pass_view a) v j e) [
       | inl was ↦ elim (at_set s.views id j (passes_view more) v was) [
-        | inl t ↦ subst (λ (z : ℕ × View). IsTrueView passes kept.latches long now z.0 z.1) (λ i. (sym t.0 i, t.1 i))
-            (record { passes = higher_stay passes kept.seat id a.core.number new more mine.rising.0 mine.passes.1; rising = mine.rising.1; latch = mine.latch.1; told = omega arith })
-        | inr t ↦ others_stay passes kept.latches long kept.seat a.core.number new j id v mine.passes.0.1 t.0 (kept.views j v t.1)
+        | inl t ↦ subst (λ (z : ℕ × View). IsTrueView (state_of key s kept) (refusals_of key s kept) now z.0 z.1) (λ i. (sym t.0 i, t.1 i))
+            (record { passes = higher_stay passes kept.seat id a.core.number new more mine.rising.0 mine.passes.1; rising = mine.rising.1; latch = mine.latch.1; histories = mine.histories.1; told = omega arith; known = none_known kept.core.history })
+        | inr t ↦ others_stay (state_of key s kept) (refusals_of key s kept) kept.seat a.core.number new j id v mine.passes.0.1 t.0 (kept.views j v t.1)
       ]
-      | inr t ↦ subst (λ (z : ℕ × View). IsTrueView passes kept.latches long now z.0 z.1) (λ i. (sym t.0 i, t.1 i))
-          (record { passes = ((mine.passes.0.0, seat_here kept.seat a.core.number new), tt); rising = ((λ y m. absurd m), tt); latch = (mine.latch.0, tt); told = omega arith })
+      | inr t ↦ subst (λ (z : ℕ × View). IsTrueView (state_of key s kept) (refusals_of key s kept) now z.0 z.1) (λ i. (sym t.0 i, t.1 i))
+          (record { passes = ((mine.passes.0.0, seat_here kept.seat a.core.number new), tt); rising = ((λ y m. absurd m), tt); latch = (mine.latch.0, tt); histories = (mine.histories.0, tt); told = omega arith; known = none_known kept.core.history })
     ])
 
 -- ---- a seat is joined away
 
 -- a spent seat says nothing
-spends : (key : Key) (s : State Slot View) (kept : IsKept key s) (other n : ℕ) → get_elem? s.views other ≡ some (note_view n) → IsKept key (record { words = s.words; homes = s.homes; views = set s.views other spent })
-spends key s kept other n note =
+spends : (key : Key) (s : State Slot View) (kept : IsKept key s) (other n : ℕ) (known : List (List Entry)) → get_elem? s.views other ≡ some (note_view n known) → IsKept key (record { words = s.words; homes = s.homes; views = set s.views other spent })
+spends key s kept other n known note =
     reseated key s kept kept.seat (set s.views other spent)
     (λ k x. record {
       view = x.view;
       at = set_else s.views other (kept.seat k) spent
-          (λ e. false≢true (ap (λ (v : View). has_pass v.passes k) (sym (some-injective x.view (note_view n) (sym x.at ∙ ap (get_elem? s.views) e ∙ note))) ∙ x.has)) ∙ x.at;
+          (λ e. false≢true (ap (λ (v : View). has_pass v.passes k) (sym (some-injective x.view (note_view n known) (sym x.at ∙ ap (get_elem? s.views) e ∙ note))) ∙ x.has)) ∙ x.at;
       has = x.has;
     })
     (λ j v e. elim (at_set s.views other j spent v e) [
-      | inl t ↦ subst (IsTrueView kept.core.passes kept.latches (length kept.core.history) kept.seat j) t.1 (true_note kept.core.passes kept.latches (length kept.core.history) kept.seat j 0 (omega arith))
+      | inl t ↦ subst (IsTrueView (state_of key s kept) (refusals_of key s kept) kept.seat j) t.1 (true_note (state_of key s kept) (refusals_of key s kept) kept.seat j 0 [] (omega arith) (none_known kept.core.history))
       | inr t ↦ kept.views j v t.1
     ])
 
 -- a pass learns a note
-pub learns : (key : Key) (id other : ℕ) (a : Standing) (n : ℕ) → Joins (IsKept key) id (pass_view a) other (note_view n) (informed (pass_view a) (note_view n)) spent
-learns key id other a n s kept at apart there =
-    let b : Standing = with_core a (learned a.core n) in
-    let note : get_elem? s.views other ≡ some (note_view n) = sym (set_else s.views id other (pass_view b) apart) ∙ there in
+pub learns : (key : Key) (id other : ℕ) (a : Standing) (n : ℕ) (known : List (List Entry))
+    → Joins (IsKept key) id (pass_view a) other (note_view n known) (informed (pass_view a) (note_view n known)) spent
+learns key id other a n known s kept at apart there =
+    let b : Standing = after_learn n known a in
+    let note : get_elem? s.views other ≡ some (note_view n known) = sym (set_else s.views id other (pass_view b) apart) ∙ there in
+    let its : IsTrueView (state_of key s kept) (refusals_of key s kept) kept.seat other (note_view n known) = kept.views other (note_view n known) note in
     spends key (record { words = s.words; homes = s.homes; views = set s.views id (pass_view b) })
     (moved_alone key s kept id a at b refl
-    (learn_keeps (spec_by key) kept.core a.core.number a.core kept.good (its_pass key s kept id a None at) n (kept.views other (note_view n) note).told))
-    other n there
+    (All-append (λ (earlier : List Entry). IsPrefix earlier kept.core.history) a.known known (its_known key s kept id a None at) its.known)
+    (OfCore (event.Learn a.core.number n)) (its_place key s kept id a None at, its.told) refl (refl, refl)
+    (ap (λ (u : PassState). row_state (with_pass kept.core kept.core.history kept.core.stripes a.core.number (learned u n)) kept.latches) (its_core key s kept id a None at)))
+    other n known there
 
 seated_end : (passes : List PassState) (seat : ℕ → ℕ) (id : ℕ) (more : List Standing) (b : Standing) → AreSeatedAt passes seat id more → slice_get passes b.core.number ≡ Some b.core → seat b.core.number ≡ id → AreSeatedAt passes seat id (more ++ b ∷ [])
 seated_end passes seat id [] b f at is = ((at, is), tt)
@@ -178,6 +198,10 @@ latch_end : (latches : List ℕ) (more : List Standing) (b : Standing) → HaveL
 latch_end latches [] b f its = (its, tt)
 latch_end latches (x ∷ more) b f its = (f.0, latch_end latches more b f.1 its)
 
+told_end : (history : List Entry) (refusals : ℕ → List Refusal) (more : List Standing) (b : Standing) → AreTold history refusals more → IsTold history (refusals b.core.number) b → AreTold history refusals (more ++ b ∷ [])
+told_end history refusals [] b f its = (its, tt)
+told_end history refusals (x ∷ more) b f its = (f.0, told_end history refusals more b f.1 its)
+
 has_either : (more : List Standing) (b : Standing) (k : ℕ) → has_pass (more ++ b ∷ []) k ≡ (has_pass more k || ((b.core.number == k) || false))
 has_either more b k = list_any-append (λ (x : Standing). x.core.number == k) more (b ∷ [])
 
@@ -186,13 +210,12 @@ pub gathers : (key : Key) (id other : ℕ) (more : List Standing) (b : Standing)
     → Joins (IsKept key) id (passes_view more) other (pass_view b) (gathered (passes_view more) (pass_view b)) spent
 gathers key id other more b below s kept at apart there =
     let passes : List PassState = kept.core.passes in
-    let long : ℕ = length kept.core.history in
     let all : View = passes_view (more ++ b ∷ []) in
     let views : List View = set (set s.views id (passes_view (more ++ b ∷ []))) other spent in
     let now : ℕ → ℕ = moved_seat kept.seat b.core.number id in
-    let mine : IsTrueView kept.core.passes kept.latches (length kept.core.history) kept.seat id (passes_view more) = kept.views id (passes_view more) at in
+    let mine : IsTrueView (state_of key s kept) (refusals_of key s kept) kept.seat id (passes_view more) = kept.views id (passes_view more) at in
     let there_was : get_elem? s.views other ≡ some (pass_view b) = sym (set_else s.views id other (passes_view (more ++ b ∷ [])) apart) ∙ there in
-    let theirs : IsTrueView kept.core.passes kept.latches (length kept.core.history) kept.seat other (pass_view b) = kept.views other (pass_view b) there_was in
+    let theirs : IsTrueView (state_of key s kept) (refusals_of key s kept) kept.seat other (pass_view b) = kept.views other (pass_view b) there_was in
     let here : get_elem? (set (set s.views id (passes_view (more ++ b ∷ []))) other spent) id ≡ some (passes_view (more ++ b ∷ []))
     = set_else (set s.views id all) other id spent (λ q. apart (sym q)) ∙ set_there s.views id all (passes_view more) at in
     reseated key s kept now views
@@ -220,16 +243,18 @@ gathers key id other more b below s kept at apart there =
       ]
     ])
     (λ j v e. elim (at_set (set s.views id all) other j spent v e) [
-      | inl t ↦ subst (IsTrueView passes kept.latches long now j) t.1 (true_note passes kept.latches long now j 0 (omega arith))
+      | inl t ↦ subst (IsTrueView (state_of key s kept) (refusals_of key s kept) now j) t.1 (true_note (state_of key s kept) (refusals_of key s kept) now j 0 [] (omega arith) (none_known kept.core.history))
       | inr t ↦ elim (at_set s.views id j all v t.1) [
-        | inl q ↦ subst (λ (z : ℕ × View). IsTrueView passes kept.latches long now z.0 z.1) (λ i. (sym q.0 i, q.1 i))
+        | inl q ↦ subst (λ (z : ℕ × View). IsTrueView (state_of key s kept) (refusals_of key s kept) now z.0 z.1) (λ i. (sym q.0 i, q.1 i))
             (record {
               passes = seated_end passes now id more b (still_at passes kept.seat now id more (λ n is. stays n is) mine.passes) theirs.passes.0.0 (seat_here kept.seat b.core.number id);
               rising = subst (IsRising nat_cmp) (sym (map-append (λ (x : Standing). x.core.number) more (b ∷ []))) (rising_end nat_cmp (numbers_in more) b.core.number mine.rising (λ k m. less_to k b.core.number (below k m)));
               latch = latch_end kept.latches more b mine.latch theirs.latch.0;
+              histories = told_end kept.core.history (refusals_of key s kept) more b mine.histories theirs.histories.0;
               told = omega arith;
+              known = none_known kept.core.history;
             })
-        | inr q ↦ others_stay passes kept.latches long kept.seat b.core.number id j other v theirs.passes.0.1 t.0 (kept.views j v q.1)
+        | inr q ↦ others_stay (state_of key s kept) (refusals_of key s kept) kept.seat b.core.number id j other v theirs.passes.0.1 t.0 (kept.views j v q.1)
       ]
     ])
   where

@@ -146,11 +146,11 @@ module _ (a : Inside) (row : RowSeen) (is : row_seen a ≡ row) (whole : IsWhole
           (commits a.table.shared.key a.table.shared.table_id.slots id (standing_of me.0) me.1 e (subst (λ (r : RowSeen). MayCommit (compiled_of r) (standing_of me.0).core e) (sym is) may)),
     )
 
-    pub looks_at : me.0 ≡ pass_view (standing_of me.0) → Requires a table id me 0 (λ n. n) (ToldAtLook (step_on a 0 0 0) me)
-    looks_at view = (
+    pub looks_at : (told : Option Key) → told ≡ Some row.key → me.0 ≡ pass_view (standing_of me.0) → Requires a table id me 0 (λ n. n) (ToldAtLook told (step_on a 0 0 0) me)
+    looks_at told known view = (
       its_table table same,
       has_words,
-      subst (λ (t : Me Slot View). Keeps a id t 0 (λ n. n) (ToldAtLook (step_on a 0 0 0) t)) (λ i. (sym view i, me.1))
+      subst (λ (t : Option Key × Me Slot View). Keeps a id t.1 0 (λ n. n) (ToldAtLook t.0 (step_on a 0 0 0) t.1)) (λ i. (sym (its_key told known) i, (sym view i, me.1)))
           (looks a.table.shared.key a.table.shared.table_id.slots id (standing_of me.0) me.1),
     )
 
@@ -162,14 +162,14 @@ module _ (a : Inside) (row : RowSeen) (is : row_seen a ≡ row) (whole : IsWhole
 
     -- another seat is joined away
     module _ (id' : ℕ) (me' : Me Slot View) (table' : TableId) (same' : table' ≡ row.table) (none : me'.1 ≡ []) where
-      pub learns_at : me.0 ≡ pass_view (standing_of me.0) → me'.0 ≡ note_view me'.0.told
+      pub learns_at : me.0 ≡ pass_view (standing_of me.0) → me'.0 ≡ note_view me'.0.told me'.0.known
           → Joining a table id me.0 table' id' me' (informed me.0 me'.0)
       learns_at view view' = (
         its_table table same,
         its_table table' same',
         none,
         has_words,
-        subst (λ (t : View × View). Joins (IsKept a.table.shared.key) id t.0 id' t.1 (informed t.0 t.1) spent) (λ i. (sym view i, sym view' i)) (learns a.table.shared.key id id' (standing_of me.0) me'.0.told),
+        subst (λ (t : View × View). Joins (IsKept a.table.shared.key) id t.0 id' t.1 (informed t.0 t.1) spent) (λ i. (sym view i, sym view' i)) (learns a.table.shared.key id id' (standing_of me.0) me'.0.told me'.0.known),
       )
 
       pub gathers_at : me.0 ≡ passes_view me.0.passes → me'.0 ≡ pass_view (standing_of me'.0) → ((k : ℕ) → In k (numbers_in me.0.passes) → k < (standing_of me'.0).core.number)

@@ -16,17 +16,21 @@ use Rattle.rc_rel.specs.declared.entry.Placed.{Placed}
 use Rattle.rc_rel.specs.History.{placed}
 use Rattle.rc_core.specs.declared.state.Hold.{Hold}
 use Rattle.rc_core.specs.State.{hold, stripes_in}
+use Rattle.rc_core.specs.Good.{IsOfHistory}
 use Rattle.rc_core.specs.Passes.{committed, renewed, renewed_as, rows_then}
 use Rattle.atomic_table.specs.Seated.{TableId}
+use Rattle.atomic_table.specs.Table.{Me}
 use Rattle.rc_row.specs.declared.keeping.Keeping.{Keeping}
 use Rattle.rc_row.specs.declared.keeping.Keeping.TheVariants.{Entries, Counts}
 use Rattle.rc_row.specs.declared.law.Standing.{Standing}
 use Rattle.rc_row.specs.declared.pass.Pass.TheInside.{Inside}
 use Rattle.rc_row.specs.HeldRows.{HeldRows}
-use Rattle.rc_row.specs.Law.{pass_view, standing_of}
+use Rattle.rc_row.specs.declared.law.View.{View}
+use Rattle.rc_row.specs.Law.{Slot, pass_view, standing_of}
 use Rattle.rc_row.specs.PassInside.{AreOwnKept, IsWholePass, hands, pass_seen}
-use Rattle.rc_row.specs.Passes.{IsPassOf, KeepsAs, PassSeen, RowSeen, all_with, core_of, holds_now, holds_taken, spec_of, stripes_of, with_commit, with_entry, with_fragment}
-use Rattle.rc_row.specs.Standings.{with_core}
+use Rattle.rc_row.specs.Passes.{HasAdded, IsPassOf, compiled_of, KeepsAs, PassSeen, RowSeen, all_with, core_of, holds_now, holds_taken, spec_of, stripes_of, with_commit, with_entry, with_fragment}
+use Rattle.rc_row.specs.Standings.{HaveOneRelation, IsAtHistory, after_entry}
+use Rattle.rc_row.specs.Told.{HasCommitted}
 use Rattle.rc_row.proofs.AgreeLemmas.{agrees_as}
 use Rattle.rc_row.proofs.ChangeLemmas.{hands-with}
 
@@ -53,41 +57,56 @@ keeps_as Counts None w k = tt
 keeps_as Counts (Some part) w k = k
 
 -- what a commit makes of a pass
-pub record HasSettled (compiled : SpecWithPlans) (place : ℕ) (e : Entry) (a b : Inside) : Type 0 where
+pub record HasSettled (compiled : SpecWithPlans) (before : List Entry) (e : Entry) (a b : Inside) : Type 0 where
   pub number : b.number ≡ a.number
-  pub seen : b.seen ≡ place + 1
+  pub seen : b.seen ≡ length before + 1
   pub made : b.made ≡ a.made + 1
-  pub entries : b.entries ≡ with_entry a.entries (placed place e)
-  pub view : b.seat.me.0 ≡ pass_view (with_core (standing_of a.seat.me.0) (committed compiled (standing_of a.seat.me.0).core place e))
+  pub entries : b.entries ≡ with_entry a.entries (placed (length before) e)
+  pub view : b.seat.me.0 ≡ pass_view (after_entry compiled before e (standing_of a.seat.me.0))
   pub slots : b.seat.me.1 ≡ a.seat.me.1
   pub table : b.seat.table_id ≡ a.seat.table_id
   pub held : b.held.items ≡ all_with settled a.held.items
   pub room : b.held.cap ≡ a.held.cap
 
-module _ (compiled : SpecWithPlans) (place : ℕ) (e : Entry) (a b : Inside) (whole : IsWholePass a) (h : HasSettled compiled place e a b) (pass : PassSeen) (is : pass_seen a ≡ pass) where
+module _ (compiled : SpecWithPlans) (before : List Entry) (e : Entry) (a b : Inside) (whole : IsWholePass a) (h : HasSettled compiled before e a b) (pass : PassSeen) (is : pass_seen a ≡ pass) where
   pub whole_committed : holds_now pass.held ≡ (committed compiled (core_of pass) 0 e).held → IsWholePass b
   whole_committed left =
-      let s : Standing = with_core (standing_of a.seat.me.0) (committed compiled (standing_of a.seat.me.0).core place e) in
+      let s : Standing = after_entry compiled before e (standing_of a.seat.me.0) in
       let now : standing_of b.seat.me.0 ≡ s = ap standing_of h.view in
-      let own : (standing_of b.seat.me.0).core.own ≡ (standing_of a.seat.me.0).core.own ++ placed place e ∷ [] = ap (λ (t : Standing). t.core.own) now in
+      let own : (standing_of b.seat.me.0).core.own ≡ (standing_of a.seat.me.0).core.own ++ placed (length before) e ∷ [] = ap (λ (t : Standing). t.core.own) now in
       record {
         agrees = agrees_as b.number s b.seat.me b.held.items h.view (h.number ∙ whole.agrees.number_is) (let n = h.number in let l = whole.agrees.small in omega arith) whole.agrees.ahead
             (h.slots ∙ whole.agrees.hands_are ∙ sym (hands-with (λ (x : HeldRows). settled x.fragment) a.held.items) ∙ ap hands (sym h.held))
             (ap holds_taken h.held ∙ taken-settled a.held.items ∙ ap (λ (t : PassSeen). holds_now t.held) is ∙ left ∙ ap (λ (t : PassSeen). (committed compiled (core_of t) 0 e).held) (sym is))
             (subst (IsRising nat_cmp) (sym (stripes-renewed compiled.spec (rows_then compiled (standing_of a.seat.me.0).core e.steps) (standing_of a.seat.me.0).core.held)) whole.agrees.rising);
-        seen = h.seen ∙ add-one place ∙ sym (ap (λ (t : Standing). t.core.seen) now);
-        made = h.made ∙ ap (λ (n : ℕ). n + 1) whole.made ∙ sym (ap (λ (xs : List Placed). length xs) own ∙ length-append (standing_of a.seat.me.0).core.own (placed place e ∷ []));
-        entries = subst (λ (z : Option PartEntries × List Placed). AreOwnKept z.0 z.1) (λ i. (sym h.entries i, sym own i)) (own_kept a.entries (standing_of a.seat.me.0).core.own (placed place e) whole.entries);
+        seen = h.seen ∙ add-one (length before) ∙ sym (ap (λ (t : Standing). t.core.seen) now);
+        made = h.made ∙ ap (λ (n : ℕ). n + 1) whole.made ∙ sym (ap (λ (xs : List Placed). length xs) own ∙ length-append (standing_of a.seat.me.0).core.own (placed (length before) e ∷ []));
+        entries = subst (λ (z : Option PartEntries × List Placed). AreOwnKept z.0 z.1) (λ i. (sym h.entries i, sym own i)) (own_kept a.entries (standing_of a.seat.me.0).core.own (placed (length before) e) whole.entries);
         room = let r = whole.room in let c = h.room in let t = ap (λ (t : TableId). t.slots) h.table in omega arith;
       }
 
-  pub seen_committed : pass_seen b ≡ with_commit compiled place e pass
-  seen_committed = (λ i. record { table = h.table i; standing = standing_of (h.view i); held = h.held i; kept = h.entries i }) ∙ ap (with_commit compiled place e) is
+  pub seen_committed : pass_seen b ≡ with_commit compiled before e pass
+  seen_committed = (λ i. record { table = h.table i; standing = standing_of (h.view i); held = h.held i; kept = h.entries i }) ∙ ap (with_commit compiled before e) is
 
-pub pass_of_commit : (row : RowSeen) (compiled : SpecWithPlans) (place : ℕ) (e : Entry) (pass : PassSeen) → IsPassOf row pass → IsPassOf row (with_commit compiled place e pass)
-pass_of_commit row compiled place e pass of = record {
+-- what the step told is so of the pass
+pub has_added : (row : RowSeen) (e : Entry) (a b : Inside) (place : ℕ) (m : Me Slot View) (told : HasCommitted row.key e a.seat.me place m) → IsWholePass a
+    → HasSettled (compiled_of row) told.before e a b → (pass : PassSeen) → pass_seen a ≡ pass → HasAdded row e pass (pass_seen b) place
+has_added row e a b place m told whole h pass is =
+    let now : standing_of b.seat.me.0 ≡ after_entry (compiled_of row) told.before e (standing_of a.seat.me.0) = ap standing_of h.view in
+    record {
+      before = told.before;
+      place_is = told.place;
+      small = told.small;
+      at = subst (λ (s : PassSeen). IsAtHistory (spec_of row) row.key.passes told.before s.standing) is told.at;
+      after = subst (λ (s : Standing). IsOfHistory (spec_of row) row.key.passes (told.before ++ e ∷ []) s.core) (sym now) told.after;
+      one = subst (λ (s : Standing). HaveOneRelation (spec_of row) s.core.held) (sym now) told.one;
+      is = seen_committed (compiled_of row) told.before e a b whole h pass is;
+    }
+
+pub pass_of_commit : (row : RowSeen) (compiled : SpecWithPlans) (before : List Entry) (e : Entry) (pass : PassSeen) → IsPassOf row pass → IsPassOf row (with_commit compiled before e pass)
+pass_of_commit row compiled before e pass of = record {
   table = of.table;
   inside = All-map (λ (h : HeldRows). h.stripe < stripes_of row) (with_fragment (λ (h : HeldRows). settled h.fragment)) pass.held of.inside;
   shapes = All-map (λ (h : HeldRows). h.fragment.table ≡ edge_table (spec_of row)) (with_fragment (λ (h : HeldRows). settled h.fragment)) pass.held of.shapes;
-  keeps = keeps_as row.keeping pass.kept (placed place e) of.keeps;
+  keeps = keeps_as row.keeping pass.kept (placed (length before) e) of.keeps;
 }

@@ -30,7 +30,7 @@ module _ (s : Standing) (p : ℕ) (rows : List EdgeRow) (above : IsAbove s.core 
   out_for_latch k =
       let same = other-end s.core.held p Shared rows above in
       ap (λ (t : Standing). pass_view (with_core (latched_out t p (Latch k)) (released t.core p))) is_counted
-      ∙ (λ i. pass_view (record {
+      ∙ (λ i. pass_view (record s {
         core = record s.core { held = same i; wish = None };
         refusals = suc s.refusals;
         last_refusal = Some (record { stripe = p; mode = Shared; found = Latch k; held = same i });

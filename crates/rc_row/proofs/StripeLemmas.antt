@@ -1,12 +1,13 @@
 -- What the table shows of a stripe, and the changes of one pass that leave the latches alone.
-use Rattle.std.proofs.Common.{◌≡◌, ◌≢◌, ℕ, suc, ◌*◌, ◌+◌, ◌-◌, ◌/◌, ◌%◌, ◌<◌, ◌≤◌, ◌==◌, ◌||◌, Bool, true, false, List, [], ◌∷◌, length, set, Option, Some, None, if◌then◌else◌, sym, refl, ap, ◌∙◌, subst, inl, inr, arith, length-set}
+use Rattle.std.proofs.Common.{◌≡◌, ◌≢◌, ℕ, suc, ◌*◌, ◌+◌, ◌-◌, ◌/◌, ◌%◌, ◌<◌, ◌≤◌, ◌==◌, ◌||◌, ◌⊎◌, Bool, true, false, List, [], ◌∷◌, length, set, Option, Some, None, if◌then◌else◌, sym, refl, ap, ◌∙◌, subst, inl, inr, arith, length-set}
 use Rattle.std.specs.Prelude.{slice_index, MatchBool}
 use Rattle.std.specs.List.{slice_get}
 use Rattle.std.proofs.lemmas.Bool.{cases_eq, false≢true, eq-eqb, ne_eqb, eqb-true, eqb-false}
 use Rattle.std.proofs.lemmas.List.{get_or-set_same, get_or-set_other}
-use mathlib.Core.Option.{some}
+use mathlib.Core.Option.{some, none}
 use lib.ListN.{get_elem?}
-use Rattle.rc_tuple.specs.RisingSet.{In}
+use Rattle.rc_tuple.specs.RisingSet.{In, put}
+use Rattle.rc_tuple.specs.RisingSetLaws.{in_put, nat_order, rising_put}
 use Rattle.rc_tuple.specs.ColSet.{has}
 use Rattle.rc_spec.specs.Fragments.{EdgeRow}
 use Rattle.rc_spec.specs.declared.lock.Found.TheVariants.{Pass, Readers}
@@ -15,6 +16,7 @@ use Rattle.rc_spec.specs.declared.spec.Spec.{Spec}
 use Rattle.rc_rel.specs.declared.entry.Entry.{Entry}
 use Rattle.rc_rel.specs.HistoryLaws.{states_are_relations, states_satisfy, replay_in_states}
 use Rattle.rc_rel.specs.History.{replay}
+use Rattle.rc_rel.specs.PlaceLaws.{prefix_same}
 use Rattle.rc_core.specs.declared.state.CoreState.{CoreState}
 use Rattle.rc_core.specs.declared.state.Keeper.{Keeper}
 use Rattle.rc_core.specs.declared.state.Keeper.TheVariants.{Home, Writer}
@@ -22,20 +24,24 @@ use Rattle.rc_core.specs.declared.state.PassState.{PassState}
 use Rattle.rc_core.specs.declared.state.StripeState.{StripeState}
 use Rattle.rc_core.specs.State.{stripe_at, no_stripe, has_writer, is_writer, home_rows, writes_of, is_at}
 use Rattle.rc_core.specs.Passes.{IsHigh}
-use Rattle.rc_core.specs.Events.{with_pass, IsUnlocked}
+use Rattle.rc_core.specs.declared.event.Event.{Event}
+use Rattle.rc_core.specs.Events.{after, with_pass, IsAllowed, IsTaken, IsUnlocked}
 use Rattle.rc_core.specs.Good.{IsGood, IsGoodKeeper}
-use Rattle.rc_core.specs.ListLaws.{each_changed, not_has}
-use Rattle.rc_core.specs.KeepsLaws.{above_itself, writes_held}
-use Rattle.rc_core.specs.AgreeLaws.{sharing_counted}
-use Rattle.rc_core.specs.SizeLaws.{few_tuples, few_counted}
+use Rattle.rc_core.specs.ListLaws.{each_changed, length-put_new, not_has}
+use Rattle.std.specs.Ordering.{nat_cmp}
+use Rattle.rc_core.specs.KeepsLaws.{above_itself, at_below, writes_held}
+use Rattle.rc_core.specs.AgreeLaws.{high_uncounted, sharing_counted}
+use Rattle.rc_core.specs.SizeLaws.{few_tuples, few_counted, length-rising}
 use Rattle.atomic_table.specs.Table.{State}
 use Rattle.rc_row.specs.declared.law.Key.{Key}
 use Rattle.rc_row.specs.declared.law.Standing.{Standing}
 use Rattle.rc_row.specs.declared.law.View.{View}
-use Rattle.rc_row.specs.Law.{Slot, kept_of, spec_by, stripes_by, stripe_word, latch_word, writer_mark, word_of, pass_view, AreSeatedAt, HasLatch, HaveLatch, has_pass, HomesAre, IsKept}
+use Rattle.rc_row.specs.Law.{Slot, kept_of, spec_by, stripes_by, stripe_word, latch_word, writer_mark, word_of, pass_view, AreKnown, AreSeatedAt, HasLatch, HaveLatch, compiled_by, has_pass, home_of, HomesAre, IsKept}
+use Rattle.rc_row.specs.Run.{RowStep, OfCore, CanStep, after_step, found_at, found_by, pass_of, pass_of_event, refusal_of, refusal_of_event, row_state}
+use Rattle.rc_row.specs.RunLaws.{good_of, state_of}
 use Rattle.rc_row.specs.Standings.{KeepsOut, HaveOneRelation}
 use Rattle.rc_row.specs.Told.{found_in_word}
-use Rattle.rc_row.proofs.MoveLemmas.{Home?, moved, its_pass, its_latch}
+use Rattle.rc_row.proofs.MoveLemmas.{Home?, Refuses, moved, its_pass, its_latch}
 
 -- ---- choices by a test
 
@@ -97,11 +103,11 @@ pub record IsMade (key : Key) (t : StripeState) (word : ℕ) : Type 0 where
   pub count : length t.counted ≤ 255
 
 -- what is found in a word that isn't free
-pub keeps_writer_out : (key : Key) (t : StripeState) (word me : ℕ) → IsMade key t word → is_writer t.keeper me ≡ false → word ≢ 0 → KeepsOut Exclusive key.passes me (found_in_word word)
-keeps_writer_out key t word me made other some_there = go (word % 65536 == 0) refl
+pub keeps_writer_out : (key : Key) (t : StripeState) (word me : ℕ) → IsMade key t word → length t.counted < key.passes → is_writer t.keeper me ≡ false → word ≢ 0 → KeepsOut Exclusive key.passes me (found_in_word word)
+keeps_writer_out key t word me made fewer other some_there = go (word % 65536 == 0) refl
   where
     go : (b : Bool) → (word % 65536 == 0) ≡ b → KeepsOut Exclusive key.passes me (if b then Readers (word / 65536) else Pass (word % 65536 - 1))
-    go true e = let z = eqb-true (word % 65536) 0 e in let m = made.is in let a = made.mark in let b = made.passes in let c = made.count in (omega arith, omega arith)
+    go true e = let z = eqb-true (word % 65536) 0 e in let m = made.is in let a = made.mark in let b = made.passes in let c = made.count in (omega arith, omega (arith, fewer))
     go false e = let z = eqb-false (word % 65536) 0 e in let m = made.is in let a = made.mark in let b = made.passes in let c = made.count in let n = mark_other t.keeper me other in (omega arith, λ same. n (omega arith))
 
 pub keeps_reader_out : (key : Key) (t : StripeState) (word me : ℕ) → IsMade key t word → is_writer t.keeper me ≡ false → word % 65536 ≢ 0 → KeepsOut Shared key.passes me (found_in_word word)
@@ -111,19 +117,47 @@ keeps_reader_out key t word me made other taken = go (word % 65536 == 0) refl
     go true e = absurd (taken (eqb-true (word % 65536) 0 e))
     go false e = let z = eqb-false (word % 65536) 0 e in let m = made.is in let a = made.mark in let b = made.passes in let c = made.count in let n = mark_other t.keeper me other in (omega arith, λ same. n (omega arith))
 
+-- ---- words and what is in the way
+
+-- a word that isn't 0
+pub taken_word : (t : StripeState) → word_of t ≢ 0 → IsTaken t
+taken_word t some_there = go t.keeper t.counted some_there
+  where
+    go : (x : Keeper) (counted : List ℕ) → writer_mark x + 65536 * length counted ≢ 0 → (has_writer x ≡ true) ⊎ (counted ≢ [])
+    go (Home rows) [] n = absurd (n refl)
+    go (Home rows) (k ∷ counted) n = inr (λ e. cc)
+    go (Writer k) counted n = inl refl
+
+-- a word with a writer
+pub written_word : (x : Keeper) → writer_mark x ≢ 0 → (j : ℕ) × (x ≡ Writer j)
+written_word (Home rows) n = absurd (n refl)
+written_word (Writer j) n = (j, refl)
+
+-- the word says what is in the way at the stripe
+pub word_tells : (key : Key) (t : StripeState) (word : ℕ) → IsMade key t word → found_in_word word ≡ found_at t
+word_tells key t word made = go t.keeper t.counted made.is (let m = made.mark in let n = made.passes in omega arith) made.count
+  where
+    go : (x : Keeper) (counted : List ℕ) → word ≡ writer_mark x + 65536 * length counted → writer_mark x ≤ 255 → length counted ≤ 255 → found_in_word word ≡ found_by x counted
+    go (Home rows) counted is mark count =
+        ap (λ b. if b then Readers (word / 65536) else Pass (word % 65536 - 1)) (eq-eqb (word % 65536) 0 (omega (arith, is)))
+        ∙ ap Readers (omega (arith, is))
+    go (Writer j) counted is mark count =
+        ap (λ b. if b then Readers (word / 65536) else Pass (word % 65536 - 1)) (ne_eqb (word % 65536) 0 (λ e. omega (arith, is, mark, e)))
+        ∙ ap Pass (omega (arith, is, mark))
+
 -- ---- what the table shows
 
 module _ (key : Key) (s : State Slot View) (kept : IsKept key s) where
   pub there : (p : ℕ) → p < stripes_by key → p < length kept.core.stripes
-  there p lt = subst (λ n. p < n) (sym kept.good.all_stripes) lt
+  there p lt = subst (λ n. p < n) (sym (good_of key s kept).all_stripes) lt
 
   pub made : (p : ℕ) → p < stripes_by key → IsMade key (stripe_at kept.core.stripes p) (slice_index s.words (stripe_word p))
   made p lt = record {
     is = kept.shows.words p lt;
     mark = subst (λ n. writer_mark (stripe_at kept.core.stripes p).keeper ≤ n) kept.shows.passes
-        (mark_known (spec_by key) kept.core.history (length kept.core.passes) p (stripe_at kept.core.stripes p).keeper (kept.good.stripes p (there p lt)).keeper);
-    passes = subst (λ n. n ≤ 255) kept.shows.passes kept.good.few_passes;
-    count = few_counted (spec_by key) kept.core p kept.good (there p lt);
+        (mark_known (spec_by key) kept.core.history (length kept.core.passes) p (stripe_at kept.core.stripes p).keeper ((good_of key s kept).stripes p (there p lt)).keeper);
+    passes = subst (λ n. n ≤ 255) kept.shows.passes (good_of key s kept).few_passes;
+    count = few_counted (spec_by key) kept.core p (good_of key s kept) (there p lt);
   }
 
   pub word_inside : (p : ℕ) → p < stripes_by key → stripe_word p < length s.words
@@ -152,16 +186,20 @@ module _ (key : Key) (s : State Slot View) (kept : IsKept key s) where
 
   -- the slots at home where a stripe changes
   pub homes_with : (p : ℕ) (t : StripeState) (homes : List Home?) → p < stripes_by key → ((q : ℕ) → q ≢ p → get_elem? homes q ≡ get_elem? s.homes q)
-      → ((rows : List EdgeRow) → t.keeper ≡ Home rows → slice_index kept.latches p ≡ 0 → get_elem? homes p ≡ some (some (Some (kept_of (spec_by key) rows))))
+      → get_elem? homes p ≡ some (home_of (spec_by key) t.keeper (slice_index kept.latches p == 0))
       → HomesAre (spec_by key) (set kept.core.stripes p t) kept.latches homes
-  homes_with p t homes lt same here q rows below is free =
-      each_changed (λ j y. j < length kept.core.stripes → y.keeper ≡ Home rows → slice_index kept.latches j ≡ 0 → get_elem? homes j ≡ some (some (Some (kept_of (spec_by key) rows))))
-      kept.core.stripes p t no_stripe (there p lt) (λ l e f. here rows e f) (λ j n l e f. same j n ∙ kept.shows.homes j rows l e f) q
-      (subst (λ n. q < n) (length-set kept.core.stripes p t) below) is free
+  homes_with p t homes lt same here q below =
+      each_changed (λ j y. j < length kept.core.stripes → get_elem? homes j ≡ some (home_of (spec_by key) y.keeper (slice_index kept.latches j == 0)))
+      kept.core.stripes p t no_stripe (there p lt) (λ l. here) (λ j n l. same j n ∙ kept.shows.homes j l) q
+      (subst (λ n. q < n) (length-set kept.core.stripes p t) below)
 
   -- where the keeper stays, they stay
   pub homes_stay : (p : ℕ) (t : StripeState) → p < stripes_by key → t.keeper ≡ (stripe_at kept.core.stripes p).keeper → HomesAre (spec_by key) (set kept.core.stripes p t) kept.latches s.homes
-  homes_stay p t lt same = homes_with p t s.homes lt (λ q n. refl) (λ rows e free. kept.shows.homes p rows (there p lt) (sym same ∙ e) free)
+  homes_stay p t lt same = homes_with p t s.homes lt (λ q n. refl) (kept.shows.homes p (there p lt) ∙ ap (λ (x : Keeper). some (home_of (spec_by key) x (slice_index kept.latches p == 0))) (sym same))
+
+  -- the slot of a stripe that nobody writes or latches
+  pub slot_home : (p : ℕ) (rows : List EdgeRow) → p < stripes_by key → (stripe_at kept.core.stripes p).keeper ≡ Home rows → slice_index kept.latches p ≡ 0 → get_elem? s.homes p ≡ some (some (Some (kept_of (spec_by key) rows)))
+  slot_home p rows lt is free = kept.shows.homes p (there p lt) ∙ (λ i. some (home_of (spec_by key) (is i) (eq-eqb (slice_index kept.latches p) 0 free i)))
 
   -- a pass that has a latch, by the number in the latch's word
   latched_pass : (seat : ℕ → ℕ) (id k : ℕ) (latch : Option ℕ) (more : List Standing) → AreSeatedAt kept.core.passes seat id more → HaveLatch kept.latches latch more → has_pass more k ≡ true
@@ -184,8 +222,28 @@ module _ (key : Key) (s : State Slot View) (kept : IsKept key s) where
         let r = latched_pass kept.seat (kept.seat j) j x.view.latch x.view.passes f.passes f.latch x.has in
         let number = r.3 in
         let latched : is_at x.view.latch p ≡ true = ◌∙◌ {b = slice_index kept.latches p == suc r.0.number} (r.2.at p) (eq-eqb (slice_index kept.latches p) (suc r.0.number) (omega arith)) in
-        absurd (subst (In j) none_in (sharing_counted (spec_by key) kept.core kept.good p j r.0 r.1 (r.2.shares p latched))))
+        absurd (subst (In j) none_in (sharing_counted (spec_by key) kept.core (good_of key s kept) p j r.0 r.1 (r.2.shares p latched))))
   ]
+
+  -- where somebody writes, nobody has the latch
+  pub no_latch_written : (p : ℕ) → has_writer (stripe_at kept.core.stripes p).keeper ≡ true → slice_index kept.latches p ≡ 0
+  no_latch_written p written = elim (cases_eq (slice_index kept.latches p) 0) [
+    | inl e ↦ e
+    | inr taken ↦
+        (let j : ℕ = slice_index kept.latches p - 1 in
+        let named = kept.named p in
+        let x = kept.seated j (omega arith) in
+        let f = kept.views (kept.seat j) x.view x.at in
+        let r = latched_pass kept.seat (kept.seat j) j x.view.latch x.view.passes f.passes f.latch x.has in
+        let number = r.3 in
+        let latched : is_at x.view.latch p ≡ true = ◌∙◌ {b = slice_index kept.latches p == suc r.0.number} (r.2.at p) (eq-eqb (slice_index kept.latches p) (suc r.0.number) (omega arith)) in
+        absurd (false≢true (sym (((good_of key s kept).passes j r.0 r.1).beside p (r.2.shares p latched)) ∙ written)))
+  ]
+
+-- what a slot has where its stripe is latched
+pub out_where : (spec : Spec) (x : Keeper) → home_of spec x false ≡ none
+out_where spec (Home rows) = refl
+out_where spec (Writer k) = refl
 
 -- ---- a pass with no latch changes
 
@@ -198,25 +256,49 @@ still_bare latches u w a number = record {
 }
 
 module _ (key : Key) (s : State Slot View) (kept : IsKept key s) (id : ℕ) (a : Standing) (at : get_elem? s.views id ≡ some (pass_view a)) where
-  -- it changes with a stripe and its word
-  pub moved_stripe : (b : Standing) → b.core.number ≡ a.core.number → (p x : ℕ) (t : StripeState) → p < stripes_by key → x ≡ word_of t
-      → IsGood (spec_by key) (with_pass kept.core kept.core.history (set kept.core.stripes p t) a.core.number b.core)
+  -- it makes an event, by which it changes with a stripe and its word
+  pub moved_stripe : (b : Standing) → b.core.number ≡ a.core.number → AreKnown kept.core.history b.known
+      → (x : Event) → IsAllowed (compiled_by key) kept.core x → pass_of_event x ≡ a.core.number → Refuses (refusal_of_event kept.core x) a b
+      → (p word : ℕ) (t : StripeState) → p < stripes_by key → word ≡ word_of t
+      → after (compiled_by key) kept.core x ≡ with_pass kept.core kept.core.history (set kept.core.stripes p t) a.core.number b.core
       → (homes : List Home?) → length homes ≡ length s.homes → HomesAre (spec_by key) (set kept.core.stripes p t) kept.latches homes
-      → IsKept key (record { words = set s.words (stripe_word p) x; homes = homes; views = set s.views id (pass_view b) })
-  moved_stripe b number p x t lt is good homes width right =
-      moved key s kept id a None at b None number kept.core.history (set kept.core.stripes p t) good (omega arith)
-      kept.latches refl kept.named (still_bare kept.latches a.core b.core (its_latch key s kept id a None at) number) (λ j q n. refl)
-      (set s.words (stripe_word p) x) homes (length-set s.words (stripe_word p) x) (commit_stays key s kept (stripe_word p) x (λ e. omega arith))
-      (words_with key s kept p x t lt is) (latches_stay key s kept p x lt) width right
+      → IsKept key (record { words = set s.words (stripe_word p) word; homes = homes; views = set s.views id (pass_view b) })
+  moved_stripe b number known x can mine refuses p word t lt is leads homes width right =
+      moved key s kept id a None at b None number (OfCore x) can mine refuses kept.core.history (set kept.core.stripes p t) kept.latches
+      (ap (λ (c : CoreState). row_state c kept.latches) leads) (prefix_same kept.core.history) known
+      refl kept.named (still_bare kept.latches a.core b.core (its_latch key s kept id a None at) number) (λ j q n. refl)
+      (set s.words (stripe_word p) word) homes (length-set s.words (stripe_word p) word) (commit_stays key s kept (stripe_word p) word (λ e. omega arith))
+      (words_with key s kept p word t lt is) (latches_stay key s kept p word lt) width right
 
-  -- it changes alone
-  pub moved_alone : (b : Standing) → b.core.number ≡ a.core.number → IsGood (spec_by key) (with_pass kept.core kept.core.history kept.core.stripes a.core.number b.core)
+  -- it makes a step, by which it changes alone
+  pub moved_alone : (b : Standing) → b.core.number ≡ a.core.number → AreKnown kept.core.history b.known
+      → (x : RowStep) → CanStep (compiled_by key) (state_of key s kept) x → pass_of x ≡ a.core.number → Refuses (refusal_of (state_of key s kept) x) a b
+      → after_step (compiled_by key) (state_of key s kept) x ≡ row_state (with_pass kept.core kept.core.history kept.core.stripes a.core.number b.core) kept.latches
       → IsKept key (record { words = s.words; homes = s.homes; views = set s.views id (pass_view b) })
-  moved_alone b number good =
-      moved key s kept id a None at b None number kept.core.history kept.core.stripes good (omega arith)
-      kept.latches refl kept.named (still_bare kept.latches a.core b.core (its_latch key s kept id a None at) number) (λ j q n. refl)
+  moved_alone b number known x can mine refuses leads =
+      moved key s kept id a None at b None number x can mine refuses kept.core.history kept.core.stripes kept.latches leads (prefix_same kept.core.history) known
+      refl kept.named (still_bare kept.latches a.core b.core (its_latch key s kept id a None at) number) (λ j q n. refl)
       s.words s.homes refl kept.shows.commit kept.shows.words kept.shows.latch_words refl kept.shows.homes
+
+  -- who is counted in there are others, and so fewer than all
+  pub high_fewer : (p : ℕ) → p < stripes_by key → IsHigh a.core p → length (stripe_at kept.core.stripes p).counted < key.passes
+  high_fewer p lt high =
+      let is : slice_get kept.core.passes a.core.number ≡ Some a.core = its_pass key s kept id a None at in
+      let counted : List ℕ = (stripe_at kept.core.stripes p).counted in
+      let stripe = (good_of key s kept).stripes p (there key s kept p lt) in
+      let more = length-put_new a.core.number (stripe_at kept.core.stripes p).counted (high_uncounted (spec_by key) kept.core (good_of key s kept) p a.core.number a.core is high) in
+      let rise = rising_put nat_cmp nat_order a.core.number (stripe_at kept.core.stripes p).counted stripe.rising in
+      let all = length-rising 0 (length kept.core.passes) (put nat_cmp a.core.number (stripe_at kept.core.stripes p).counted) (omega arith) rise
+      (λ j m. (
+        omega arith,
+        elim (in_put nat_cmp nat_order j a.core.number (stripe_at kept.core.stripes p).counted m) [
+          | inl e ↦ subst (λ n. n < length kept.core.passes) (sym e) (at_below kept.core.passes a.core.number a.core is)
+          | inr x ↦ stripe.known j x
+        ],
+      )) in
+      let n = kept.shows.passes in
+      omega (arith, more, all)
 
   -- a pass for which the stripe is high doesn't write it
   pub high_unwritten : (p : ℕ) → IsHigh a.core p → is_writer (stripe_at kept.core.stripes p).keeper a.core.number ≡ false
-  high_unwritten p high = sym ((kept.good.passes a.core.number a.core (its_pass key s kept id a None at)).writes p) ∙ not_has (writes_of a.core) p (λ m. above_itself a.core p high.above (writes_held a.core p m))
+  high_unwritten p high = sym (((good_of key s kept).passes a.core.number a.core (its_pass key s kept id a None at)).writes p) ∙ not_has (writes_of a.core) p (λ m. above_itself a.core p high.above (writes_held a.core p m))

@@ -11,7 +11,7 @@ use Rattle.rc_rel.specs.declared.entry.Placed.{Placed}
 use Rattle.rc_rel.specs.History.{own_placed, replay}
 use Rattle.rc_core.specs.Good.{IsGoodHistory}
 use Rattle.rc_row.specs.declared.close.EndedPass.{EndedPass}
-use Rattle.rc_row.specs.Law.{kept_of}
+use Rattle.rc_row.specs.Law.{AreKnown, kept_of}
 use Rattle.rc_row.specs.PassInside.{AreOwnKept}
 use Rattle.rc_row.specs.Passes.{PassSeen, core_of}
 
@@ -21,11 +21,13 @@ pub record IsEndedPass (own : List Placed) (kept : Option PartEntries) (e : Ende
   pub entries : e.entries ≡ kept
   pub own_entries : AreOwnKept kept own
 
--- There is one good history of which the passes have their own entries, and whose rows the fragments have. It is short, and leaves few tuples.
+-- There is one good history of which the passes have their own entries, which goes on from all that they were told of, and whose rows the
+-- fragments have. It is short, and leaves few tuples.
 pub record HasHistory (spec : Spec) (passes : List PassSeen) (fragments : List KeptRows) : Type 0 where
   pub history : List Entry
   pub good : IsGoodHistory spec (length passes) history
   pub own : (k : ℕ) (pass : PassSeen) → slice_get passes k ≡ Some pass → (core_of pass).own ≡ own_placed history k
+  pub known : (k : ℕ) (pass : PassSeen) → slice_get passes k ≡ Some pass → AreKnown history pass.standing.known
   pub short : length history ≤ 255 * 2 ^ 48
   pub small : length (replay spec history) < 2 ^ 60
   pub count : length fragments ≡ stripe_total spec

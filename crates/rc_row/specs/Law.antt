@@ -1,8 +1,8 @@
--- The rule of the table: words, latches, homes and views show one good state of the core.
-use Rattle.std.specs.Prelude.{◌≡◌, ℕ, suc, ◌+◌, ◌*◌, ◌<◌, ◌≤◌, ◌==◌, Bool, true, List, [], ◌∷◌, length, map, slice_index, Option, Some, None}
+-- The rule of the table: words, latches, homes and views show a run of the core, and the state that it leads to.
+use Rattle.std.specs.Prelude.{◌≡◌, ℕ, suc, ◌+◌, ◌*◌, ◌<◌, ◌≤◌, ◌==◌, Bool, true, false, List, [], ◌∷◌, length, map, slice_index, Option, Some, None, All}
 use Rattle.std.specs.List.{slice_get, list_any, range_with_len}
 use Rattle.std.specs.Ordering.{nat_cmp}
-use mathlib.Core.Option.{some}
+use mathlib.Core.Option.{some, none}
 use lib.ListN.{get_elem?}
 use Rattle.rc_tuple.specs.RisingSet.{In, IsRising}
 use Rattle.rc_spec.specs.Fragments.{EdgeRow}
@@ -11,17 +11,20 @@ use Rattle.rc_spec.specs.declared.spec.Spec.{Spec}
 use Rattle.rc_fragment.specs.Fragment.{edge_table}
 use Rattle.rc_fragment.specs.Keep.{KeptRows}
 use Rattle.rc_plan.specs.Compiled.{SpecWithPlans, IsCompiled}
+use Rattle.rc_rel.specs.declared.entry.Entry.{Entry}
+use Rattle.rc_rel.specs.History.{IsPrefix}
 use Rattle.rc_core.specs.declared.state.CoreState.{CoreState}
 use Rattle.rc_core.specs.declared.state.Keeper.{Keeper}
 use Rattle.rc_core.specs.declared.state.Keeper.TheVariants.{Home, Writer}
 use Rattle.rc_core.specs.declared.state.PassState.{PassState}
 use Rattle.rc_core.specs.declared.state.StripeState.{StripeState}
 use Rattle.rc_core.specs.State.{stripe_at, shares_of, is_at}
-use Rattle.rc_core.specs.Good.{IsGood}
 use Rattle.atomic_table.specs.Table.{State}
 use Rattle.rc_row.specs.declared.law.Key.{Key}
+use Rattle.rc_row.specs.declared.law.Refusal.{Refusal}
 use Rattle.rc_row.specs.declared.law.Standing.{Standing}
 use Rattle.rc_row.specs.declared.law.View.{View}
+use Rattle.rc_row.specs.Run.{RowState, RowStep, CanRun, after_run, at_first, last_of, refusals_in, row_state}
 use Rattle.rc_row.specs.Standings.{start}
 
 -- ---- the key
@@ -67,18 +70,18 @@ kept_of spec rows = record { table = edge_table spec; rows = rows }
 
 -- a pass, which may have the latch of a stripe
 abbrev pub view_of : Standing → Option ℕ → View
-view_of s latch = record { passes = s ∷ []; latch = latch; told = 0 }
+view_of s latch = record { passes = s ∷ []; latch = latch; told = 0; known = [] }
 
 abbrev pub pass_view : Standing → View
 pass_view s = view_of s None
 
--- a note: no pass, and the length of a history
-abbrev pub note_view : ℕ → View
-note_view n = record { passes = []; latch = None; told = n }
+-- a note: no pass, the length of a history, and the histories that were told
+abbrev pub note_view : ℕ → List (List Entry) → View
+note_view n known = record { passes = []; latch = None; told = n; known = known }
 
 -- passes that have no seat of their own
 abbrev pub passes_view : List Standing → View
-passes_view passes = record { passes = passes; latch = None; told = 0 }
+passes_view passes = record { passes = passes; latch = None; told = 0; known = [] }
 
 abbrev pub first_of : List Standing → Standing
 first_of [] = start 0
@@ -113,12 +116,28 @@ abbrev pub HaveLatch : List ℕ → Option ℕ → List Standing → Type 0
 HaveLatch latches latch [] = Unit {0}
 HaveLatch latches latch (s ∷ more) = HasLatch latches latch s.core × HaveLatch latches latch more
 
--- what the view of a seat says is so
-pub record IsTrueView (known : List PassState) (latches : List ℕ) (long : ℕ) (seat : ℕ → ℕ) (id : ℕ) (v : View) : Type 0 where
-  pub passes : AreSeatedAt known seat id v.passes
+-- each is a beginning of the history
+abbrev pub AreKnown : List Entry → List (List Entry) → Type 0
+AreKnown history known = All (λ earlier. IsPrefix earlier history) known
+
+-- The refused steps of a pass are those of the run, and what it was told of are beginnings of the history.
+pub record IsTold (history : List Entry) (refusals : List Refusal) (s : Standing) : Type 0 where
+  pub count : s.refusals ≡ length refusals
+  pub last : s.last_refusal ≡ last_of refusals
+  pub known : AreKnown history s.known
+
+abbrev pub AreTold : List Entry → (ℕ → List Refusal) → List Standing → Type 0
+AreTold history refusals [] = Unit {0}
+AreTold history refusals (s ∷ more) = IsTold history (refusals s.core.number) s × AreTold history refusals more
+
+-- what the view of a seat says is so, of a state and of the refusals of each pass
+pub record IsTrueView (now : RowState) (refusals : ℕ → List Refusal) (seat : ℕ → ℕ) (id : ℕ) (v : View) : Type 0 where
+  pub passes : AreSeatedAt now.core.passes seat id v.passes
   pub rising : IsRising nat_cmp (numbers_in v.passes)
-  pub latch : HaveLatch latches v.latch v.passes
-  pub told : v.told ≤ long
+  pub latch : HaveLatch now.latches v.latch v.passes
+  pub histories : AreTold now.core.history refusals v.passes
+  pub told : v.told ≤ length now.core.history
+  pub known : AreKnown now.core.history v.known
 
 abbrev pub has_pass : List Standing → ℕ → Bool
 has_pass passes k = list_any (λ s. s.core.number == k) passes
@@ -131,10 +150,15 @@ pub record HasSeat (views : List View) (seat : ℕ → ℕ) (k : ℕ) : Type 0 w
 
 -- ---- the rule
 
--- the slot of a stripe that nobody writes, and whose latch is free, is home with the stripe's rows
+-- what the slot of a stripe has: the stripe's rows where nobody writes it and its latch is free; else it is out
+abbrev pub home_of : Spec → Keeper → Bool → mathlib.Core.Option.Option Slot
+home_of spec (Home rows) true = some (Some (kept_of spec rows))
+home_of spec (Home rows) false = none
+home_of spec (Writer k) free = none
+
+-- so has each slot
 abbrev pub HomesAre : Spec → List StripeState → List ℕ → List (mathlib.Core.Option.Option Slot) → Type 0
-HomesAre spec stripes latches homes = (p : ℕ) (rows : List EdgeRow) → p < length stripes → (stripe_at stripes p).keeper ≡ Home rows → slice_index latches p ≡ 0
-    → get_elem? homes p ≡ some (some (Some (kept_of spec rows)))
+HomesAre spec stripes latches homes = (p : ℕ) → p < length stripes → get_elem? homes p ≡ some (home_of spec (stripe_at stripes p).keeper (slice_index latches p == 0))
 
 -- words and homes show the state, with these latches
 pub record Shows (key : Key) (core : CoreState) (latches : List ℕ) (s : State Slot View) : Type 0 where
@@ -147,14 +171,24 @@ pub record Shows (key : Key) (core : CoreState) (latches : List ℕ) (s : State 
   pub passes : length core.passes ≡ key.passes
   pub homes : HomesAre (spec_by key) core.stripes latches s.homes
 
--- the rule: there is a good state that words, homes and views show
+-- nothing has happened in the row
+abbrev pub at_first_by : Key → RowState
+at_first_by key = at_first (compiled_by key) key.passes
+
+-- The rule: there is a run of the row that leads to a state which words, homes and views show, and whose refused steps are those that
+-- the views count.
 pub record IsKept (key : Key) (s : State Slot View) : Type 0 where
   pub compiled : IsCompiled (spec_by key) (compiled_by key).plans
+  pub some_pass : 1 ≤ key.passes
+  pub few_passes : key.passes ≤ 255
+  pub run : List RowStep
+  pub steps : CanRun (compiled_by key) (at_first_by key) run
   pub core : CoreState
   pub latches : List ℕ
+  pub reached : after_run (compiled_by key) (at_first_by key) run ≡ row_state core latches
   pub seat : ℕ → ℕ
-  pub good : IsGood (spec_by key) core
   pub shows : Shows key core latches s
   pub named : (p : ℕ) → slice_index latches p ≤ length core.passes
   pub seated : (k : ℕ) → k < length core.passes → HasSeat s.views seat k
-  pub views : (id : ℕ) (v : View) → get_elem? s.views id ≡ some v → IsTrueView core.passes latches (length core.history) seat id v
+  pub views : (id : ℕ) (v : View) → get_elem? s.views id ≡ some v
+      → IsTrueView (row_state core latches) (refusals_in (compiled_by key) (at_first_by key) run) seat id v

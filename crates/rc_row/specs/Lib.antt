@@ -1,5 +1,7 @@
 pub mod Standings
 pub mod StandingsLaws
+pub mod Run
+pub mod RunLaws
 pub mod Law
 pub mod Seats
 pub mod Told
@@ -14,3 +16,4 @@ pub mod Released
 pub mod Ended
 pub mod Laws
 pub mod ShownLaws
+pub mod EventLaws

@@ -1,5 +1,5 @@
 -- What clauses see of a row, a pass and a note, and what the calls of a row make of a pass.
-use Rattle.std.specs.Prelude.{◌≡◌, ℕ, ◌-◌, ◌<◌, ◌≤◌, ◌^◌, ◌==◌, not, List, [], ◌∷◌, ◌++◌, map, filter, length, Option, Some, None, All, IsSome, cond}
+use Rattle.std.specs.Prelude.{◌≡◌, ℕ, suc, ◌+◌, ◌*◌, IfSome, ◌-◌, ◌<◌, ◌≤◌, ◌^◌, ◌==◌, not, List, [], ◌∷◌, ◌++◌, map, filter, length, Option, Some, None, All, IsSome, cond}
 use Rattle.std.specs.List.{range_with_len}
 use Rattle.rc_tuple.specs.Tuple.{Pairs}
 use Rattle.rc_spec.specs.CountedRows.{count_at}
@@ -19,7 +19,8 @@ use Rattle.rc_rel.specs.History.{placed}
 use Rattle.rc_core.specs.declared.state.Hold.{Hold}
 use Rattle.rc_core.specs.declared.state.PassState.{PassState}
 use Rattle.rc_core.specs.State.{hold}
-use Rattle.rc_core.specs.Passes.{took, released, committed}
+use Rattle.rc_core.specs.Good.{IsOfHistory}
+use Rattle.rc_core.specs.Passes.{took, released}
 use Rattle.atomic_table.specs.Seated.{TableId}
 use Rattle.rc_row.specs.declared.law.Key.{Key}
 use Rattle.rc_row.specs.declared.law.Standing.{Standing}
@@ -27,7 +28,8 @@ use Rattle.rc_row.specs.declared.keeping.Keeping.{Keeping}
 use Rattle.rc_row.specs.declared.keeping.Keeping.TheVariants.{Entries, Counts}
 use Rattle.rc_row.specs.HeldRows.{HeldRows, just_held}
 use Rattle.rc_row.specs.Law.{compiled_by, spec_by, stripes_by, kept_of}
-use Rattle.rc_row.specs.Standings.{KeepsRefusals, start, with_core}
+use Rattle.rc_spec.specs.declared.lock.Found.{Found}
+use Rattle.rc_row.specs.Standings.{HaveOneRelation, IsAtHistory, KeepsOut, after_entry, after_learn, after_look, start, wish_after, with_core}
 
 -- ---- what is seen
 
@@ -45,10 +47,11 @@ pub record PassSeen : Type 0 where
   pub held : List HeldRows
   pub kept : Option PartEntries
 
--- a note: whose it is, and the length of the history that it tells
+-- a note: whose it is, the length of the history that it tells, and the histories that its pass was told of
 pub record NoteSeen : Type 0 where
   pub table : TableId
   pub told : ℕ
+  pub known : List (List Entry)
 
 abbrev pub core_of : PassSeen → PassState
 core_of pass = pass.standing.core
@@ -143,13 +146,39 @@ abbrev pub with_entry : Option PartEntries → Placed → Option PartEntries
 with_entry None w = None
 with_entry (Some part) w = Some (record { list = part.list ++ w ∷ []; spare = part.spare - 1 })
 
--- the entry is committed at the place, and what was changed counts as taken
-abbrev pub with_commit : SpecWithPlans → ℕ → Entry → PassSeen → PassSeen
-with_commit compiled place e pass = record pass {
-  standing = with_core pass.standing (committed compiled (core_of pass) place e);
+-- the entry is committed behind this history, and what was changed counts as taken
+abbrev pub with_commit : SpecWithPlans → List Entry → Entry → PassSeen → PassSeen
+with_commit compiled before e pass = record pass {
+  standing = after_entry compiled before e pass.standing;
   held = all_with settled pass.held;
-  kept = with_entry pass.kept (placed place e);
+  kept = with_entry pass.kept (placed (length before) e);
 }
+
+-- The entry was committed at the place behind the history of that moment: it goes on from all that the pass was told of, has all that the
+-- pass made, and leaves the rows that it held. The longer history has the entry too, and leaves the rows as they are now.
+pub record HasAdded (row : RowSeen) (e : Entry) (old new : PassSeen) (place : ℕ) : Type 0 where
+  pub before : List Entry
+  pub place_is : place ≡ length before
+  pub small : place < 255 * 2 ^ 48
+  pub at : IsAtHistory (spec_of row) row.key.passes before old.standing
+  pub after : IsOfHistory (spec_of row) row.key.passes (before ++ e ∷ []) (core_of new)
+  pub one : HaveOneRelation (spec_of row) (core_of new).held
+  pub is : new ≡ with_commit (compiled_of row) before e old
+
+-- The history of that moment has this length, and the pass has seen all of it.
+pub record HasLookedAt (row : RowSeen) (old new : PassSeen) (length_is : ℕ) : Type 0 where
+  pub history : List Entry
+  pub long : length_is ≡ length history
+  pub at : IsAtHistory (spec_of row) row.key.passes history old.standing
+  pub is : new ≡ with_standing (after_look history old.standing) old
+
+-- the note tells what the pass has seen
+abbrev pub note_of : PassSeen → NoteSeen
+note_of pass = record { table = pass.table; told = (core_of pass).seen; known = pass.standing.known }
+
+-- the pass has seen what the note tells too
+abbrev pub with_note : NoteSeen → PassSeen → PassSeen
+with_note note pass = with_standing (after_learn note.told note.known pass.standing) pass
 
 -- the next entry of a pass, where it is of one call
 abbrev pub next_entry : PassState → Call → Reply → Entry
@@ -178,11 +207,21 @@ pub record HasReserved (old new : PassSeen) : Type 0 where
   pub is : new ≡ record old { kept = kept }
   pub more : IsMoreRoom old.kept kept
 
--- while it waited nothing but its wish and its refused steps changed
-pub record HasWaited (old new : PassSeen) : Type 0 where
-  pub wish : Option ℕ
-  pub is : new ≡ with_standing (record { core = record (core_of old) { wish = wish }; refusals = new.standing.refusals; last_refusal = new.standing.last_refusal }) old
-  pub refusals : KeepsRefusals old.standing new.standing
+-- A pass that waited for the stripe p in the mode: it is as before where no step was refused; else so many steps more and one were,
+-- the last of which found this.
+abbrev pub waited_so : Mode → Standing → ℕ → Option (ℕ × Found) → Standing
+waited_so mode s p None = s
+waited_so mode s p (Some (n, found)) = record s {
+  core = record s.core { wish = wish_after found p };
+  refusals = suc (n + s.refusals);
+  last_refusal = Some (record { stripe = p; mode = mode; found = found; held = s.core.held });
+}
+
+-- while it waited nothing but its wish and its refused steps changed, and the last of these kept it out of this stripe
+pub record HasWaited (mode : Mode) (passes p : ℕ) (old new : PassSeen) : Type 0 where
+  pub steps : Option (ℕ × Found)
+  pub is : new ≡ with_standing (waited_so mode old.standing p steps) old
+  pub found : IfSome steps (λ x. KeepsOut mode passes (core_of old).number x.1)
 
 -- ---- changes of a fragment
 

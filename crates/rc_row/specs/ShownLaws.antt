@@ -1,23 +1,28 @@
 -- Words, homes and views show one state, in which no passes wait in a circle.
-use Rattle.std.proofs.Common.{◌≡◌, ℕ, ◌<◌, ◌||◌, true, List, [], ◌∷◌, length, get_or, Some, sym, ap, ◌∙◌, inl, inr, arith}
+use Rattle.std.proofs.Common.{◌≡◌, ℕ, ◌<◌, ◌||◌, true, List, [], ◌∷◌, length, get_or, Some, sym, ap, ◌∙◌, inl, inr, subst, arith}
 use Rattle.std.specs.Prelude.{slice_index}
 use Rattle.std.specs.List.{slice_get}
 use Rattle.std.proofs.lemmas.Bool.{cases_eq, false≢true, ne_eqb}
 use Rattle.std.proofs.lemmas.List.{ext_get_or}
 use Rattle.std.proofs.lemmas.Option.{get_or_from_slice_get}
+use mathlib.Core.Option.{some}
+use Rattle.rc_tuple.specs.RisingSet.{In}
 use Rattle.rc_core.specs.declared.state.PassState.{PassState}
-use Rattle.rc_core.specs.State.{no_pass}
+use Rattle.rc_core.specs.State.{hold, no_pass}
 use Rattle.rc_core.specs.DetermineLaws.{passes_determine}
 use Rattle.rc_core.specs.WaitsLaws.{no_circle}
 use Rattle.atomic_table.specs.Table.{State}
 use Rattle.rc_row.specs.declared.law.Key.{Key}
 use Rattle.rc_row.specs.declared.law.Standing.{Standing}
 use Rattle.rc_row.specs.declared.law.View.{View}
-use Rattle.rc_row.specs.Law.{Slot, spec_by, AreSeatedAt, has_pass, IsKept}
-use Rattle.rc_row.specs.Laws.{OneStateIsShown, NoCircleIsShown}
+use Rattle.rc_row.specs.Law.{Slot, spec_by, pass_view, standing_of, AreSeatedAt, has_pass, IsKept}
+use Rattle.rc_row.specs.RunLaws.{good_of, refusals_have_moments, run_allowed, run_leads}
+use Rattle.rc_row.specs.HeldRows.{HeldRows}
+use Rattle.rc_row.specs.Laws.{HeldAreOfTheState, NoCircleIsShown, OneStateIsShown, RefusalsHaveMoments, RowsAreRuns}
+use Rattle.rc_row.specs.Passes.{holds_taken}
 
 -- a pass of a view is the same in each state that the view shows
-in_both : (xs ys : List PassState) (seat seat' : ℕ → ℕ) (i j k : ℕ) (more : List Standing) → AreSeatedAt xs seat i more → AreSeatedAt ys seat' j more → has_pass more k ≡ true
+pub in_both : (xs ys : List PassState) (seat seat' : ℕ → ℕ) (i j k : ℕ) (more : List Standing) → AreSeatedAt xs seat i more → AreSeatedAt ys seat' j more → has_pass more k ≡ true
     → (u : PassState) × (slice_get xs k ≡ Some u) × (slice_get ys k ≡ Some u)
 in_both xs ys seat seat' i j k [] f g has = absurd (false≢true has)
 in_both xs ys seat seat' i j k (s ∷ more) f g has = elim (cases_eq s.core.number k) [
@@ -37,9 +42,28 @@ module _ (key : Key) (s : State Slot View) (a b : IsKept key s) where
 
 pub one_state : OneStateIsShown
 one_state key s a b = (
-  passes_determine (spec_by key) a.core b.core a.good b.good (ext_get_or no_pass a.core.passes b.core.passes (a.shows.passes ∙ sym b.shows.passes) (same_pass key s a b)),
+  passes_determine (spec_by key) a.core b.core (good_of key s a) (good_of key s b) (ext_get_or no_pass a.core.passes b.core.passes (a.shows.passes ∙ sym b.shows.passes) (same_pass key s a b)),
   ext_get_or 0 a.latches b.latches (a.shows.latch_count ∙ sym b.shows.latch_count) (same_latch key s a b),
 )
 
+pub rows_are_runs : RowsAreRuns
+rows_are_runs key s kept = (run_allowed key s kept, run_leads key s kept)
+
+pub refusals_have_their_moments : RefusalsHaveMoments
+refusals_have_their_moments key s kept k r m = refusals_have_moments key s kept k r m
+
+-- the rows of a hold as taken are those of its place in the core's list
+taken_in : (held : List HeldRows) (h : HeldRows) → In h held → In (hold h.stripe h.mode h.fragment.taken) (holds_taken held)
+taken_in [] h m = absurd m
+taken_in (x ∷ held) h (inl e) = inl (ap (λ (y : HeldRows). hold y.stripe y.mode y.fragment.taken) e)
+taken_in (x ∷ held) h (inr m) = inr (taken_in held h m)
+
+pub held_of_the_state : HeldAreOfTheState
+held_of_the_state key s kept id number me held at agrees h m =
+    let a : Standing = standing_of me.0 in
+    let its = (kept.views id (pass_view a) (at ∙ ap some agrees.view_is)).passes.0.0 in
+    ((good_of key s kept).passes a.core.number a.core its).rows (hold h.stripe h.mode h.fragment.taken)
+    (subst (In (hold h.stripe h.mode h.fragment.taken)) agrees.taken (taken_in held h m))
+
 pub no_circle_shown : NoCircleIsShown
-no_circle_shown key s kept passes circle = no_circle (spec_by key) kept.core passes kept.good circle
+no_circle_shown key s kept passes circle = no_circle (spec_by key) kept.core passes (good_of key s kept) circle

@@ -1,5 +1,5 @@
 -- What a seat's view has of a pass, and how the steps of a row change it.
-use Rattle.std.specs.Prelude.{◌≡◌, ◌≢◌, ℕ, suc, ◌<◌, ◌≤◌, ◌^◌, List, Option, Some, None, length}
+use Rattle.std.specs.Prelude.{◌≡◌, ◌≢◌, ℕ, suc, ◌<◌, ◌≤◌, ◌^◌, List, [], ◌∷◌, ◌++◌, Option, Some, None, length, All}
 use Rattle.rc_tuple.specs.RisingSet.{In}
 use Rattle.rc_tuple.specs.Tuple.{Pairs}
 use Rattle.rc_tuple.specs.Relation.{IsRelation, Satisfies}
@@ -10,18 +10,26 @@ use Rattle.rc_spec.specs.declared.lock.Found.TheVariants.{Pass, Readers, Latch}
 use Rattle.rc_spec.specs.declared.lock.Mode.{Mode}
 use Rattle.rc_spec.specs.declared.lock.Mode.TheVariants.{Shared, Exclusive}
 use Rattle.rc_spec.specs.declared.spec.Spec.{Spec}
+use Rattle.rc_plan.specs.Compiled.{SpecWithPlans}
+use Rattle.rc_rel.specs.declared.entry.Entry.{Entry}
+use Rattle.rc_rel.specs.History.{IsPrefix}
 use Rattle.rc_core.specs.declared.state.Hold.{Hold}
 use Rattle.rc_core.specs.declared.state.PassState.{PassState}
 use Rattle.rc_core.specs.State.{fresh}
-use Rattle.rc_core.specs.Passes.{other_holds, turned}
+use Rattle.rc_core.specs.Good.{IsOfHistory}
+use Rattle.rc_core.specs.Passes.{committed, learned, other_holds, turned}
 use Rattle.rc_row.specs.declared.law.Standing.{Standing}
 
 -- the pass k at the start
 abbrev pub start : ℕ → Standing
-start k = record { core = fresh k; refusals = 0; last_refusal = None }
+start k = record { core = fresh k; refusals = 0; last_refusal = None; known = [] }
 
 abbrev pub with_core : Standing → PassState → Standing
 with_core s u = record s { core = u }
+
+-- and was told of these histories too
+abbrev pub knowing : List (List Entry) → PassState → Standing → Standing
+knowing more u s = record s { core = u; known = s.known ++ more }
 
 -- refused steps may have been added; where none was, the last is the same
 abbrev pub KeepsRefusals : Standing → Standing → Type 0
@@ -30,7 +38,7 @@ KeepsRefusals old new =
 
 -- the pass after one more refused step, which asked for the stripe p in the mode, found this, and left it these holds
 abbrev pub refused : Mode → Standing → ℕ → Found → PassState → List Hold → Standing
-refused mode s p found u held = record {
+refused mode s p found u held = record s {
   core = u;
   refusals = suc s.refusals;
   last_refusal = Some (record { stripe = p; mode = mode; found = found; held = held });
@@ -62,10 +70,29 @@ without_wish s = with_core s (record s.core { wish = None })
 -- writes the stripe; readers, in the way of a writer alone; another pass that has the latch, in the way of a reader alone.
 abbrev pub KeepsOut : Mode → ℕ → ℕ → Found → Type 0
 KeepsOut mode passes me (Pass k) = (k < passes) × (k ≢ me)
-KeepsOut Exclusive passes me (Readers n) = (1 ≤ n) × (n ≤ 255)
+KeepsOut Exclusive passes me (Readers n) = (1 ≤ n) × (n < passes)
 KeepsOut Shared passes me (Readers n) = ⊥
 KeepsOut Exclusive passes me (Latch k) = ⊥
 KeepsOut Shared passes me (Latch k) = (k < passes) × (k ≢ me)
+
+-- the pass has committed the entry behind this history, and was told of the longer one
+abbrev pub after_entry : SpecWithPlans → List Entry → Entry → Standing → Standing
+after_entry compiled before e s = knowing ((before ++ e ∷ []) ∷ []) (committed compiled s.core (length before) e) s
+
+-- it was told that this is the history
+abbrev pub after_look : List Entry → Standing → Standing
+after_look history s = knowing (history ∷ []) (learned s.core (length history)) s
+
+-- it was told of a history of this length, and of these
+abbrev pub after_learn : ℕ → List (List Entry) → Standing → Standing
+after_learn n known s = knowing known (learned s.core n) s
+
+-- This is the history at a moment. It goes on from all that the pass was told of, has all that it made, at its places, and leaves the rows
+-- that it holds.
+pub record IsAtHistory (spec : Spec) (passes : ℕ) (history : List Entry) (s : Standing) : Type 0 where
+  pub goes_on : All (λ earlier. IsPrefix earlier history) s.known
+  pub seen : s.core.seen ≤ length history
+  pub of : IsOfHistory spec passes history s.core
 
 -- all that is held has the rows of one relation, which satisfies the dependencies and is small
 pub record HaveOneRelation (spec : Spec) (holds : List Hold) : Type 0 where

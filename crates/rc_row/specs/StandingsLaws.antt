@@ -1,5 +1,5 @@
 -- Laws of refused steps.
-use Rattle.std.proofs.Common.{◌≡◌, ℕ, suc, refl, ◌∙◌, arith}
+use Rattle.std.proofs.Common.{ℕ, refl, arith}
 use Rattle.rc_spec.specs.declared.lock.Found.{Found}
 use Rattle.rc_spec.specs.declared.lock.Mode.{Mode}
 use Rattle.rc_row.specs.declared.law.Standing.{Standing}

@@ -1,15 +1,16 @@
 -- What each step on the table tells the pass that makes it.
-use Rattle.std.specs.Prelude.{◌≡◌, ℕ, ◌*◌, ◌-◌, ◌/◌, ◌%◌, ◌<◌, ◌≤◌, ◌^◌, ◌==◌, if◌then◌else◌, List, ◌∷◌, Option, Some, None, MatchBool}
+use Rattle.std.specs.Prelude.{◌≡◌, ℕ, ◌*◌, ◌-◌, ◌/◌, ◌%◌, ◌<◌, ◌^◌, ◌==◌, if◌then◌else◌, List, [], ◌∷◌, ◌++◌, length, Option, Some, None, MatchBool}
 use Rattle.rc_spec.specs.Fragments.{EdgeRow}
 use Rattle.rc_spec.specs.declared.lock.Found.{Found}
 use Rattle.rc_spec.specs.declared.lock.Found.TheVariants.{Pass, Readers, Latch}
 use Rattle.rc_spec.specs.declared.lock.Mode.TheVariants.{Shared, Exclusive}
 use Rattle.rc_rel.specs.declared.entry.Entry.{Entry}
-use Rattle.rc_core.specs.Passes.{locked, blocked, shared, back, released, committed, learned, rows_of_hold}
+use Rattle.rc_core.specs.Good.{IsOfHistory}
+use Rattle.rc_core.specs.Passes.{locked, blocked, shared, back, released, rows_of_hold}
 use Rattle.atomic_table.specs.Table.{Me, Step, rest}
 use Rattle.rc_row.specs.declared.law.Key.{Key}
 use Rattle.rc_row.specs.declared.law.View.{View}
-use Rattle.rc_row.specs.Standings.{with_core, refused, turned_by, latched_out, KeepsOut, HaveOneRelation}
+use Rattle.rc_row.specs.Standings.{with_core, refused, turned_by, latched_out, after_entry, after_look, KeepsOut, IsAtHistory, HaveOneRelation}
 use Rattle.rc_row.specs.Law.{Slot, kept_of, spec_by, compiled_by, stripes_by, stripe_word, latch_word, standing_of, pass_view, view_of}
 
 -- a seat, as it is seen: its view, and the slots that it has out
@@ -117,13 +118,16 @@ ToldAtUnlatch st m found m' = HasUnlatched m m'
 
 -- ---- commit
 
--- the entry has the place that was found
+-- the entry stands behind the history of this moment, whose length was found
 pub record HasCommitted (key : Key) (e : Entry) (m : Who) (found : ℕ) (m' : Who) : Type 0 where
-  pub seen : (standing_of m.0).core.seen ≤ found
+  pub before : List Entry
+  pub place : found ≡ length before
   pub small : found < 255 * 2 ^ 48
-  pub view : m'.0 ≡ pass_view (with_core (standing_of m.0) (committed (compiled_by key) (standing_of m.0).core found e))
+  pub at : IsAtHistory (spec_by key) key.passes before (standing_of m.0)
+  pub after : IsOfHistory (spec_by key) key.passes (before ++ e ∷ []) (after_entry (compiled_by key) before e (standing_of m.0)).core
+  pub one : HaveOneRelation (spec_by key) (after_entry (compiled_by key) before e (standing_of m.0)).core.held
+  pub view : m'.0 ≡ pass_view (after_entry (compiled_by key) before e (standing_of m.0))
   pub slots : m'.1 ≡ m.1
-  pub one : HaveOneRelation (spec_by key) (committed (compiled_by key) (standing_of m.0).core found e).held
 
 abbrev pub ToldAtCommit : Option Key → Entry → Step Slot → Who → ℕ → Who → Type 0
 ToldAtCommit None e st m found m' = Unit {0}
@@ -131,11 +135,14 @@ ToldAtCommit (Some key) e st m found m' = HasCommitted key e m found m'
 
 -- ---- looks
 
--- the history is as long as was found, and the pass has seen all of it
-pub record HasLooked (m : Who) (found : ℕ) (m' : Who) : Type 0 where
-  pub seen : (standing_of m.0).core.seen ≤ found
-  pub view : m'.0 ≡ pass_view (with_core (standing_of m.0) (learned (standing_of m.0).core found))
+-- the history of this moment is as long as was found, and the pass has seen all of it
+pub record HasLooked (key : Key) (m : Who) (found : ℕ) (m' : Who) : Type 0 where
+  pub history : List Entry
+  pub long : found ≡ length history
+  pub at : IsAtHistory (spec_by key) key.passes history (standing_of m.0)
+  pub view : m'.0 ≡ pass_view (after_look history (standing_of m.0))
   pub slots : m'.1 ≡ m.1
 
-abbrev pub ToldAtLook : Step Slot → Who → ℕ → Who → Type 0
-ToldAtLook st m found m' = HasLooked m found m'
+abbrev pub ToldAtLook : Option Key → Step Slot → Who → ℕ → Who → Type 0
+ToldAtLook None st m found m' = Unit {0}
+ToldAtLook (Some key) st m found m' = HasLooked key m found m'

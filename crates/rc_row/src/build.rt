@@ -35,7 +35,7 @@ impl Row {
     ) -> Result<(Row, Vec<Pass>), Memory>
         requires { (1 ≤ passes) × (passes ≤ 255) }
         ensures compiled { IfOk result (λ r. r.0.key.compiled.value ≡ compiled.now) }
-        ensures row { IfOk result (λ r. (r.0.key.passes ≡ passes) × (r.0.keeping ≡ keeping)) }
+        ensures row { IfOk result (λ r. (r.0.key.passes ≡ passes) × (r.0.key.seed ≡ seed) × (r.0.keeping ≡ keeping)) }
         ensures passes { IfOk result (λ r. r.1.items ≡ new_passes r.0) }
     {
         let stripes = stripe_total(compiled.accepted().spec()) as usize;
@@ -97,7 +97,7 @@ fn open(
     keeping: Keeping,
 ) -> Result<(Row, Seat<Option<Keep>, View>), Memory>
     requires { (1 ≤ passes) × (passes ≤ 255) }
-    ensures row { IfOk result (λ r. (r.0.key.compiled.value ≡ compiled.now) × (r.0.key.passes ≡ passes) × (r.0.keeping ≡ keeping)) }
+    ensures row { IfOk result (λ r. (r.0.key.compiled.value ≡ compiled.now) × (r.0.key.passes ≡ passes) × (r.0.key.seed ≡ seed) × (r.0.keeping ≡ keeping)) }
     ensures seat { IfOk result (λ r. (r.1.table_id ≡ r.0.table) × (r.1.me ≡ (passes_view (starts 0 passes), []))) }
 {
     let stripes = stripe_total(compiled.accepted().spec()) as usize;
@@ -105,9 +105,10 @@ fn open(
     let key = Key {
         compiled: Snapshot::of(compiled),
         passes,
+        seed,
     };
     let words = vec![in alloc; 0u64; WORDS_OF_A_LINE * (2 * stripes + 1)]?;
-    let slots = empty_slots(alloc, seed, compiled.accepted())?;
+    let slots = empty_slots(alloc, key.seed, compiled.accepted())?;
     match Table::new(alloc, words.as_slice(), slots, &key) {
         Ok((table, seat)) => Ok((
             Row {

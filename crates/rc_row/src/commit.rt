@@ -1,11 +1,10 @@
 //! Commits, and what passes tell each other.
 
 ghost use Rattle.std.specs.Prelude.{◌≡◌, ◌*◌, ◌<◌, ◌≤◌, ◌^◌, [], ◌∷◌, None, Some, length};
-ghost use Rattle.rc_core.specs.Passes.{MayCommit, committed, learned};
+ghost use Rattle.rc_core.specs.Passes.{MayCommit, committed};
 ghost use Rattle.rc_fragment.specs.FragmentRows.{settled};
 ghost use Rattle.rc_row.specs.Law.{pass_view, standing_of};
-ghost use Rattle.rc_row.specs.Passes.{HasSpare, all_with, IsPassOf, compiled_of, core_of, holds_now, next_entry, spec_of, with_commit, with_entry, with_standing};
-ghost use Rattle.rc_row.specs.Standings.{HaveOneRelation, with_core};
+ghost use Rattle.rc_row.specs.Passes.{HasAdded, HasLookedAt, HasSpare, IsPassOf, all_with, compiled_of, core_of, holds_now, next_entry, note_of, with_entry, with_note};
 ghost use Rattle.rc_row.specs.Told.{HasCommitted};
 
 use crate::held::HeldFragment;
@@ -30,10 +29,7 @@ impl Row {
         requires allowed { MayCommit (compiled_of self.now) (core_of pass.old) entry }
         requires left { holds_now pass.old.held ≡ (committed (compiled_of self.now) (core_of pass.old) 0 entry).held }
         ensures pass { IsPassOf self.now pass.new }
-        ensures value { pass.new ≡ with_commit (compiled_of self.now) result entry pass.old }
-        ensures seen { (core_of pass.old).seen ≤ result }
-        ensures small { result < 255 * 2 ^ 48 }
-        ensures one { HaveOneRelation (spec_of self.now) (core_of pass.new).held }
+        ensures added { HasAdded self.now entry pass.old pass.new result }
     {
         let place = self.commit_entry::<Brand>(&mut pass.seat, &entry);
         settle_all(&mut pass.held);
@@ -51,10 +47,7 @@ impl Row {
         requires allowed { MayCommit (compiled_of self.now) (core_of pass.old) (next_entry (core_of pass.old) call.now reply.now) }
         requires left { holds_now pass.old.held ≡ (committed (compiled_of self.now) (core_of pass.old) 0 (next_entry (core_of pass.old) call.now reply.now)).held }
         ensures pass { IsPassOf self.now pass.new }
-        ensures value { pass.new ≡ with_commit (compiled_of self.now) result (next_entry (core_of pass.old) call.now reply.now) pass.old }
-        ensures seen { (core_of pass.old).seen ≤ result }
-        ensures small { result < 255 * 2 ^ 48 }
-        ensures one { HaveOneRelation (spec_of self.now) (core_of pass.new).held }
+        ensures added { HasAdded self.now (next_entry (core_of pass.old) call.now reply.now) pass.old pass.new result }
     {
         let place = self.commit_next::<Brand>(&mut pass.seat, call, reply);
         settle_all(&mut pass.held);
@@ -102,10 +95,9 @@ impl Row {
     pub fn look(&self, pass: &mut Pass) -> u64
         requires { IsPassOf self.now pass.old }
         ensures pass { IsPassOf self.now pass.new }
-        ensures value { pass.new ≡ with_standing (with_core pass.old.standing (learned (core_of pass.old) result)) pass.old }
-        ensures seen { (core_of pass.old).seen ≤ result }
+        ensures looked { HasLookedAt self.now pass.old pass.new result }
     {
-        let length = self.look_step(&mut pass.seat);
+        let length = self.look_step::<Brand>(&mut pass.seat);
         pass.seen = pass.seen.max(length);
         length
     }
@@ -114,7 +106,7 @@ impl Row {
     pub fn note(&self, pass: &mut Pass) -> Note
         requires { IsPassOf self.now pass.old }
         ensures same { pass.new ≡ pass.old }
-        ensures note { result ≡ record { table = self.now.table; told = (core_of pass.old).seen } }
+        ensures note { result ≡ note_of pass.old }
     {
         let seat = self.note_step(&mut pass.seat);
         Note {
@@ -128,7 +120,7 @@ impl Row {
         requires pass { IsPassOf self.now pass.old }
         requires note { note.table ≡ self.now.table }
         ensures pass { IsPassOf self.now pass.new }
-        ensures value { pass.new ≡ with_standing (with_core pass.old.standing (learned (core_of pass.old) note.told)) pass.old }
+        ensures value { pass.new ≡ with_note note pass.old }
     {
         let Note { told, seat } = note;
         self.learn_step(&mut pass.seat, seat);

@@ -1,9 +1,11 @@
-//! The rule of the table that a row is: at every moment words, slots and views show a good state of the core.
+//! The rule of the table that a row is: at every moment words, slots and views show a run of the core.
 
 use atomic_table::TableRule;
 use rc_core::{Hold, PassState};
 use rc_fragment::Keep;
+use rc_maps::Seed;
 use rc_plan::Compiled;
+use rc_rel::Entry;
 use rc_spec::{Found, Mode};
 use rc_tuple::SmallList;
 use std::snapshot::Snapshot;
@@ -15,6 +17,8 @@ pub struct Key {
     pub compiled: Snapshot<Compiled>,
     /// How many passes there are, from 1 to 255.
     pub passes: u32,
+    /// The seed of its hash tables.
+    pub seed: Seed,
 }
 
 /// A step at which a pass found a stripe taken. Contracts alone have it.
@@ -37,11 +41,13 @@ pub struct Standing {
     pub refusals: u64,
     /// The last of them.
     pub last_refusal: Option<Refusal>,
+    /// The histories that it was told of, in order: each is a beginning of the history as it grows.
+    pub known: SmallList<SmallList<Entry>>,
 }
 
 /// What a seat of the table knows. Contracts alone have it: no value of it is made.
 ///
-/// The seat of a pass has that pass, and for three plain moves a latch. The seat of a note has no pass. The
+/// The seat of a pass has that pass, and while it copies a pointer a latch. The seat of a note has no pass. The
 /// first seat has all passes before they are dealt, and the last one at the end.
 pub struct View {
     /// The passes, by rising numbers.
@@ -50,9 +56,12 @@ pub struct View {
     pub latch: Option<u32>,
     /// The length of the history that a note tells.
     pub told: u64,
+    /// The histories that the note's pass was told of.
+    pub known: SmallList<SmallList<Entry>>,
 }
 
-/// The rule: there is a good state of the core, of the key's specification, that words, slots and views show.
+/// The rule: there is a run of the core, of the key's specification, after which words, slots and views show its state, and
+/// whose refused steps are those that the views count.
 pub struct Law;
 
 impl TableRule<Option<Keep>, View, Key> for Law {

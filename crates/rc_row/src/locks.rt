@@ -80,22 +80,25 @@ impl Row {
         requires stripe { stripe < stripes_of self.now }
         requires above { IsAbove (core_of pass.old) stripe }
         ensures pass { IsPassOf self.now pass.new }
-        ensures taken { (waited : PassSeen) × (rows : List EdgeRow) × HasWaited pass.old waited × (pass.new ≡ with_taken (spec_of self.now) Exclusive stripe rows waited) }
+        ensures taken { (waited : PassSeen) × (rows : List EdgeRow) × HasWaited Exclusive self.now.key.passes stripe pass.old waited × (pass.new ≡ with_taken (spec_of self.now) Exclusive stripe rows waited) }
         ensures one { HaveOneRelation (spec_of self.now) (core_of pass.new).held }
     {
         for _ in rt.forever() {
             match self.try_lock(pass, stripe) {
                 None => return,
-                Some(_) => self.wait_free(rt, stripe),
+                Some(_) => self.wait_free(rt, pass, stripe),
             }
         }
         unreachable!()
     }
 
-    /// Waits while the word of the stripe isn't 0.
-    fn wait_free<R: Wait>(&self, rt: &R, stripe: u32)
-        requires { stripe < stripes_of self.now }
+    /// Waits while the word of the stripe isn't 0. It is the stripe that the pass wants, so that who parks is one of those of
+    /// whom it is proved that they don't wait in a circle.
+    fn wait_free<R: Wait>(&self, rt: &R, pass: &Pass, stripe: u32)
+        requires stripe { stripe < stripes_of self.now }
+        requires wish { (core_of pass.now).wish ≡ Some stripe }
     {
+        let _ = pass;
         let table = &self.table.shared;
         let word = stripe_word(stripe);
         for _ in 0..SPINS {

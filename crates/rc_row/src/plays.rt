@@ -105,10 +105,12 @@ impl<E: Carries> Play<Option<Keep>, View> for Commit<E> {
 }
 
 /// A load of the commit word.
-pub struct Look;
+pub struct Look<C> {
+    key: PhantomData<C>,
+}
 
-impl Play<Option<Keep>, View> for Look {
-    ghost then = { ToldAtLook };
+impl<C: Knows> Play<Option<Keep>, View> for Look<C> {
+    ghost then = { ToldAtLook C.key };
 }
 
 /// A note is made of a pass, and learned by another.

@@ -157,15 +157,15 @@ impl Row {
         requires stripe { stripe < stripes_of self.now }
         requires above { IsAbove (core_of pass.old) stripe }
         ensures pass { IsPassOf self.now pass.new }
-        ensures taken { IfOk result (λ _. (waited : PassSeen) × (rows : List EdgeRow) × HasWaited pass.old waited × (pass.new ≡ with_taken (spec_of self.now) Shared stripe rows waited)) }
+        ensures taken { IfOk result (λ _. (waited : PassSeen) × (rows : List EdgeRow) × HasWaited Shared self.now.key.passes stripe pass.old waited × (pass.new ≡ with_taken (spec_of self.now) Shared stripe rows waited)) }
         ensures one { IfOk result (λ _. HaveOneRelation (spec_of self.now) (core_of pass.new).held) }
-        ensures memory { OnErr result (HasWaited pass.old pass.new) }
+        ensures memory { OnErr result ((waited : PassSeen) × HasWaited Shared self.now.key.passes stripe pass.old waited × (pass.new ≡ with_standing (without_wish waited.standing) waited)) }
     {
         for _ in rt.forever() {
             match self.try_share(pass, stripe) {
                 Ok(None) => return Ok(()),
                 Ok(Some(Found::Latch(_))) => self.wait_unlatched(stripe),
-                Ok(Some(_)) => self.wait_unwritten(rt, stripe),
+                Ok(Some(_)) => self.wait_unwritten(rt, pass, stripe),
                 Err(Memory) => {
                     self.wake(stripe);
                     return Err(Memory);
@@ -175,11 +175,13 @@ impl Row {
         unreachable!()
     }
 
-    /// Waits while somebody writes the stripe. The reader was counted in for a moment, which may have sent a writer to sleep: so
-    /// it wakes the stripe first.
-    fn wait_unwritten<R: Wait>(&self, rt: &R, stripe: u32)
-        requires { stripe < stripes_of self.now }
+    /// Waits while somebody writes the stripe, which is the one that the pass wants. The reader was counted in for a moment, which
+    /// may have sent a writer to sleep: so it wakes the stripe first.
+    fn wait_unwritten<R: Wait>(&self, rt: &R, pass: &Pass, stripe: u32)
+        requires stripe { stripe < stripes_of self.now }
+        requires wish { (core_of pass.now).wish ≡ Some stripe }
     {
+        let _ = pass;
         self.wake(stripe);
         let table = &self.table.shared;
         let word = stripe_word(stripe);
@@ -209,7 +211,7 @@ impl Row {
         false
     }
 
-    /// Waits a while for a latch. Its owner has it for three plain moves, so nobody parks on a latch, and freeing it wakes
+    /// Waits a while for a latch. Its owner has it while it copies a pointer, so nobody parks on a latch, and freeing it wakes
     /// nobody. The reader was counted in for a moment: so it wakes the stripe first.
     fn wait_unlatched(&self, stripe: u32)
         requires { stripe < stripes_of self.now }

@@ -158,13 +158,14 @@ impl Row {
     }
 
     /// Reads how long the history is.
-    pub(crate) fn look_step(&self, seat: &mut Seat<Option<Keep>, View>) -> u64
+    pub(crate) fn look_step<C: Knows>(&self, seat: &mut Seat<Option<Keep>, View>) -> u64
+        requires key { C.key ≡ Some self.now.key }
         requires row { seat.old.table_id ≡ self.now.table }
         requires pass { seat.old.me.0 ≡ pass_view (standing_of seat.old.me.0) }
         ensures seat { (seat.new.table_id ≡ seat.old.table_id) × (seat.new.id ≡ seat.old.id) }
-        ensures told { HasLooked seat.old.me result seat.new.me }
+        ensures told { HasLooked self.now.key seat.old.me result seat.new.me }
     {
-        self.table.shared.load::<Look>(seat, COMMIT_WORD)
+        self.table.shared.load::<Look<C>>(seat, COMMIT_WORD)
     }
 
     /// Makes a note.
@@ -185,7 +186,7 @@ impl Row {
     )
         requires row { (seat.old.table_id ≡ self.now.table) × (note.table_id ≡ self.now.table) }
         requires pass { seat.old.me.0 ≡ pass_view (standing_of seat.old.me.0) }
-        requires note { (note.me.0 ≡ note_view note.me.0.told) × (note.me.1 ≡ []) }
+        requires note { (note.me.0 ≡ note_view note.me.0.told note.me.0.known) × (note.me.1 ≡ []) }
         ensures seat { (seat.new.table_id ≡ seat.old.table_id) × (seat.new.id ≡ seat.old.id) }
         ensures told { seat.new.me ≡ (informed seat.old.me.0 note.me.0, seat.old.me.1) }
     {

@@ -14,7 +14,7 @@ stripe_total-stripes-requires c = record { few = subst (λ (s : Spec). stripe_to
 
 pub new-requires-2 : goal.new-requires-2
 new-requires-2 c =
-    let key : Key = record { compiled = c.of.result; passes = c.args.passes } in
+    let key : Key = record { compiled = c.of.result; passes = c.args.passes; seed = c.args.seed } in
     let stripes : c.stripe_total-stripes.result ≡ stripes_by key = stripes_of_key key c.args.compiled.now c.accepted.result.now c.spec.result.now c.stripe_total-stripes.result c.of.ensures c.accepted.ensures.value c.spec.ensures.value c.stripe_total-stripes.ensures in
     let spec : c.accepted-2.result.now ≡ spec_by key = c.accepted-2.ensures.value ∙ ap (λ (s : SpecWithPlans). s.spec) (sym c.of.ensures) in
     let slots = c.in_ok-slots.ensures in
@@ -25,7 +25,7 @@ new-requires-2 c =
 
 pub invariant_of-result : goal.invariant_of-result
 invariant_of-result c =
-    let key : Key = record { compiled = c.of.result; passes = c.args.passes } in
+    let key : Key = record { compiled = c.of.result; passes = c.args.passes; seed = c.args.seed } in
     let stripes : c.stripe_total-stripes.result ≡ stripes_by key = stripes_of_key key c.args.compiled.now c.accepted.result.now c.spec.result.now c.stripe_total-stripes.result c.of.ensures c.accepted.ensures.value c.spec.ensures.value c.stripe_total-stripes.ensures in
     let made = c.in-Ok.ensures.ok in
     is_whole (record { table = c.in-Ok.table; waiting = c.in_ok-waiting.waiting; keeping = c.args.keeping; alloc = c.args.alloc }) key made.5

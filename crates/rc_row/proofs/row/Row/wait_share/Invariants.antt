@@ -1,5 +1,6 @@
+use Rattle.rc_spec.specs.declared.lock.Mode.TheVariants.{Shared}
 use Rattle.rc_row.specs.Passes.{HasWaited, IsPassOf}
 use Rattle.rc_row.proofs.row.Row.wait_share.Given as goal
 
 abbrev pub invariant-loop : goal.invariant-loop
-invariant-loop g l = IsPassOf l.self l.pass × HasWaited l.fn.pass l.pass
+invariant-loop g l = IsPassOf l.self l.pass × HasWaited Shared l.self.key.passes l.stripe l.fn.pass l.pass
