@@ -31,8 +31,9 @@ pub record IsBusy (row : RowSeen) (call : Call) (old new : PassSeen) (stripe : �
   pub named : In (stripe, mode) (eval (spec_of row) (plan_at (compiled_of row).plans call.op) call (rows_of held)).named
   pub by_plan : IsNamedBy (spec_of row) call.args (plan_at (compiled_of row).plans call.op) (stripe, mode)
 
--- Memory may be wanted at any time. That a pass is spent is found before anything else is done. Something is in the way only for that cause.
+-- Memory may be wanted at any time, but where a step was refused, that is the cause. That a pass is spent is found before anything else is done.
+-- Something is in the way only for that cause.
 abbrev pub HasCause : RowSeen → Call → PassSeen → PassSeen → TryFault → Type 0
-HasCause row call old new Memory = Unit {0}
+HasCause row call old new Memory = new.standing.refusals ≡ old.standing.refusals
 HasCause row call old new (Busy stripe found) = IsBusy row call old new stripe found
 HasCause row call old new Spent = new ≡ old

@@ -12,6 +12,7 @@ use Rattle.rc_instance.specs.Instance.{IsOfRelation, Stripe, held_from}
 use Rattle.rc_row.specs.declared.close.EndedPass.{EndedPass}
 use Rattle.rc_row.specs.declared.keeping.Keeping.{Keeping}
 use Rattle.rc_row.specs.declared.keeping.Keeping.TheVariants.{Counts, Entries}
+use Rattle.rc_row.specs.Law.{AreKnown}
 use Rattle.rc_row.specs.Passes.{PassSeen, compiled_of, core_of, spec_of}
 use Rattle.rc_store.specs.Store.{StoreSeen}
 
@@ -46,12 +47,14 @@ where_kept Counts x = None
 abbrev pub made_by : List PassSeen → List ℕ
 made_by passes = map (λ pass. length (core_of pass).own) passes
 
--- what is left of a store and its passes: each pass's entries are its own of the one history
+-- what is left of a store and its passes: each pass's entries are its own of the one history, which goes on from all that it
+-- was told of
 pub record HasClosed (store : StoreSeen) (passes : List PassSeen) (closed : ClosedSeen) : Type 0 where
   pub compiled : closed.compiled ≡ compiled_of store.row
   pub history : List Entry
   pub leaves : Leaves (spec_of store.row) (length passes) history closed.instance
   pub own : (k : ℕ) (pass : PassSeen) → slice_get passes k ≡ Some pass → (core_of pass).own ≡ own_placed history k
+  pub known : (k : ℕ) (pass : PassSeen) → slice_get passes k ≡ Some pass → AreKnown history pass.standing.known
   pub journal : closed.journal ≡ where_kept store.row.keeping history
   pub made : closed.made ≡ made_by passes
 

@@ -181,6 +181,7 @@ module _ (store : StoreSeen) (passes : List PassSeen) (fragments : List KeptRows
       free = ap (held_from 0) instance ∙ none_held 0 fragments;
     };
     own = h.own;
+    known = h.known;
     journal = journal;
     made = made;
   }

@@ -1,5 +1,5 @@
 -- What the holder of a call tells its plan of a row and a pass. (PLDI 2012, two-phase plans over striped locks.)
-use Rattle.std.specs.Prelude.{◌≡◌, ℕ, suc, ◌<◌, ◌≤◌, Bool, false, List, map, replicate, Option, Some, None}
+use Rattle.std.specs.Prelude.{◌≡◌, ℕ, suc, ◌<◌, Bool, false, List, map, replicate, Option, Some, None}
 use Rattle.rc_spec.specs.declared.spec.Spec.{Spec}
 use Rattle.rc_fragment.specs.Fragment.{edge_table}
 use Rattle.rc_fragment.specs.Holder.{HeldStripe, Holding, LentStripe, RefusedTake}
@@ -58,6 +58,7 @@ pub record HasRun (begun now : PassSeen) : Type 0 where
   pub table : now.table ≡ begun.table
   pub kept : now.kept ≡ begun.kept
   pub refusals : KeepsRefusals begun.standing now.standing
+  pub known : now.standing.known ≡ begun.standing.known
 
 -- The pass's last refused step is of this call. It found what is told in the way, and the pass held what is told.
 pub record IsRefusedAt (row : RowSeen) (begun now : PassSeen) (at : Refused) : Type 0 where
@@ -65,17 +66,20 @@ pub record IsRefusedAt (row : RowSeen) (begun now : PassSeen) (at : Refused) : T
   pub last : now.standing.last_refusal ≡ Some (record { stripe = at.answer.stripe; mode = at.mode; found = at.answer.found; held = holds_taken at.pass.value.held })
   pub found : KeepsOut at.mode row.key.passes (core_of begun).number at.answer.found
 
--- Refused takes are told only where nothing waits.
+-- where nothing waits, no step was refused
+abbrev pub IsUnrefused : Bool → PassSeen → PassSeen → Type 0
+IsUnrefused waits old new = waits ≡ false → new.standing.refusals ≡ old.standing.refusals
+
+-- Refused takes are told only where nothing waits, and there all are.
 abbrev pub IsToldOf : Bool → RowSeen → PassSeen → PassSeen → Option Refused → Type 0
-IsToldOf waits row begun now None = Unit {0}
+IsToldOf waits row begun now None = IsUnrefused waits begun now
 IsToldOf waits row begun now (Some at) = (waits ≡ false) × IsRefusedAt row begun now at
 
 -- A pass of the row on the way of a call: what it holds, as taken, are the rows of one relation.
-pub record IsOnTheWay (waits : Bool) (row : RowSeen) (begun now : PassSeen) (refused : Option Refused) : Type 0 where
+pub record IsOnTheWay (row : RowSeen) (begun now : PassSeen) : Type 0 where
   pub ran : HasRun begun now
   pub agrees : holds_taken now.held ≡ (core_of now).held
   pub one : HaveOneRelation (spec_of row) (core_of now).held
-  pub told : IsToldOf waits row begun now refused
 
 -- ---- by whom a holder was lent
 
@@ -88,7 +92,8 @@ pub record Lent : Type 0 where
 pub record IsLentBy (waits : Bool) (lent : Lent) (row : RowSeen) (now : PassSeen) (refused : Option Refused) (spec : Spec) : Type 0 where
   pub spec_is : spec ≡ spec_of row
   pub row_is : row ≡ lent.row
-  pub way : IsOnTheWay waits row lent.begun now refused
+  pub way : IsOnTheWay row lent.begun now
+  pub told : IsToldOf waits row lent.begun now refused
 
 abbrev pub IsLentSo : Bool → Option Lent → RowSeen → PassSeen → Option Refused → Spec → Type 0
 IsLentSo waits None row now refused spec = ⊥

@@ -210,15 +210,15 @@ module _ (row : RowSeen) (pass : PassSeen) (refused : Option Refused) (n : ℕ) 
     spec_is = l.spec_is;
     row_is = l.row_is;
     way = record {
-      ran = record { core = l.way.ran.core; table = l.way.ran.table; kept = l.way.ran.kept; refusals = l.way.ran.refusals };
+      ran = record { core = l.way.ran.core; table = l.way.ran.table; kept = l.way.ran.kept; refusals = l.way.ran.refusals; known = l.way.ran.known };
       agrees = taken_each fragment same pass.held ∙ l.way.agrees;
       one = l.way.one;
-      told = told refused l.way.told;
     };
+    told = told refused l.told;
   }
     where
       told : (r : Option Refused) → IsToldOf waits row lent.begun pass r → IsToldOf waits row lent.begun (changed_so fragment) r
-      told None t = tt
+      told None t = t
       told (Some at) t = (t.0, record { risen = t.1.risen; last = t.1.last; found = t.1.found })
 
 -- changes at one stripe that leave table and rows as taken
@@ -288,9 +288,9 @@ some_of o x P e h = subst (λ o. IfSome o P) e h
 -- ---- the start of a call
 
 -- a pass that holds nothing is on the way of a call that begins with it
-pub at_first : (waits : Bool) (row : RowSeen) (pass : PassSeen) → holds_taken pass.held ≡ (core_of pass).held → pass.held ≡ [] → IsOnTheWay waits row pass pass None
-at_first waits row pass agrees idle = record {
-  ran = record { core = refl; table = refl; kept = refl; refusals = refusals_first pass.standing };
+pub at_first : (row : RowSeen) (pass : PassSeen) → holds_taken pass.held ≡ (core_of pass).held → pass.held ≡ [] → IsOnTheWay row pass pass
+at_first row pass agrees idle = record {
+  ran = record { core = refl; table = refl; kept = refl; refusals = refusals_first pass.standing; known = refl };
   agrees = agrees;
   one = record {
     relation = [];
@@ -299,17 +299,12 @@ at_first waits row pass agrees idle = record {
     few = omega arith;
     rows = λ h m. absurd (subst (In h) (sym agrees ∙ ap holds_taken idle) m);
   };
-  told = tt;
 }
 
 pub lent_first : (waits : Bool) (lent : Option Lent) (row : RowSeen) (pass : PassSeen) (spec : Spec) → lent ≡ Some (record { row = row; begun = pass }) → spec ≡ spec_of row
     → holds_taken pass.held ≡ (core_of pass).held → pass.held ≡ [] → IsLentSo waits lent row pass None spec
 lent_first waits lent row pass spec e s agrees idle =
-    subst (λ (l : Option Lent). IsLentSo waits l row pass None spec) (sym e) (record { spec_is = s; row_is = refl; way = at_first waits row pass agrees idle })
-
--- what is known of a pass at the end, whichever takes were refused
-pub untold : (waits : Bool) (row : RowSeen) (begun now : PassSeen) (refused : Option Refused) → IsOnTheWay waits row begun now refused → IsOnTheWay waits row begun now None
-untold waits row begun now refused way = record { ran = way.ran; agrees = way.agrees; one = way.one; told = tt }
+    subst (λ (l : Option Lent). IsLentSo waits l row pass None spec) (sym e) (record { spec_is = s; row_is = refl; way = at_first row pass agrees idle; told = λ at_once. refl })
 
 -- a holder at the end, of the row that was lent
 pub lent_last : (waits : Bool) (lent : Option Lent) (row other : RowSeen) (begun now : PassSeen) (refused : Option Refused) (spec : Spec)

@@ -5,12 +5,16 @@ pub mod ClosedInside
 pub mod ClosedLaws
 pub mod CommitLaws
 pub mod FreeLaws
+pub mod Headline
+pub mod HeadlineLaws
 pub mod HeldStripes
 pub mod Lending
 pub mod LendingLaws
 pub mod NamedLaws
 pub mod OfRowLaws
 pub mod Prepared
+pub mod ReceiptLaws
+pub mod Receipts
 pub mod RunLaws
 pub mod Runs
 pub mod Running

@@ -1,5 +1,5 @@
 -- A call that waits for its commit.
-use Rattle.std.specs.Prelude.{◌≡◌, ◌<◌, ◌≤◌, ◌^◌, length}
+use Rattle.std.specs.Prelude.{◌≡◌, ◌<◌, ◌^◌, length}
 use Rattle.rc_spec.specs.declared.call.Call.{Call}
 use Rattle.rc_spec.specs.declared.call.Reply.{Reply}
 use Rattle.rc_spec.specs.Calls.{Fits}
@@ -25,4 +25,5 @@ pub record IsPrepared (row : RowSeen) (call : Call) (old new : PassSeen) (reply 
   pub table : new.table ≡ old.table
   pub more : IsMoreRoom old.kept new.kept
   pub refusals : KeepsRefusals old.standing new.standing
+  pub known : new.standing.known ≡ old.standing.known
   pub ready : IsReady row call new reply

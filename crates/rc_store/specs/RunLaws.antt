@@ -1,22 +1,23 @@
 -- What a run of a plan over a lent row and pass leaves.
 use Rattle.std.specs.Prelude.{◌≡◌, ℕ, Bool, List, [], Option, None, Some, Result, Ok, Err, IfOk, IfErr, false}
-use Rattle.std.proofs.Common.{refl, sym, subst}
+use Rattle.std.proofs.Common.{refl, sym, ap, subst, ◌∙◌}
 use Rattle.rc_spec.specs.declared.call.Call.{Call}
 use Rattle.rc_spec.specs.declared.call.Reply.{Reply}
 use Rattle.rc_spec.specs.declared.spec.Spec.{Spec}
 use Rattle.rc_spec.specs.Calls.{Fits}
 use Rattle.rc_fragment.specs.declared.held.Held.{Held}
-use Rattle.rc_fragment.specs.Holder.{HeldStripe}
+use Rattle.rc_fragment.specs.Holder.{HeldStripe, Holding}
 use Rattle.rc_plan.specs.Compiled.{IsCompiled, SpecWithPlans, plan_at}
 use Rattle.rc_machine.specs.declared.stop.Stop.{Stop}
 use Rattle.rc_machine.specs.declared.stop.Stop.TheVariants as stop
 use Rattle.rc_machine.specs.Machine.{HasAnswered, HasRefusedCall, HasReplied}
+use Rattle.rc_machine.specs.Stopped.{CountsOnlyHeld}
 use Rattle.rc_row.specs.Passes.{IsPassOf, PassSeen, RowSeen, compiled_of, core_of, holds_taken, spec_of}
 use Rattle.rc_store.specs.declared.lender.Refused.{Refused}
 use Rattle.rc_store.specs.Busy.{IsBusy}
-use Rattle.rc_store.specs.BusyLaws.{busy, none_waits}
-use Rattle.rc_store.specs.Lending.{IsLentBy, IsLentSo, IsOnTheWay, Lent, held_stripes, lending}
-use Rattle.rc_store.specs.LendingLaws.{held_of-lending, lent_first, lent_last, untold}
+use Rattle.rc_store.specs.BusyLaws.{busy, none_waits, unrefused}
+use Rattle.rc_store.specs.Lending.{IsLentBy, IsLentSo, IsOnTheWay, IsToldOf, IsUnrefused, Lent, held_stripes, lending}
+use Rattle.rc_store.specs.LendingLaws.{held_of-lending, lent_first, lent_last}
 use Rattle.rc_store.specs.Runs.{IsStoppedFor}
 
 -- what holds of a value that there may be
@@ -37,11 +38,16 @@ module _ (waits : Bool) (row other : RowSeen) (begun now : PassSeen) (last : Opt
   pub of_row_so : IsPassOf other now → IsPassOf row now
   of_row_so of = subst (λ (r : RowSeen). IsPassOf r now) l.row_is of
 
-  told_way : IsOnTheWay waits row begun now last
-  told_way = subst (λ (r : RowSeen). IsOnTheWay waits r begun now last) l.row_is l.way
+  pub way_so : IsOnTheWay row begun now
+  way_so = subst (λ (r : RowSeen). IsOnTheWay r begun now) l.row_is l.way
 
-  pub way_so : IsOnTheWay waits row begun now None
-  way_so = untold waits row begun now last told_way
+  told : IsToldOf waits row begun now last
+  told = subst (λ (r : RowSeen). IsToldOf waits r begun now last) l.row_is l.told
+
+  -- one after which as many refused takes are told as before had none
+  pub unrefused_so : (first : Option Refused) (n m : ℕ) → first ≡ None → (lending other now last m).refusals ≡ (lending row begun first n).refusals → IsUnrefused waits begun now
+  unrefused_so first n m none same =
+      unrefused row other begun now n m waits last told (same ∙ ap (λ (r : Option Refused). (lending row begun r n).refusals) none)
 
   module _ (compiled : SpecWithPlans) (same : compiled_of row ≡ compiled) (call : Call) where
     pub replied_so : (n : ℕ) (reply : Reply) → HasAnswered compiled call (lending other now last n) reply
@@ -58,7 +64,7 @@ module _ (waits : Bool) (row other : RowSeen) (begun now : PassSeen) (last : Opt
         (λ i. (sym same i, none i, l.row_is i)) is
 
     pub none_waits_so : (first : Option Refused) (n m : ℕ) → first ≡ None → (h : Held) → HasRefusedCall compiled call (lending row begun first n) (lending other now last m) h → waits ≡ false
-    none_waits_so first n m none h is = none_waits row call begun now n m waits last told_way h (refused_run first n m none h is)
+    none_waits_so first n m none h is = none_waits row call begun now n m waits last told h (refused_run first n m none h is)
 
     pub busy_so : (first : Option Refused) (n m : ℕ) → IsCompiled compiled.spec compiled.plans → Fits compiled.spec call → first ≡ None
         → (h : Held) → HasRefusedCall compiled call (lending row begun first n) (lending other now last m) h → IsBusy row call begun now h.stripe h.found
@@ -66,11 +72,17 @@ module _ (waits : Bool) (row other : RowSeen) (begun now : PassSeen) (last : Opt
         busy row call begun now n m waits
         (subst (λ (c : SpecWithPlans). IsCompiled c.spec c.plans) (sym same) ok)
         (subst (λ (c : SpecWithPlans). Fits c.spec call) (sym same) fits)
-        last told_way h (refused_run first n m none h is)
+        last told h (refused_run first n m none h is)
 
--- a run that was refused only for causes stopped for a cause
-pub stopped_so : (waits : Bool) (row : RowSeen) (call : Call) (begun now : PassSeen) (answer : Result Reply Stop)
-    → ((h : Held) → answer ≡ Err (stop.Held h) → (waits ≡ false) × IsBusy row call begun now h.stripe h.found) → IfErr answer (IsStoppedFor waits row call begun now)
-stopped_so waits row call begun now (Ok reply) busy = tt
-stopped_so waits row call begun now (Err stop.Memory) busy = tt
-stopped_so waits row call begun now (Err (stop.Held h)) busy = busy h refl
+module _ (waits : Bool) (row : RowSeen) (call : Call) (begun now : PassSeen) (old new : Holding) (quiet : new.refusals ≡ old.refusals → IsUnrefused waits begun now) where
+  -- a run that was refused only for causes stopped for a cause
+  pub stopped_so : (answer : Result Reply Stop) → CountsOnlyHeld answer old new
+      → ((h : Held) → answer ≡ Err (stop.Held h) → (waits ≡ false) × IsBusy row call begun now h.stripe h.found) → IfErr answer (IsStoppedFor waits row call begun now)
+  stopped_so (Ok reply) counted busy = tt
+  stopped_so (Err stop.Memory) counted busy = quiet counted
+  stopped_so (Err (stop.Held h)) counted busy = busy h refl
+
+  -- and one that answered was not refused
+  pub answered_so : (answer : Result Reply Stop) → CountsOnlyHeld answer old new → IfOk answer (λ _. IsUnrefused waits begun now)
+  answered_so (Ok reply) counted = quiet counted
+  answered_so (Err stop) counted = tt

@@ -14,23 +14,25 @@ use Rattle.rc_machine.specs.declared.stop.Stop.TheVariants.{Held, Memory}
 use Rattle.rc_machine.specs.Machine.{HasReplied}
 use Rattle.rc_rel.specs.declared.entry.Entry.{Entry}
 use Rattle.rc_rel.specs.declared.entry.Placed.{Placed}
-use Rattle.rc_rel.specs.History.{placed}
+use Rattle.rc_tuple.specs.RisingSet.{In}
+use Rattle.rc_rel.specs.History.{IsPrefix, own_placed, placed}
+use Rattle.rc_core.specs.Good.{IsOfHistory}
 use Rattle.rc_core.specs.Passes.{MayCommit, committed}
 use Rattle.rc_fragment.specs.FragmentRows.{FragmentRows, rolled_back, settled}
 use Rattle.rc_fragment.specs.Keep.{IsAtRest}
 use Rattle.rc_core.specs.declared.state.PassState.{PassState}
 use Rattle.rc_row.specs.declared.law.Standing.{Standing}
 use Rattle.rc_row.specs.HeldRows.{HeldRows}
-use Rattle.rc_row.specs.Passes.{AreAtRest, HasReserved, HasSpare, IsMoreRoom, IsPassOf, PassSeen, RowSeen, all_with, compiled_of, core_of, holds_now, holds_taken, idle, next_entry, reverted, spec_of, with_entry, with_fragment}
+use Rattle.rc_row.specs.Passes.{AreAtRest, HasAdded, HasReserved, HasSpare, IsMoreRoom, IsPassOf, PassSeen, RowSeen, all_with, compiled_of, core_of, holds_now, holds_taken, idle, next_entry, reverted, spec_of, with_entry, with_fragment}
 use Rattle.rc_row.specs.Standings.{KeepsOut, KeepsRefusals}
 use Rattle.rc_store.specs.Busy.{IsBusy}
 use Rattle.rc_store.specs.CommitLaws.{may_commit, now_committed}
 use Rattle.rc_store.specs.HeldStripes.{all_taken}
-use Rattle.rc_store.specs.Lending.{IsOnTheWay, held_stripes}
+use Rattle.rc_store.specs.Lending.{IsOnTheWay, IsUnrefused, held_stripes}
 use Rattle.rc_store.specs.LendingLaws.{all_now-held, all_taken-held, one_relation, still_of_row}
 use Rattle.rc_store.specs.Prepared.{IsPrepared, IsReady}
 use Rattle.rc_store.specs.Runs.{IsStoppedFor}
-use Rattle.rc_store.specs.Store.{HasMade, IsAsBefore, IsFinished, IsFree, StoreSeen}
+use Rattle.rc_store.specs.Store.{HasMade, IsAsBefore, IsFinished, IsFree, IsReplyFor, StoreSeen}
 use Rattle.rc_store.specs.declared.receipt.Receipt.{Receipt}
 
 -- ---- giving back
@@ -62,7 +64,7 @@ idle_already pass free agrees = λ i. record pass {
 
 -- ---- a call that stopped
 
-module _ (waits : Bool) (row : RowSeen) (old reserved ran new : PassSeen) (room : HasReserved old reserved) (way : IsOnTheWay waits row reserved ran None) where
+module _ (waits : Bool) (row : RowSeen) (old reserved ran new : PassSeen) (room : HasReserved old reserved) (way : IsOnTheWay row reserved ran) where
   ran_core : core_of ran ≡ record (core_of old) { held = (core_of ran).held; wish = (core_of ran).wish }
   ran_core = way.ran.core ∙ (λ i. record (core_of (room.is i)) { held = (core_of ran).held; wish = (core_of ran).wish })
 
@@ -71,6 +73,9 @@ module _ (waits : Bool) (row : RowSeen) (old reserved ran new : PassSeen) (room 
 
   ran_refusals : KeepsRefusals old.standing ran.standing
   ran_refusals = subst (λ (s : Standing). KeepsRefusals s ran.standing) (ap (λ (q : PassSeen). q.standing) room.is) way.ran.refusals
+
+  ran_known : ran.standing.known ≡ old.standing.known
+  ran_known = way.ran.known ∙ ap (λ (q : PassSeen). q.standing.known) room.is
 
   pub as_before : new ≡ idle ran → old.held ≡ [] → holds_taken old.held ≡ (core_of old).held → IsAsBefore old new
   as_before e free agrees = record {
@@ -82,6 +87,7 @@ module _ (waits : Bool) (row : RowSeen) (old reserved ran new : PassSeen) (room 
     held = ap (λ (q : PassSeen). q.held) e ∙ sym free;
     kept = subst (IsMoreRoom old.kept) (sym ran_kept ∙ sym (ap (λ (q : PassSeen). q.kept) e)) room.more;
     refusals = subst (KeepsRefusals old.standing) (sym (ap (λ (q : PassSeen). q.standing) e)) ran_refusals;
+    known = ap (λ (q : PassSeen). q.standing.known) e ∙ ran_known;
   }
 
   busy_before : (call : Call) (stripe : ℕ) (what : Found) → new ≡ idle ran → IsBusy row call reserved ran stripe what → IsBusy row call old new stripe what
@@ -95,11 +101,18 @@ module _ (waits : Bool) (row : RowSeen) (old reserved ran new : PassSeen) (room 
     by_plan = b.by_plan;
   }
 
+  unrefused_before : new ≡ idle ran → IsUnrefused waits reserved ran → IsUnrefused waits old new
+  unrefused_before e none at_once =
+      ap (λ (q : PassSeen). q.standing.refusals) e ∙ none at_once ∙ ap (λ (q : PassSeen). q.standing.refusals) room.is
+
   pub cause_before : (call : Call) (s : Stop) → new ≡ idle ran → IsStoppedFor waits row call reserved ran s → IsStoppedFor waits row call old new s
-  cause_before call Memory e cause = tt
+  cause_before call Memory e cause = unrefused_before e cause
   cause_before call (Held h) e cause = (cause.0, busy_before call h.stripe h.found e cause.1)
 
   -- and one that answered
+  pub unrefused_so : IsUnrefused waits reserved ran → IsUnrefused waits old ran
+  unrefused_so none at_once = none at_once ∙ ap (λ (q : PassSeen). q.standing.refusals) room.is
+
   pub prepared_so : (call : Call) (reply : Reply) → Fits (spec_of row) call → length (core_of old).own < 2 ^ 48 → HasSpare reserved.kept
       → HasReplied (spec_of row) (plan_at (compiled_of row).plans call.op) call (held_stripes ran.held) reply → IsPrepared row call old ran reply
   prepared_so call reply fits few spare replied = record {
@@ -107,6 +120,7 @@ module _ (waits : Bool) (row : RowSeen) (old reserved ran new : PassSeen) (room 
     table = way.ran.table ∙ ap (λ (q : PassSeen). q.table) room.is;
     more = subst (IsMoreRoom old.kept) (sym ran_kept) room.more;
     refusals = ran_refusals;
+    known = ran_known;
     ready = record {
       fits = fits;
       few = subst (λ (u : PassState). length u.own < 2 ^ 48) (sym ran_core) few;
@@ -144,6 +158,25 @@ module _ (row : RowSeen) (call : Call) (pass : PassSeen) (reply : Reply) (ready 
       all_now-held pass.held
       ∙ now_committed (compiled_of row) (core_of pass) call (held_stripes pass.held) reply as_taken of.0 of.1 ready.replied.evaluated (ready.replied.served of.0 of.1) 0
 
+-- a commit after which all was given back
+pub finished_so : (row : RowSeen) (call : Call) (old mid new : PassSeen) (reply : Reply) (receipt : Receipt)
+    → HasAdded row (next_entry (core_of old) call reply) old mid receipt.place → new ≡ idle mid → receipt.nth ≡ length (core_of old).own → IsReplyFor row.keeping reply receipt.reply
+    → IsFinished row call old new reply receipt
+finished_so row call old mid new reply receipt added e nth given = record {
+  before = added.before;
+  place = added.place_is;
+  at = added.at;
+  after = record {
+    good = added.after.good;
+    own = ap (λ (q : PassSeen). (core_of q).own) e ∙ added.after.own ∙ ap (own_placed (added.before ++ next_entry (core_of old) call reply ∷ [])) (sym (ap (λ (q : PassSeen). (core_of q).number) e));
+    rows = λ h m. absurd (subst (In h) (ap (λ (q : PassSeen). (core_of q).held) e) m);
+  };
+  is = e ∙ ap idle added.is;
+  nth = nth;
+  small = added.small;
+  given = given;
+}
+
 module _ (store : StoreSeen) (call : Call) (old mid new : PassSeen) (reply : Reply) (prepared : IsPrepared store.row call old mid reply) where
   same_entry : next_entry (core_of mid) call reply ≡ next_entry (core_of old) call reply
   same_entry = ap (λ (u : PassState). next_entry u call reply) prepared.core
@@ -155,22 +188,33 @@ module _ (store : StoreSeen) (call : Call) (old mid new : PassSeen) (reply : Rep
     was = prepared.core;
     allowed = subst (MayCommit (compiled_of store.row) (core_of mid)) same_entry (may_be_committed store.row call mid reply prepared.ready);
     one = prepared.ready.one;
+    before = f.before;
+    place = f.place;
+    at = record {
+      goes_on = subst (λ (known : List (List Entry)). All (λ earlier. IsPrefix earlier f.before) known) prepared.known f.at.goes_on;
+      seen = f.at.seen;
+      of = f.at.of;
+    };
+    after = subst (λ (x : Entry). IsOfHistory (spec_of store.row) store.row.key.passes (f.before ++ x ∷ []) (core_of new)) same_entry f.after;
+    known =
+        ap (λ (q : PassSeen). q.standing.known) f.is
+        ∙ (λ i. prepared.known i ++ (f.before ++ same_entry i ∷ []) ∷ []);
     core =
         ap core_of f.is
-        ∙ (λ i. record (committed (compiled_of store.row) (core_of mid) receipt.place (same_entry i)) {
+        ∙ (λ i. record (committed (compiled_of store.row) (core_of mid) (sym f.place i) (same_entry i)) {
           held = [];
           wish = sym (ap (λ (q : PassSeen). (core_of q).wish) f.is) i;
         });
-    own = ap (λ (q : PassSeen). (core_of q).own) f.is ∙ (λ i. (prepared.core i).own ++ placed receipt.place (same_entry i) ∷ []);
+    own = ap (λ (q : PassSeen). (core_of q).own) f.is ∙ (λ i. (prepared.core i).own ++ placed (sym f.place i) (same_entry i) ∷ []);
     nth = f.nth ∙ ap (λ (u : PassState). length u.own) prepared.core;
-    seen = subst (λ (u : PassState). u.seen ≤ receipt.place) prepared.core f.seen;
+    seen = subst (λ (x : PassState × ℕ). x.0.seen ≤ x.1) (λ i. (prepared.core i, sym f.place i)) f.at.seen;
     small = f.small;
     given = f.given;
     table = ap (λ (q : PassSeen). q.table) f.is ∙ prepared.table;
     held = ap (λ (q : PassSeen). q.held) f.is;
     kept = mid.kept;
     more = prepared.more;
-    keeps = ap (λ (q : PassSeen). q.kept) f.is ∙ ap (λ (x : Entry). with_entry mid.kept (placed receipt.place x)) same_entry;
+    keeps = ap (λ (q : PassSeen). q.kept) f.is ∙ (λ i. with_entry mid.kept (placed (sym f.place i) (same_entry i)));
     refusals = subst (KeepsRefusals old.standing) (sym (ap (λ (q : PassSeen). q.standing) f.is)) prepared.refusals;
   }
 
@@ -185,4 +229,5 @@ module _ (store : StoreSeen) (call : Call) (old mid new : PassSeen) (reply : Rep
     held = ap (λ (q : PassSeen). q.held) e ∙ sym free;
     kept = subst (IsMoreRoom old.kept) (sym (ap (λ (q : PassSeen). q.kept) e)) prepared.more;
     refusals = subst (KeepsRefusals old.standing) (sym (ap (λ (q : PassSeen). q.standing) e)) prepared.refusals;
+    known = ap (λ (q : PassSeen). q.standing.known) e ∙ prepared.known;
   }

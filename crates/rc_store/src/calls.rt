@@ -24,8 +24,10 @@ impl<W: Wakes> Store<W> {
     /// committed as one entry of the history while they are held; then they are given back. (PLDI 2012, serializable
     /// transactions by two-phase locks.)
     ///
-    /// `Spent` comes exactly where the pass has made as many entries as the store lets it, and first. `Busy` comes only
-    /// where the last refused step of the pass is of this call and found what is said, on a stripe that the plan names.
+    /// A receipt means one history: there was a good one of exactly as many calls as its place says, that has all that the pass
+    /// made and goes on from all that it was told of, and this call is its next. `Spent` comes exactly where the pass has made
+    /// as many entries as the store lets it, and first. `Busy` comes only where the last refused step of the pass is of this
+    /// call and found what is said, on a stripe that the plan names; `Memory` only where no step of this call was refused.
     /// After any fault the pass holds nothing, and its entries and what it has seen are as before. Costs what the plan
     /// costs, a few atomic steps a stripe, and where entries are kept a copy of the call.
     pub fn try_call(&self, pass: &mut Pass, call: &Call) -> Result<Receipt, TryFault>

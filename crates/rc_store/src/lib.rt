@@ -7,6 +7,7 @@ mod close;
 mod closed;
 mod finish;
 mod gate;
+mod laws;
 mod lender;
 mod receipt;
 mod run;
@@ -19,6 +20,10 @@ mod wakes;
 pub use close::StoreBack;
 pub use closed::Closed;
 pub use gate::{Gate, OpenGate, Point};
+pub use laws::{
+    receipts_are_of_the_closed, receipts_are_plain, receipts_go_on, receipts_mean_one_history,
+    telling_goes_on,
+};
 pub use receipt::{BeginBack, CallFault, Receipt, TryFault};
 pub use running::Running;
 pub use store::Store;

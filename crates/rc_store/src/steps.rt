@@ -4,6 +4,7 @@ ghost use Rattle.std.specs.Prelude.{◌≡◌, ◌<◌, IfErr, IfOk, IsSome, Non
 ghost use Rattle.rc_spec.specs.declared.call.Call.{Call};
 ghost use Rattle.rc_spec.specs.declared.call.Reply.{Reply};
 ghost use Rattle.rc_row.specs.Passes.{AreAtRest, IsPassOf, core_of, idle, next_entry};
+ghost use Rattle.rc_store.specs.Lending.{IsUnrefused};
 ghost use Rattle.rc_store.specs.Prepared.{IsPrepared, IsReady};
 ghost use Rattle.rc_store.specs.Runs.{IsStoppedFor};
 ghost use Rattle.rc_store.specs.Store.{IsAsBefore, IsFinished, MayCall};
@@ -32,6 +33,7 @@ impl<W: Wakes> Store<W> {
         requires left { length (core_of pass.old).own < self.now.limit }
         ensures pass { IsPassOf self.now.row pass.new }
         ensures ok { IfOk result (IsPrepared self.now.row call.now pass.old pass.new) }
+        ensures unrefused { IfOk result (λ _. IsUnrefused T.waits pass.old pass.new) }
         ensures err { IfErr result (λ _. IsAsBefore pass.old pass.new) }
         ensures cause { IfErr result (IsStoppedFor T.waits self.now.row call.now pass.old pass.new) }
     {

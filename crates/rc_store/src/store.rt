@@ -1,9 +1,7 @@
 //! The store.
 
 ghost use Rattle.std.specs.Prelude.{◌≡◌, ◌≤◌, ◌^◌, IfOk};
-ghost use Rattle.rc_core.specs.Passes.{learned};
-ghost use Rattle.rc_row.specs.Passes.{IsPassOf, compiled_of, core_of, new_passes, with_standing};
-ghost use Rattle.rc_row.specs.Standings.{with_core};
+ghost use Rattle.rc_row.specs.Passes.{HasLookedAt, IsPassOf, compiled_of, new_passes, note_of, with_note};
 
 use crate::wakes::Wakes;
 use rc_maps::Seed;
@@ -55,6 +53,7 @@ impl<W: Wakes> Store<W> {
         ensures compiled { IfOk result (λ r. compiled_of r.0.row ≡ compiled) }
         ensures limit { IfOk result (λ r. r.0.limit ≡ limit) }
         ensures row { IfOk result (λ r. (r.0.row.key.passes ≡ passes) × (r.0.row.keeping ≡ keeping)) }
+        ensures seed { IfOk result (λ r. r.0.row.key.seed ≡ seed) }
         ensures passes { IfOk result (λ r. r.1.items ≡ new_passes r.0.row) }
     {
         let (row, dealt) = Row::build(alloc, seed, &compiled, passes, keeping)?;
@@ -75,34 +74,33 @@ impl<W: Wakes> Store<W> {
         &self.compiled
     }
 
-    /// Notes what the pass has seen of the history, for another pass to learn. Takes no memory.
+    /// Notes what the pass has seen of the history and was told of it, for another pass to learn. Takes no memory.
     pub fn note(&self, pass: &mut Pass) -> Note
         requires { IsPassOf self.now.row pass.old }
         ensures same { pass.new ≡ pass.old }
-        ensures note { result ≡ record { table = self.now.row.table; told = (core_of pass.old).seen } }
+        ensures note { result ≡ note_of pass.old }
+        ensures table { result.table ≡ self.now.row.table }
     {
         self.row.note(pass)
     }
 
-    /// The pass has seen what the note's pass had seen, and what it had seen itself.
+    /// The pass has seen what the note's pass had seen, and what it had seen itself; and it was told of all that either was
+    /// told of, so that its next receipt goes on from it.
     pub fn learn(&self, pass: &mut Pass, note: Note)
         requires pass { IsPassOf self.now.row pass.old }
         requires note { note.table ≡ self.now.row.table }
         ensures pass { IsPassOf self.now.row pass.new }
-        ensures value { pass.new ≡ with_standing
-            (with_core pass.old.standing (learned (core_of pass.old) note.told)) pass.old }
+        ensures value { pass.new ≡ with_note note pass.old }
     {
         self.row.learn(pass, note);
     }
 
-    /// Looks how long the history is, and answers it: the pass has seen so much of it, which is no less than it had seen.
-    /// Takes no memory.
+    /// Looks how long the history is, and answers it. There was a good history of just this length, which has all that the
+    /// pass made and goes on from all that it was told of; the pass was told of it, and has seen so much. Takes no memory.
     pub fn look(&self, pass: &mut Pass) -> u64
         requires { IsPassOf self.now.row pass.old }
         ensures pass { IsPassOf self.now.row pass.new }
-        ensures value { pass.new ≡ with_standing
-            (with_core pass.old.standing (learned (core_of pass.old) result)) pass.old }
-        ensures seen { (core_of pass.old).seen ≤ result }
+        ensures looked { HasLookedAt self.now.row pass.old pass.new result }
     {
         self.row.look(pass)
     }

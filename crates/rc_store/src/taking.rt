@@ -6,7 +6,7 @@ ghost use Rattle.rc_spec.specs.Fragments.{EdgeRow};
 ghost use Rattle.rc_spec.specs.declared.lock.Mode.TheVariants.{Shared};
 ghost use Rattle.rc_row.specs.Passes.{IsPassOf, core_of, spec_of, stripes_of, with_standing, with_taken};
 ghost use Rattle.rc_row.specs.Standings.{HaveOneRelation, KeepsOut, turned_away, without_wish};
-ghost use Rattle.rc_store.specs.Taking.{HasTakenStripe, HasWaitedIf};
+ghost use Rattle.rc_store.specs.Taking.{HasGivenUp, HasTakenStripe};
 
 use crate::wakes::Wakes;
 use rc_row::{Pass, Row};
@@ -37,7 +37,7 @@ pub(crate) trait Takes {
         ensures found { IfOk result (λ o. IfSome o (KeepsOut mode row.now.key.passes (core_of pass.old).number)) }
         ensures refused { IfOk result (λ o. IfSome o (λ found. (waits ≡ false)
             × (pass.new ≡ with_standing (turned_away mode pass.old.standing stripe found) pass.old))) }
-        ensures memory { OnErr result (HasWaitedIf waits pass.old pass.new) };
+        ensures memory { OnErr result (HasGivenUp waits row.now mode stripe pass.old pass.new) };
 }
 
 /// Waits for nobody.

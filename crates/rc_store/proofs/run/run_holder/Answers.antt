@@ -1,6 +1,8 @@
+use Rattle.std.specs.Prelude.{◌≡◌}
+use Rattle.rc_fragment.specs.Holder.{Holding}
 use Rattle.rc_row.specs.Passes.{spec_of}
-use Rattle.rc_store.specs.Lending.{IsLentBy}
-use Rattle.rc_store.specs.RunLaws.{busy_so, each_ok, lent_run, none_waits_so, of_row_so, replied_so, stopped_so, way_so}
+use Rattle.rc_store.specs.Lending.{IsLentBy, IsUnrefused, lending}
+use Rattle.rc_store.specs.RunLaws.{answered_so, busy_so, each_ok, lent_run, none_waits_so, of_row_so, replied_so, stopped_so, unrefused_so, way_so}
 use Rattle.rc_store.proofs.run.run_holder.Given as given
 use Rattle.rc_store.proofs.run.run_holder.Goals as goal
 
@@ -14,6 +16,17 @@ lent g c =
     c.args.lender.now.refused.now c.run_plan.new.holder.refused.now c.requires.lent c.requires.none
     c.held_agrees.ensures c.requires.idle c.run_plan.ensures.sound
 
+-- what the holder told before and after
+abbrev before : (g : given.Over) (c : goal.After-run_plan g) → Holding
+before g c = lending c.args.lender.now.row.now c.args.lender.now.pass.now c.args.lender.now.refused.now c.args.lender.now.pass.ghost_name
+
+abbrev after : (g : given.Over) (c : goal.After-run_plan g) → Holding
+after g c = lending c.run_plan.new.holder.row.now c.run_plan.new.holder.pass.now c.run_plan.new.holder.refused.now c.run_plan.new.holder.pass.ghost_name
+
+quiet : (g : given.Over) (c : goal.After-run_plan g) → (after g c).refusals ≡ (before g c).refusals → IsUnrefused g.T.Takes.waits c.args.lender.now.pass.now c.run_plan.new.holder.pass.now
+quiet g c =
+    unrefused_so _ _ _ _ _ _ (lent g c) c.args.lender.now.refused.now c.args.lender.now.pass.ghost_name c.run_plan.new.holder.pass.ghost_name c.requires.none
+
 pub returns-clause-run : goal.returns-clause-run
 returns-clause-run g c = record {
   of_row = of_row_so _ _ _ _ _ _ (lent g c) c.run_plan.new.holder.of_row;
@@ -23,9 +36,12 @@ returns-clause-run g c = record {
       (replied_so _ _ _ _ _ _
       (lent g c) c.args.compiled.now c.requires.compiled c.args.call.now c.run_plan.new.holder.pass.ghost_name)
       c.run_plan.ensures.answered;
+  unrefused =
+      answered_so g.T.Takes.waits c.args.lender.now.row.now c.args.call.now c.args.lender.now.pass.now
+      c.run_plan.new.holder.pass.now (before g c) (after g c) (quiet g c) c.run_plan.result c.run_plan.ensures.counted;
   stopped =
       stopped_so g.T.Takes.waits c.args.lender.now.row.now c.args.call.now c.args.lender.now.pass.now
-      c.run_plan.new.holder.pass.now c.run_plan.result
+      c.run_plan.new.holder.pass.now (before g c) (after g c) (quiet g c) c.run_plan.result c.run_plan.ensures.counted
       (λ h e. (
         none_waits_so _ _ _ _ _ _ (lent g c) c.args.compiled.now c.requires.compiled c.args.call.now
             c.args.lender.now.refused.now

@@ -26,4 +26,4 @@ commit-place-requires-clause-left g c =
 pub release_all-requires-clause-rest : goal.release_all-requires-clause-rest
 release_all-requires-clause-rest g c =
     settled_at_rest c.args.pass.now.held c.commit-place.new.pass.held
-    (ap (λ (q : PassSeen). q.held) c.commit-place.ensures.value)
+    (ap (λ (q : PassSeen). q.held) c.commit-place.ensures.added.is)

@@ -1,7 +1,7 @@
 use Rattle.std.proofs.Common.{ap, subst}
 use Rattle.rc_row.specs.Passes.{RowSeen}
 use Rattle.rc_store.specs.Runs.{IsStoppedFor}
-use Rattle.rc_store.specs.StepLaws.{as_before, cause_before}
+use Rattle.rc_store.specs.StepLaws.{as_before, cause_before, unrefused_so}
 use Rattle.rc_store.specs.Store.{StoreSeen}
 use Rattle.rc_store.proofs.store.Store.prepare.Goals as goal
 
@@ -19,3 +19,8 @@ returns-in-Err-clause-cause g c =
     (cause_before g.T.Takes.waits c.self.inside.row c.args.pass.now c.reserve.new.self c.run_call-answer.new.pass
     c.give_back.new.pass c.reserve.ensures.same
     c.run_call-answer.ensures.way c.args.call.now c.in-Err.stop c.give_back.ensures.value c.in-Err.ensures.stopped)
+
+pub returns-in-Ok-clause-unrefused : goal.returns-in-Ok-clause-unrefused
+returns-in-Ok-clause-unrefused g c =
+    unrefused_so g.T.Takes.waits c.self.inside.row c.args.pass.now c.reserve.new.self c.run_call-answer.new.pass
+    c.run_call-answer.new.pass c.reserve.ensures.same c.run_call-answer.ensures.way c.in-Ok.ensures.unrefused

@@ -1,0 +1,5 @@
+use Rattle.rc_store.specs.ReceiptLaws as laws
+use Rattle.rc_store.proofs.laws.receipts_go_on.Goals as goal
+
+pub returns : goal.returns
+returns c = laws.receipts_go_on

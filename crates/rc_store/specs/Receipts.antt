@@ -1,0 +1,65 @@
+-- What receipts mean: one history. Each law is named by the contract of a function. (PLDI 2012, serializable transactions.)
+use Rattle.std.specs.Prelude.{◌≡◌, ℕ, suc, List, [], ◌∷◌, ◌++◌, Some, take}
+use Rattle.std.specs.List.{slice_get}
+use Rattle.rc_tuple.specs.RisingSet.{In, gather}
+use Rattle.rc_spec.specs.declared.call.Call.{Call}
+use Rattle.rc_spec.specs.declared.call.Reply.{Reply}
+use Rattle.rc_spec.specs.Plain.{plain}
+use Rattle.rc_plan.specs.Compiled.{IsCompiled, plan_at}
+use Rattle.rc_plan.specs.Evaluation.{touched}
+use Rattle.rc_plan.specs.StripeLocks.{stripe_lock_cmp}
+use Rattle.rc_rel.specs.declared.entry.Entry.{Entry}
+use Rattle.rc_rel.specs.History.{IsPlain, IsPrefix, replay}
+use Rattle.rc_core.specs.State.{locks_of}
+use Rattle.rc_row.specs.Passes.{HasLookedAt, NoteSeen, PassSeen, compiled_of, core_of, next_entry, spec_of, with_note}
+use Rattle.rc_store.specs.declared.receipt.Receipt.{Receipt}
+use Rattle.rc_store.specs.Closed.{ClosedSeen, HasClosed}
+use Rattle.rc_store.specs.Store.{HasMade, IsAsBefore, StoreSeen}
+
+-- ---- one receipt
+
+-- the history up to the call of a receipt, and with it
+abbrev pub history_with : List Entry → PassSeen → Call → Reply → List Entry
+history_with before old call reply = before ++ next_entry (core_of old) call reply ∷ []
+
+-- The reply is the plain relation's after the calls before, the relation goes on as the plain one does, and what was held at the commit are
+-- exactly the stripes that the call touches there, each in its mode.
+abbrev pub ReceiptsArePlain : Type 0
+ReceiptsArePlain = (store : StoreSeen) → IsCompiled (spec_of store.row) (compiled_of store.row).plans
+    → (call : Call) (reply : Reply) (old new : PassSeen) (receipt : Receipt) (made : HasMade store call reply old new receipt)
+    → IsPlain (spec_of store.row) (replay (spec_of store.row) made.before) (replay (spec_of store.row) (history_with made.before old call reply)) (next_entry (core_of old) call reply)
+    × (reply ≡ (plain (spec_of store.row) (replay (spec_of store.row) made.before) call).reply)
+    × (gather stripe_lock_cmp (locks_of made.at_commit) ≡ touched (spec_of store.row) (plan_at (compiled_of store.row).plans call.op) call (replay (spec_of store.row) made.before))
+
+-- ---- one after another
+
+-- A receipt goes on from each that its pass had been told of.
+abbrev pub ReceiptsGoOn : Type 0
+ReceiptsGoOn = (store : StoreSeen)
+    → (call : Call) (reply : Reply) (old new : PassSeen) (receipt : Receipt) (made : HasMade store call reply old new receipt)
+    → (later_call : Call) (later_reply : Reply) (later_old later_new : PassSeen) (later_receipt : Receipt)
+    → (later : HasMade store later_call later_reply later_old later_new later_receipt)
+    → In (history_with made.before old call reply) later_old.standing.known
+    → IsPrefix (history_with made.before old call reply) later.before
+
+-- what the first pass was told of the second was told of too
+abbrev pub KnowsAll : PassSeen → PassSeen → Type 0
+KnowsAll old new = (history : List Entry) → In history old.standing.known → In history new.standing.known
+
+-- A pass was told of its own receipts, stays told, and learns by a note what the note's pass was told of.
+pub record TellingGoesOn : Type 0 where
+  pub made : (store : StoreSeen) (call : Call) (reply : Reply) (old new : PassSeen) (receipt : Receipt) (made : HasMade store call reply old new receipt)
+      → In (history_with made.before old call reply) new.standing.known × KnowsAll old new
+  pub stopped : (old new : PassSeen) → IsAsBefore old new → KnowsAll old new
+  pub looked : (store : StoreSeen) (old new : PassSeen) (length_is : ℕ) (h : HasLookedAt store.row old new length_is) → In h.history new.standing.known × KnowsAll old new
+  pub learned : (note : NoteSeen) (old : PassSeen) → KnowsAll old (with_note note old) × ((history : List Entry) → In history note.known → In history (with_note note old).standing.known)
+
+-- ---- at the end
+
+-- Of a store that is closed a receipt that a pass was told of is a beginning of the one history, with its entry at its place.
+abbrev pub ReceiptsAreOfTheClosed : Type 0
+ReceiptsAreOfTheClosed = (store : StoreSeen) (passes : List PassSeen) (closed : ClosedSeen) (h : HasClosed store passes closed)
+    → (k : ℕ) (pass : PassSeen) → slice_get passes k ≡ Some pass
+    → (call : Call) (reply : Reply) (old new : PassSeen) (receipt : Receipt) (made : HasMade store call reply old new receipt)
+    → In (history_with made.before old call reply) pass.standing.known
+    → (take (suc receipt.place) h.history ≡ history_with made.before old call reply) × (slice_get h.history receipt.place ≡ Some (next_entry (core_of old) call reply))
