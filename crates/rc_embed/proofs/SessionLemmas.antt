@@ -12,7 +12,7 @@ same_room None = tt
 same_room (Some part) = (refl, omega arith)
 
 same_pass : (pass : PassSeen) → IsAsBefore pass pass
-same_pass pass = record { core = refl; table = refl; held = refl; kept = same_room pass.kept; refusals = (omega arith, λ _. refl) }
+same_pass pass = record { core = refl; table = refl; held = refl; kept = same_room pass.kept; known = refl; refusals = (omega arith, λ _. refl) }
 
 same_state : (store : StoreSeen) (state : State) → IsStateOf store state → IsStateAsBefore state state
 same_state store (Idle pass) of = same_pass pass

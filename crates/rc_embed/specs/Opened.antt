@@ -50,8 +50,8 @@ ArePlannedOf compiled = (op : ℕ) → op < length compiled.spec.ops
     → IsPlanned compiled.spec (op_at compiled.spec op) (plan_at compiled.plans op)
 
 -- A new store of the specification with its singletons inlined, which keeps the most rows of a reply, whose operations
--- have their planned plans, with all of its passes, by number. None of them has made a call, and none keeps
--- its entries.
+-- have their planned plans, with all of its passes, by number, and with the seed that was given. None of them has
+-- made a call, and none keeps its entries.
 pub record IsStoreOf (spec : Spec) (options : asked.Options) (opened : OpenSeen) : Type 0 where
   pub of_spec : rows.spec_of opened.store.row ≡ inlined spec
   pub most_rows : (rows.spec_of opened.store.row).most_rows ≡ spec.most_rows
@@ -59,6 +59,7 @@ pub record IsStoreOf (spec : Spec) (options : asked.Options) (opened : OpenSeen)
   pub counts : opened.store.row.keeping ≡ Counts
   pub number : opened.store.row.key.passes ≡ options.passes
   pub limit : opened.store.limit ≡ options.limit
+  pub seed : opened.store.row.key.seed ≡ options.seed
   pub passes : opened.passes ≡ new_passes opened.store.row
 
 -- the text gives the specification, but for the most rows of a reply, which are as is asked

@@ -1,20 +1,23 @@
 -- What an open store has to do with the specification that its text gives, with the most rows of a reply that were asked for.
-use Rattle.std.proofs.Common.{◌≡◌, ◌↔◌, ℕ, List, [], ◌∷◌, length, ap, ◌∙◌, refl, subst, sym}
-use Rattle.rc_tuple.specs.Tuple.{Pairs}
+use Rattle.std.proofs.Common.{◌≡◌, ◌↔◌, ℕ, List, [], ◌∷◌, length, take, drop, Option, Some, None, ap, ◌∙◌, refl, subst, sym}
+use Rattle.std.specs.List.{slice_get}
+use Rattle.std.specs.Option.{option_map_or}
+use Rattle.rc_tuple.specs.Tuple.{Pairs, tuple_of}
 use Rattle.rc_spec.specs.declared.call.Call.{Call}
+use Rattle.rc_spec.specs.declared.items.Op.{Op}
 use Rattle.rc_spec.specs.declared.spec.Spec.{Spec}
-use Rattle.rc_spec.specs.Calls.{Fits}
+use Rattle.rc_spec.specs.Calls.{Fits, value_columns}
 use Rattle.rc_spec.specs.Plain.{plain}
-use Rattle.rc_inline.specs.Inlining.{HasItsSchema, inlined}
+use Rattle.rc_spec.specs.Ranges.{range_columns}
+use Rattle.rc_inline.specs.Inlining.{HasItsSchema}
 use Rattle.rc_inline.specs.InliningLaws.{inlined_schema}
-use Rattle.rc_inline.specs.SchemaLaws.{fits_same, plain_same, schema_sym}
+use Rattle.rc_inline.specs.SchemaLaws.{fits_same, fitting_of_one_schema, plain_same, value_columns_same}
 use Rattle.rc_rel.specs.declared.entry.Entry.{Entry}
 use Rattle.rc_rel.specs.declared.entry.Step.{Step}
 use Rattle.rc_rel.specs.History.{AllFit, AreLegalFrom, StepsFit, after_steps, replay, steps_of}
 use Rattle.rc_core.specs.Good.{IsGoodHistory}
-use Rattle.rc_instance.specs.Instance.{IsOfRelation}
-use Rattle.rc_row.specs.Passes.{PassSeen, spec_of}
-use Rattle.rc_store.specs.Closed.{ClosedSeen, HasClosed}
+use Rattle.rc_row.specs.Passes.{spec_of}
+use Rattle.rc_work.specs.CallColumns.{call_of, columns_at, ranges_at, ranges_of}
 use Rattle.rc_embed.specs.declared.opening.Options as asked
 use Rattle.rc_embed.specs.Opened.{IsOpened, OpenSeen, most_rows_asked}
 
@@ -56,52 +59,94 @@ module _ (spec other : Spec) (same : HasItsSchema spec other) where
     entries = good.entries;
   }
 
+-- ---- the call that an operation's number and values make
+
+module _ (spec other : Spec) (same : HasItsSchema spec other) where
+  columns_of : (found : Option Op)
+      → option_map_or (λ op. value_columns other op.pattern op.kind) found []
+      ≡ option_map_or (λ op. value_columns spec op.pattern op.kind) found []
+  columns_of None = refl
+  columns_of (Some op) = value_columns_same spec other same op.pattern op.kind
+
+  columns_same : (op : ℕ) → columns_at other op ≡ columns_at spec op
+  columns_same op =
+      ap (λ (ops : List Op). option_map_or (λ op. value_columns other op.pattern op.kind) (slice_get ops op) [])
+      same.ops
+      ∙ columns_of (slice_get spec.ops op)
+
+  ranges_same : (op : ℕ) → ranges_at other op ≡ ranges_at spec op
+  ranges_same op =
+      ap (λ (ops : List Op). option_map_or (λ op. range_columns op.kind) (slice_get ops op) []) same.ops
+
+  call_same : (op : ℕ) (values : List ℕ) → call_of other op values ≡ call_of spec op values
+  call_same op values =
+      let columns = columns_same op in
+      let ranges = ranges_same op in
+      λ i. record {
+        op = op;
+        args = tuple_of (columns i) (take (length (columns i)) values);
+        ranges = ranges_of (ranges i) (drop (length (columns i)) values);
+      }
+
 -- ---- the specification of an open store
 
-module _ (text : List ℕ) (options : asked.Options) (opened : OpenSeen)
-    (is : IsOpened text options opened) where
-  abbrev store_spec : Spec
-  store_spec = spec_of opened.store.row
+-- that of its text with its singletons inlined
+abbrev pub store_spec : OpenSeen → Spec
+store_spec opened = spec_of opened.store.row
 
-  -- a query answers as many rows one by one as was asked
-  pub opened_rows : store_spec.most_rows ≡ most_rows_asked options
-  opened_rows = is.store.most_rows ∙ ap (λ (s : Spec). s.most_rows) is.from.is
+-- a query answers as many rows one by one as was asked
+abbrev pub OpenedRows : Type 0
+OpenedRows = (text : List ℕ) (options : asked.Options) (opened : OpenSeen) → IsOpened text options opened
+    → (store_spec opened).most_rows ≡ most_rows_asked options
 
-  -- it has the schema of the text's
-  pub opened_schema : HasItsSchema is.spec store_spec
-  opened_schema = subst (HasItsSchema is.spec) (sym is.store.of_spec) (inlined_schema is.spec)
+pub opened_rows : OpenedRows
+opened_rows text options opened is = is.store.most_rows ∙ ap (λ (s : Spec). s.most_rows) is.from.is
 
-  -- a call fits one exactly where it fits the other
-  pub opened_fits : (call : Call) → Fits store_spec call ↔ Fits is.spec call
-  opened_fits call = (
-    fits_same is.spec store_spec opened_schema call,
-    fits_same store_spec is.spec (schema_sym is.spec store_spec opened_schema) call,
-  )
+-- it has the schema of the text's
+abbrev pub OpenedSchema : Type 0
+OpenedSchema = (text : List ℕ) (options : asked.Options) (opened : OpenSeen) (is : IsOpened text options opened)
+    → HasItsSchema is.spec (store_spec opened)
 
-  -- and does the same by both
-  pub opened_plain : (r : List Pairs) (call : Call) → plain store_spec r call ≡ plain is.spec r call
-  opened_plain r call = plain_same is.spec store_spec opened_schema r call
+pub opened_schema : OpenedSchema
+opened_schema text options opened is = subst (HasItsSchema is.spec) (sym is.store.of_spec) (inlined_schema is.spec)
 
-  -- a good history of the store is one of the text's specification, and leaves the same relation
-  pub histories_are_of_the_text : (passes : ℕ) (history : List Entry)
-      → IsGoodHistory store_spec passes history
-      → IsGoodHistory is.spec passes history × (replay store_spec history ≡ replay is.spec history)
-  histories_are_of_the_text passes history good = (
-    good_same is.spec store_spec opened_schema passes history good,
-    after_same is.spec store_spec opened_schema [] (steps_of history),
-  )
+-- an operation's number and values make one call by both
+abbrev pub OpenedCalls : Type 0
+OpenedCalls = (text : List ℕ) (options : asked.Options) (opened : OpenSeen) (is : IsOpened text options opened)
+    → (op : ℕ) (values : List ℕ) → call_of (store_spec opened) op values ≡ call_of is.spec op values
 
-  -- so a store that is closed hands out one history of the text's specification, and what is left
-  -- are the rows of its relation
-  pub closed_is_of_the_text : (passes : List PassSeen) (closed : ClosedSeen)
-      → HasClosed opened.store passes closed
-      → (history : List Entry) × IsGoodHistory is.spec (length passes) history
-      × IsOfRelation (inlined is.spec) closed.instance (replay is.spec history)
-  closed_is_of_the_text passes closed has =
-      let both = histories_are_of_the_text (length passes) has.history has.leaves.good in (
-        has.history,
-        both.0,
-        subst (λ (r : List Pairs). IsOfRelation (inlined is.spec) closed.instance r) both.1
-            (subst (λ (s : Spec). IsOfRelation s closed.instance (replay store_spec has.history)) is.store.of_spec
-            has.leaves.relation),
-      )
+pub opened_calls : OpenedCalls
+opened_calls text options opened is =
+    call_same is.spec (store_spec opened) (opened_schema text options opened is)
+
+-- a call fits one exactly where it fits the other
+abbrev pub OpenedFits : Type 0
+OpenedFits = (text : List ℕ) (options : asked.Options) (opened : OpenSeen) (is : IsOpened text options opened)
+    → (call : Call) → Fits (store_spec opened) call ↔ Fits is.spec call
+
+pub opened_fits : OpenedFits
+opened_fits text options opened is =
+    fitting_of_one_schema is.spec (store_spec opened) (opened_schema text options opened is)
+
+-- and does the same by both
+abbrev pub OpenedPlain : Type 0
+OpenedPlain = (text : List ℕ) (options : asked.Options) (opened : OpenSeen) (is : IsOpened text options opened)
+    → (r : List Pairs) (call : Call) → plain (store_spec opened) r call ≡ plain is.spec r call
+
+pub opened_plain : OpenedPlain
+opened_plain text options opened is =
+    plain_same is.spec (store_spec opened) (opened_schema text options opened is)
+
+-- a good history of the store is one of the text's specification, and leaves the same relation
+abbrev pub HistoriesAreOfTheText : Type 0
+HistoriesAreOfTheText = (text : List ℕ) (options : asked.Options) (opened : OpenSeen)
+    (is : IsOpened text options opened)
+    → (passes : ℕ) (history : List Entry) → IsGoodHistory (store_spec opened) passes history
+    → IsGoodHistory is.spec passes history × (replay (store_spec opened) history ≡ replay is.spec history)
+
+pub histories_are_of_the_text : HistoriesAreOfTheText
+histories_are_of_the_text text options opened is passes history good =
+    let same = opened_schema text options opened is in (
+      good_same is.spec (store_spec opened) same passes history good,
+      after_same is.spec (store_spec opened) same [] (steps_of history),
+    )

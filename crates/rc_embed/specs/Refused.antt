@@ -52,11 +52,17 @@ IsBusyIn store call (states.Idle old) (states.Idle new) stripe found =
     IsBusy store.row call old new stripe found
 IsBusyIn store call old new stripe found = ⊥
 
+-- no step of the pass was refused
+abbrev pub HasNoRefusal : State → State → Type 0
+HasNoRefusal (states.Idle old) (states.Idle new) = new.standing.refusals ≡ old.standing.refusals
+HasNoRefusal old new = ⊥
+
 -- Why there is this fault. Memory is wanted, and something is in the way, only where the call may
--- be made, and something is in the way only at a stripe that the call's plan names. Each other
--- fault is the one that the call has.
+-- be made; where memory is wanted nothing was in the way of a step of the call, and something is
+-- only at a stripe that the call's plan names. Each other fault is the one that the call has.
 abbrev pub HasCallCause : SessionSeen → SessionSeen → ℕ → List ℕ → CallFault → Type 0
-HasCallCause old new op values Memory = fault_of old op values ≡ None
+HasCallCause old new op values Memory =
+    (fault_of old op values ≡ None) × HasNoRefusal old.state new.state
 HasCallCause old new op values (Busy stripe found) =
     (fault_of old op values ≡ None)
     × IsBusyIn old.store (call_in old op values) old.state new.state stripe found

@@ -3,9 +3,7 @@
 use Rattle.std.specs.Prelude.{◌≡◌, ℕ, ◌<◌, ◌≤◌, List, Option, Some, None}
 use Rattle.rc_spec.specs.declared.call.Call.{Call}
 use Rattle.rc_spec.specs.declared.call.Reply.{Reply}
-use Rattle.rc_core.specs.Passes.{learned}
-use Rattle.rc_row.specs.Passes.{PassSeen, core_of, spec_of, with_standing}
-use Rattle.rc_row.specs.Standings.{with_core}
+use Rattle.rc_row.specs.Passes.{HasLookedAt, PassSeen, core_of, spec_of}
 use Rattle.rc_store.specs.Running.{HasBegun, IsRunningOn, RunningSeen}
 use Rattle.rc_store.specs.Store.{HasMade, IsAsBefore, IsFree, StoreSeen}
 use Rattle.rc_store.specs.declared.receipt.Receipt.{Receipt}
@@ -98,12 +96,14 @@ pub record HasCancelled (old new : SessionSeen) : Type 0 where
   pub last : new.last ≡ old.last
   pub before : IsAsBefore running.begun after
 
--- the session has seen a history of this length, which is no shorter than what it had seen
+-- The session has seen a good history of that moment, which has this length, has all calls that it
+-- made, and goes on from all that it was told of.
 pub record HasLooked (old : SessionSeen) (length : ℕ) (new : SessionSeen) : Type 0 where
   pub before : PassSeen
+  pub after : PassSeen
   pub was : old.state ≡ Idle before
-  pub is : new.state ≡ Idle
-      (with_standing (with_core before.standing (learned (core_of before) length)) before)
+  pub is : new.state ≡ Idle after
+  pub looked : HasLookedAt old.store.row before after length
   pub seen : (core_of before).seen ≤ length
   pub last : new.last ≡ old.last
 

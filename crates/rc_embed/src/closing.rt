@@ -20,6 +20,10 @@ pub enum CloseBack {
     /// Some pass isn't the store's: a session has it, or was dropped with it. The store is as it
     /// was.
     Outside(OpenStore),
+    /// All passes are the store's, and somebody holds yet what it shares with its sessions. The
+    /// store is as it was. (This doesn't come: a session gives its hold up before its pass is the
+    /// store's. But `Arc` has no clause that says when a value is held by one alone.)
+    Shared(OpenStore),
     /// Memory was wanted. These are the store and its passes, by number: `close` of `rc_store` may
     /// be tried on them again.
     Memory(StoreBack<Quiet>),
@@ -30,8 +34,8 @@ impl OpenStore {
     /// number, and serves the next session that begins. Its last reply is gone. Takes no memory.
     ///
     /// `Err`, with session and store as they were, exactly where the session has prepared a call,
-    /// or the store has as many passes as it was opened with. (The second doesn't come, since each
-    /// pass is one session's alone; no clause says that it doesn't.)
+    /// or the store has as many passes as it was opened with. Where a session of it is outside it
+    /// has fewer (`passes_come_back`), so an idle session is taken back.
     pub fn take_back(&mut self, session: Session) -> Result<(), Session>
         requires { session.store ≡ self.old.store }
         ensures taken { OnOk result (HasTakenBack self.old self.new session) }
@@ -56,9 +60,9 @@ impl OpenStore {
     /// are one legal history, in which each pass's entries are its own, and the relation that the
     /// history leaves comes with it. (PLDI 2012, serializable transactions.)
     ///
-    /// `Outside` comes where a pass isn't the store's (and where a session of it stands outside,
-    /// which then has one; no clause says that this is the one other cause). Costs the stripes and
-    /// the passes.
+    /// `Outside` comes exactly where some pass isn't the store's, which is where a session that has
+    /// begun hasn't been taken back (`passes_come_back`). Where all are, it is `Memory` that may
+    /// come, or `Shared`, which is built never to come. Costs the stripes and the passes.
     pub fn close(self) -> Result<Closed, CloseBack>
         ensures all { IfOk result (λ _. HasAllPasses self) }
         ensures closed { IfOk result (HasClosed self.store self.passes) }
@@ -84,7 +88,7 @@ impl OpenStore {
                 Ok(closed) => Ok(closed),
                 Err(back) => Err(CloseBack::Memory(back)),
             },
-            Err(shared) => Err(CloseBack::Outside(OpenStore {
+            Err(shared) => Err(CloseBack::Shared(OpenStore {
                 shared,
                 alloc,
                 passes,

@@ -47,7 +47,7 @@ pub enum SessionFault {
 /// Why a call isn't made, or isn't begun. The session is as before.
 #[derive(Clone, Copy, Debug, PartialEq, Eq)]
 pub enum CallFault {
-    /// Memory was wanted.
+    /// Memory was wanted, and nothing stood in the way.
     Memory,
     /// Something stood in the way of a stripe that the call's plan names.
     Busy {

@@ -1,9 +1,96 @@
-//! Handles may go to other threads.
+//! What is proved of stores that are opened by a text, of their sessions and of what they leave;
+//! and that handles may go to other threads.
 
 ghost use Rattle.std.specs.Prelude.{◌≡◌};
+ghost use Rattle.rc_embed.specs.EntriesLaws.{CallsKeepPasses, CallsStand, CancelsKeepPasses};
+ghost use Rattle.rc_embed.specs.EntriesLaws.{CommitsKeepPasses, CommitsStand, DealingKeepsEntries};
+ghost use Rattle.rc_embed.specs.EntriesLaws.{FaultsKeepPasses, LooksKeepPasses};
+ghost use Rattle.rc_embed.specs.EntriesLaws.{PreparingKeepsPasses, TakingBackKeepsEntries};
+ghost use Rattle.rc_embed.specs.OpenedLaws.{HistoriesAreOfTheText, OpenedCalls, OpenedFits};
+ghost use Rattle.rc_embed.specs.OpenedLaws.{OpenedPlain, OpenedRows, OpenedSchema};
+ghost use Rattle.rc_embed.specs.OutsideLaws.{AllAreInside, DealtGoOutside, NoneOutsideAtFirst};
+ghost use Rattle.rc_embed.specs.OutsideLaws.{SomeOutsideLeaveRoom, TakenBackComeInside};
+ghost use Rattle.rc_embed.specs.ReceiptsOfText.{ReceiptsAreOfTheText};
+ghost use Rattle.rc_embed.specs.ToldLaws.{ClosedIsOfTheText, CommittedRepliesArePlain};
+ghost use Rattle.rc_embed.specs.ToldLaws.{EntriesArePlain, HistoriesOfTextAreOne};
+ghost use Rattle.rc_embed.specs.ToldLaws.{ToldRepliesArePlain};
 
 use crate::opening::OpenStore;
 use crate::session::Session;
+
+/// An open store has the calls and the histories of the specification that its text gives, with the
+/// most rows of a reply that were asked for: an operation's number and values make one call by
+/// both, it fits both alike, has the same reply and leaves the same relation on each relation; so a
+/// good history of the store is one of the text's specification. (PLDI 2011, a decomposition
+/// represents a relation.)
+pub fn opened_stores_are_of_the_text()
+    ensures rows { OpenedRows }
+    ensures schema { OpenedSchema }
+    ensures calls { OpenedCalls }
+    ensures fits { OpenedFits }
+    ensures plain { OpenedPlain }
+    ensures histories { HistoriesAreOfTheText }
+{}
+
+/// A receipt means one history, whether the store is ever closed or not: behind its call stands one
+/// history, good for the specification that the text gives, of as many calls as the place says, with
+/// all of its session's earlier ones, which goes on from all that the session was told of; and the
+/// reply is the plain relation's after it. (PLDI 2012, serializable transactions.)
+pub fn receipts_are_of_the_text()
+    ensures { ReceiptsAreOfTheText }
+{}
+
+/// A store that was opened by a text, and is closed, leaves one history of the text's
+/// specification, in which the entries of each pass are its own, and the rows of the relation that
+/// this history leaves; there is no other such history. (PLDI 2012, serializable transactions.)
+pub fn closed_stores_are_of_the_text()
+    ensures history { ClosedIsOfTheText }
+    ensures one { HistoriesOfTextAreOne }
+{}
+
+/// A call that a session has made, and a prepared one that it has committed, stands at its position
+/// among the entries of the session's pass, with the reply that the session tells.
+pub fn calls_stand()
+    ensures calls { CallsStand }
+    ensures commits { CommitsStand }
+{}
+
+/// A session keeps its pass, and the entries of that, through all that it does: calls, prepared
+/// ones that are committed or cancelled, looks at the history, and calls that are refused. One that
+/// is taken back gives its entries to the store, which keeps those of its passes until a session
+/// begins with the pass.
+pub fn entries_stay()
+    ensures calls { CallsKeepPasses }
+    ensures preparing { PreparingKeepsPasses }
+    ensures commits { CommitsKeepPasses }
+    ensures cancels { CancelsKeepPasses }
+    ensures looks { LooksKeepPasses }
+    ensures faults { FaultsKeepPasses }
+    ensures taking_back { TakingBackKeepsEntries }
+    ensures dealing { DealingKeepsEntries }
+{}
+
+/// A new store has all of its passes; one goes outside with each session that begins, and comes
+/// back with that session. So a store has all of its passes exactly where each session that began
+/// has been taken back, and where one hasn't, the store has room for it.
+pub fn passes_come_back()
+    ensures first { NoneOutsideAtFirst }
+    ensures dealt { DealtGoOutside }
+    ensures taken_back { TakenBackComeInside }
+    ensures all { AllAreInside }
+    ensures room { SomeOutsideLeaveRoom }
+{}
+
+/// Each reply that a session was told, of a call whose entry has come back to the store that is
+/// closed, is the plain relation's, by the specification that the text gives, at the call's place
+/// of the one history that the closed store leaves; and the call leaves the relation of the next
+/// place. So it is of each entry of one call of the passes. (PLDI 2012, serializable transactions;
+/// PLDI 2011, the relation's operations.)
+pub fn told_replies_are_plain()
+    ensures entries { EntriesArePlain }
+    ensures calls { ToldRepliesArePlain }
+    ensures commits { CommittedRepliesArePlain }
+{}
 
 /// What may go to another thread.
 fn sent<T: Send>(value: T) -> T

@@ -22,7 +22,11 @@ pub use closing::CloseBack;
 pub use codes::{DONE, MEMORY};
 pub use fault::{CallFault, LearnFault, NotPrepared, OpenFault, SessionFault};
 pub use frame::{Frame, MAX_CELLS, MAX_PAGE, MAX_VALUES, Page};
-pub use laws::{sessions_are_send, stores_are_send};
+pub use laws::{
+    calls_stand, closed_stores_are_of_the_text, entries_stay, opened_stores_are_of_the_text,
+    passes_come_back, receipts_are_of_the_text, sessions_are_send, stores_are_send,
+    told_replies_are_plain,
+};
 pub use open_frame::{OpenFrame, OperationFrame, open_by, session_code};
 pub use opening::{OpenStore, Options, open};
 pub use session::{Position, Session};

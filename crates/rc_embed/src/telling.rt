@@ -13,9 +13,9 @@ impl Session {
     /// 2012, serializable transactions.)
     ///
     /// `Prepared` comes exactly while a call is prepared. `Unseen`: the session has looked, and
-    /// has seen a length that is below `seen`. That the length is that of the whole history, so
-    /// that what a session of the same store told is never refused, is how it is built; no clause
-    /// says so.
+    /// the history has a length that is below `seen`. The length is that of a good history of that
+    /// moment, which goes on from all that the session was told of; that what another session of
+    /// the store told is never refused is how it is built.
     pub fn learn(&mut self, seen: u64) -> Result<u64, LearnFault>
         ensures store { self.new.store ≡ self.old.store }
         ensures learned { IfOk result (HasLearned self.old seen self.new) }

@@ -1,16 +1,21 @@
 -- Inlining keeps what it need not change, and ends where nothing can be inlined.
-use Rattle.std.proofs.Common.{◌≡◌, ◌∙◌, ℕ, zero, suc, ◌+◌, Option, None, Some, ap, length, refl, sym, arith}
+use Rattle.std.proofs.Common.{◌≡◌, ◌↔◌, ◌∙◌, ℕ, zero, suc, ◌+◌, List, Option, None, Some, ap, length, refl, sym, arith}
 use Rattle.std.specs.List.{remove}
 use Rattle.std.specs.Option.{option_map_or}
 use Rattle.std.proofs.lemmas.List.{length-map}
 use Rattle.std.proofs.lemmas.List.Edits.{length-remove}
 use Rattle.std.proofs.lemmas.List.Quantifiers.{position-Some}
+use Rattle.rc_tuple.specs.Tuple.{Pairs}
+use Rattle.rc_spec.specs.declared.call.Call.{Call}
 use Rattle.rc_spec.specs.declared.spec.Spec.{Spec}
+use Rattle.rc_spec.specs.Calls.{Fits}
 use Rattle.rc_spec.specs.Decomposition.{edge_at, no_edge}
 use Rattle.rc_spec.specs.Names.{IsWellNamed}
+use Rattle.rc_spec.specs.Plain.{plain}
 use Rattle.rc_inline.specs.Contraction.{contracted, first_inlinable, is_inlinable, rejoined}
 use Rattle.rc_inline.specs.Inlining.{HasItsSchema, inlined, inlined_in}
 use Rattle.rc_inline.specs.NamesLaws.{contracted_named}
+use Rattle.rc_inline.specs.SchemaLaws.{fitting_of_one_schema, plain_same}
 
 -- a contraction takes an edge
 pub contracted_shorter : (spec : Spec) (f : ℕ) → first_inlinable spec ≡ Some f → length (contracted spec f).edges + 1 ≡ length spec.edges
@@ -30,7 +35,10 @@ schema_in (suc n) spec = go (first_inlinable spec) (λ f. schema_in n (contracte
     go None rest = record { columns = refl; deps = refl; classes = refl; ops = refl; most_rows = refl }
     go (Some f) rest = let same = rest f in record { columns = same.columns; deps = same.deps; classes = same.classes; ops = same.ops; most_rows = same.most_rows }
 
-pub inlined_schema : (spec : Spec) → HasItsSchema spec (inlined spec)
+abbrev pub InliningKeepsSchemas : Type 0
+InliningKeepsSchemas = (spec : Spec) → HasItsSchema spec (inlined spec)
+
+pub inlined_schema : InliningKeepsSchemas
 unfolding inlined
 inlined_schema spec = schema_in (length spec.edges) spec
 
@@ -44,7 +52,10 @@ named_in (suc n) spec named = go (first_inlinable spec) (λ f. named_in n (contr
     go None rest = named
     go (Some f) rest = rest f
 
-pub inlined_named : (spec : Spec) → IsWellNamed spec → IsWellNamed (inlined spec)
+abbrev pub InliningKeepsNames : Type 0
+InliningKeepsNames = (spec : Spec) → IsWellNamed spec → IsWellNamed (inlined spec)
+
+pub inlined_named : InliningKeepsNames
 unfolding inlined
 inlined_named spec named = named_in (length spec.edges) spec named
 
@@ -70,3 +81,19 @@ inlined_rest spec none = go (length spec.edges)
     go : (n : ℕ) → inlined_in n spec ≡ spec
     go zero = refl
     go (suc n) = ap (λ found. option_map_or (λ f. inlined_in n (contracted spec f)) found spec) none
+
+-- ---- what it keeps of calls
+
+-- a call has the same reply, and leaves the same relation
+abbrev pub InliningKeepsCalls : Type 0
+InliningKeepsCalls = (spec : Spec) (r : List Pairs) (call : Call) → plain (inlined spec) r call ≡ plain spec r call
+
+pub inlined_plain : InliningKeepsCalls
+inlined_plain spec r call = plain_same spec (inlined spec) (inlined_schema spec) r call
+
+-- and it fits exactly where it fitted
+abbrev pub InliningKeepsFitting : Type 0
+InliningKeepsFitting = (spec : Spec) (call : Call) → Fits (inlined spec) call ↔ Fits spec call
+
+pub inlined_fits : InliningKeepsFitting
+inlined_fits spec call = fitting_of_one_schema spec (inlined spec) (inlined_schema spec) call

@@ -1,5 +1,5 @@
 -- A call does the same by two specifications of one schema.
-use Rattle.std.proofs.Common.{◌≡◌, ℕ, List, length, ap, ◌∙◌, refl, sym}
+use Rattle.std.proofs.Common.{◌≡◌, ◌↔◌, ℕ, List, length, ap, ◌∙◌, refl, sym}
 use Rattle.std.specs.List.{range_with_len, slice_get}
 use Rattle.std.specs.Ordering.{nat_cmp}
 use Rattle.rc_tuple.specs.RisingSet.{gather}
@@ -38,3 +38,14 @@ module _ (spec other : Spec) (same : HasItsSchema spec other) where
       bounds = fits.bounds;
     },
   )
+
+-- A call does the same by two specifications of one schema, on each relation: it has one reply, and leaves one relation.
+abbrev pub CallsOfOneSchema : Type 0
+CallsOfOneSchema = (spec other : Spec) → HasItsSchema spec other → (r : List Pairs) (call : Call) → plain other r call ≡ plain spec r call
+
+-- and it fits the one exactly where it fits the other
+abbrev pub FittingOfOneSchema : Type 0
+FittingOfOneSchema = (spec other : Spec) → HasItsSchema spec other → (call : Call) → Fits other call ↔ Fits spec call
+
+pub fitting_of_one_schema : FittingOfOneSchema
+fitting_of_one_schema spec other same call = (fits_same spec other same call, fits_same other spec (schema_sym spec other same) call)

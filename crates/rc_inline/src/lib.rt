@@ -4,5 +4,7 @@
 
 mod contraction;
 mod inlining;
+mod laws;
 
 pub use inlining::inline;
+pub use laws::{inlining_keeps_calls, inlining_keeps_schemas, schemas_decide_calls};

@@ -9,11 +9,10 @@ use Rattle.rc_spec.specs.declared.call.Reply.TheVariants.{Inserted, Removed, Upd
 use Rattle.rc_rel.specs.declared.entry.Entry.{Entry}
 use Rattle.rc_rel.specs.declared.entry.Placed.{Placed}
 use Rattle.rc_rel.specs.declared.entry.Step.{Step}
-use Rattle.rc_row.specs.Passes.{PassSeen, core_of}
+use Rattle.rc_row.specs.Passes.{PassSeen}
 use Rattle.rc_store.specs.Store.{StoreSeen}
-use Rattle.rc_embed.specs.declared.session.Position.{Position}
-use Rattle.rc_embed.specs.declared.session.State.TheVariants.{Idle}
-use Rattle.rc_embed.specs.Session.{HasCalled, SessionSeen, call_in}
+use Rattle.rc_embed.specs.Entries.{HasEntry, StandsAt, entries_of}
+use Rattle.rc_embed.specs.Session.{SessionSeen, call_in}
 use Rattle.rc_scheduler.specs.declared.processes.Process.{Process}
 use Rattle.rc_scheduler.specs.Processes.{HasChanged, HasSpawned, IsLeft, process_values}
 
@@ -37,35 +36,25 @@ TookOut t reply = (reply ≡ Removed t) ⊎ (reply ≡ Updated t)
 abbrev pub KeepsTuple : Pairs → Entry → Type 0
 KeepsTuple t e = (s : Step) → In s e.steps → TookOut t s.reply → ⊥
 
--- a call that spawned a process stands, at its place, among the entries of its session's pass
+-- a call that spawned a process stands, at its place, among the entries of its session
 abbrev pub SpawnsStand : Type 0
 SpawnsStand = (old new : SessionSeen) (op : ℕ) (process : Process)
     (h : HasSpawned old op process true new)
-    → (pass : PassSeen) × (e : Entry) × (new.state ≡ Idle pass)
-    × In (record { place = h.at.place; entry = e }) (core_of pass).own
-    × IsInsertOf (call_in old op (process_values process)) e
+    → StandsAt (entries_of new.state) h.at.place (call_in old op (process_values process)) Inserted
 
 -- and so does one that changed a process
 abbrev pub ChangesStand : Type 0
 ChangesStand = (old new : SessionSeen) (op : ℕ) (process : Process)
     (h : HasChanged old op process true new)
-    → (pass : PassSeen) × (e : Entry) × (t : Pairs) × (new.state ≡ Idle pass)
-    × In (record { place = h.at.place; entry = e }) (core_of pass).own
-    × IsUpdateOf (call_in old op (process_values process)) t e
-
--- what stands among the entries of a session's pass stays there through a call
-abbrev pub CallsKeepEntries : Type 0
-CallsKeepEntries = (old new : SessionSeen) (op : ℕ) (values : List ℕ) (at : Position)
-    (h : HasCalled old op values new at)
-    → (w : Placed) → In w (core_of h.before).own → In w (core_of h.after).own
+    → (t : Pairs)
+    × StandsAt (entries_of new.state) h.at.place (call_in old op (process_values process)) (Updated t)
 
 -- a tuple that an entry of a pass put in, and that no later entry of the history took out, is
 -- left
 abbrev pub ProcessesAreLeft : Type 0
 ProcessesAreLeft = (store : StoreSeen) (passes : List PassSeen) (left : List Pairs)
     (h : IsLeft store passes left)
-    → (k : ℕ) (pass : PassSeen) → slice_get passes k ≡ Some pass
-    → (w : Placed) (call : Call) → In w (core_of pass).own → IsPutOf call w.entry
+    → (w : Placed) (call : Call) → HasEntry passes w → IsPutOf call w.entry
     → ((j : ℕ) (e : Entry) → w.place < j → slice_get h.is.history j ≡ Some e
     → KeepsTuple call.args e)
     → In call.args left

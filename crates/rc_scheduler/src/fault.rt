@@ -58,7 +58,7 @@ impl From<CloseBack> for Fault {
     fn from(back: CloseBack) -> Fault {
         match back {
             CloseBack::Memory(_) => Fault::Memory,
-            CloseBack::Outside(_) => Fault::Refused,
+            CloseBack::Outside(_) | CloseBack::Shared(_) => Fault::Refused,
         }
     }
 }

@@ -1,9 +1,10 @@
 //! Laws of the scheduler.
 
-ghost use Rattle.rc_scheduler.specs.Left.{CallsKeepEntries, ChangesStand, ProcessesAreLeft, SpawnsStand};
+ghost use Rattle.rc_scheduler.specs.Left.{ChangesStand, ProcessesAreLeft, SpawnsStand};
 
-/// A call that spawned a process stands among the entries of its session's pass, as the insert of
-/// that process that was answered `Inserted`.
+/// A call that spawned a process stands among the entries of its session, as the insert of that
+/// process that was answered `Inserted`. There it stays, and the store has it once the session is
+/// taken back (`entries_stay` of `rc_embed`).
 pub fn spawns_stand()
     ensures { SpawnsStand }
 {}
@@ -12,12 +13,6 @@ pub fn spawns_stand()
 /// `Updated`.
 pub fn changes_stand()
     ensures { ChangesStand }
-{}
-
-/// An entry of a session's pass stays through the session's calls. A session that is given back gives
-/// the store that very pass (`OpenStore::take_back`).
-pub fn entries_stay()
-    ensures { CallsKeepEntries }
 {}
 
 /// A process that a call spawned, or to which one changed another, and that no later call of the history

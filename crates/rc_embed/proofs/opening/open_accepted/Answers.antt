@@ -52,5 +52,6 @@ returns-in-Ok-clause-store c =
       counts = ap (λ (store : StoreSeen). store.row.keeping) shared ∙ built.row.1;
       number = ap (λ (store : StoreSeen). store.row.key.passes) shared ∙ built.row.0;
       limit = ap (λ (store : StoreSeen). store.limit) shared ∙ built.limit;
+      seed = ap (λ (store : StoreSeen). store.row.key.seed) shared ∙ built.seed;
       passes = built.passes ∙ ap (λ (store : StoreSeen). new_passes store.row) (sym shared);
     }

@@ -1,33 +1,14 @@
-use Rattle.std.proofs.Common.{◌≡◌, ℕ, List, [], ◌∷◌, Some, refl, sym, ap, ◌∙◌, subst, inl}
-use Rattle.rc_tuple.specs.RisingSet.{In}
-use Rattle.rc_tuple.specs.RisingSetLaws.{append_in_right}
-use Rattle.std.proofs.lemmas.Option.{same_Some}
-use Rattle.rc_spec.specs.declared.call.Reply.{Reply}
+use Rattle.std.proofs.Common.{refl, ◌∙◌}
 use Rattle.rc_spec.specs.declared.call.Reply.TheVariants.{Inserted}
-use Rattle.rc_rel.specs.declared.entry.Entry.{Entry}
-use Rattle.rc_rel.specs.declared.entry.Placed.{Placed}
-use Rattle.rc_rel.specs.declared.entry.Step.{Step}
-use Rattle.rc_row.specs.Passes.{core_of, next_entry}
-use Rattle.rc_embed.specs.Session.{call_in}
+use Rattle.rc_embed.specs.EntriesLaws.{calls_stand, told_last}
 use Rattle.rc_scheduler.specs.Processes.{process_values}
 use Rattle.rc_scheduler.specs.Left.{SpawnsStand}
 use Rattle.rc_scheduler.proofs.laws.spawns_stand.Goals as goal
 
 stand : SpawnsStand
 stand old new op process h =
-    let told : Some h.called.reply ≡ Some Inserted = sym h.called.told ∙ h.told.0 refl in
-    let reply : h.called.reply ≡ Inserted = same_Some h.called.reply Inserted told in
-    let e : Entry = next_entry (core_of h.called.before) (call_in old op (process_values process)) h.called.reply in
-    let p : Placed = record { place = h.at.place; entry = e } in
-    let there : In p (core_of h.called.after).own =
-    subst (λ (l : List Placed). In p l) (sym h.called.made.own)
-    (append_in_right p (core_of h.called.before).own (p ∷ []) (inl refl)) in (
-      h.called.after,
-      e,
-      h.called.is,
-      there,
-      ap (λ (r : Reply). let s : List Step = record { call = call_in old op (process_values process); reply = r } ∷ [] in s) reply,
-    )
+    calls_stand old new op (process_values process) h.at h.called Inserted
+    (told_last new h.called.after h.called.is ∙ h.told.0 refl)
 
 pub returns : goal.returns
 returns c = stand

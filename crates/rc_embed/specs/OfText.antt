@@ -1,0 +1,50 @@
+-- What a store that was opened by a text leaves, in terms of the specification that the text gives.
+use Rattle.std.specs.Prelude.{◌≡◌, ℕ, suc, List, [], ◌∷◌, ◌++◌, Some, length}
+use Rattle.std.specs.List.{slice_get}
+use Rattle.rc_spec.specs.declared.call.Call.{Call}
+use Rattle.rc_spec.specs.declared.call.Reply.{Reply}
+use Rattle.rc_spec.specs.declared.spec.Spec.{Spec}
+use Rattle.rc_spec.specs.Plain.{plain}
+use Rattle.rc_inline.specs.Inlining.{inlined}
+use Rattle.rc_rel.specs.declared.entry.Entry.{Entry}
+use Rattle.rc_rel.specs.History.{own_placed, relation_at, replay}
+use Rattle.rc_core.specs.Good.{IsGoodHistory}
+use Rattle.rc_instance.specs.Instance.{IsOfRelation}
+use Rattle.rc_row.specs.Law.{AreKnown}
+use Rattle.rc_row.specs.Passes.{PassSeen, core_of, next_entry}
+use Rattle.rc_store.specs.Closed.{ClosedSeen, made_by, where_kept}
+use Rattle.rc_store.specs.Store.{StoreSeen}
+
+-- The history is good for the specification, and what was closed has the rows of the relation that it leaves, as the
+-- specification with its singletons inlined keeps them. Each pass's entries are its own of the history, and the
+-- journal, where passes kept their entries, is the history. (PLDI 2012, serializable transactions.)
+pub record IsHistoryOfText (spec : Spec) (store : StoreSeen) (passes : List PassSeen) (closed : ClosedSeen)
+    (history : List Entry) : Type 0 where
+  pub good : IsGoodHistory spec (length passes) history
+  pub keeps : closed.compiled.spec ≡ inlined spec
+  pub relation : IsOfRelation (inlined spec) closed.instance (replay spec history)
+  pub own : (k : ℕ) (pass : PassSeen) → slice_get passes k ≡ Some pass → (core_of pass).own ≡ own_placed history k
+  pub journal : closed.journal ≡ where_kept store.row.keeping history
+  pub made : closed.made ≡ made_by passes
+
+-- The history has at this place one entry of this call alone, with this reply: the plain relation's at the place, which
+-- leaves that of the next. (PLDI 2011, the relation's operations.)
+pub record IsAnsweredAt (spec : Spec) (history : List Entry) (place : ℕ) (call : Call) (reply : Reply) : Type 0 where
+  pub entry : Entry
+  pub at : slice_get history place ≡ Some entry
+  pub one : entry.steps ≡ record { call = call; reply = reply } ∷ []
+  pub answer : reply ≡ (plain spec (relation_at spec history place) call).reply
+  pub relation : relation_at spec history (suc place) ≡ (plain spec (relation_at spec history place) call).relation
+
+-- Behind a call of a pass stands this history: with the call it is good for the specification, it has as many entries as
+-- the call's place says, it goes on from all that the pass was told of, and has all that the pass made, at its places.
+-- The reply is the plain relation's after it, which leaves that of the longer history.
+pub record IsBehind (spec : Spec) (passes : ℕ) (pass : PassSeen) (call : Call) (reply : Reply) (place : ℕ)
+    (before : List Entry) : Type 0 where
+  pub place_is : place ≡ length before
+  pub good : IsGoodHistory spec passes (before ++ next_entry (core_of pass) call reply ∷ [])
+  pub goes_on : AreKnown before pass.standing.known
+  pub own : (core_of pass).own ≡ own_placed before (core_of pass).number
+  pub answer : reply ≡ (plain spec (replay spec before) call).reply
+  pub relation : replay spec (before ++ next_entry (core_of pass) call reply ∷ [])
+      ≡ (plain spec (replay spec before) call).relation

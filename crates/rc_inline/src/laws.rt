@@ -1,0 +1,28 @@
+//! What inlining leaves of a specification: which calls there are, and what they do.
+
+ghost use Rattle.rc_inline.specs.InliningLaws.{InliningKeepsCalls, InliningKeepsFitting};
+ghost use Rattle.rc_inline.specs.InliningLaws.{InliningKeepsNames, InliningKeepsSchemas};
+ghost use Rattle.rc_inline.specs.SchemaLaws.{CallsOfOneSchema, FittingOfOneSchema};
+
+/// What a call does depends on the schema of its specification alone: on the columns, the dependencies, the lock classes, the
+/// operations and the most rows of a reply, and not on nodes, edges and placements. By two specifications of one schema it
+/// fits alike, has the same reply and leaves the same relation. (PLDI 2011, a decomposition represents a relation: what the
+/// relation's operations answer doesn't tell how.)
+pub fn schemas_decide_calls()
+    ensures calls { CallsOfOneSchema }
+    ensures fitting { FittingOfOneSchema }
+{}
+
+/// Inlining keeps the schema of a specification, and its names apart. (PLDI 2011, decompositions: edge contraction leaves the
+/// relation's columns, dependencies and operations.)
+pub fn inlining_keeps_schemas()
+    ensures schema { InliningKeepsSchemas }
+    ensures names { InliningKeepsNames }
+{}
+
+/// So a call fits the specification with its singletons inlined exactly where it fits the written one, has the same reply and
+/// leaves the same relation. (PLDI 2011, the relation's operations.)
+pub fn inlining_keeps_calls()
+    ensures calls { InliningKeepsCalls }
+    ensures fitting { InliningKeepsFitting }
+{}
