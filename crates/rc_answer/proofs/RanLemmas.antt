@@ -5,6 +5,7 @@ use Rattle.std.specs.Result.{IsErr, OnErr}
 use Rattle.rc_text.specs.Lines.{printed_lines}
 use Rattle.rc_io.specs.BytesLaws.{adds_prefix_longer, adds_prefix_more}
 use Rattle.rc_io.specs.Bytes.{Adds, AddsPrefix}
+use Rattle.rc_tuple.specs.RisingSet.{In}
 use Rattle.rc_tuple.specs.Tuple.{Pairs}
 use Rattle.rc_spec.specs.declared.spec.Spec.{Spec}
 use Rattle.rc_spec.specs.Placement.{op_at}
@@ -13,7 +14,7 @@ use Rattle.rc_query.specs.Planned.{IsPlanned}
 use Rattle.rc_instance.specs.Instance.{IsOfRelation}
 use Rattle.rc_rel.specs.declared.entry.Entry.{Entry}
 use Rattle.rc_rel.specs.History.{AllFit, replay}
-use Rattle.rc_store.specs.Closed.{ClosedSeen}
+use Rattle.rc_store.specs.Closed.{ClosedSeen, HasOneHistory}
 use Rattle.rc_spec.specs.Acceptance.{IsAccepted}
 use Rattle.rc_reader.specs.Grammar.{Reading, spec_reading}
 use Rattle.rc_reader.specs.Answers.{IsRead, rest_place}
@@ -31,7 +32,7 @@ use Rattle.rc_answer.specs.declared.status.Stop.{Stop}
 use Rattle.rc_answer.specs.declared.status.Stop.TheVariants.{Memory, Sink}
 use Rattle.rc_answer.specs.Answers.{IsReport}
 use Rattle.rc_answer.specs.Plans.{ArePlanned, plans_text}
-use Rattle.rc_answer.specs.Ran.{HasRunText, IsReadAs, IsRunOf, done_in, entries_in, outcome_in, run_text, status_in}
+use Rattle.rc_answer.specs.Ran.{HasRunText, IsOfItsStore, IsReadAs, IsRunOf, done_in, entries_in, outcome_in, run_text, status_in}
 use Rattle.rc_answer.specs.RanLaws.{is_report}
 use Rattle.rc_answer.specs.Writes.{Writes, WritesWhole}
 
@@ -55,6 +56,16 @@ module _ (accepted : Spec) (made : SpecWithPlans) (work : Work) (closed : Closed
 
   pub run_fits : AllFit closed.compiled.spec (entries_in closed.journal)
   run_fits = subst (λ (o : Option (List Entry)). AllFit closed.compiled.spec (entries_in o)) (sym h.journal) h.leaves.good.fit
+
+  -- the store's own history is the one that ran
+  pub run_is_of_store : HasOneHistory closed → IsOfItsStore (record { closed = closed; last = last })
+  run_is_of_store one =
+      let same : h.history ≡ one.history = subst (λ (o : Option (List Entry)). IfSome o (λ journal. journal ≡ one.history)) h.journal one.journal in
+      record {
+        fit = run_fits;
+        passes = subst (λ (o : Option (List Entry)). (e : Entry) → In e (entries_in o) → e.pass < length closed.made) (sym h.journal)
+            (λ e m. (one.leaves.good.entries e (subst (In e) same m)).pass);
+      }
 
 -- the planned plans are as many as the operations
 pub are_planned : (accepted : Spec) (made : SpecWithPlans) → made.spec ≡ accepted → ArePlansOf made.spec made.plans
@@ -126,10 +137,12 @@ read_as input reading spec rest work read is accepted made = record {
 }
 
 module _ (input : List ℕ) (spec : Spec) (work : Work) (old new : Option (List ℕ)) (read : IsReadAs input spec work) where
-  pub done_ran : (r : Result Ran Stop) (o : Result Outcome Stop) → o ≡ outcome_in r → IfOk r (IsRunOf spec work) → IfOk r (λ ran. Adds old (run_text work.ranks ran) new)
+  pub done_ran : (r : Result Ran Stop) (o : Result Outcome Stop) → o ≡ outcome_in r → IfOk r (IsRunOf spec work) → IfOk r IsOfItsStore
+      → IfOk r (λ ran. Adds old (run_text work.ranks ran) new)
       → IfOk o (λ x. IfSome x.ran (HasRunText input old new))
-  done_ran r o is run written = subst (λ (x : Result Outcome Stop). IfOk x (λ x. IfSome x.ran (HasRunText input old new))) (sym is) (go r run written)
+  done_ran r o is run store written = subst (λ (x : Result Outcome Stop). IfOk x (λ x. IfSome x.ran (HasRunText input old new))) (sym is) (go r run store written)
     where
-      go : (r : Result Ran Stop) → IfOk r (IsRunOf spec work) → IfOk r (λ ran. Adds old (run_text work.ranks ran) new) → IfOk (outcome_in r) (λ x. IfSome x.ran (HasRunText input old new))
-      go (Ok ran) run written = record { spec = spec; work = work; read = read; run = run; written = written }
-      go (Err stop) run written = tt
+      go : (r : Result Ran Stop) → IfOk r (IsRunOf spec work) → IfOk r IsOfItsStore → IfOk r (λ ran. Adds old (run_text work.ranks ran) new)
+          → IfOk (outcome_in r) (λ x. IfSome x.ran (HasRunText input old new))
+      go (Ok ran) run store written = record { spec = spec; work = work; read = read; run = run; store = store; written = written }
+      go (Err stop) run store written = tt

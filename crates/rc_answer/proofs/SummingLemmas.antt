@@ -22,7 +22,17 @@ use Rattle.rc_answer.specs.declared.status.Status.TheVariants.{Done}
 use Rattle.rc_answer.specs.Big.{IsBigText, ran_text}
 use Rattle.rc_answer.specs.Ran.{IsRunOf, done_in, entries_in, outcome_in}
 use Rattle.rc_answer.specs.RanLaws.{summary_is_one_threads}
-use Rattle.rc_answer.specs.Writes.{Writes}
+use Rattle.rc_answer.specs.Writes.{CountsFaults, Writes}
+
+-- what a writer's error says of the sink's faults is so whatever the writer would have answered
+counts_of_error : {A B : Type 0} (old new : ℕ) (e : Stop) → CountsFaults {A = A} old new (Err e) → CountsFaults {A = B} old new (Err e)
+counts_of_error old new Memory counts = record { failed = λ f. absurd (let g = f in cc); quiet = tt; memory = λ f. counts.memory refl; count = counts.count }
+counts_of_error old new Sink counts = record { failed = λ f. counts.failed refl; quiet = tt; memory = λ f. absurd (let g = f in cc); count = counts.count }
+
+-- so it is of what a `?` behind it hands on
+pub counts_handed_on : {A B : Type 0} (old new : ℕ) (e f : Stop) (s : Result B Stop) → CountsFaults {A = A} old new (Err e) → s ≡ Err f → f ≡ e → CountsFaults old new s
+counts_handed_on {A} {B} old new e f s counts is same =
+    subst (λ (x : Result B Stop). CountsFaults old new x) (sym (is ∙ ap Err same)) (counts_of_error old new e counts)
 
 -- what is printed of a run's own journal and rows
 pub printed_text : (ran : Ran) (s : Summary) (entries : List Entry) (rows : List Pairs) (text : List ℕ) → text ≡ summary_text s → s ≡ summary entries rows

@@ -8,7 +8,7 @@ use Rattle.rc_generate.specs.SummaryText.{summary_text}
 use Rattle.rc_answer.specs.declared.outcome.Ran.{Ran}
 use Rattle.rc_answer.specs.declared.status.Status.{Status}
 use Rattle.rc_answer.specs.declared.status.Status.TheVariants.{Done}
-use Rattle.rc_answer.specs.Ran.{IsRunOf, entries_in}
+use Rattle.rc_answer.specs.Ran.{IsOfItsStore, IsRunOf, entries_in}
 
 -- the summary of the generated calls, made by one thread in order
 unfoldable pub big_text : ℕ → ℕ → List ℕ
@@ -25,4 +25,5 @@ ran_text ran = summary_text (summary (entries_in ran.closed.journal) ran.last)
 -- a run of the generated workload was made, and the summary of its own journal and rows was written
 pub record HasSummaryText (seed calls : ℕ) (old new : Option (List ℕ)) (ran : Ran) : Type 0 where
   pub run : IsRunOf sample_graph (generated seed calls) ran
+  pub store : IsOfItsStore ran
   pub written : Adds old (ran_text ran) new

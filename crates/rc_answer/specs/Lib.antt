@@ -2,6 +2,8 @@ pub mod Answers
 pub mod Asked
 pub mod Big
 pub mod CutLaws
+pub mod Headline
+pub mod HeadlineLaws
 pub mod Plans
 pub mod Ran
 pub mod RanLaws

@@ -1,6 +1,6 @@
 -- What a run leaves, and what is written of it. (PLDI 2012, serializable transactions: the calls of all threads are one
 -- history.)
-use Rattle.std.specs.Prelude.{◌≡◌, ℕ, List, [], ◌++◌, Option, Some, None, Result, Ok, Err}
+use Rattle.std.specs.Prelude.{◌≡◌, ℕ, ◌<◌, List, [], ◌++◌, length, Option, Some, None, Result, Ok, Err}
 use Rattle.rc_tuple.specs.Relation.{Satisfies}
 use Rattle.rc_tuple.specs.RisingSet.{In}
 use Rattle.rc_tuple.specs.Tuple.{Pairs}
@@ -9,7 +9,7 @@ use Rattle.rc_io.specs.Bytes.{Adds}
 use Rattle.rc_spec.specs.declared.spec.Spec.{Spec}
 use Rattle.rc_spec.specs.Acceptance.{IsAccepted}
 use Rattle.rc_rel.specs.declared.entry.Entry.{Entry}
-use Rattle.rc_rel.specs.History.{IsLegal, IsNumbered, replay, states}
+use Rattle.rc_rel.specs.History.{AllFit, IsLegal, IsNumbered, replay, states}
 use Rattle.rc_reader.specs.Grammar.{Reading, spec_reading}
 use Rattle.rc_work.specs.declared.work.Work.{Work}
 use Rattle.rc_work.specs.Ranking.{work_reading}
@@ -49,6 +49,11 @@ pub record IsRunOf (spec : Spec) (work : Work) (ran : Ran) : Type 0 where
   pub single : HasSingleSteps history
   pub last : ran.last ≡ replay spec history
 
+-- what the closed store keeps: the calls of the journal fit its specification, and each entry is of a pass that it had
+pub record IsOfItsStore (ran : Ran) : Type 0 where
+  pub fit : AllFit ran.closed.compiled.spec (entries_in ran.closed.journal)
+  pub passes : (e : Entry) → In e (entries_in ran.closed.journal) → e.pass < length ran.closed.made
+
 -- an input is read as an accepted specification, and a workload behind it
 pub record IsReadAs (input : List ℕ) (spec : Spec) (work : Work) : Type 0 where
   pub reading : Reading
@@ -63,17 +68,20 @@ pub record HasRunText (input : List ℕ) (old new : Option (List ℕ)) (ran : Ra
   pub work : Work
   pub read : IsReadAs input spec work
   pub run : IsRunOf spec work ran
+  pub store : IsOfItsStore ran
   pub written : Adds old (run_text work.ranks ran) new
 
 -- What is so of a run, whatever was read: the specification is accepted and its plans are the planned ones; the journal
--- is one legal history in which each pass numbers its entries, each of one call; every state of it satisfies the
--- dependencies; and the rows are those of the last.
+-- is one legal history in which each pass of the store numbers its entries, each of one call, which fits; every state of it
+-- satisfies the dependencies; and the rows are those of the last.
 pub record IsOneHistory (ran : Ran) : Type 0 where
   pub accepted : IsAccepted ran.closed.compiled.spec
   pub planned : ArePlanned ran.closed.compiled.spec ran.closed.compiled.plans
   pub history : List Entry
   pub journal : ran.closed.journal ≡ Some history
   pub legal : IsLegal ran.closed.compiled.spec history
+  pub fit : AllFit ran.closed.compiled.spec history
+  pub passes : (e : Entry) → In e history → e.pass < length ran.closed.made
   pub numbered : IsNumbered history
   pub single : HasSingleSteps history
   pub satisfy : (r : List Pairs) → In r (states ran.closed.compiled.spec history)

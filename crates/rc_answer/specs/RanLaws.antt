@@ -1,9 +1,11 @@
 -- Laws of runs and of their texts.
-use Rattle.std.proofs.Common.{◌≡◌, ℕ, List, Option, refl, sym, ap, ◌∙◌, subst, ◌++◌}
+use Rattle.std.proofs.Common.{◌≡◌, ℕ, ◌<◌, List, Option, length, refl, sym, ap, ◌∙◌, subst, ◌++◌}
 use Rattle.rc_text.specs.Lines.{printed_lines}
+use Rattle.rc_tuple.specs.RisingSet.{In}
 use Rattle.rc_spec.specs.declared.spec.Spec.{Spec}
 use Rattle.rc_spec.specs.Acceptance.{IsAccepted}
-use Rattle.rc_rel.specs.History.{IsLegal, replay}
+use Rattle.rc_rel.specs.declared.entry.Entry.{Entry}
+use Rattle.rc_rel.specs.History.{AllFit, IsLegal, replay}
 use Rattle.rc_rel.specs.HistoryLaws.{states_satisfy}
 use Rattle.rc_work.specs.declared.work.Work.{Work}
 use Rattle.rc_work.specs.Report.{report}
@@ -18,7 +20,7 @@ use Rattle.rc_answer.specs.declared.status.Status.TheVariants.{Done}
 use Rattle.rc_answer.specs.Answers.{IsReport}
 use Rattle.rc_answer.specs.Big.{HasSummaryText, big_text, ran_text}
 use Rattle.rc_answer.specs.Plans.{ArePlanned, plans_text}
-use Rattle.rc_answer.specs.Ran.{HasRunText, IsOneHistory, IsRunOf, entries_in, run_text}
+use Rattle.rc_answer.specs.Ran.{HasRunText, IsOfItsStore, IsOneHistory, IsRunOf, entries_in, run_text}
 
 -- the text of a run is one that `run` may write
 pub is_report : (spec : Spec) (work : Work) (ran : Ran) → IsRunOf spec work ran → IsReport spec work (run_text work.ranks ran) Done
@@ -33,8 +35,8 @@ is_report spec work ran run = record {
 }
 
 -- a run on an accepted specification is of one history
-pub is_one_history : (spec : Spec) (work : Work) (ran : Ran) → IsAccepted spec → IsRunOf spec work ran → IsOneHistory ran
-is_one_history spec work ran accepted run =
+pub is_one_history : (spec : Spec) (work : Work) (ran : Ran) → IsAccepted spec → IsRunOf spec work ran → IsOfItsStore ran → IsOneHistory ran
+is_one_history spec work ran accepted run store =
     let same : spec ≡ ran.closed.compiled.spec = sym run.of_spec in
     record {
       accepted = subst IsAccepted same accepted;
@@ -42,6 +44,9 @@ is_one_history spec work ran accepted run =
       history = run.history;
       journal = run.journal;
       legal = subst (λ (s : Spec). IsLegal s run.history) same run.runs.legal;
+      fit = subst (λ (o : Option (List Entry)). AllFit ran.closed.compiled.spec (entries_in o)) run.journal store.fit;
+      passes = subst (λ (o : Option (List Entry)). (e : Entry) → In e (entries_in o) → e.pass < length ran.closed.made) run.journal
+          store.passes;
       numbered = run.runs.numbered;
       single = run.single;
       satisfy = states_satisfy ran.closed.compiled.spec run.history;
@@ -50,11 +55,11 @@ is_one_history spec work ran accepted run =
 
 -- so one that was written is
 pub written_is_one_history : (input : List ℕ) (old new : Option (List ℕ)) (ran : Ran) → HasRunText input old new ran → IsOneHistory ran
-written_is_one_history input old new ran h = is_one_history h.spec h.work ran h.read.accepted h.run
+written_is_one_history input old new ran h = is_one_history h.spec h.work ran h.read.accepted h.run h.store
 
 -- and the run of a generated workload
 pub summed_is_one_history : (seed calls : ℕ) (old new : Option (List ℕ)) (ran : Ran) → HasSummaryText seed calls old new ran → IsOneHistory ran
-summed_is_one_history seed calls old new ran h = is_one_history sample_graph (generated seed calls) ran sample_is_accepted h.run
+summed_is_one_history seed calls old new ran h = is_one_history sample_graph (generated seed calls) ran sample_is_accepted h.run h.store
 
 -- its summary is that of one thread
 pub summary_is_one_threads : (seed calls : ℕ) (ran : Ran) → IsRunOf sample_graph (generated seed calls) ran → ran_text ran ≡ big_text seed calls

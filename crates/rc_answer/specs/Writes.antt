@@ -1,5 +1,5 @@
 -- What a sink holds once a text of some kind is written, or a part of it.
-use Rattle.std.specs.Prelude.{◌≡◌, ℕ, ◌≤◌, List, Option, Result, Ok, Err, ◌⊎◌, IsErrOf}
+use Rattle.std.specs.Prelude.{◌≡◌, ℕ, ◌≤◌, List, Option, Result, Ok, Err, ◌⊎◌, IsErrOf, OnOk}
 use Rattle.rc_io.specs.Bytes.{Adds, AddsPrefix}
 use Rattle.rc_io.specs.Counts.{Rose}
 use Rattle.rc_answer.specs.declared.status.Status.{Status}
@@ -20,7 +20,10 @@ Writes A old new (Ok status) = WritesWhole A old new status
 Writes A old new (Err Memory) = (new ≡ old) ⊎ WritesPart A old new
 Writes A old new (Err Sink) = WritesPart A old new
 
--- what a writer's answer says of the count of the sink's faults: a fault of the sink was counted, and no count is lost
+-- what a writer's answer says of the count of the sink's faults: a fault of the sink was counted; where the answer tells none,
+-- also where it tells want of memory, none was; and no count is lost
 pub record CountsFaults {A : Type 0} (old new : ℕ) (answer : Result A Stop) : Type 0 where
   pub failed : IsErrOf answer Sink → Rose old new
+  pub quiet : OnOk answer (new ≡ old)
+  pub memory : IsErrOf answer Memory → new ≡ old
   pub count : old ≤ new

@@ -8,7 +8,7 @@ ghost use Rattle.rc_rel.specs.History.{AllFit};
 ghost use Rattle.rc_work.specs.Fitting.{RoundsFit, HasThreads};
 ghost use Rattle.rc_work.specs.Limits.{KeepsLimits};
 ghost use Rattle.rc_answer.specs.Answers.{Answers, AnswersAlone, IsReport};
-ghost use Rattle.rc_answer.specs.Ran.{HasRunText, IsRunOf, done_in, entries_in, run_text, status_in};
+ghost use Rattle.rc_answer.specs.Ran.{HasRunText, IsOfItsStore, IsRunOf, done_in, entries_in, run_text, status_in};
 ghost use Rattle.rc_answer.specs.Writes.{CountsFaults, Writes};
 ghost use Rattle.rc_answer.specs.Asked.{IsAskedText};
 ghost use Rattle.rc_command.specs.declared.command.TextCommand.TheVariants as commands;
@@ -49,10 +49,12 @@ pub(crate) fn make_run<R: Threads + Wait + Sync, G: Gate + Sync>(
     ensures run { IfOk result (IsRunOf accepted work.now) }
     ensures fit { IfOk result (λ ran.
         AllFit ran.closed.compiled.spec (entries_in ran.closed.journal)) }
+    ensures store { IfOk result IsOfItsStore }
 {
     let compiled = compile(alloc, accepted)?;
     let _ = compiled.accepted();
     let closed = run_work(rt, alloc, hash_seed, compiled, work, gate)?;
+    closed.has_one_history();
     let last = closed.rows(alloc, hash_seed)?;
     Ok(Ran { closed, last })
 }
@@ -95,6 +97,7 @@ fn perform<R: Threads + Wait + Sync, K: Sink, G: Gate + Sync>(
     requires threads { HasThreads work.now }
     requires limits { KeepsLimits work.now }
     ensures run { IfOk result (IsRunOf accepted work.now) }
+    ensures store { IfOk result IsOfItsStore }
     ensures text { IfOk result (λ ran.
         Adds (K.held sink.old) (run_text work.now.ranks ran) (K.held sink.new)) }
     ensures written { Writes (IsReport accepted work.now) (K.held sink.old) (K.held sink.new)

@@ -98,6 +98,7 @@ impl Sink for MemSink {
           faults = next self.old.faults;
         }) }
         ensures failed { OnErr result (Rose self.old.faults self.new.faults) }
+        ensures quiet { OnOk result (self.new.faults ≡ self.old.faults) }
         ensures count { self.old.faults ≤ self.new.faults }
     {
         self.calls = self.calls.saturating_add(1);

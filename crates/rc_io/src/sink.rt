@@ -22,6 +22,7 @@ pub trait Sink {
         ensures bytes { IfOk result (λ n. Adds (held self.old) (take n buf.now) (held self.new)) }
         ensures stays { OnErr result (held self.new ≡ held self.old) }
         ensures failed { OnErr result (Rose (faults self.old) (faults self.new)) }
+        ensures quiet { OnOk result (faults self.new ≡ faults self.old) }
         ensures count { faults self.old ≤ faults self.new };
 }
 
@@ -44,6 +45,7 @@ pub fn write_all<K: Sink>(sink: &mut K, bytes: &[u8]) -> Result<(), WriteFault>
     ensures ok { OnOk result (Adds (K.held sink.old) bytes.now (K.held sink.new)) }
     ensures prefix { OnErr result (AddsPrefix (K.held sink.old) bytes.now (K.held sink.new)) }
     ensures failed { OnErr result (Rose (K.faults sink.old) (K.faults sink.new)) }
+    ensures quiet { OnOk result (K.faults sink.new ≡ K.faults sink.old) }
     ensures count { K.faults sink.old ≤ K.faults sink.new }
 {
     let mut at = 0;

@@ -1,6 +1,6 @@
 //! Sources, and reading to the end.
 
-ghost use Rattle.std.specs.Prelude.{◌≡◌, ℕ, ◌+◌, ◌<◌, ◌≤◌, List, Option, None, length, take, vec_len, IfOk, IfErr, OnErr, IsErrOf};
+ghost use Rattle.std.specs.Prelude.{◌≡◌, ℕ, ◌+◌, ◌<◌, ◌≤◌, List, Option, None, length, take, vec_len, IfOk, IfErr, OnErr, OnOk, IsErrOf};
 ghost use Rattle.rc_io.specs.Bytes.{Takes, IsEmpty};
 ghost use Rattle.rc_io.specs.Counts.{Rose};
 ghost use Rattle.rc_io.specs.Faults.{IsCountTaken};
@@ -29,6 +29,7 @@ pub trait Source {
         ensures end { IfOk result (λ n. n ≡ 0 → IsEmpty (left self.old)) }
         ensures stays { OnErr result (left self.new ≡ left self.old) }
         ensures failed { OnErr result (Rose (faults self.old) (faults self.new)) }
+        ensures quiet { OnOk result (faults self.new ≡ faults self.old) }
         ensures count { faults self.old ≤ faults self.new };
 }
 
@@ -70,7 +71,8 @@ const PIECE: usize = 4096;
 
 /// All bytes up to the end, of which there are at most `limit`. Where there are more, one byte
 /// beyond the limit is taken. After a fault the bytes that were taken are dropped. `Source` comes only
-/// where the source's count of faults rose, `TooLong` exactly where that one byte was taken.
+/// where the source's count of faults rose, which any other answer leaves as it was, and `TooLong` exactly where
+/// that one byte was taken.
 pub fn read_all<S: Source>(alloc: Global, source: &mut S, limit: u64) -> Result<Vec<u8>, ReadFault>
     ensures all { IfOk result (λ v. Takes (S.left source.old) v.items (S.left source.new)
         × IsEmpty (S.left source.new)) }
@@ -79,6 +81,8 @@ pub fn read_all<S: Source>(alloc: Global, source: &mut S, limit: u64) -> Result<
         × Takes (S.left source.old) bytes (S.left source.new)) }
     ensures failed { IsErrOf result ReadFault.Source →
         Rose (S.faults source.old) (S.faults source.new) }
+    ensures quiet { (IsErrOf result ReadFault.Source → ⊥)
+        → S.faults source.new ≡ S.faults source.old }
     ensures count { S.faults source.old ≤ S.faults source.new }
 {
     let mut out = Vec::new(alloc);

@@ -65,7 +65,7 @@ impl<W: Write> Sink for StdSink<W> {
             Appends (W.contents self.old.writer) (W.contents self.new.writer) (take n buf.now)) }
         ensures writer_err { OnErr result ((n : ℕ) × (n ≤ length buf.now)
             × Appends (W.contents self.old.writer) (W.contents self.new.writer) (take n buf.now)) }
-        ensures no_fault { OnOk result (self.new.faults ≡ self.old.faults) }
+        ensures quiet { OnOk result (self.new.faults ≡ self.old.faults) }
         ensures fault { OnErr result (self.new.faults ≡ next self.old.faults) }
         ensures failed { OnErr result (Rose self.old.faults self.new.faults) }
         ensures count { self.old.faults ≤ self.new.faults }

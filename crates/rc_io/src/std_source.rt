@@ -44,7 +44,7 @@ impl<R: Read> Source for StdSource<R> {
         ensures fits { IfOk result (λ n. n ≤ length buf.new) }
         ensures reader { ReadConsumes (R.remaining self.old.reader) (R.remaining self.new.reader)
             result buf.new }
-        ensures no_fault { OnOk result (self.new.faults ≡ self.old.faults) }
+        ensures quiet { OnOk result (self.new.faults ≡ self.old.faults) }
         ensures fault { OnErr result (self.new.faults ≡ next self.old.faults) }
         ensures failed { OnErr result (Rose self.old.faults self.new.faults) }
         ensures count { self.old.faults ≤ self.new.faults }

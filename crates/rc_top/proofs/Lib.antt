@@ -1,2 +1,4 @@
 pub mod EndLemmas
 pub mod RanLemmas
+pub mod CountLemmas
+pub mod HeadlineLemmas

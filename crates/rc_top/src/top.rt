@@ -6,6 +6,7 @@ ghost use Rattle.rc_top.specs.Answer.{IsAnswer, KeepsRules};
 ghost use Rattle.rc_top.specs.Asks.{HasRead, LeavesAllBut, MakesRun, ReadsNothing};
 ghost use Rattle.rc_top.specs.Ends.{Ends, EndsBig, EndsUsage, status_of};
 ghost use Rattle.rc_answer.specs.Big.{HasSummaryText};
+ghost use Rattle.rc_answer.specs.Headline.{CheckHeadline, Headline};
 ghost use Rattle.rc_answer.specs.Ran.{HasRunText, IsOneHistory, ran_in, status_in};
 ghost use Rattle.rc_command.specs.Command.{command_of};
 ghost use Rattle.rc_command.specs.declared.command.Command.TheVariants.{Big, OfText};
@@ -36,7 +37,8 @@ use std::thread::Threads;
 /// order. Other words write the usage line.
 ///
 /// The status is `Done` or `Refused` with the whole text, `Usage` with the usage line, `SourceFailed` with nothing
-/// written, `SinkFailed` with a prefix of such a text, and `OutOfMemory` with nothing or a prefix.
+/// written, `SinkFailed` with a prefix of such a text, and `OutOfMemory` with nothing or a prefix, where no read or write
+/// was counted as failed.
 ///
 /// `run` and `big` make the calls of each round by threads that run beside each other, on one shared store, and `ran` has
 /// what they left: whatever was read, the journal is one legal history, every state of which satisfies the dependencies,
@@ -60,6 +62,17 @@ pub fn relc<R: Threads + Wait + Sync, S: Source, K: Sink, G: Gate + Sync>(
         → command_of (map string_bytes words.now) ≡ None }
     ensures untouched { ReadsNothing (command_of (map string_bytes words.now))
         → source.new ≡ source.old }
+
+    // THE HEADLINE (rc_answer/specs/Headline.antt): the words say `run`, or `check`, the source tells its bytes, and all of
+    // them were read and answered.
+    ensures headline { command_of (map string_bytes words.now) ≡ Some (OfText commands.Run)
+        → (input : List ℕ) → S.left source.old ≡ Some input → length input ≤ 2 ^ 24
+        → (result.status ≡ Status.Done) ⊎ (result.status ≡ Status.Refused)
+        → Headline input (K.held sink.old) (K.held sink.new) result }
+    ensures check_headline { command_of (map string_bytes words.now) ≡ Some (OfText commands.Check)
+        → (input : List ℕ) → S.left source.old ≡ Some input → length input ≤ 2 ^ 24
+        → (result.status ≡ Status.Done) ⊎ (result.status ≡ Status.Refused)
+        → CheckHeadline input (K.held sink.old) (K.held sink.new) result }
 
     // What is written of told bytes, how many are taken, and what is left of them.
     ensures answers { (command : TextCommand)
@@ -96,6 +109,8 @@ pub fn relc<R: Threads + Wait + Sync, S: Source, K: Sink, G: Gate + Sync>(
         → K.held sink.new ≡ K.held sink.old }
     ensures sink_failed { result.status ≡ Status.SinkFailed
         → Rose (K.faults sink.old) (K.faults sink.new) }
+    ensures memory { result.status ≡ Status.OutOfMemory
+        → (S.faults source.new ≡ S.faults source.old) × (K.faults sink.new ≡ K.faults sink.old) }
     ensures source_count { S.faults source.old ≤ S.faults source.new }
     ensures sink_count { K.faults sink.old ≤ K.faults sink.new }
 
@@ -124,6 +139,7 @@ pub fn relc<R: Threads + Wait + Sync, S: Source, K: Sink, G: Gate + Sync>(
 fn usage<K: Sink>(sink: &mut K) -> Status
     ensures ends { EndsUsage (K.held sink.old) (K.held sink.new) result }
     ensures failed { result ≡ Status.SinkFailed → Rose (K.faults sink.old) (K.faults sink.new) }
+    ensures memory { result ≡ Status.OutOfMemory → K.faults sink.new ≡ K.faults sink.old }
     ensures count { K.faults sink.old ≤ K.faults sink.new }
 {
     match write_all(
@@ -174,6 +190,7 @@ fn big<R: Threads + Wait + Sync, K: Sink, G: Gate + Sync>(
         (HasSummaryText seed calls (K.held sink.old) (K.held sink.new)) }
     ensures sink_failed { result.status ≡ Status.SinkFailed
         → Rose (K.faults sink.old) (K.faults sink.new) }
+    ensures memory { result.status ≡ Status.OutOfMemory → K.faults sink.new ≡ K.faults sink.old }
     ensures sink_count { K.faults sink.old ≤ K.faults sink.new }
 {
     outcome_of(answer_big(rt, alloc, hash_seed, seed, calls, sink, gate))
@@ -205,6 +222,8 @@ fn answer_text<R: Threads + Wait + Sync, S: Source, K: Sink, G: Gate + Sync>(
     ensures nothing_written { result.status ≡ Status.SourceFailed → K.held sink.new ≡ K.held sink.old }
     ensures sink_failed { result.status ≡ Status.SinkFailed
         → Rose (K.faults sink.old) (K.faults sink.new) }
+    ensures memory { result.status ≡ Status.OutOfMemory
+        → (S.faults source.new ≡ S.faults source.old) × (K.faults sink.new ≡ K.faults sink.old) }
     ensures source_count { S.faults source.old ≤ S.faults source.new }
     ensures sink_count { K.faults sink.old ≤ K.faults sink.new }
 {

@@ -1,4 +1,4 @@
-use Rattle.rc_answer.proofs.RanLemmas.{are_planned, run_fits, run_of}
+use Rattle.rc_answer.proofs.RanLemmas.{are_planned, run_fits, run_is_of_store, run_of}
 use Rattle.rc_answer.proofs.performing.make_run.Goals as goal
 
 pub returns-clause-run : goal.returns-clause-run
@@ -12,3 +12,8 @@ returns-clause-run g c =
 pub returns-clause-fit : goal.returns-clause-fit
 returns-clause-fit g c =
     run_fits c.args.accepted c.in_ok-compiled.compiled c.args.work.now c.in_ok-closed.closed c.in_ok-last.last c.in_ok-closed.ensures.run
+
+pub returns-clause-store : goal.returns-clause-store
+returns-clause-store g c =
+    run_is_of_store c.args.accepted c.in_ok-compiled.compiled c.args.work.now c.in_ok-closed.closed c.in_ok-last.last c.in_ok-closed.ensures.run
+    c.has_one_history.ensures

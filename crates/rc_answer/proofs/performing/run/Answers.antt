@@ -40,7 +40,7 @@ returns-clause-ran g c =
     subst (λ (s : Spec). work_reading s (rest_place text c.in-Ok.read.1) ≡ Ok c.in-Ok-read_work.work) c.spec.ensures.value c.in-Ok-read_work.ensures.exact in
     done_ran text spec c.in-Ok-read_work.work (g.K.Sink.held c.args.sink.now) (g.K.Sink.held c.perform.new.sink)
     (read_as text found.0 spec c.in-Ok.read.1 c.in-Ok-read_work.work found.1 is accepted read)
-    c.perform.result c.with_run.result c.with_run.ensures c.perform.ensures.run c.perform.ensures.text
+    c.perform.result c.with_run.result c.with_run.ensures c.perform.ensures.run c.perform.ensures.store c.perform.ensures.text
 
 pub returns-in-Err-read_work-clause-written : goal.returns-in-Err-read_work-clause-written
 returns-in-Err-read_work-clause-written g c =

@@ -1,4 +1,5 @@
-use Rattle.rc_answer.proofs.SummingLemmas.{rows_are_few, run_of_generated, steps_are_few, summed, summed_in_part}
+use Rattle.std.proofs.lemmas.Result.{err_from_is_err_and}
+use Rattle.rc_answer.proofs.SummingLemmas.{counts_handed_on, rows_are_few, run_of_generated, steps_are_few, summed, summed_in_part}
 use Rattle.rc_answer.proofs.summing.perform_big.Goals as goal
 
 pub write_summary-requires-clause-calls : goal.write_summary-requires-clause-calls
@@ -29,5 +30,13 @@ returns-clause-written g c =
 pub returns-clause-ran : goal.returns-clause-ran
 returns-clause-ran g c = record {
   run = run_of_generated c.args.seed c.args.calls c.in_ok-accepted.accepted c.in_ok-work.work c.in_ok-ran.ran c.in_ok-accepted.ensures c.in_ok-work.ensures.value c.in_ok-ran.ensures.run;
+  store = c.in_ok-ran.ensures.store;
   written = c.in_ok-write_summary.ensures.ok;
 }
+
+pub returns-in_err-write_summary-clause-faults : goal.returns-in_err-write_summary-clause-faults
+returns-in_err-write_summary-clause-faults g c =
+    let handed_on = c.from_residual-in_err-write_summary in
+    let stop = err_from_is_err_and handed_on.result handed_on.ensures.1 in
+    counts_handed_on (g.K.Sink.faults c.args.sink.now) (g.K.Sink.faults c.write_summary.new.sink) c.in_err-write_summary.field-0.0 stop.0 handed_on.result
+    c.in_err-write_summary.ensures.faults stop.1 stop.2

@@ -1,4 +1,4 @@
-use Rattle.std.proofs.Common.{arith, length-drop}
+use Rattle.std.proofs.Common.{◌∙◌, arith, length-drop}
 use Rattle.rc_io.proofs.Pieces.{adds_next}
 use Rattle.rc_io.proofs.sink.write_all.Goals as goal
 
@@ -7,9 +7,8 @@ loop-at-preserved g c =
     let wrote = c.in_ok-at.ensures in
     let some = wrote.some in
     let rest = length-drop c.loop-at.at c.args.bytes.now in
-    let risen = wrote.count in
     record {
       within = omega arith;
       so_far = adds_next _ _ _ c.args.bytes.now c.loop-at.at c.in_ok-at.field-0 c.loop-at.invariant.so_far wrote.bytes;
-      count = omega arith;
+      quiet = wrote.quiet ∙ c.loop-at.invariant.quiet;
     }

@@ -15,6 +15,7 @@ use Rattle.rc_io.specs.Faults.{IsCountTaken}
 use Rattle.rc_io.specs.declared.source.ReadFault.{ReadFault}
 use Rattle.rc_top.proofs.EndLemmas.{all_read, leaves, limit_read, long_ends, read_ends}
 use Rattle.rc_top.proofs.RanLemmas.{history_left, left_exactly, none_left, run_left, size_not_done}
+use Rattle.rc_top.proofs.CountLemmas.{quiet_runner, quiet_writer}
 use Rattle.rc_top.proofs.top.answer_text.Goals as goal
 
 pub returns-in-Ok-clause-answers : goal.returns-in-Ok-clause-answers
@@ -102,3 +103,17 @@ returns-clause-taken g c = λ input told.
 
 pub returns-clause-left : goal.returns-clause-left
 returns-clause-left g c = λ input told read. absurd (subst (λ (o : Outcome). HasRead o.status) c.without_run-in-Err-Memory.ensures read)
+
+pub returns-in-Ok-clause-memory : goal.returns-in-Ok-clause-memory
+returns-in-Ok-clause-memory g c = λ is. (
+  c.read_all.ensures.quiet (λ e. cc),
+  quiet_runner (g.K.Sink.faults c.args.sink.now) (g.K.Sink.faults c.answer.new.sink) c.answer.result c.answer.ensures.faults
+      (sym c.outcome_of.ensures.status ∙ is),
+)
+
+pub returns-in-Err-TooLong-clause-memory : goal.returns-in-Err-TooLong-clause-memory
+returns-in-Err-TooLong-clause-memory g c = λ is. (
+  c.read_all.ensures.quiet (λ e. cc),
+  quiet_writer (g.K.Sink.faults c.args.sink.now) (g.K.Sink.faults c.refuse_size.new.sink) c.refuse_size.result c.refuse_size.ensures.faults
+      (sym (ap (λ (o : Outcome). o.status) c.without_run.ensures ∙ c.status_of.ensures) ∙ is),
+)

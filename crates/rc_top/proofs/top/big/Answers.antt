@@ -1,4 +1,4 @@
-use Rattle.std.proofs.Common.{◌↔◌, ◌≡◌, sym, subst}
+use Rattle.std.proofs.Common.{◌↔◌, ◌≡◌, ◌∙◌, sym, subst}
 use Rattle.std.specs.Prelude.{IfSome, IsSome}
 use Rattle.rc_answer.specs.Big.{HasSummaryText}
 use Rattle.rc_answer.specs.Ran.{IsOneHistory, status_in}
@@ -8,6 +8,7 @@ use Rattle.rc_answer.specs.declared.status.Status.TheVariants.{Done}
 use Rattle.rc_top.specs.Ends.{EndsBig}
 use Rattle.rc_top.proofs.EndLemmas.{big_ends}
 use Rattle.rc_top.proofs.RanLemmas.{big_history_left, big_left_exactly, summary_left}
+use Rattle.rc_top.proofs.CountLemmas.{quiet_runner}
 use Rattle.rc_top.proofs.top.big.Goals as goal
 
 pub returns-clause-big : goal.returns-clause-big
@@ -33,3 +34,8 @@ returns-clause-summary g c =
     let new = g.K.Sink.held c.answer_big.new.sink in
     subst (λ o. IfSome o (HasSummaryText c.args.seed c.args.calls old new)) (sym c.outcome_of.ensures.ran)
     (summary_left c.answer_big.result c.args.seed c.args.calls old new c.answer_big.ensures.ran)
+
+pub returns-clause-memory : goal.returns-clause-memory
+returns-clause-memory g c = λ is.
+    quiet_runner (g.K.Sink.faults c.args.sink.now) (g.K.Sink.faults c.answer_big.new.sink) c.answer_big.result c.answer_big.ensures.faults
+    (sym c.outcome_of.ensures.status ∙ is)

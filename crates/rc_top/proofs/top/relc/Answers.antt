@@ -2,10 +2,27 @@ use Rattle.std.proofs.Common.{◌≡◌, Some, None, ap, sym, ◌∙◌, subst}
 use Rattle.rc_answer.specs.declared.outcome.Outcome.{Outcome}
 use Rattle.rc_command.specs.declared.command.Command.TheVariants.{Big, OfText}
 use Rattle.rc_command.specs.declared.command.TextCommand.{TextCommand}
+use Rattle.rc_command.specs.declared.command.TextCommand.TheVariants.{Check, Run}
 use Rattle.rc_top.specs.Answer.{KeepsRules}
 use Rattle.rc_top.specs.Asks.{HasRead}
 use Rattle.rc_top.proofs.EndLemmas.{answered, one_command}
+use Rattle.rc_top.proofs.HeadlineLemmas.{checked_headline, run_headline}
 use Rattle.rc_top.proofs.top.relc.Goals as goal
+
+pub returns-in-Ok-Some-OfText-clause-headline : goal.returns-in-Ok-Some-OfText-clause-headline
+returns-in-Ok-Some-OfText-clause-headline g c = λ named input told short written.
+    run_headline c.in-Ok-Some-OfText.command input (g.K.Sink.held c.args.sink.now) (g.K.Sink.held c.answer_text.new.sink) c.answer_text.result
+    short written (c.answer_text.ensures.answers input told) c.answer_text.ensures.has_ran
+    (one_command c.in-Ok-Some-OfText.command Run
+    (sym (ap Some c.in-Ok-Some-OfText.field-0-0-is) ∙ sym c.in-Ok-Some-OfText.field-0-is ∙ c.in-Ok-Some-OfText.ensures.value ∙ named))
+    (c.answer_text.ensures.report input told)
+
+pub returns-in-Ok-Some-OfText-clause-check_headline : goal.returns-in-Ok-Some-OfText-clause-check_headline
+returns-in-Ok-Some-OfText-clause-check_headline g c = λ named input told short written.
+    checked_headline c.in-Ok-Some-OfText.command input (g.K.Sink.held c.args.sink.now) (g.K.Sink.held c.answer_text.new.sink) c.answer_text.result
+    short written (c.answer_text.ensures.answers input told) c.answer_text.ensures.has_ran
+    (one_command c.in-Ok-Some-OfText.command Check
+    (sym (ap Some c.in-Ok-Some-OfText.field-0-0-is) ∙ sym c.in-Ok-Some-OfText.field-0-is ∙ c.in-Ok-Some-OfText.ensures.value ∙ named))
 
 pub returns-in-Ok-Some-OfText-clause-complete : goal.returns-in-Ok-Some-OfText-clause-complete
 returns-in-Ok-Some-OfText-clause-complete g c = λ command named input told short good no_source no_sink.
@@ -26,3 +43,25 @@ returns-in-Ok-None-clause-left g c = λ command named input told read.
 
 pub returns-in-Err-clause-left : goal.returns-in-Err-clause-left
 returns-in-Err-clause-left g c = λ command named input told read. absurd (subst (λ (o : Outcome). HasRead o.status) c.without_run-in-Err.ensures read)
+
+pub returns-in-Ok-Some-Big-clause-headline : goal.returns-in-Ok-Some-Big-clause-headline
+returns-in-Ok-Some-Big-clause-headline g c = λ named input told short written.
+    let e : Some (Big c.in-Ok-Some-Big.seed c.in-Ok-Some-Big.calls) ≡ Some (OfText Run) =
+    sym (ap Some c.in-Ok-Some-Big.field-0-0-is) ∙ sym c.in-Ok-Some-Big.field-0-is ∙ c.in-Ok-Some-Big.ensures.value ∙ named in
+    absurd cc
+
+pub returns-in-Ok-Some-Big-clause-check_headline : goal.returns-in-Ok-Some-Big-clause-check_headline
+returns-in-Ok-Some-Big-clause-check_headline g c = λ named input told short written.
+    let e : Some (Big c.in-Ok-Some-Big.seed c.in-Ok-Some-Big.calls) ≡ Some (OfText Check) =
+    sym (ap Some c.in-Ok-Some-Big.field-0-0-is) ∙ sym c.in-Ok-Some-Big.field-0-is ∙ c.in-Ok-Some-Big.ensures.value ∙ named in
+    absurd cc
+
+pub returns-in-Ok-None-clause-headline : goal.returns-in-Ok-None-clause-headline
+returns-in-Ok-None-clause-headline g c = λ named input told short written.
+    let e : None ≡ Some (OfText Run) = sym c.in-Ok-None.field-0-is ∙ c.in-Ok-None.ensures.value ∙ named in
+    absurd cc
+
+pub returns-in-Ok-None-clause-check_headline : goal.returns-in-Ok-None-clause-check_headline
+returns-in-Ok-None-clause-check_headline g c = λ named input told short written.
+    let e : None ≡ Some (OfText Check) = sym c.in-Ok-None.field-0-is ∙ c.in-Ok-None.ensures.value ∙ named in
+    absurd cc

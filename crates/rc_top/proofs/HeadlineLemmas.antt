@@ -1,0 +1,54 @@
+-- A text that was read and answered has the headline.
+use Rattle.std.proofs.Common.{◌≡◌, ◌↔◌, ◌≤◌, ◌^◌, ℕ, List, Option, Some, None, inl, inr, length, refl, sym, subst, ◌∙◌}
+use Rattle.std.specs.Prelude.{IfSome, IsSome}
+use Rattle.rc_answer.specs.declared.outcome.Outcome.{Outcome}
+use Rattle.rc_answer.specs.declared.outcome.Ran.{Ran}
+use Rattle.rc_answer.specs.declared.status.Status.{Status}
+use Rattle.rc_answer.specs.declared.status.Status.TheVariants.{Done, Usage, Refused, SourceFailed, SinkFailed, OutOfMemory}
+use Rattle.rc_answer.specs.Answers.{Answers}
+use Rattle.rc_answer.specs.Headline.{CheckHeadline, Headline}
+use Rattle.rc_answer.specs.HeadlineLaws.{check_headline, headline}
+use Rattle.rc_answer.specs.Ran.{HasRunText}
+use Rattle.rc_answer.specs.Writes.{WritesWhole}
+use Rattle.rc_command.specs.declared.command.TextCommand.{TextCommand}
+use Rattle.rc_command.specs.declared.command.TextCommand.TheVariants.{Check, Run}
+use Rattle.rc_top.specs.Answer.{IsAnswer}
+use Rattle.rc_top.specs.Ends.{Ends}
+use Rattle.rc_top.proofs.EndLemmas.{IsWritten}
+
+-- what was written is a whole text
+whole : (A : List ℕ → Status → Type 0) (old new : Option (List ℕ)) (status : Status) → IsWritten status → Ends A old new status → WritesWhole A old new status
+whole A old new Done written ends = ends
+whole A old new Usage written ends = ends
+whole A old new Refused written ends = ends
+whole A old new SourceFailed (inl e) ends = absurd (let f : SourceFailed ≡ Done = e in cc)
+whole A old new SourceFailed (inr e) ends = absurd (let f : SourceFailed ≡ Refused = e in cc)
+whole A old new SinkFailed (inl e) ends = absurd (let f : SinkFailed ≡ Done = e in cc)
+whole A old new SinkFailed (inr e) ends = absurd (let f : SinkFailed ≡ Refused = e in cc)
+whole A old new OutOfMemory (inl e) ends = absurd (let f : OutOfMemory ≡ Done = e in cc)
+whole A old new OutOfMemory (inr e) ends = absurd (let f : OutOfMemory ≡ Refused = e in cc)
+
+check_is_not_run : Check ≡ Run → ⊥
+check_is_not_run e = cc
+
+no_run : (o : Option Ran) → (IsSome o → ⊥) → o ≡ None
+no_run None h = refl
+no_run (Some r) h = absurd (h refl)
+
+module _ (command : TextCommand) (input : List ℕ) (old new : Option (List ℕ)) (outcome : Outcome)
+    (short : length input ≤ 2 ^ 24) (written : IsWritten outcome.status)
+    (ends : Ends (IsAnswer command input) old new outcome.status) (has : IsSome outcome.ran ↔ (command ≡ Run) × (outcome.status ≡ Done)) where
+  answers : WritesWhole (Answers command input) old new outcome.status
+  answers =
+      let (text, is, adds) = whole (IsAnswer command input) old new outcome.status written ends in
+      (text, is.read short, adds)
+
+  pub run_headline : command ≡ Run → IfSome outcome.ran (HasRunText input old new) → Headline input old new outcome
+  run_headline is ran =
+      headline input old new outcome (λ some. (has.0 some).1, λ done. has.1 (is, done)) ran
+      (subst (λ (k : TextCommand). WritesWhole (Answers k input) old new outcome.status) is answers)
+
+  pub checked_headline : command ≡ Check → CheckHeadline input old new outcome
+  checked_headline is =
+      check_headline old new outcome (no_run outcome.ran (λ some. check_is_not_run (sym is ∙ (has.0 some).0))) input
+      (subst (λ (k : TextCommand). WritesWhole (Answers k input) old new outcome.status) is answers)
