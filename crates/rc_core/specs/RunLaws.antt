@@ -1,5 +1,5 @@
 -- Runs of events stay good.
-use Rattle.std.proofs.Common.{◌≡◌, ℕ, ◌<◌, List, [], ◌∷◌, ◌++◌, length, Option, Some, None, IfSome, subst, refl, sym, ap, ◌∙◌}
+use Rattle.std.proofs.Common.{◌≡◌, ℕ, ◌<◌, List, [], ◌∷◌, length, Option, Some, None, IfSome, subst, sym, ap, ◌∙◌}
 use Rattle.std.specs.List.{slice_get}
 use Rattle.std.proofs.lemmas.Option.{slice_get-get_or}
 use Rattle.rc_spec.specs.declared.spec.Spec.{Spec}
@@ -40,17 +40,6 @@ next_is_good compiled ok c good x (Some d) a = subst (IsGood compiled.spec) (sym
 pub runs_keep : (compiled : SpecWithPlans) → IsCompiled compiled.spec compiled.plans → (c : CoreState) → IsGood compiled.spec c → (events : List Event) → AreAllowed compiled c events → IsGood compiled.spec (after_all compiled c events)
 runs_keep compiled ok c good [] a = good
 runs_keep compiled ok c good (x ∷ events) a = runs_keep compiled ok (after compiled c x) (events_keep compiled ok c good x a.0) events a.1
-
--- ---- one run behind another
-
-pub after_all-append : (compiled : SpecWithPlans) (c : CoreState) (xs ys : List Event) → after_all compiled c (xs ++ ys) ≡ after_all compiled (after_all compiled c xs) ys
-after_all-append compiled c [] ys = refl
-after_all-append compiled c (x ∷ xs) ys = after_all-append compiled (after compiled c x) xs ys
-
-pub AreAllowed-append : (compiled : SpecWithPlans) (c : CoreState) (xs ys : List Event) → AreAllowed compiled c xs → AreAllowed compiled (after_all compiled c xs) ys
-    → AreAllowed compiled c (xs ++ ys)
-AreAllowed-append compiled c [] ys a b = b
-AreAllowed-append compiled c (x ∷ xs) ys a b = (a.0, AreAllowed-append compiled (after compiled c x) xs ys a.1 b)
 
 -- ---- what goodness gives
 

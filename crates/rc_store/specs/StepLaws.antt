@@ -14,8 +14,7 @@ use Rattle.rc_machine.specs.declared.stop.Stop.TheVariants.{Held, Memory}
 use Rattle.rc_machine.specs.Machine.{HasReplied}
 use Rattle.rc_rel.specs.declared.entry.Entry.{Entry}
 use Rattle.rc_rel.specs.declared.entry.Placed.{Placed}
-use Rattle.rc_tuple.specs.RisingSet.{In}
-use Rattle.rc_rel.specs.History.{IsPrefix, own_placed, placed}
+use Rattle.rc_rel.specs.History.{IsPrefix, placed}
 use Rattle.rc_core.specs.Good.{IsOfHistory}
 use Rattle.rc_core.specs.Passes.{MayCommit, committed}
 use Rattle.rc_fragment.specs.FragmentRows.{FragmentRows, rolled_back, settled}
@@ -23,7 +22,7 @@ use Rattle.rc_fragment.specs.Keep.{IsAtRest}
 use Rattle.rc_core.specs.declared.state.PassState.{PassState}
 use Rattle.rc_row.specs.declared.law.Standing.{Standing}
 use Rattle.rc_row.specs.HeldRows.{HeldRows}
-use Rattle.rc_row.specs.Passes.{AreAtRest, HasAdded, HasReserved, HasSpare, IsMoreRoom, IsPassOf, PassSeen, RowSeen, all_with, compiled_of, core_of, holds_now, holds_taken, idle, next_entry, reverted, spec_of, with_entry, with_fragment}
+use Rattle.rc_row.specs.Passes.{AreAtRest, HasReserved, HasSpare, IsMoreRoom, IsPassOf, PassSeen, RowSeen, all_with, compiled_of, core_of, holds_now, holds_taken, idle, next_entry, reverted, spec_of, with_entry, with_fragment}
 use Rattle.rc_row.specs.Standings.{KeepsOut, KeepsRefusals}
 use Rattle.rc_store.specs.Busy.{IsBusy}
 use Rattle.rc_store.specs.CommitLaws.{may_commit, now_committed}
@@ -32,7 +31,7 @@ use Rattle.rc_store.specs.Lending.{IsOnTheWay, IsUnrefused, held_stripes}
 use Rattle.rc_store.specs.LendingLaws.{all_now-held, all_taken-held, one_relation, still_of_row}
 use Rattle.rc_store.specs.Prepared.{IsPrepared, IsReady}
 use Rattle.rc_store.specs.Runs.{IsStoppedFor}
-use Rattle.rc_store.specs.Store.{HasMade, IsAsBefore, IsFinished, IsFree, IsReplyFor, StoreSeen}
+use Rattle.rc_store.specs.Store.{HasMade, IsAsBefore, IsFinished, IsFree, StoreSeen}
 use Rattle.rc_store.specs.declared.receipt.Receipt.{Receipt}
 
 -- ---- giving back
@@ -157,25 +156,6 @@ module _ (row : RowSeen) (call : Call) (pass : PassSeen) (reply : Reply) (ready 
       let of : AreOfOneRelation (spec_of row) (held_stripes pass.held) = one_relation (spec_of row) pass.held (core_of pass).held ready.agrees ready.one in
       all_now-held pass.held
       ∙ now_committed (compiled_of row) (core_of pass) call (held_stripes pass.held) reply as_taken of.0 of.1 ready.replied.evaluated (ready.replied.served of.0 of.1) 0
-
--- a commit after which all was given back
-pub finished_so : (row : RowSeen) (call : Call) (old mid new : PassSeen) (reply : Reply) (receipt : Receipt)
-    → HasAdded row (next_entry (core_of old) call reply) old mid receipt.place → new ≡ idle mid → receipt.nth ≡ length (core_of old).own → IsReplyFor row.keeping reply receipt.reply
-    → IsFinished row call old new reply receipt
-finished_so row call old mid new reply receipt added e nth given = record {
-  before = added.before;
-  place = added.place_is;
-  at = added.at;
-  after = record {
-    good = added.after.good;
-    own = ap (λ (q : PassSeen). (core_of q).own) e ∙ added.after.own ∙ ap (own_placed (added.before ++ next_entry (core_of old) call reply ∷ [])) (sym (ap (λ (q : PassSeen). (core_of q).number) e));
-    rows = λ h m. absurd (subst (In h) (ap (λ (q : PassSeen). (core_of q).held) e) m);
-  };
-  is = e ∙ ap idle added.is;
-  nth = nth;
-  small = added.small;
-  given = given;
-}
 
 module _ (store : StoreSeen) (call : Call) (old mid new : PassSeen) (reply : Reply) (prepared : IsPrepared store.row call old mid reply) where
   same_entry : next_entry (core_of mid) call reply ≡ next_entry (core_of old) call reply
