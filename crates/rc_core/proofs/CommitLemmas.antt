@@ -8,7 +8,8 @@ use Rattle.rc_tuple.specs.RisingSet.{In}
 use Rattle.rc_tuple.specs.RisingSetLaws.{list_all_in, in_list_all}
 use Rattle.rc_spec.specs.declared.lock.Mode.{Mode}
 use Rattle.rc_spec.specs.declared.lock.Mode.TheVariants.{Shared, Exclusive}
-use Rattle.rc_plan.specs.StripeLocks.{StripeLock, Suffices, AreHeld}
+use Rattle.rc_spec.specs.Locks.{StripeLock, Suffices}
+use Rattle.rc_plan.specs.StripeLocks.{AreHeld}
 use Rattle.rc_core.specs.Commits.{suffices, is_held, are_held}
 use Rattle.rc_core.specs.ListLaws.{or_true}
 

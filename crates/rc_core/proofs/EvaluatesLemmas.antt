@@ -15,7 +15,8 @@ use Rattle.rc_plan.specs.Compiled.{SpecWithPlans, plan_at, IsCompiled}
 use Rattle.rc_plan.specs.Evaluation.{eval}
 use Rattle.rc_plan.specs.Laws.{Serves}
 use Rattle.rc_plan.specs.CompiledLaws.{compiled_law}
-use Rattle.rc_plan.specs.StripeLocks.{StripeLock, stripes_of, AreHeld}
+use Rattle.rc_spec.specs.Locks.{StripeLock}
+use Rattle.rc_plan.specs.StripeLocks.{stripes_of, AreHeld}
 use Rattle.rc_rel.specs.declared.entry.Step.{Step}
 use Rattle.rc_rel.specs.History.{replay}
 use Rattle.rc_rel.specs.HistoryLaws.{states_satisfy, states_are_relations, replay_in_states}

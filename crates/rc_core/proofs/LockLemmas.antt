@@ -1,42 +1,41 @@
--- Locks that tie are one.
-use Rattle.std.proofs.Common.{◌≡◌, true, sym, refl, ap, ◌∙◌, ◌↔◌}
-use Rattle.std.specs.declared.cmp.Ordering.{Ordering}
-use Rattle.std.specs.declared.cmp.Ordering.TheVariants.{Less, Equal, Greater}
-use Rattle.std.specs.Ordering.{is_eq, ordering_reverse}
+-- Which locks a commit needs.
+use Rattle.std.proofs.Common.{◌≡◌, ◌==◌, ◌<◌, Bool, IfOk, Result, get_or, true, sym, ap, subst, ◌∙◌, ◌↔◌}
 use Rattle.std.proofs.Common.{ℕ, ◌+◌, ◌≤◌, ◌&&◌, leb, ltb, List, [], ◌∷◌, length, arith}
 use Rattle.std.specs.List.{list_any, list_all}
-use Rattle.std.proofs.lemmas.Bool.{false≢true}
+use Rattle.std.proofs.lemmas.Bool.{eq-eqb, eqb-true, false≢true}
 use Rattle.rc_tuple.specs.RisingSet.{In}
 use Rattle.rc_plan.specs.declared.statement.Statement.{Statement}
 use Rattle.rc_plan.specs.declared.statement.Statement.TheVariants.{Lock, Probe, Read, CheckAbsent, CheckFound, CheckDep, Apply, Emit, Commit, Release}
 use Rattle.rc_plan.specs.Compiled.{SpecWithPlans, plan_at}
 use Rattle.rc_rel.specs.declared.entry.Step.{Step}
 use Rattle.rc_core.specs.declared.state.PassState.{PassState}
-use Rattle.rc_core.specs.State.{locks_of}
-use Rattle.rc_core.specs.Passes.{IsOfClassLocked, HoldsNoMore}
-use Rattle.rc_core.specs.Commits.{locks_class_of, is_of_class_locked}
+use Rattle.rc_tuple.specs.declared.memory.Memory.{Memory}
+use Rattle.rc_plan.specs.Evaluation.{eval}
+use Rattle.rc_core.specs.State.{locks_of, rows_held}
+use Rattle.rc_core.specs.Passes.{AreNamed, IsOfClassLocked, HoldsNoMore}
+use Rattle.rc_core.specs.Commits.{has_stripe, locks_class_of, is_of_class_locked}
 use Rattle.rc_core.proofs.CommitLemmas.{any_in, in_any}
 use Rattle.rc_tuple.specs.ColSet.{has}
 use Rattle.rc_tuple.specs.ColSetLaws.{has-range}
-use Rattle.rc_tuple.specs.RisingSetLaws.{is_eq_equal, in_has, has_in, list_all_in, in_list_all}
+use Rattle.rc_tuple.specs.RisingSetLaws.{in_has, has_in, list_all_in, in_list_all}
 use Rattle.rc_spec.specs.declared.spec.Spec.{Spec}
 use Rattle.rc_spec.specs.Placement.{class_at}
 use Rattle.rc_spec.specs.Stripes.{band_start}
-use Rattle.rc_plan.specs.StripeLocks.{StripeLock, band, stripe_lock_cmp}
-use Rattle.rc_plan.specs.StripeLocksLaws.{band_of_class, stripe_lock_order, in_stripes_of, stripes_of_in}
+use Rattle.rc_spec.specs.Locks.{StripeLock}
+use Rattle.rc_plan.specs.StripeLocks.{band, stripes_of}
+use Rattle.rc_plan.specs.StripeLocksLaws.{band_of_class, in_stripes_of, stripes_of_in}
 
-ties_itself : (lock : StripeLock) → is_eq (stripe_lock_cmp lock lock) ≡ true
-ties_itself lock = go (stripe_lock_cmp lock lock) (stripe_lock_order.total.antisymm lock lock)
-  where
-    go : (o : Ordering) → o ≡ ordering_reverse o → is_eq o ≡ true
-    go Less e = cc
-    go Equal e = refl
-    go Greater e = cc
-
-pub same_lock : (lock other : StripeLock) → (is_eq (stripe_lock_cmp lock other) ≡ true) ↔ (lock ≡ other)
-same_lock lock other = (
-  λ e. stripe_lock_order.ties lock other (is_eq_equal (stripe_lock_cmp lock other) e),
-  λ e. ap (λ (l : StripeLock). is_eq (stripe_lock_cmp lock l)) (sym e) ∙ ties_itself lock,
+-- the stripe of each of the locks is among those named, exactly where all pass the test
+pub all_named : (named locks : List StripeLock) → (list_all (λ (lock : StripeLock). has_stripe named lock.0) locks ≡ true) ↔ AreNamed locks named
+all_named named locks = (
+  λ e. record {
+    each = λ lock m.
+        let r = any_in (λ (l : StripeLock). l.0 == lock.0) named (list_all_in (λ (l : StripeLock). has_stripe named l.0) locks e lock m) in
+        subst (λ n. In n (stripes_of named)) (eqb-true r.0.0 lock.0 r.2) (stripes_of_in r.0 named r.1);
+  },
+  λ f. in_list_all (λ (lock : StripeLock). has_stripe named lock.0) locks (λ lock m.
+      let w = in_stripes_of lock.0 named (f.each lock m) in
+      in_any (λ (l : StripeLock). l.0 == lock.0) named w.0 w.1 (eq-eqb w.0.0 lock.0 (sym w.2))),
 )
 
 -- the stripes of a class lie between its first and its last
@@ -77,3 +76,12 @@ several_hold_no_more compiled u (s ∷ (t ∷ steps)) l = (
   λ f. in_list_all (λ (lock : StripeLock). is_of_class_locked compiled (s ∷ (t ∷ steps)) lock.0) (locks_of u)
       (λ lock m. let r = f lock.0 (stripes_of_in lock (locks_of u) m) in test_stripe compiled (s ∷ (t ∷ steps)) lock.0 r.0 r.1 r.2),
 )
+
+-- one step, alone in the list, holds no more where it names all
+pub one_holds_no_more : (compiled : SpecWithPlans) (u : PassState) (steps : List Step) (s : Step) → 1 ≤ length steps → length steps < 2 → s ≡ get_or steps 0 s
+    → (r : Result Bool Memory) → IfOk r (λ found. (found ≡ true) ↔ AreNamed (locks_of u) (eval compiled.spec (plan_at compiled.plans s.call.op) s.call (rows_held u)).named)
+    → IfOk r (λ found. (found ≡ true) ↔ HoldsNoMore compiled u steps)
+one_holds_no_more compiled u [] s some few is r h = absurd (omega (arith, some))
+one_holds_no_more compiled u (t ∷ (x ∷ steps)) s some few is r h = absurd (omega (arith, few))
+one_holds_no_more compiled u (t ∷ []) s some few is r h =
+    subst (λ (z : Step). IfOk r (λ found. (found ≡ true) ↔ AreNamed (locks_of u) (eval compiled.spec (plan_at compiled.plans z.call.op) z.call (rows_held u)).named)) is h

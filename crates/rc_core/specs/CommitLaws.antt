@@ -20,7 +20,8 @@ use Rattle.rc_plan.specs.Compiled.{SpecWithPlans, IsCompiled}
 use Rattle.rc_plan.specs.Laws.{AllServe}
 use Rattle.rc_plan.specs.CompiledLaws.{compiled_in_turn_law}
 use Rattle.rc_plan.specs.Turns.{AllAreHeld, CallWithPlan, eval_replies, plain_replies, relation_after, rows_after}
-use Rattle.rc_plan.specs.StripeLocks.{StripeLock, stripes_of}
+use Rattle.rc_spec.specs.Locks.{StripeLock}
+use Rattle.rc_plan.specs.StripeLocks.{stripes_of}
 use Rattle.rc_rel.specs.declared.entry.Step.{Step}
 use Rattle.rc_rel.specs.declared.entry.Entry.{Entry}
 use Rattle.rc_rel.specs.History.{steps_of, AreLegalFrom, IsLegal, after_steps, replay, own, own_placed, placed, StepsFit}

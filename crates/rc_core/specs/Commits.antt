@@ -12,7 +12,8 @@ use Rattle.rc_spec.specs.Fragments.{EdgeRow, rows_on}
 use Rattle.rc_plan.specs.declared.statement.Statement.{Statement}
 use Rattle.rc_plan.specs.declared.statement.Statement.TheVariants.{Lock, Probe, Read, CheckAbsent, CheckFound, CheckDep, Apply, Emit, Commit, Release}
 use Rattle.rc_plan.specs.Compiled.{SpecWithPlans, plan_at}
-use Rattle.rc_plan.specs.StripeLocks.{StripeLock, band}
+use Rattle.rc_spec.specs.Locks.{StripeLock}
+use Rattle.rc_plan.specs.StripeLocks.{band}
 use Rattle.rc_plan.specs.Turns.{AllAreHeld, eval_replies}
 use Rattle.rc_rel.specs.declared.entry.Step.{Step}
 use Rattle.rc_rel.specs.declared.entry.Entry.{Entry}
@@ -48,6 +49,10 @@ is_held held lock = list_any (λ l. l.0 == lock.0 && suffices l.1 lock.1) held
 
 abbrev pub are_held : List StripeLock → List StripeLock → Bool
 are_held locks held = list_all (is_held held) locks
+
+-- the stripe is among those of the locks
+abbrev pub has_stripe : List StripeLock → ℕ → Bool
+has_stripe locks p = list_any (λ l. l.0 == p) locks
 
 abbrev pub locks_class_of : Spec → ℕ → Statement → Bool
 locks_class_of spec p (Lock c which mode) = has (band spec c) p

@@ -1,16 +1,17 @@
 -- The events as changes of one pass.
 use Rattle.std.specs.Prelude.{◌≡◌, ℕ, suc, ◌<◌, ◌≤◌, ◌^◌, List, [], ◌∷◌, ◌++◌, ◌==◌, not, filter, map, length, max, Some, None, if◌then◌else◌}
-use Rattle.rc_tuple.specs.RisingSet.{In, gather}
+use Rattle.rc_tuple.specs.RisingSet.{In}
 use Rattle.rc_spec.specs.declared.spec.Spec.{Spec}
 use Rattle.rc_spec.specs.Fragments.{EdgeRow, on_stripes}
 use Rattle.rc_plan.specs.declared.statement.Statement.{Statement}
 use Rattle.rc_plan.specs.declared.statement.Which.{Which}
+use Rattle.rc_spec.specs.Locks.{StripeLock}
 use Rattle.rc_spec.specs.declared.lock.Mode.{Mode}
 use Rattle.rc_spec.specs.declared.lock.Mode.TheVariants.{Shared, Exclusive}
 use Rattle.rc_plan.specs.Compiled.{SpecWithPlans, plan_at}
 use Rattle.rc_plan.specs.Evaluation.{eval}
 use Rattle.rc_plan.specs.NamedStripes.{LocksClass}
-use Rattle.rc_plan.specs.StripeLocks.{IsOfClass, stripe_lock_cmp, stripes_of}
+use Rattle.rc_plan.specs.StripeLocks.{IsOfClass, stripes_of}
 use Rattle.rc_plan.specs.Turns.{AllAreHeld, CallWithPlan, eval_replies, rows_after, with_plans}
 use Rattle.rc_rel.specs.declared.entry.Step.{Step}
 use Rattle.rc_rel.specs.declared.entry.Entry.{Entry}
@@ -108,11 +109,19 @@ committed compiled u place e = record u {
 abbrev pub IsOfClassLocked : Spec → List Statement → ℕ → Type 0
 IsOfClassLocked spec plan p = (c : ℕ) × (choice : Which) × (mode : Mode) × LocksClass plan c choice mode × IsOfClass spec p c
 
--- one step needs all that is held, in its very mode; several need a class of each held stripe
+-- the stripe of each of the locks is named
+pub record AreNamed (locks named : List StripeLock) : Type 0 where
+  pub each : (lock : StripeLock) → In lock locks → In lock.0 (stripes_of named)
+
+-- one step names each stripe that is held; several need a class of each held stripe
 abbrev pub HoldsNoMore : SpecWithPlans → PassState → List Step → Type 0
 HoldsNoMore compiled u [] = Unit {0}
-HoldsNoMore compiled u (s ∷ []) = gather stripe_lock_cmp (locks_of u) ≡ (eval compiled.spec (plan_at compiled.plans s.call.op) s.call (rows_held u)).named
+HoldsNoMore compiled u (s ∷ []) = AreNamed (locks_of u) (eval compiled.spec (plan_at compiled.plans s.call.op) s.call (rows_held u)).named
 HoldsNoMore compiled u (s ∷ (t ∷ steps)) = (p : ℕ) → In p (stripes_of (locks_of u)) → (x : Step) × In x (s ∷ (t ∷ steps)) × IsOfClassLocked compiled.spec (plan_at compiled.plans x.call.op) p
+
+-- the next entry of a pass, of these steps
+abbrev pub next_of : PassState → List Step → Entry
+next_of u steps = record { pass = u.number; nth = length u.own; steps = steps }
 
 -- the entry is the pass's next, and evaluation over what it holds gives its replies
 pub record MayCommit (compiled : SpecWithPlans) (u : PassState) (e : Entry) : Type 0 where

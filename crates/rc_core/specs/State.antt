@@ -6,7 +6,7 @@ use Rattle.rc_tuple.specs.ColSet.{has}
 use Rattle.rc_spec.specs.declared.lock.Mode.{Mode}
 use Rattle.rc_spec.specs.declared.lock.Mode.TheVariants.{Shared, Exclusive}
 use Rattle.rc_spec.specs.Fragments.{EdgeRow, edge_row_cmp}
-use Rattle.rc_plan.specs.StripeLocks.{StripeLock}
+use Rattle.rc_spec.specs.Locks.{StripeLock}
 use Rattle.rc_core.specs.declared.state.Hold.{Hold}
 use Rattle.rc_core.specs.declared.state.PassState.{PassState}
 use Rattle.rc_core.specs.declared.state.Keeper.{Keeper}

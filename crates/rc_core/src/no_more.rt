@@ -2,30 +2,28 @@
 
 ghost use Rattle.std.specs.Prelude.{◌≡◌, ◌<◌, ◌↔◌, length, IfOk, IsTrue};
 ghost use Rattle.std.specs.List.{list_all, list_any};
-ghost use Rattle.rc_tuple.specs.RisingSet.{gather};
 ghost use Rattle.rc_tuple.specs.ColSet.{has};
 ghost use Rattle.rc_spec.specs.Acceptance.{IsSealed};
 ghost use Rattle.rc_spec.specs.Calls.{Fits};
 ghost use Rattle.rc_plan.specs.Compiled.{IsCompiled, plan_at};
 ghost use Rattle.rc_plan.specs.Evaluation.{eval};
 ghost use Rattle.rc_plan.specs.PlanRules.{IsKnown};
-ghost use Rattle.rc_plan.specs.StripeLocks.{band, stripe_lock_cmp, stripes_of};
+ghost use Rattle.rc_plan.specs.StripeLocks.{band, stripes_of};
 ghost use Rattle.rc_rel.specs.History.{StepsFit};
 ghost use Rattle.rc_core.specs.State.{locks_of, rows_held};
-ghost use Rattle.rc_core.specs.Passes.{HoldsNoMore};
-ghost use Rattle.rc_core.specs.Commits.{AreOf, is_of_class_locked, locks_class_of};
+ghost use Rattle.rc_core.specs.Passes.{AreNamed, HoldsNoMore};
+ghost use Rattle.rc_core.specs.Commits.{AreOf, has_stripe, is_of_class_locked, locks_class_of};
 
 use crate::PassState;
 use crate::evaluation::{Run, eval};
-use crate::locks::{StripeLock, gathered, order};
+use crate::locks::StripeLock;
 use crate::rows::rows_held;
 use rc_plan::{Compiled, Statement};
 use rc_rel::Step;
 use rc_spec::{Spec, band_start};
 use rc_tuple::Memory;
 
-/// Whether one step needs all that is held, in its very mode, and of several steps some one locks the class of each
-/// held stripe.
+/// Whether one step names each stripe that is held, and of several steps some one locks the class of each held stripe.
 pub(crate) fn holds_no_more(
     compiled: &Compiled,
     pass_state: &PassState,
@@ -45,7 +43,7 @@ pub(crate) fn holds_no_more(
     }
 }
 
-/// Whether the step names exactly what is held.
+/// Whether the step names each stripe that is held.
 fn names_all(
     compiled: &Compiled,
     pass_state: &PassState,
@@ -56,16 +54,15 @@ fn names_all(
     requires locks { locks.now ≡ locks_of pass_state.now }
     requires fit { Fits compiled.now.spec step.now.call }
     requires held { AreOf compiled.now.spec (stripes_of (locks_of pass_state.now)) 1 (rows_held pass_state.now) }
-    ensures { IfOk result (λ found. IsTrue found ↔ (gather stripe_lock_cmp (locks_of pass_state.now) ≡ (eval compiled.now.spec (plan_at compiled.now.plans step.now.call.op) step.now.call (rows_held pass_state.now)).named)) }
+    ensures { IfOk result (λ found. IsTrue found ↔ AreNamed (locks_of pass_state.now) (eval compiled.now.spec (plan_at compiled.now.plans step.now.call.op) step.now.call (rows_held pass_state.now)).named) }
 {
     let run = eval(compiled, &step.call, rows_held(pass_state)?)?;
-    let all = gathered(pass_state.held.alloc(), locks)?;
-    Ok(is_named(&all, run))
+    Ok(are_named(locks, run))
 }
 
-/// Whether these are the locks that the run named.
-fn is_named(locks: &[StripeLock], run: Run) -> bool
-    ensures { IsTrue result ↔ (locks.now ≡ run.named) }
+/// Whether the run named the stripes of these locks.
+fn are_named(locks: &[StripeLock], run: Run) -> bool
+    ensures { IsTrue result ↔ AreNamed locks.now run.named }
 {
     let Run {
         bindings: _,
@@ -74,30 +71,27 @@ fn is_named(locks: &[StripeLock], run: Run) -> bool
         reply: _,
         rows: _,
     } = run;
-    are_same(locks, &named)
+    have_stripes(&named, locks)
 }
 
-/// Whether the two lists have the same locks.
-fn are_same(locks: &[StripeLock], others: &[StripeLock]) -> bool
-    ensures { IsTrue result ↔ (locks.now ≡ others.now) }
+/// Whether the stripe of each lock is among those named.
+fn have_stripes(named: &[StripeLock], locks: &[StripeLock]) -> bool
+    ensures { IsTrue result ↔ AreNamed locks.now named.now }
 {
-    if locks.len() != others.len() {
-        return false;
-    }
-    for (at, lock) in locks.iter().enumerate() {
-        if !is_same(*lock, others[at]) {
-            return false;
-        }
-    }
-    true
+    have_all(named, locks)
 }
 
-/// Whether the two locks are one.
-#[tactic(auto, using(crate::proofs::LockLemmas::same_lock))]
-fn is_same(lock: StripeLock, other: StripeLock) -> bool
-    ensures { IsTrue result ↔ (lock ≡ other) }
+fn have_all(named: &[StripeLock], locks: &[StripeLock]) -> bool
+    ensures { result ≡ list_all (λ lock. has_stripe named.now lock.0) locks.now }
 {
-    order(lock, other).is_eq()
+    locks.iter().all(|lock| has_stripe(named, lock.0))
+}
+
+/// Whether the stripe is among those named.
+fn has_stripe(named: &[StripeLock], stripe: u32) -> bool
+    ensures { result ≡ has_stripe named.now stripe }
+{
+    named.iter().any(|lock| lock.0 == stripe)
 }
 
 /// Whether a plan of the steps locks the class of each of the stripes.

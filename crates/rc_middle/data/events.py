@@ -247,7 +247,7 @@ def may_commit(spec, u, k, entry):
             if modes.get(stripe) not in ("x", mode):
                 return False
     if len(steps) == 1:
-        return set(modes.items()) == named[0]
+        return set(modes) == {stripe for stripe, _ in named[0]}
     locked = {
         int(statement.split()[1])
         for op, _ in calls

@@ -23,7 +23,7 @@ use Rattle.rc_plan.specs.Evaluation.{dep_at}
 use Rattle.rc_plan.specs.Laws.{Serves}
 use Rattle.rc_plan.specs.PlanRules.{IsKnown, AreKnown, KeepsPlanRules}
 use Rattle.rc_plan.specs.ServeLaws.{plans_law}
-use Rattle.rc_plan.specs.StripeLocks.{StripeLock, Suffices}
+use Rattle.rc_spec.specs.Locks.{StripeLock, Suffices}
 use Rattle.rc_plan.specs.Example.{graph, add_edge, drop_edge, successors, add_plan, drop_plan, successor_plan, plans}
 use Rattle.rc_plan.proofs.Example.{edge, some_edges, add, successors_of, within_by, numbered, follows_within, sealed}
 

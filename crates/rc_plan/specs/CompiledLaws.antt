@@ -18,7 +18,8 @@ use Rattle.rc_plan.specs.Compiled.{IsPlanOf, SpecWithPlans, IsCompiled, plan_at}
 use Rattle.rc_plan.specs.Evaluation.{eval}
 use Rattle.rc_plan.specs.Laws.{CompiledPlansServe, CompiledPlansServeInTurn, Serves}
 use Rattle.rc_plan.specs.ServeLaws.{plans_law, plans_in_turn_law}
-use Rattle.rc_plan.specs.StripeLocks.{AreHeld, StripeLock, stripes_of}
+use Rattle.rc_spec.specs.Locks.{StripeLock}
+use Rattle.rc_plan.specs.StripeLocks.{AreHeld, stripes_of}
 use Rattle.rc_plan.specs.Turns.{HasAcceptedPlan, with_plan, with_plans}
 
 known_op : (spec : Spec) (call : Call) → Fits spec call → call.op < length spec.ops

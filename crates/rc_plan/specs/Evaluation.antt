@@ -24,7 +24,8 @@ use Rattle.rc_plan.specs.declared.statement.Statement.TheVariants.{Lock, Probe, 
 use Rattle.rc_plan.specs.declared.statement.Which.{Which}
 use Rattle.rc_plan.specs.declared.statement.Which.TheVariants as which
 use Rattle.rc_spec.specs.CountedRows.{with_rows, without_rows}
-use Rattle.rc_plan.specs.StripeLocks.{StripeLock, stripe_lock_cmp, band}
+use Rattle.rc_spec.specs.Locks.{StripeLock}
+use Rattle.rc_plan.specs.StripeLocks.{stripe_lock_cmp, band}
 
 -- where a run stands
 pub record RunState : Type 0 where

@@ -42,7 +42,8 @@ use Rattle.rc_plan.specs.Evaluation.{RunState, dep_at, some_left, some_differs, 
 use Rattle.rc_plan.specs.PlanRules.{Phase, Progress, after, AreKnown, IsLocked, IsAtRisk, Covers, KeepsAll, KeepsFrom}
 use Rattle.rc_spec.specs.Decomposition.{target_columns}
 use Rattle.rc_plan.specs.RunLaws.{cols_of-project, EndsAs, run-replied, stripes_grow, lock_keeps, read_keeps, read_same}
-use Rattle.rc_plan.specs.StripeLocks.{StripeLock, stripe_lock_cmp, stripes_of, AreIn}
+use Rattle.rc_spec.specs.Locks.{StripeLock}
+use Rattle.rc_plan.specs.StripeLocks.{stripe_lock_cmp, stripes_of, AreIn}
 use Rattle.rc_plan.specs.StripeLocksLaws.{named_before, named_now, AreIn-more, not_named, physical_stripe-agreeing, physical_stripe-in_band, striping_in_target}
 use Rattle.rc_spec.specs.declared.call.Call.{Call}
 use Rattle.rc_plan.specs.Search.{searching, IsSearching}

@@ -25,7 +25,8 @@ use Rattle.rc_plan.specs.Compiled.{SpecWithPlans, IsCompiled, plan_at}
 use Rattle.rc_plan.specs.Evaluation.{stripes_locked, begun, run, eval, touched, rows_as_taken}
 use Rattle.rc_plan.specs.NamedStripes.{IsNamedBy}
 use Rattle.rc_plan.specs.PlanRules.{AreKnown, KeepsPlanRules, IsKeptInPlan, plan_checks, IsFirstBrokenPlanRule}
-use Rattle.rc_plan.specs.StripeLocks.{StripeLock, stripes_of, AreHeld}
+use Rattle.rc_spec.specs.Locks.{StripeLock}
+use Rattle.rc_plan.specs.StripeLocks.{stripes_of, AreHeld}
 use Rattle.rc_plan.specs.Turns.{AllAreHeld, CallWithPlan, HasAcceptedPlan, eval_replies, plain_replies, relation_after, rows_after, with_plans}
 
 -- ---- one call

@@ -27,7 +27,8 @@ use Rattle.rc_plan.specs.Laws.{LocksRise, ReadsAreEarly}
 use Rattle.rc_plan.specs.PlanRules.{Progress, at_start, after, IsKnown, AreKnown, IsLocked, KeepsAll, KeepsFrom}
 use Rattle.rc_plan.specs.PlanRulesLaws.{progress_from, keeps_drop}
 use Rattle.rc_plan.specs.RunLaws.{named-apply, named-emit, named-keep_least, named-check_absent, named-check_dep, run-split}
-use Rattle.rc_plan.specs.StripeLocks.{StripeLock, stripe_lock_cmp, stripes_of, IsOfClass}
+use Rattle.rc_spec.specs.Locks.{StripeLock}
+use Rattle.rc_plan.specs.StripeLocks.{stripe_lock_cmp, stripes_of, IsOfClass}
 use Rattle.rc_plan.specs.StripeLocksLaws.{stripe_lock_order, in_stripes_of, stripes_of_in, IsOfClass-physical_stripe, band_of_class, of_one_class}
 use Rattle.rc_plan.specs.NamedStripes.{AreOfLocked}
 

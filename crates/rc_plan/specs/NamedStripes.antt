@@ -12,7 +12,8 @@ use Rattle.rc_plan.specs.declared.statement.Statement.TheVariants.{Lock}
 use Rattle.rc_plan.specs.declared.statement.Which.{Which}
 use Rattle.rc_plan.specs.declared.statement.Which.TheVariants as which
 use Rattle.rc_plan.specs.PlanRules.{IsLocked, Progress}
-use Rattle.rc_plan.specs.StripeLocks.{IsOfClass, StripeLock, stripes_of}
+use Rattle.rc_spec.specs.Locks.{StripeLock}
+use Rattle.rc_plan.specs.StripeLocks.{IsOfClass, stripes_of}
 
 -- ---- by statements
 

@@ -31,7 +31,8 @@ use Rattle.rc_plan.specs.LockOrderLaws.{IsOfClass-stripes_locked}
 use Rattle.rc_plan.specs.NamedStripes.{IsNamedBy}
 use Rattle.rc_plan.specs.PlanRules.{Progress, at_start, after, IsKnown, AreKnown, KeepsAll, KeepsFrom, KeepsPlanRules}
 use Rattle.rc_plan.specs.RunLaws.{named-apply, named-emit, named-keep_least, named-check_absent, named-check_dep}
-use Rattle.rc_plan.specs.StripeLocks.{StripeLock, stripe_lock_cmp}
+use Rattle.rc_spec.specs.Locks.{StripeLock}
+use Rattle.rc_plan.specs.StripeLocks.{stripe_lock_cmp}
 use Rattle.rc_plan.specs.StripeLocksLaws.{stripe_lock_order}
 
 -- ---- bindings go on from the arguments

@@ -26,7 +26,8 @@ use Rattle.rc_plan.specs.Evaluation.{RunState, named_by, answer, run, rows_as_ta
 use Rattle.rc_plan.specs.MatchLaws.{answer-asked}
 use Rattle.rc_plan.specs.PlanRules.{Phase, Progress, after, AreKnown, KeepsFrom}
 use Rattle.rc_plan.specs.RunLaws.{EndsAs, run-replied, stripes_grow, lock_keeps, read_keeps, read_same}
-use Rattle.rc_plan.specs.StripeLocks.{StripeLock, stripe_lock_cmp, stripes_of}
+use Rattle.rc_spec.specs.Locks.{StripeLock}
+use Rattle.rc_plan.specs.StripeLocks.{stripe_lock_cmp, stripes_of}
 use Rattle.rc_spec.specs.declared.call.Call.{Call}
 use Rattle.rc_plan.specs.Search.{searching, IsSearching}
 

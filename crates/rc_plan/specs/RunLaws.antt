@@ -37,7 +37,8 @@ use Rattle.rc_plan.specs.declared.statement.Which.{Which}
 use Rattle.rc_plan.specs.declared.statement.Which.TheVariants as which
 use Rattle.rc_plan.specs.Evaluation.{RunState, stripes_locked, named_by, some_left, some_differs, remove_least, keep_least, replace, apply, emit, run_one, run_next, run, rows_as_taken}
 use Rattle.rc_plan.specs.PlanRules.{Progress, after, at_start, given_columns, IsKeyBound, KeepsK3, KeepsK5}
-use Rattle.rc_plan.specs.StripeLocks.{StripeLock, stripe_lock_cmp, stripes_of}
+use Rattle.rc_spec.specs.Locks.{StripeLock}
+use Rattle.rc_plan.specs.StripeLocks.{stripe_lock_cmp, stripes_of}
 use Rattle.rc_plan.specs.StripeLocksLaws.{stripe_lock_order, named_before, named_now, physical_stripe-agreeing, physical_stripe-in_band, striping_in_target}
 use Rattle.rc_plan.specs.Search.{IsSearching}
 

@@ -14,7 +14,8 @@ use Rattle.rc_spec.specs.Stripes.{physical_stripe}
 use Rattle.rc_plan.specs.declared.statement.Which.{Which}
 use Rattle.rc_plan.specs.Evaluation.{RunState}
 use Rattle.rc_plan.specs.PlanRules.{Covers, Phase, Progress}
-use Rattle.rc_plan.specs.StripeLocks.{StripeLock, stripes_of}
+use Rattle.rc_spec.specs.Locks.{StripeLock}
+use Rattle.rc_plan.specs.StripeLocks.{stripes_of}
 
 -- a state with no reply
 abbrev pub searching : List Pairs → List StripeLock → List EdgeRow → RunState

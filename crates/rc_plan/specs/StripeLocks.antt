@@ -7,6 +7,7 @@ use Rattle.rc_tuple.specs.RisingSet.{In}
 use Rattle.rc_spec.specs.declared.lock.Mode.{Mode}
 use Rattle.rc_spec.specs.declared.lock.Mode.TheVariants.{Shared, Exclusive}
 use Rattle.rc_spec.specs.declared.spec.Spec.{Spec}
+use Rattle.rc_spec.specs.Locks.{StripeLock, Suffices}
 use Rattle.rc_spec.specs.Placement.{class_at}
 use Rattle.rc_spec.specs.Stripes.{band_start}
 
@@ -22,10 +23,6 @@ abbrev pub band : Spec → ℕ → List ℕ
 band spec c = range_with_len (band_start spec c) (class_at spec c).stripes
 
 -- ---- locks
-
--- a physical stripe, and the mode in which it is locked
-abbrev pub StripeLock : Type 0
-StripeLock = ℕ × Mode
 
 abbrev pub mode_number : Mode → ℕ
 mode_number Shared = 0
@@ -44,12 +41,6 @@ abbrev pub AreIn : Mode → List StripeLock → Type 0
 AreIn mode locks = (lock : StripeLock) → In lock locks → lock.1 ≡ mode
 
 -- ---- locks that are held
-
--- a stripe held in the first mode may be used in the second
-abbrev pub Suffices : Mode → Mode → Type 0
-Suffices Exclusive wanted = Unit {0}
-Suffices Shared Shared = Unit {0}
-Suffices Shared Exclusive = ⊥
 
 -- each of the locks is held: its stripe is, in a mode that suffices
 abbrev pub AreHeld : List StripeLock → List StripeLock → Type 0

@@ -19,7 +19,8 @@ use Rattle.rc_spec.specs.Placement.{class_at, class_of, IsPlaced}
 use Rattle.rc_spec.specs.Stripes.{band_start, physical_stripe}
 use Rattle.rc_spec.specs.StripesLaws.{agreeing_law, stripe_in_band, band_before}
 use Rattle.rc_spec.specs.Decomposition.{target_columns}
-use Rattle.rc_plan.specs.StripeLocks.{StripeLock, mode_number, stripe_lock_cmp, stripes_of, Suffices, AreHeld, band, AreIn, IsOfClass}
+use Rattle.rc_spec.specs.Locks.{StripeLock, Suffices}
+use Rattle.rc_plan.specs.StripeLocks.{mode_number, stripe_lock_cmp, stripes_of, AreHeld, band, AreIn, IsOfClass}
 use Rattle.rc_tuple.specs.ColSetLaws.{in_range_bounds}
 
 -- ---- the order of locks

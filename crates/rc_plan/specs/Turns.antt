@@ -13,7 +13,8 @@ use Rattle.rc_plan.specs.declared.statement.Statement.{Statement}
 use Rattle.rc_plan.specs.Compiled.{plan_at}
 use Rattle.rc_plan.specs.Evaluation.{eval}
 use Rattle.rc_plan.specs.PlanRules.{AreKnown, KeepsPlanRules}
-use Rattle.rc_plan.specs.StripeLocks.{AreHeld, StripeLock}
+use Rattle.rc_spec.specs.Locks.{StripeLock}
+use Rattle.rc_plan.specs.StripeLocks.{AreHeld}
 
 -- a call, and the plan of its operation
 pub record CallWithPlan : Type 0 where

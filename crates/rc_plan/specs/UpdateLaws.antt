@@ -46,7 +46,8 @@ use Rattle.rc_plan.specs.PlanRules.{Phase, Progress, after, AreKnown, IsLocked, 
 use Rattle.rc_plan.specs.ProbeLaws.{checked_before, no_column, named_tuple, more_named, tuple_named, probe_searching, IsProbing, columns_rise, t_rises, up, found_one, one_found, up_at, seen_at, tuple_is_named}
 use Rattle.rc_plan.specs.RunLaws.{cols_of-project, EndsAs, run-replied, stripes_grow, lock_keeps, read_keeps, read_same}
 use Rattle.rc_plan.specs.Search.{updating, IsSearching}
-use Rattle.rc_plan.specs.StripeLocks.{StripeLock, stripe_lock_cmp, stripes_of, AreIn}
+use Rattle.rc_spec.specs.Locks.{StripeLock}
+use Rattle.rc_plan.specs.StripeLocks.{stripe_lock_cmp, stripes_of, AreIn}
 use Rattle.rc_plan.specs.StripeLocksLaws.{AreIn-more, not_named, physical_stripe-agreeing, striping_in_target}
 
 abbrev pub update_op : List ℕ → List ℕ → Op

@@ -4,6 +4,7 @@ use Rattle.std.specs.List.{range_with_len, flat_map, AllByRecursion}
 use Rattle.rc_tuple.specs.Tuple.{Pairs}
 use Rattle.rc_spec.specs.declared.spec.Spec.{Spec}
 use Rattle.rc_spec.specs.declared.call.Call.{Call}
+use Rattle.rc_spec.specs.declared.call.Reply.{Reply}
 use Rattle.rc_spec.specs.Calls.{Fits}
 use Rattle.rc_spec.specs.Plain.{plain}
 use Rattle.rc_rel.specs.declared.entry.Step.{Step}
@@ -18,6 +19,12 @@ steps_of history = flat_map (λ e. e.steps) history
 abbrev pub AreLegalFrom : Spec → List Pairs → List Step → Type 0
 AreLegalFrom spec r [] = Unit {0}
 AreLegalFrom spec r (s ∷ steps) = (s.reply ≡ (plain spec r s.call).reply) × AreLegalFrom spec (plain spec r s.call).relation steps
+
+-- the calls in turn, each with its reply
+abbrev pub with_replies : List Call → List Reply → List Step
+with_replies [] replies = []
+with_replies (call ∷ calls) [] = []
+with_replies (call ∷ calls) (reply ∷ replies) = record { call = call; reply = reply } ∷ with_replies calls replies
 
 -- legal from the empty relation
 abbrev pub IsLegal : Spec → List Entry → Type 0

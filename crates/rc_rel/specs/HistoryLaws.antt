@@ -1,5 +1,5 @@
 -- Laws of histories.
-use Rattle.std.proofs.Common.{◌≡◌, ℕ, ◌+◌, ◌<◌, List, [], ◌∷◌, ◌++◌, length, drop, get_or, refl, sym, ap, ◌∙◌, inl, inr, subst}
+use Rattle.std.proofs.Common.{◌≡◌, ℕ, ◌+◌, ◌<◌, List, [], ◌∷◌, ◌++◌, length, map, drop, get_or, refl, sym, ap, ◌∙◌, inl, inr, subst, arith}
 use Rattle.std.specs.List.{AllByRecursion}
 use Rattle.std.proofs.lemmas.List.{drop_more, append_assoc}
 use Rattle.rc_tuple.specs.RisingSet.{In}
@@ -7,13 +7,15 @@ use Rattle.rc_tuple.specs.Tuple.{Pairs}
 use Rattle.rc_tuple.specs.Relation.{Satisfies, IsRelation}
 use Rattle.rc_tuple.specs.RelationLaws.{satisfies_none}
 use Rattle.rc_spec.specs.declared.spec.Spec.{Spec}
+use Rattle.rc_spec.specs.declared.call.Call.{Call}
+use Rattle.rc_spec.specs.declared.call.Reply.{Reply}
 use Rattle.rc_spec.specs.Calls.{all_columns, Fits}
 use Rattle.rc_spec.specs.CallsLaws.{plain_keeps_relation}
 use Rattle.rc_spec.specs.Plain.{plain}
 use Rattle.rc_spec.specs.PlainLaws.{plain_satisfies}
 use Rattle.rc_rel.specs.declared.entry.Step.{Step}
 use Rattle.rc_rel.specs.declared.entry.Entry.{Entry}
-use Rattle.rc_rel.specs.History.{steps_of, AreLegalFrom, after_steps, replay, states_from, states, StepsFit, AllFit}
+use Rattle.rc_rel.specs.History.{steps_of, AreLegalFrom, after_steps, replay, states_from, states, StepsFit, AllFit, with_replies}
 
 pub after_steps-append : (spec : Spec) (r : List Pairs) (xs ys : List Step) → after_steps spec r (xs ++ ys) ≡ after_steps spec (after_steps spec r xs) ys
 after_steps-append spec r [] ys = refl
@@ -22,6 +24,16 @@ after_steps-append spec r (x ∷ xs) ys = after_steps-append spec (plain spec r 
 pub AreLegalFrom-append : (spec : Spec) (r : List Pairs) (xs ys : List Step) → AreLegalFrom spec r xs → AreLegalFrom spec (after_steps spec r xs) ys → AreLegalFrom spec r (xs ++ ys)
 AreLegalFrom-append spec r [] ys h k = k
 AreLegalFrom-append spec r (x ∷ xs) ys h k = (h.0, AreLegalFrom-append spec (plain spec r x.call).relation xs ys h.1 k)
+
+-- steps are their calls with their replies
+pub with_replies-parts : (steps : List Step) → with_replies (map (λ (s : Step). s.call) steps) (map (λ (s : Step). s.reply) steps) ≡ steps
+with_replies-parts [] = refl
+with_replies-parts (s ∷ steps) = λ i. s ∷ with_replies-parts steps i
+
+pub calls-with_replies : (calls : List Call) (replies : List Reply) → length replies ≡ length calls → map (λ (s : Step). s.call) (with_replies calls replies) ≡ calls
+calls-with_replies [] replies e = refl
+calls-with_replies (call ∷ calls) [] e = absurd (omega (arith, e))
+calls-with_replies (call ∷ calls) (reply ∷ replies) e = ap (λ (l : List Call). call ∷ l) (calls-with_replies calls replies (omega (arith, e)))
 
 pub steps_of-append : (xs ys : List Entry) → steps_of (xs ++ ys) ≡ steps_of xs ++ steps_of ys
 steps_of-append [] ys = refl

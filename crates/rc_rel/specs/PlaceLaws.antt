@@ -8,8 +8,8 @@ use Rattle.rc_spec.specs.declared.spec.Spec.{Spec}
 use Rattle.rc_spec.specs.Plain.{plain}
 use Rattle.rc_rel.specs.declared.entry.Step.{Step}
 use Rattle.rc_rel.specs.declared.entry.Entry.{Entry}
-use Rattle.rc_rel.specs.History.{AreLegalFrom, IsLegal, IsPlain, IsPrefix, after_steps, relation_at, steps_of}
-use Rattle.rc_rel.specs.HistoryLaws.{after_steps-append}
+use Rattle.rc_rel.specs.History.{AreLegalFrom, IsLegal, IsPlain, IsPrefix, after_steps, relation_at, replay, steps_of}
+use Rattle.rc_rel.specs.HistoryLaws.{after_steps-append, steps_of-append}
 
 -- ---- place by place
 
@@ -52,6 +52,16 @@ PlainAtEachPlace = (spec : Spec) (history : List Entry) → IsLegal spec history
 
 pub plain_at_each_place : PlainAtEachPlace
 plain_at_each_place spec history legal place entry at single = plain_from spec [] history legal place entry at single
+
+-- In a legal history the steps of the last entry have the plain relation's replies in turn, from the relation before it, and leave the relation
+-- after them all.
+pub legal_last : (spec : Spec) (before : List Entry) (entry : Entry) → IsLegal spec (before ++ entry ∷ [])
+    → AreLegalFrom spec (replay spec before) entry.steps × (replay spec (before ++ entry ∷ []) ≡ after_steps spec (replay spec before) entry.steps)
+legal_last spec before entry legal =
+    let steps : steps_of (before ++ entry ∷ []) ≡ steps_of before ++ entry.steps = steps_of-append before (entry ∷ []) ∙ ap (λ (l : List Step). steps_of before ++ l) (append-nil entry.steps) in (
+      legal_rest spec [] (steps_of before) entry.steps (subst (AreLegalFrom spec []) steps legal),
+      ap (after_steps spec []) steps ∙ after_steps-append spec [] (steps_of before) entry.steps,
+    )
 
 -- ---- as they grow
 

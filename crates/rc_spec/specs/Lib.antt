@@ -17,6 +17,7 @@ pub mod HeathLaws
 pub mod InRange
 pub mod JoinLaws
 pub mod Laws
+pub mod Locks
 pub mod Names
 pub mod Order
 pub mod OrderLaws

@@ -1,3 +1,6 @@
+ghost use Rattle.std.specs.Prelude.{◌↔◌, IsTrue};
+ghost use Rattle.rc_spec.specs.Locks.{Suffices};
+
 /// How a lock is taken: beside other readers, or alone.
 #[derive(Clone, Copy, Debug, PartialEq, Eq)]
 pub enum Mode {
@@ -5,6 +8,21 @@ pub enum Mode {
     Shared,
     /// Alone.
     Exclusive,
+}
+
+impl Mode {
+    /// Whether a stripe that is held so may be used so.
+    pub fn suffices(self, wanted: Mode) -> bool
+        ensures { IsTrue result ↔ Suffices self wanted }
+    {
+        match self {
+            Mode::Exclusive => true,
+            Mode::Shared => match wanted {
+                Mode::Exclusive => false,
+                Mode::Shared => true,
+            },
+        }
+    }
 }
 
 /// What a step found in the way of a lock.

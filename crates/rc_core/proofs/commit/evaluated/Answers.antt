@@ -7,7 +7,8 @@ use Rattle.rc_spec.specs.Fragments.{EdgeRow}
 use Rattle.rc_plan.specs.Compiled.{SpecWithPlans, plan_at}
 use Rattle.rc_plan.specs.Evaluation.{RunState, eval}
 use Rattle.rc_plan.specs.Turns.{rows_after}
-use Rattle.rc_plan.specs.StripeLocks.{StripeLock, AreHeld, stripes_of}
+use Rattle.rc_spec.specs.Locks.{StripeLock}
+use Rattle.rc_plan.specs.StripeLocks.{AreHeld, stripes_of}
 use Rattle.rc_rel.specs.declared.entry.Step.{Step}
 use Rattle.rc_core.specs.Passes.{calls_with_plans}
 use Rattle.rc_core.specs.Commits.{AreOf, Evaluates}
