@@ -8,6 +8,7 @@ use Rattle.rc_spec.specs.CountedRows.{count_at}
 use Rattle.rc_spec.specs.Decomposition.{bound, edge_at}
 use Rattle.rc_spec.specs.Fragments.{EdgeRow, row_stripe, fragment_of}
 use Rattle.rc_spec.specs.declared.items.EdgeKind.TheVariants.{Singleton}
+use Rattle.rc_spec.specs.Locks.{StripeLock, Suffices}
 use Rattle.rc_spec.specs.declared.lock.Mode.{Mode}
 use Rattle.rc_spec.specs.declared.lock.Mode.TheVariants.{Exclusive}
 use Rattle.rc_spec.specs.declared.spec.Spec.{Spec}
@@ -68,10 +69,11 @@ pub record RefusedTake : Type 0 where
   pub mode : Mode
   pub held : Option (List HeldStripe)
 
--- What a holder tells: the edge table of all fragments; the stripes that it holds, in the order in which they were taken; of each stripe by its number the rows with which it is or was lent, where they are told; how many takes were refused, by a counter that stays at 2^64 - 1, and the last of them; and the borrowed value through which it works, by name, so that who lent it learns what became of it.
+-- What a holder tells: the edge table of all fragments; the stripes that it holds, in the order in which they were taken; those that it has to lend, each with the mode in which it has it, where it hasn't all; of each stripe by its number the rows with which it is or was lent, where they are told; how many takes were refused, by a counter that stays at 2^64 - 1, and the last of them; and the borrowed value through which it works, by name, so that who lent it learns what became of it.
 pub record Holding : Type 0 where
   pub table : List EdgeShape
   pub lent : List LentStripe
+  pub lends : Option (List StripeLock)
   pub offered : List (Option (List EdgeRow))
   pub refusals : ℕ
   pub last_refusal : Option RefusedTake
@@ -127,13 +129,17 @@ pub record CanLower (s : Holding) (stripe e : ℕ) (row : Pairs) : Type 0 where
   pub known : e < length s.table
   pub there : (h : HeldStripe) → In h (held_of s) → h.stripe ≡ stripe → IsThere h.now e row
 
--- the fragment has the rows of the held stripe, now and as taken, and the edge table
+-- the fragment has the rows of the held stripe, and the edge table
 pub record IsLent (s : Holding) (stripe : ℕ) (fragment : FragmentRows) : Type 0 where
   pub table : fragment.table ≡ s.table
   pub now : (h : HeldStripe) → In h (held_of s) → h.stripe ≡ stripe → fragment.now ≡ h.now
-  pub taken : (h : HeldStripe) → In h (held_of s) → h.stripe ≡ stripe → fragment.taken ≡ h.taken
 
 -- ---- takes
+
+-- a stripe that the holder has to lend, in a mode that suffices
+abbrev pub MayTake : Option (List StripeLock) → ℕ → Mode → Type 0
+MayTake None stripe mode = Unit {0}
+MayTake (Some locks) stripe mode = (held : Mode) × In (stripe, held) locks × Suffices held mode
 
 -- a counter that stays at its last value rose
 abbrev pub HasRisen : ℕ → ℕ → Type 0
@@ -146,6 +152,7 @@ AreRefusedAfter old new = ((new.refusals ≡ old.refusals) × (new.last_refusal 
 -- What no call changes is the same, and refused takes are those of before, or their count rose.
 pub record GoesOn (old new : Holding) : Type 0 where
   pub table : new.table ≡ old.table
+  pub lends : new.lends ≡ old.lends
   pub offered : new.offered ≡ old.offered
   pub through : new.through ≡ old.through
   pub refused : AreRefusedAfter old new

@@ -44,11 +44,12 @@ risen_again a b c (inr p) (inr q) = inr (q.0 ∙ p.0, q.1)
 
 -- no call, and one after another
 pub goes_on_same : (s : Holding) → GoesOn s s
-goes_on_same s = record { table = refl; offered = refl; through = refl; refused = inl (refl, refl) }
+goes_on_same s = record { table = refl; lends = refl; offered = refl; through = refl; refused = inl (refl, refl) }
 
 pub goes_on_again : (a b c : Holding) → GoesOn a b → GoesOn b c → GoesOn a c
 goes_on_again a b c p q = record {
   table = q.table ∙ p.table;
+  lends = q.lends ∙ p.lends;
   offered = q.offered ∙ p.offered;
   through = q.through ∙ p.through;
   refused = go p.refused q.refused;

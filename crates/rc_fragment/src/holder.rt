@@ -5,7 +5,7 @@ ghost use Rattle.rc_spec.specs.CountedRows.{lowered, raised};
 ghost use Rattle.rc_spec.specs.Stripes.{stripe_total};
 ghost use Rattle.rc_spec.specs.declared.spec.Spec.{Spec};
 ghost use Rattle.rc_fragment.specs.Fragment.{edge_table};
-ghost use Rattle.rc_fragment.specs.Holder.{AreOfOneRelation, CanLower, CanRaise, CountsOnlyHeld, HasRefused, HasRoom, HasTaken, HasTakenNothing, Holding, IsAbove, IsHeld, IsHeldExclusive, IsLent, all_reverted, held_of, with_change_at, with_room_at};
+ghost use Rattle.rc_fragment.specs.Holder.{AreOfOneRelation, CanLower, CanRaise, CountsOnlyHeld, HasRefused, HasRoom, HasTaken, HasTakenNothing, Holding, IsAbove, IsHeld, IsHeldExclusive, IsLent, MayTake, all_reverted, held_of, with_change_at, with_room_at};
 ghost use Rattle.rc_fragment.specs.declared.held.Held.{Held};
 ghost use Rattle.rc_fragment.specs.declared.held.TakeStop.TheVariants as stop;
 
@@ -15,9 +15,10 @@ use rc_tuple::{Memory, Tuple};
 
 /// Lends a plan the fragments of the stripes that it takes (PLDI 2012, two-phase plans).
 ///
-/// Stripes are taken in rising order. A stripe that is held Exclusive is changed in place; `revert`
-/// takes all changes back. No call lends a fragment for writing, since a caller could put another
-/// one in its place. All that a holder tells is one value, and each call says what it leaves of it.
+/// Stripes are taken in rising order, among those that the holder has to lend. A stripe that is held
+/// Exclusive is changed in place. No call lends a fragment for writing, since a caller could put
+/// another one in its place. All that a holder tells is one value, and each call says what it leaves
+/// of it.
 pub trait Holder {
     /// What the holder tells.
     ghost seen: { Self → Holding };
@@ -25,11 +26,12 @@ pub trait Holder {
     /// For which specifications the holder is sound. Every call keeps it.
     ghost is_sound: { Self → Spec → Type 0 };
 
-    /// Takes a stripe above all that are held. `Held` comes only where the count of refused takes rose in
+    /// Takes a stripe above all that are held, of those that there are to lend. `Held` comes only where the count of refused takes rose in
     /// this call, and is then the last refused take's; of a sound holder the count rises with no other answer.
     /// After a refusal or where memory is wanted nothing is taken.
     fn take(&mut self, stripe: u32, mode: Mode) -> Result<(), TakeStop>
         requires known { stripe < length (seen self.old).offered }
+        requires lent { MayTake (seen self.old).lends stripe mode }
         requires above { IsAbove (held_of (seen self.old)) stripe }
         ensures ok { OnOk result (HasTaken (seen self.old) (seen self.new) stripe mode) }
         ensures err { OnErr result (HasTakenNothing (seen self.old) (seen self.new)) }
@@ -67,14 +69,17 @@ pub trait Holder {
         ensures value { seen self.new ≡ with_change_at stripe (lowered edge row.now) (seen self.old) }
         ensures sound { (spec : Spec) → is_sound self.old spec → is_sound self.new spec };
 
-    /// Makes the rows of all held stripes what they were as taken. Takes no memory.
-    fn revert(&mut self)
-        ensures value { seen self.new ≡ all_reverted (seen self.old) }
-        ensures sound { (spec : Spec) → is_sound self.old spec → is_sound self.new spec };
-
     /// A sound holder has the specification's edge table and number of stripes.
     ghost sound_table: { (h : Self) (spec : Spec) → is_sound h spec → ((seen h).table ≡ edge_table spec) × (length (seen h).offered ≡ stripe_total spec) };
 
     /// What it holds, as taken, are the fragments of one relation that satisfies the dependencies.
     ghost sound_rows: { (h : Self) (spec : Spec) → is_sound h spec → AreOfOneRelation spec (held_of (seen h)) };
+}
+
+/// A holder that can take all changes back.
+pub trait Reverts: Holder {
+    /// Makes the rows of all held stripes what they were as taken. Takes no memory.
+    fn revert(&mut self)
+        ensures value { Self.seen self.new ≡ all_reverted (Self.seen self.old) }
+        ensures sound { (spec : Spec) → Self.is_sound self.old spec → Self.is_sound self.new spec };
 }

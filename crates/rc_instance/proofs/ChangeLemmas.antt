@@ -85,7 +85,7 @@ module _ (fs : List FragmentRows) (ms : List (Option Mode)) (v : List Stripe) (v
   has_room room = room (lent_as k q.0.mode f) (lent_from_in 0 v k k stripe q.0.mode there (omega arith) (as_it_is q.0 q.1 q.2).held) refl
 
   pub is_lent : IsInstance (stripes_of fs ms) → IsLent (holding v) k f
-  is_lent i = record { table = table_is i; now = λ h m p. (as_it_is h m p).now; taken = λ h m p. (as_it_is h m p).taken }
+  is_lent i = record { table = table_is i; now = λ h m p. (as_it_is h m p).now }
 
   -- the fragment stays
   pub stays : (g : FragmentRows) → g ≡ f → stripes_of (set fs k g) ms ≡ v
@@ -118,6 +118,7 @@ module _ (fs : List FragmentRows) (ms : List (Option Mode)) (v : List Stripe) (v
     tells each other here = ap holding is_set ∙ (λ i. record {
       table = table_of-set v k stripe changed_stripe there table i;
       lent = lent_from-set each 0 v k k stripe changed_stripe there (omega arith) refl other here i;
+      lends = None;
       offered = map-set (λ (s : Stripe). Some s.fragment.taken) v k stripe changed_stripe there (ap Some taken) i;
       refusals = 0;
       last_refusal = None;
@@ -191,6 +192,7 @@ module _ (fs : List FragmentRows) (ms : List (Option Mode)) (v : List Stripe) (v
       record {
         goes_on = record {
           table = ap table_of is_taken_set ∙ table_of-set v k free_stripe taken_stripe is_there refl;
+          lends = refl;
           offered = ap (map (λ (s : Stripe). Some s.fragment.taken)) is_taken_set ∙ map-set (λ (s : Stripe). Some s.fragment.taken) v k free_stripe taken_stripe is_there refl;
           through = refl;
           refused = inl (refl, refl);

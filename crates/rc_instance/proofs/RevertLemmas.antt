@@ -37,7 +37,7 @@ offered-reverted [] = refl
 offered-reverted (s ∷ ss) = ap (λ z. Some s.fragment.taken ∷ z) (offered-reverted ss)
 
 pub holding-reverted : (v : List Stripe) → holding (map reverted_stripe v) ≡ all_reverted (holding v)
-holding-reverted v = λ i. record { table = table-reverted v i; lent = lent-reverted 0 v i; offered = offered-reverted v i; refusals = 0; last_refusal = None; through = 0 }
+holding-reverted v = λ i. record { table = table-reverted v i; lent = lent-reverted 0 v i; lends = None; offered = offered-reverted v i; refusals = 0; last_refusal = None; through = 0 }
 
 pub instance-reverted : (v : List Stripe) → IsInstance v → IsInstance (map reverted_stripe v)
 instance-reverted v i = record {

@@ -53,9 +53,9 @@ abbrev pub lent_from : ℕ → List Stripe → List LentStripe
 lent_from n [] = []
 lent_from n (s ∷ ss) = lent_part n s.fragment s.held ++ lent_from (suc n) ss
 
--- what an instance tells as a holder: each stripe offers its rows as taken, and no take is refused
+-- what an instance tells as a holder: it has all stripes to lend, each offers its rows as taken, and no take is refused
 abbrev pub holding : List Stripe → Holding
-holding ss = record { table = table_of ss; lent = lent_from 0 ss; offered = map (λ s. Some s.fragment.taken) ss; refusals = 0; last_refusal = None; through = 0 }
+holding ss = record { table = table_of ss; lent = lent_from 0 ss; lends = None; offered = map (λ s. Some s.fragment.taken) ss; refusals = 0; last_refusal = None; through = 0 }
 
 -- the numbers of the held ones of several stripes, the first of which has this number
 abbrev pub number_part : ℕ → Option Mode → List ℕ

@@ -13,7 +13,7 @@ use crate::fragments::{empty_fragments, free_held, revert_held, settle_held};
 use crate::held_numbers::HeldNumbers;
 use crate::represent::joined_rows;
 use crate::room::{InstanceRoom, with_kept};
-use rc_fragment::{CowFragment, Fragment, Holder, Keep, TakeStop};
+use rc_fragment::{CowFragment, Fragment, Holder, Keep, Reverts, TakeStop};
 use rc_maps::Seed;
 use rc_spec::{Accepted, MAX_STRIPES, Mode};
 use rc_tuple::{Memory, Tuple, Tuples};
@@ -159,7 +159,9 @@ impl Holder for Instance {
         let fragment = &mut self.fragments[stripe as usize];
         fragment.sub_row(edge, row);
     }
+}
 
+impl Reverts for Instance {
     fn revert(&mut self) {
         revert_held(&mut self.fragments, self.numbers.list());
     }

@@ -28,7 +28,8 @@ use Rattle.rc_plan.specs.Evaluation.{RunState, eval, run, run_one, some_differs,
 use Rattle.rc_plan.specs.ProbeLaws.{probe_searching}
 use Rattle.rc_plan.specs.PlanRules.{IsInsert, IsUpdate, KeepsAll, Progress, after}
 use Rattle.rc_plan.specs.RunLaws.{run-replied}
-use Rattle.rc_plan.specs.StripeLocks.{StripeLock, stripes_of}
+use Rattle.rc_spec.specs.Locks.{StripeLock}
+use Rattle.rc_plan.specs.StripeLocks.{stripes_of}
 use Rattle.rc_machine.specs.Machine.{HasEvaluated, HasServed, locks_of, stripes_held}
 use Rattle.rc_machine.specs.Run.{IsAt, IsOn, IsClassTaken}
 use Rattle.rc_machine.proofs.RunLemmas.{has_evaluated, has_served, unchanged_rows}

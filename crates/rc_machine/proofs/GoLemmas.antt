@@ -1,10 +1,11 @@
 -- A run goes on from statement to statement.
-use Rattle.std.specs.Prelude.{◌≡◌, ℕ, ◌+◌, ◌<◌, Bool, true, false, List, [], ◌∷◌, ◌++◌, None, Option, Some, IfErr, Result, Ok, Err, cond, filter, drop, get_or, length, take}
+use Rattle.std.specs.Prelude.{◌≡◌, ℕ, ◌+◌, ◌<◌, Bool, true, false, List, [], ◌∷◌, ◌++◌, None, Option, Some, IfErr, Result, Ok, Err, cond, filter, drop, get_or, length, map, take}
 use Rattle.std.specs.Ordering.{nat_cmp}
 use Rattle.std.proofs.Common.{inl, inr, refl, sym, ap, subst, ◌∙◌}
 use Rattle.std.proofs.lemmas.List.{drop_more}
 use Rattle.rc_tuple.specs.RisingSet.{In, gather, put}
 use Rattle.rc_tuple.specs.RisingSetLaws.{append_in_left, append_in_right, gather_in, in_append, in_gather, in_map, map_in, nat_order}
+use Rattle.rc_tuple.specs.ColSet.{Within}
 use Rattle.rc_tuple.specs.Tuple.{Pairs, tuple_cmp}
 use Rattle.rc_tuple.specs.Relation.{Satisfies}
 use Rattle.rc_spec.specs.declared.call.Call.{Call}
@@ -16,6 +17,7 @@ use Rattle.rc_spec.specs.declared.lock.Mode.{Mode}
 use Rattle.rc_spec.specs.declared.spec.Spec.{Spec}
 use Rattle.rc_spec.specs.Acceptance.{IsSealed}
 use Rattle.rc_spec.specs.Calls.{Fits, GivesTuple}
+use Rattle.rc_spec.specs.CallsLaws.{fits_at_op}
 use Rattle.rc_spec.specs.Ranges.{in_ranges}
 use Rattle.rc_spec.specs.CountedRows.{all_raised, lowered, raised}
 use Rattle.rc_spec.specs.CountedRowsLaws.{AllHeld}
@@ -24,15 +26,18 @@ use Rattle.rc_spec.specs.Placement.{op_at}
 use Rattle.rc_spec.specs.Plain.{plain, without}
 use Rattle.rc_spec.specs.PlainLaws.{plain_satisfies}
 use Rattle.rc_fragment.specs.declared.held.Held.{Held}
-use Rattle.rc_fragment.specs.Holder.{AreOffered, AreOfOneRelation, AreOfRelation, GoesOn, HeldStripe, Holding, held_of, offered_at}
+use Rattle.rc_fragment.specs.Holder.{AreOffered, AreOfOneRelation, AreOfRelation, GoesOn, HeldStripe, Holding, held_of, offered_at, reverted}
 use Rattle.rc_plan.specs.declared.statement.Statement.{Statement}
 use Rattle.rc_plan.specs.declared.statement.Statement.TheVariants.{Apply, CheckAbsent, CheckDep, CheckFound, Emit, Lock}
 use Rattle.rc_plan.specs.declared.statement.Which.{Which}
 use Rattle.rc_plan.specs.Compiled.{IsPlanOf}
 use Rattle.rc_plan.specs.Evaluation.{RunState, answer, eval, named_by, run, run_one, some_differs, some_left, stripes_locked, apply, emit, replace}
+use Rattle.rc_plan.specs.NamedStripes.{IsNamedBy}
+use Rattle.rc_plan.specs.NamedStripesLaws.{named_law}
 use Rattle.rc_plan.specs.PlanRules.{ChecksAreDone, IsQuery, IsUpdate, MayApply}
 use Rattle.rc_plan.specs.RunLaws.{named_grows}
-use Rattle.rc_plan.specs.StripeLocks.{StripeLock, stripe_lock_cmp}
+use Rattle.rc_spec.specs.Locks.{StripeLock}
+use Rattle.rc_plan.specs.StripeLocks.{stripe_lock_cmp}
 use Rattle.rc_plan.specs.StripeLocksLaws.{stripe_lock_order}
 use Rattle.rc_machine.specs.Applied.{CanApply, CanReplace, HasApplied, HasRemoved, HasReplaced, replaced_in}
 use Rattle.rc_machine.specs.Apply.{all_changed}
@@ -70,6 +75,28 @@ pub locked_told : (old new : Holding) (stripes : List ℕ) (mode : Mode) → Has
 locked_told old new stripes mode f on told h m =
     subst (λ offered. AreOffered (get_or offered h.stripe None) h.taken) (sym on.offered) (elim (in_append h (held_of old) f.more (subst (In h) f.beside m)) [ inl k ↦ told h k | inr k ↦ f.told h k ])
 
+-- what a Lock takes evaluation names, on the rows of any stripes among which are those held
+named_at : (spec : Spec) (plan : List Statement) (call : Call) (c : ℕ) (choice : Which) (mode : Mode) (rest : List Statement) (bs : List Pairs) (found : Option Pairs) (held : List HeldStripe)
+    → IsAt spec plan call (Lock c choice mode ∷ rest) bs found held → (r : List Pairs) → AreOfRelation spec held r → (stripes : List ℕ) → Within (stripes_held held) stripes
+    → (s : ℕ) → In s (stripes_locked spec c choice bs) → In (s, mode) (eval spec plan call (rows_on spec r stripes)).named
+named_at spec plan call c choice mode rest bs found held at r a stripes within s m =
+    let all : List EdgeRow = rows_on spec r stripes in
+    let lock : StripeLock = (s, mode) in
+    let wanted : List StripeLock = named_by spec c choice mode bs in
+    let named : In lock (gather stripe_lock_cmp (locks_of held ++ wanted)) =
+    gather_in stripe_lock_cmp stripe_lock_order lock (locks_of held ++ wanted)
+    (append_in_right lock (locks_of held) wanted (map_in (λ s. let l : StripeLock = (s, mode) in l) s (stripes_locked spec c choice bs) m)) in
+    subst (λ (z : RunState). In lock z.named) (sym (at.runs r a stripes within))
+    (named_grows spec (op_at spec call.op) call rest (updating found bs (gather stripe_lock_cmp (locks_of held ++ wanted)) all) lock named)
+
+-- so the plan may name it at the arguments
+pub lock_named : (spec : Spec) → IsSealed spec → (plan : List Statement) (call : Call) → Fits spec call → IsPlanOf spec call.op plan
+    → (c : ℕ) (choice : Which) (mode : Mode) (rest : List Statement) (bs : List Pairs) (found : Option Pairs) (held : List HeldStripe)
+    → IsAt spec plan call (Lock c choice mode ∷ rest) bs found held → AreOfOneRelation spec held → (s : ℕ) → In s (stripes_locked spec c choice bs) → IsNamedBy spec call.args plan (s, mode)
+lock_named spec sealed plan call fits planned c choice mode rest bs found held at one s m =
+    named_law spec sealed.accepted.placed call (op_at spec call.op) (fits_at_op spec call fits) plan planned.known planned.rules (rows_on spec one.0 (stripes_held held)) (s, mode)
+    (named_at spec plan call c choice mode rest bs found held at one.0 one.1 (stripes_held held) (λ n k. k) s m)
+
 pub lock_refused : (spec : Spec) (plan : List Statement) (call : Call) (c : ℕ) (choice : Which) (mode : Mode) (rest : List Statement) (bs : List Pairs) (found : Option Pairs) (old new : Holding) (n : ℕ)
     → IsAt spec plan call (Lock c choice mode ∷ rest) bs found (held_of old) → HasLocked old new (take n (gather nat_cmp (stripes_locked spec c choice bs))) mode → AreOfOneRelation spec (held_of new) → (answer : Held)
     → HasRefusedOne old new (gather nat_cmp (stripes_locked spec c choice bs)) mode answer → IsRefused spec plan call old new answer
@@ -78,24 +105,17 @@ lock_refused spec plan call c choice mode rest bs found old new n at f one answe
     let now : List HeldStripe = held_of new in
     let r : List Pairs = one.0 in
     let a : AreOfRelation spec now r = one.1 in
-    let all : List EdgeRow = rows_on spec r (stripes_held now) in
-    let is : rows_taken now ≡ all = taken_together spec r now a in
-    let ran : eval spec plan call all ≡ run spec (op_at spec call.op) call (Lock c choice mode ∷ rest) (updating found bs (locks_of held) all) =
-    at.runs r (fewer spec r held f.more now f.beside a) (stripes_held now)
-    (λ s m.
+    let within : Within (stripes_held held) (stripes_held now) = (λ s m.
     let q : (h : HeldStripe) × In h held × (s ≡ h.stripe) = in_map (λ (h : HeldStripe). h.stripe) s held m in
     subst (λ z. In z (stripes_held now)) (sym q.2) (map_in (λ (h : HeldStripe). h.stripe) q.0 now (subst (In q.0) (sym f.beside) (append_in_left q.0 held f.more q.1)))) in
-    let lock : StripeLock = (answer.stripe, mode) in
-    let named : In lock (gather stripe_lock_cmp (locks_of held ++ named_by spec c choice mode bs)) =
-    gather_in stripe_lock_cmp stripe_lock_order lock (locks_of held ++ named_by spec c choice mode bs)
-    (append_in_right lock (locks_of held) (named_by spec c choice mode bs) (map_in (λ s. let l : StripeLock = (s, mode) in l) answer.stripe (stripes_locked spec c choice bs) (in_gather nat_cmp nat_order answer.stripe (stripes_locked spec c choice bs) g.wanted))) in
     record {
       risen = g.risen;
       mode = mode;
       last = g.last;
       above = g.above;
-      named = subst (λ z. In (answer.stripe, mode) (eval spec plan call z).named) (sym is) (subst (λ (z : RunState). In (answer.stripe, mode) z.named) (sym ran)
-          (named_grows spec (op_at spec call.op) call rest (updating found bs (gather stripe_lock_cmp (locks_of held ++ named_by spec c choice mode bs)) all) (answer.stripe, mode) named));
+      named = subst (λ z. In (answer.stripe, mode) (eval spec plan call z).named) (sym (taken_together spec r now a))
+          (named_at spec plan call c choice mode rest bs found held at r (fewer spec r held f.more now f.beside a) (stripes_held now) within answer.stripe
+          (in_gather nat_cmp nat_order answer.stripe (stripes_locked spec c choice bs) g.wanted));
     }
 
 -- a refusal later in a run is one of the run
@@ -274,6 +294,14 @@ told_now old new on held told is h m = subst (λ offered. AreOffered (get_or off
 
 pub told_same : (old new : Holding) → GoesOn old new → held_of new ≡ held_of old → AreTakenAsOffered old → AreTakenAsOffered new
 told_same old new on is told = told_now old new on (held_of old) told is
+
+-- stripes that are as taken what they were
+pub told_alike : (old new : Holding) → GoesOn old new → map reverted (held_of new) ≡ map reverted (held_of old) → AreTakenAsOffered old → AreTakenAsOffered new
+told_alike old new on is told h m =
+    let r : In (reverted h) (map reverted (held_of old)) = subst (In (reverted h)) is (map_in reverted h (held_of new) m) in
+    let w : (g : HeldStripe) × In g (held_of old) × (reverted h ≡ reverted g) = in_map reverted (reverted h) (held_of old) r in
+    subst (λ offered. AreOffered (get_or offered h.stripe None) h.taken) (sym on.offered)
+    (subst (λ (z : HeldStripe). AreOffered (get_or old.offered z.stripe None) z.taken) (sym w.2) (told w.0 w.1))
 
 -- and so it is after a change
 told_after : (spec : Spec) (change : Change) → LeavesOthers change → (t : Pairs) (s : Holding) (held : List HeldStripe) → AreTold s held → AreTold s (all_changed change spec t (edge_numbers spec) held)

@@ -23,6 +23,7 @@ lent_again a b c p q = q ∙ ap (λ (s : Holding). with_lent s c.lent) p
 pub lent_goes_on : (old new : Holding) → IsSameButLent old new → GoesOn old new
 lent_goes_on old new e = record {
   table = ap (λ (s : Holding). s.table) e;
+  lends = ap (λ (s : Holding). s.lends) e;
   offered = ap (λ (s : Holding). s.offered) e;
   through = ap (λ (s : Holding). s.through) e;
   refused = inl (ap (λ (s : Holding). s.refusals) e, ap (λ (s : Holding). s.last_refusal) e);

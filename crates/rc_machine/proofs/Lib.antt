@@ -18,5 +18,6 @@ pub mod UpdateLemmas
 pub mod ReplaceLemmas
 mod SharedLemmas
 pub mod GoLemmas
+mod BackLemmas
 mod EmitLemmas
 mod StripeLemmas

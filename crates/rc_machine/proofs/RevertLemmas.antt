@@ -1,10 +1,9 @@
 -- Changes taken back.
 use Rattle.std.specs.Prelude.{◌≡◌, ℕ, ◌==◌, Bool, true, false, List, [], ◌∷◌, cond, map}
-use Rattle.std.proofs.Common.{inl, inr, refl, sym, ap, ◌∙◌}
+use Rattle.std.proofs.Common.{refl, ap, ◌∙◌}
 use Rattle.rc_spec.specs.Fragments.{EdgeRow}
 use Rattle.rc_fragment.specs.Holder.{HeldStripe, changed_at, reverted}
 use Rattle.rc_machine.specs.Apply.{all_placed}
-use Rattle.rc_machine.specs.Machine.{AreAsTaken}
 use Rattle.rc_machine.specs.declared.places.RowPlace.{RowPlace}
 use Rattle.rc_machine.proofs.ApplyLemmas.{Change}
 
@@ -21,10 +20,3 @@ one_back s f (h ∷ held) = go (h.stripe == s) (one_back s f held)
 pub taken_alike : (change : Change) (places : List RowPlace) (held : List HeldStripe) → map reverted (all_placed change places held) ≡ map reverted held
 taken_alike change [] held = refl
 taken_alike change (p ∷ places) held = taken_alike change places (changed_at p.stripe (change p.edge p.row) held) ∙ one_back p.stripe (change p.edge p.row) held
-
--- a stripe as taken is what a revert makes of it
-pub reverted_same : (held : List HeldStripe) → AreAsTaken held → map reverted held ≡ held
-reverted_same [] f = refl
-reverted_same (h ∷ held) f =
-    let one : reverted h ≡ h = ap (λ now. let z : HeldStripe = record { stripe = h.stripe; mode = h.mode; now = now; taken = h.taken } in z) (sym (f h (inl refl))) in
-    let others : map reverted held ≡ held = reverted_same held (λ g m. f g (inr m)) in λ i. one i ∷ others i

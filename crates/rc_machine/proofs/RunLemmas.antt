@@ -21,7 +21,8 @@ use Rattle.rc_plan.specs.declared.statement.Statement.{Statement}
 use Rattle.rc_plan.specs.Compiled.{IsPlanOf}
 use Rattle.rc_plan.specs.Evaluation.{eval, rows_as_taken}
 use Rattle.rc_plan.specs.Laws.{Serves}
-use Rattle.rc_plan.specs.StripeLocks.{Suffices, stripes_of}
+use Rattle.rc_spec.specs.Locks.{Suffices}
+use Rattle.rc_plan.specs.StripeLocks.{stripes_of}
 use Rattle.rc_machine.specs.Machine.{AreAsTaken, HasEvaluated, HasServed, locks_of, rows_now, rows_taken, stripes_held}
 use Rattle.rc_plan.specs.CompiledLaws.{plan_serves}
 

@@ -36,7 +36,8 @@ use Rattle.rc_plan.specs.ProbeLaws.{IsProbing, more_named, tuple_named}
 use Rattle.rc_plan.specs.LockOrderLaws.{IsOfClass-stripes_locked, of_locked_one}
 use Rattle.rc_plan.specs.PlanRules.{HasLockMode, IsKeyBound, IsLocked, IsQuery, KeepsAll, Progress, after, at_start, given_columns}
 use Rattle.rc_plan.specs.RunLaws.{lock_keeps, search_begins}
-use Rattle.rc_plan.specs.StripeLocks.{StripeLock, mode_number, stripe_lock_cmp, stripes_of, IsOfClass, AreIn}
+use Rattle.rc_spec.specs.Locks.{StripeLock}
+use Rattle.rc_plan.specs.StripeLocks.{mode_number, stripe_lock_cmp, stripes_of, IsOfClass, AreIn}
 use Rattle.rc_plan.specs.StripeLocksLaws.{AreIn-more, named_before, named_now, stripe_lock_order, stripes_of_in}
 use Rattle.rc_machine.specs.Locks.{AreLocked}
 use Rattle.rc_machine.specs.Machine.{locks_of, stripes_held}

@@ -33,7 +33,8 @@ use Rattle.rc_plan.specs.NamedStripes.{HasNamed}
 use Rattle.rc_plan.specs.PlanRules.{CoversOld, IsLocked, IsUpdate, KeepsAll, Progress, after, pattern_columns}
 use Rattle.rc_plan.specs.ProbeLaws.{IsProbing, seen_at}
 use Rattle.rc_plan.specs.Search.{IsSearching}
-use Rattle.rc_plan.specs.StripeLocks.{StripeLock, stripes_of}
+use Rattle.rc_spec.specs.Locks.{StripeLock}
+use Rattle.rc_plan.specs.StripeLocks.{stripes_of}
 use Rattle.rc_plan.specs.UpdateLaws.{IsOld, bindings_agree, old_in, old_is_named}
 use Rattle.rc_machine.specs.Machine.{locks_of}
 use Rattle.rc_machine.specs.Run.{IsAt, IsOn}

@@ -16,7 +16,7 @@ use Rattle.rc_fragment.specs.Holder.{AreOffered, AreOfRelation, HasRisen, HeldSt
 use Rattle.rc_plan.specs.declared.statement.Statement.{Statement}
 use Rattle.rc_plan.specs.Compiled.{SpecWithPlans, plan_at}
 use Rattle.rc_plan.specs.Evaluation.{eval, rows_as_taken, touched}
-use Rattle.rc_plan.specs.StripeLocks.{StripeLock}
+use Rattle.rc_spec.specs.Locks.{StripeLock}
 
 -- ---- held stripes, put together
 

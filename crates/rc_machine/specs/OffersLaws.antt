@@ -12,7 +12,7 @@ use Rattle.rc_spec.specs.Fragments.{fragment_of}
 use Rattle.rc_spec.specs.Plain.{plain}
 use Rattle.rc_spec.specs.Stripes.{stripe_total}
 use Rattle.rc_fragment.specs.Holder.{AreOffered, AreOfRelation, GoesOn, HeldStripe, Holding, IsHeld, held_of, offered_at}
-use Rattle.rc_plan.specs.StripeLocks.{StripeLock}
+use Rattle.rc_spec.specs.Locks.{StripeLock}
 use Rattle.rc_plan.specs.declared.statement.Statement.{Statement}
 use Rattle.rc_machine.specs.Machine.{AreTakenAsOffered, HasServed}
 use Rattle.rc_machine.specs.Offers.{OffersAll}

@@ -20,7 +20,8 @@ use Rattle.rc_plan.specs.declared.statement.Which.TheVariants as which
 use Rattle.rc_plan.specs.Evaluation.{eval, run}
 use Rattle.rc_plan.specs.PlanRules.{AreKnown, Covers, IsQuery, IsUpdate, KeepsFrom, Progress}
 use Rattle.rc_plan.specs.ProbeLaws.{IsProbing}
-use Rattle.rc_plan.specs.StripeLocks.{StripeLock, stripes_of, band, AreIn}
+use Rattle.rc_spec.specs.Locks.{StripeLock}
+use Rattle.rc_plan.specs.StripeLocks.{stripes_of, band, AreIn}
 use Rattle.rc_machine.specs.Machine.{AreAsTaken, HasReplied, locks_of, stripes_held}
 use Rattle.rc_plan.specs.NamedStripes.{HasNamed, AreOfLocked}
 use Rattle.rc_plan.specs.Search.{IsSearching, updating}

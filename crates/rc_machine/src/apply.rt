@@ -12,7 +12,6 @@ ghost use Rattle.rc_fragment.specs.Fragment.{edge_table};
 ghost use Rattle.rc_fragment.specs.Holder.{held_of};
 ghost use Rattle.rc_machine.specs.Applied.{AreTakenAlike, CanApply, CanInsert, CanRemove, CanReplace, HasApplied, HasRemoved, HasReplaced, replaced_in};
 ghost use Rattle.rc_machine.specs.Apply.{CanAdd, CanSub, IsSameButLent, all_changed, all_placed, edges_of};
-ghost use Rattle.rc_machine.specs.Machine.{AreAsTaken};
 ghost use Rattle.rc_machine.specs.Workspace.{AreWide};
 ghost use Rattle.rc_machine.specs.declared.places.RowPlace.{RowPlace};
 
@@ -26,36 +25,8 @@ use rc_spec::{OpKind, Reply};
 use rc_tuple::{Memory, Tuple};
 use std::alloc::Global;
 
-/// Does what Apply says and answers. Where memory is wanted all rows are as they were taken, which they are before.
+/// Does what Apply says and answers. Where memory is wanted some rows may be changed; as taken they are what they were.
 pub(crate) fn apply<H: Holder>(
-    alloc: Global,
-    holder: &mut H,
-    compiled: &Compiled,
-    kind: &OpKind,
-    args: &Tuple,
-    space: &mut Workspace,
-) -> Result<Reply, Memory>
-    requires sealed { IsSealed compiled.now.spec }
-    requires table { (H.seen holder.old).table ≡ edge_table compiled.now.spec }
-    requires wide { AreWide compiled.now.spec space.old }
-    requires unchanged { AreAsTaken (held_of (H.seen holder.old)) }
-    requires can { CanApply compiled.now.spec kind.now args.now space.old.old_tuple space.old.bindings.tuples (held_of (H.seen holder.old)) }
-    ensures ok { IfOk result (HasApplied compiled.now.spec kind.now args.now space.old.old_tuple space.old.bindings.tuples (held_of (H.seen holder.old)) (held_of (H.seen holder.new))) }
-    ensures err { OnErr result (held_of (H.seen holder.new) ≡ held_of (H.seen holder.old)) }
-    ensures lent { IsSameButLent (H.seen holder.old) (H.seen holder.new) }
-    ensures sound { (spec : Spec) → H.is_sound holder.old spec → H.is_sound holder.new spec }
-{
-    match change_rows(alloc, holder, compiled, kind, args, space) {
-        Ok(reply) => Ok(reply),
-        Err(memory) => {
-            holder.revert();
-            Err(memory)
-        }
-    }
-}
-
-/// Changes the rows and answers. Where memory is wanted some rows may be changed.
-fn change_rows<H: Holder>(
     alloc: Global,
     holder: &mut H,
     compiled: &Compiled,

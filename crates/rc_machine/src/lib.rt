@@ -15,6 +15,6 @@ mod stop;
 mod stripe;
 mod workspace;
 
-pub use machine::run_plan;
+pub use machine::{run_plan, run_statements};
 pub use stop::Stop;
 pub use workspace::Workspace;

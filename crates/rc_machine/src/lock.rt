@@ -9,7 +9,7 @@ ghost use Rattle.rc_spec.specs.Acceptance.{IsSealed};
 ghost use Rattle.rc_spec.specs.Placement.{class_at};
 ghost use Rattle.rc_spec.specs.Stripes.{physical_stripe, stripe_total};
 ghost use Rattle.rc_spec.specs.declared.spec.Spec.{Spec};
-ghost use Rattle.rc_fragment.specs.Holder.{CountsOnlyHeld, GoesOn, IsAbove, held_of};
+ghost use Rattle.rc_fragment.specs.Holder.{CountsOnlyHeld, GoesOn, IsAbove, MayTake, held_of};
 ghost use Rattle.rc_fragment.specs.declared.held.Held.{Held};
 ghost use Rattle.rc_fragment.specs.declared.held.TakeStop.TheVariants as take_stop;
 ghost use Rattle.rc_plan.specs.Evaluation.{stripes_locked};
@@ -41,6 +41,7 @@ pub(crate) fn lock<H: Holder>(
     requires known { class < length compiled.now.spec.classes }
     requires wide { bindings.now.width ≡ length compiled.now.spec.columns }
     requires total { length (H.seen holder.old).offered ≡ stripe_total compiled.now.spec }
+    requires lent { (s : ℕ) → In s (stripes_locked compiled.now.spec class which bindings.now.tuples) → MayTake (H.seen holder.old).lends s mode }
     requires above { (s : ℕ) → In s (stripes_locked compiled.now.spec class which bindings.now.tuples) → IsAbove (held_of (H.seen holder.old)) s }
     ensures ok { OnOk result (HasLocked (H.seen holder.old) (H.seen holder.new) (gather nat_cmp (stripes_locked compiled.now.spec class which bindings.now.tuples)) mode) }
     ensures some { (n : ℕ) × HasLocked (H.seen holder.old) (H.seen holder.new) (take n (gather nat_cmp (stripes_locked compiled.now.spec class which bindings.now.tuples))) mode }
@@ -113,6 +114,7 @@ fn push_band(stripes: &mut Vec<u32>, compiled: &Compiled, class: u8) -> Result<(
 /// Takes the stripes one after another.
 fn take_all<H: Holder>(holder: &mut H, stripes: &[u32], mode: Mode) -> Result<(), TakeStop>
     requires known { (s : ℕ) → In s stripes.now → s < length (H.seen holder.old).offered }
+    requires lent { (s : ℕ) → In s stripes.now → MayTake (H.seen holder.old).lends s mode }
     requires rising { IsRising nat_cmp stripes.now }
     requires above { (s : ℕ) → In s stripes.now → IsAbove (held_of (H.seen holder.old)) s }
     ensures ok { OnOk result (HasLocked (H.seen holder.old) (H.seen holder.new) stripes.now mode) }

@@ -3,8 +3,11 @@
 ghost use Rattle.std.specs.Prelude.{◌≡◌, [], IfOk, IfErr, Err};
 ghost use Rattle.rc_spec.specs.Calls.{Fits};
 ghost use Rattle.rc_spec.specs.declared.spec.Spec.{Spec};
-ghost use Rattle.rc_fragment.specs.Holder.{GoesOn, held_of};
+ghost use Rattle.rc_spec.specs.Locks.{StripeLock};
+ghost use Rattle.rc_fragment.specs.Holder.{GoesOn, MayTake, held_of};
 ghost use Rattle.rc_fragment.specs.declared.held.Held.{Held};
+ghost use Rattle.rc_plan.specs.Compiled.{plan_at};
+ghost use Rattle.rc_plan.specs.NamedStripes.{IsNamedBy};
 ghost use Rattle.rc_machine.specs.Machine.{AreAsTaken, AreTakenAsOffered, HasAnswered, HasRefusedCall};
 ghost use Rattle.rc_machine.specs.Stopped.{CountsOnlyHeld};
 ghost use Rattle.rc_machine.specs.declared.stop.Stop.TheVariants as stop;
@@ -12,23 +15,13 @@ ghost use Rattle.rc_machine.specs.declared.stop.Stop.TheVariants as stop;
 use crate::Stop;
 use crate::step::step;
 use crate::workspace::Workspace;
-use rc_fragment::Holder;
+use rc_fragment::{Holder, Reverts};
 use rc_plan::Compiled;
 use rc_spec::{Call, Reply};
 
-/// Runs the statements of the call's plan that come before its Commit over a sound holder that holds nothing: it takes
-/// the stripes that the Locks name, reads and changes their rows, and answers. (PLDI 2012, query plans with two-phase
-/// locks.)
-///
-/// Where it answers, evaluation of the plan on the rows as taken gives the reply, the held stripes and their rows now.
-/// On any relation of which the rows as taken are fragments the plain step gives the same reply, the call touches
-/// exactly the held stripes, and they have the fragments of the relation after it. After a stop each held stripe has its
-/// rows as taken. `Held` comes exactly where the count of refused takes rose in this call, and is then the last refused
-/// take's. What the holder offers stays.
-///
-/// Costs, for each Read and binding, a look-up or the rows of one source, on one stripe where the binding chooses it and
-/// else on each of the class; and for an Apply one change in each edge. What the workspace has is of no matter.
-pub fn run_plan<H: Holder>(
+/// Does what `run_statements` does, and after any stop each held stripe has its rows as taken.
+#[tactic(auto, using(crate::proofs::BackLemmas::back_goes_on, crate::proofs::BackLemmas::back_taken, crate::proofs::BackLemmas::back_as_taken))]
+pub fn run_plan<H: Reverts>(
     compiled: &Compiled,
     call: &Call,
     space: &mut Workspace,
@@ -37,9 +30,55 @@ pub fn run_plan<H: Holder>(
     requires fits { Fits compiled.now.spec call.now }
     requires sound { H.is_sound holder.old compiled.now.spec }
     requires free { held_of (H.seen holder.old) ≡ [] }
+    requires lent { (lock : StripeLock) → IsNamedBy compiled.now.spec call.now.args (plan_at compiled.now.plans call.now.op) lock
+        → MayTake (H.seen holder.old).lends lock.0 lock.1 }
     ensures answered { IfOk result (HasAnswered compiled.now call.now (H.seen holder.new)) }
     ensures taken { AreTakenAsOffered (H.seen holder.new) }
     ensures stopped { IfErr result (λ _. AreAsTaken (held_of (H.seen holder.new))) }
+    ensures refused { (h : Held) → result ≡ Err (stop.Held h)
+        → HasRefusedCall compiled.now call.now (H.seen holder.old) (H.seen holder.new) h }
+    ensures counted { CountsOnlyHeld result (H.seen holder.old) (H.seen holder.new) }
+    ensures goes_on { GoesOn (H.seen holder.old) (H.seen holder.new) }
+    ensures sound { (spec : Spec) → H.is_sound holder.old spec → H.is_sound holder.new spec }
+{
+    match run_statements(compiled, call, space, holder) {
+        Ok(reply) => Ok(reply),
+        Err(Stop::Held(held)) => Err(Stop::Held(held)),
+        Err(Stop::Memory) => {
+            holder.revert();
+            Err(Stop::Memory)
+        }
+    }
+}
+
+/// Runs the statements of the call's plan that come before its Commit over a sound holder that holds nothing: it takes
+/// the stripes that the Locks name, reads and changes their rows, and answers. (PLDI 2012, query plans with two-phase
+/// locks.)
+///
+/// Where it answers, evaluation of the plan on the rows as taken gives the reply, the held stripes and their rows now.
+/// On any relation of which the rows as taken are fragments the plain step gives the same reply, the call touches
+/// exactly the held stripes, and they have the fragments of the relation after it. Where a take was refused each held
+/// stripe has its rows as taken; where memory was wanted some may be changed. `Held` comes exactly where the count of
+/// refused takes rose in this call, and is then the last refused take's. What the holder offers stays.
+///
+/// The holder lends whatever the plan may name at the arguments: all stripes, or those that it has.
+///
+/// Costs, for each Read and binding, a look-up or the rows of one source, on one stripe where the binding chooses it and
+/// else on each of the class; and for an Apply one change in each edge. What the workspace has is of no matter.
+pub fn run_statements<H: Holder>(
+    compiled: &Compiled,
+    call: &Call,
+    space: &mut Workspace,
+    holder: &mut H,
+) -> Result<Reply, Stop>
+    requires fits { Fits compiled.now.spec call.now }
+    requires sound { H.is_sound holder.old compiled.now.spec }
+    requires free { held_of (H.seen holder.old) ≡ [] }
+    requires lent { (lock : StripeLock) → IsNamedBy compiled.now.spec call.now.args (plan_at compiled.now.plans call.now.op) lock
+        → MayTake (H.seen holder.old).lends lock.0 lock.1 }
+    ensures answered { IfOk result (HasAnswered compiled.now call.now (H.seen holder.new)) }
+    ensures taken { AreTakenAsOffered (H.seen holder.new) }
+    ensures stopped { (h : Held) → result ≡ Err (stop.Held h) → AreAsTaken (held_of (H.seen holder.new)) }
     ensures refused { (h : Held) → result ≡ Err (stop.Held h)
         → HasRefusedCall compiled.now call.now (H.seen holder.old) (H.seen holder.new) h }
     ensures counted { CountsOnlyHeld result (H.seen holder.old) (H.seen holder.new) }

@@ -1,13 +1,15 @@
 //! One statement of a plan.
 
-ghost use Rattle.std.specs.Prelude.{◌≡◌, ℕ, ◌+◌, ◌<◌, ◌≤◌, List, [], ◌∷◌, drop, length, IfErr, IfOk, Err, Option};
+ghost use Rattle.std.specs.Prelude.{◌≡◌, ◌+◌, ◌<◌, drop, length, IfOk, Err};
 ghost use Rattle.rc_tuple.specs.RisingSet.{In};
 ghost use Rattle.rc_spec.specs.Acceptance.{IsSealed};
 ghost use Rattle.rc_spec.specs.Calls.{Fits};
 ghost use Rattle.rc_spec.specs.declared.spec.Spec.{Spec};
-ghost use Rattle.rc_fragment.specs.Holder.{GoesOn, held_of};
+ghost use Rattle.rc_fragment.specs.Holder.{GoesOn, MayTake, held_of};
 ghost use Rattle.rc_fragment.specs.declared.held.Held.{Held};
 ghost use Rattle.rc_plan.specs.Compiled.{IsPlanOf};
+ghost use Rattle.rc_plan.specs.NamedStripes.{IsNamedBy};
+ghost use Rattle.rc_spec.specs.Locks.{StripeLock};
 ghost use Rattle.rc_machine.specs.Machine.{AreAsTaken, AreTakenAsOffered, IsRefused};
 ghost use Rattle.rc_machine.specs.Run.{HasGoneOn, IsAt};
 ghost use Rattle.rc_machine.specs.Stopped.{CountsOnlyHeld};
@@ -26,7 +28,8 @@ use rc_plan::{Compiled, Statement};
 use rc_spec::{Call, Reply};
 use std::alloc::Global;
 
-/// Runs the statement with this number. The run goes on, or has answered; after a stop no held stripe is changed.
+/// Runs the statement with this number. The run goes on, or has answered; where a take was refused no held stripe is
+/// changed.
 #[tactic(auto, using(rc_fragment::specs::HoldingLaws::goes_on_same, crate::proofs::LentLemmas::lent_goes_on, crate::proofs::LentLemmas::counted_same, crate::proofs::LentLemmas::counted_lent))]
 pub(crate) fn step<H: Holder>(
     alloc: Global,
@@ -42,13 +45,14 @@ pub(crate) fn step<H: Holder>(
     requires planned { IsPlanOf compiled.now.spec call.now.op plan.now }
     requires there { at < length plan.now }
     requires sound { H.is_sound holder.old compiled.now.spec }
+    requires lent { (lock : StripeLock) → IsNamedBy compiled.now.spec call.now.args plan.now lock → MayTake (H.seen holder.old).lends lock.0 lock.1 }
     requires run { IsAt compiled.now.spec plan.now call.now (drop at plan.now) space.old.bindings.tuples space.old.old_tuple (held_of (H.seen holder.old)) }
     requires wide { AreWide compiled.now.spec space.old }
     requires taken { AreTakenAsOffered (H.seen holder.old) }
     ensures run { IfOk result (HasGoneOn compiled.now.spec plan.now call.now (drop (at + 1) plan.now) space.new.bindings.tuples space.new.old_tuple (held_of (H.seen holder.new))) }
     ensures wide { IfOk result (StaysWide compiled.now.spec space.new) }
     ensures taken { AreTakenAsOffered (H.seen holder.new) }
-    ensures stopped { IfErr result (λ _. AreAsTaken (held_of (H.seen holder.new))) }
+    ensures stopped { (h : Held) → result ≡ Err (stop.Held h) → AreAsTaken (held_of (H.seen holder.new)) }
     ensures refused { (h : Held) → result ≡ Err (stop.Held h) → IsRefused compiled.now.spec plan.now call.now (H.seen holder.old) (H.seen holder.new) h }
     ensures counted { CountsOnlyHeld result (H.seen holder.old) (H.seen holder.new) }
     ensures goes_on { GoesOn (H.seen holder.old) (H.seen holder.new) }

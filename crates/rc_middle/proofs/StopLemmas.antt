@@ -17,7 +17,7 @@ module _ (refused : Option Refused) (through : ℕ) where
   taken_so : (old new : Holding) (stripe : ℕ) (mode : Mode) → HasTaken old new stripe mode
       → HasTaken (told_through old refused through) (told_through new refused through) stripe mode
   taken_so old new stripe mode t = record {
-    goes_on = record { table = t.goes_on.table; offered = t.goes_on.offered; through = refl; refused = inl (refl, refl) };
+    goes_on = record { table = t.goes_on.table; lends = t.goes_on.lends; offered = t.goes_on.offered; through = refl; refused = inl (refl, refl) };
     rows = t.rows;
     room = t.room;
     lent = t.lent;
@@ -62,13 +62,13 @@ module _ (refused : Option Refused) (through : ℕ) where
 
   -- and lends what the instance does
   pub lent_through : (s : Holding) (stripe : ℕ) (fragment : FragmentRows) → IsLent s stripe fragment → IsLent (told_through s refused through) stripe fragment
-  lent_through s stripe fragment l = record { table = l.table; now = l.now; taken = l.taken }
+  lent_through s stripe fragment l = record { table = l.table; now = l.now }
 
 -- ---- the take that is refused
 
 pub nothing_taken : (s : Holding) (at : Refused) (through : ℕ) → HasTakenNothing (told_through s None through) (told_through s (Some at) through)
 nothing_taken s at through = record {
-  goes_on = record { table = refl; offered = refl; through = refl; refused = inr (inl (omega arith), refl) };
+  goes_on = record { table = refl; lends = refl; offered = refl; through = refl; refused = inr (inl (omega arith), refl) };
   lent = refl;
 }
 

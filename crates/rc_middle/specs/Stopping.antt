@@ -19,6 +19,7 @@ abbrev pub told_through : Holding → Option Refused → ℕ → Holding
 told_through s refused through = record {
   table = s.table;
   lent = s.lent;
+  lends = s.lends;
   offered = s.offered;
   refusals = refusals_of refused;
   last_refusal = last_refusal_of refused;

@@ -13,7 +13,7 @@ use crate::rows::{push_rows, stripes_of};
 use crate::stop::Stop;
 use crate::stopping::StopAt;
 use crate::stops::run_up_to;
-use rc_fragment::Holder;
+use rc_fragment::{Holder, Reverts};
 use rc_instance::Instance;
 use rc_machine::{Stop as RunStop, Workspace, run_plan};
 use rc_maps::Seed;

@@ -1,6 +1,6 @@
 //! A holder that stops a plan on its way.
 
-use rc_fragment::{Fragment, Held, Holder, TakeStop};
+use rc_fragment::{Fragment, Held, Holder, Reverts, TakeStop};
 use rc_instance::Instance;
 use rc_spec::{Found, Mode};
 use rc_tuple::{Memory, Tuple};
@@ -125,7 +125,9 @@ impl<'a> Holder for StopHolder<'a> {
     fn sub_row(&mut self, stripe: u32, edge: u8, row: &Tuple) {
         self.instance.sub_row(stripe, edge, row);
     }
+}
 
+impl<'a> Reverts for StopHolder<'a> {
     #[tactic(auto, using(crate::proofs::StopLemmas::reverted_through))]
     fn revert(&mut self) {
         self.instance.revert();

@@ -24,6 +24,9 @@ take_all-requires-clause-known g c s m =
 pub take_all-requires-clause-rising : goal.take_all-requires-clause-rising
 take_all-requires-clause-rising g c = subst (IsRising nat_cmp) (sym (are g c)) (rising_gather nat_cmp nat_order (stripes_locked c.args.compiled.now.spec c.args.class c.args.which c.args.bindings.now.tuples))
 
+pub take_all-requires-clause-lent : goal.take_all-requires-clause-lent
+take_all-requires-clause-lent g c s m = c.requires.lent s (named g c s m)
+
 pub take_all-requires-clause-above : goal.take_all-requires-clause-above
 take_all-requires-clause-above g c s m = c.requires.above s (named g c s m)
 

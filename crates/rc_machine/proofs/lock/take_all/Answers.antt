@@ -1,6 +1,6 @@
 use Rattle.std.proofs.Common.{Err, ◌<◌, ℕ, get_or, length, refl, subst, sym, ap, ◌∙◌}
 use Rattle.rc_tuple.specs.RisingSetLaws.{get_or_in}
-use Rattle.rc_fragment.specs.Holder.{IsAbove, held_of}
+use Rattle.rc_fragment.specs.Holder.{IsAbove, MayTake, held_of}
 use Rattle.rc_fragment.specs.HoldingLaws.{goes_on_again, goes_on_same}
 use Rattle.rc_machine.proofs.LockLemmas.{counted_on, counted_since, locked_more, locked_none, next_above, refused_one}
 use Rattle.rc_machine.proofs.lock.take_all.Given.{Over}
@@ -24,6 +24,11 @@ pub take-requires-clause-known : goal.take-requires-clause-known
 take-requires-clause-known g c =
     let s : ℕ = get_or c.args.stripes.now c.loop-stripe.stripe-index 0 in
     subst (λ offered. s < length offered) (sym c.loop-stripe.invariant.goes_on.offered) (c.requires.known s (get_or_in c.args.stripes.now c.loop-stripe.stripe-index 0 c.loop-stripe-test.true))
+
+pub take-requires-clause-lent : goal.take-requires-clause-lent
+take-requires-clause-lent g c =
+    let s : ℕ = get_or c.args.stripes.now c.loop-stripe.stripe-index 0 in
+    subst (λ lends. MayTake lends s c.args.mode) (sym c.loop-stripe.invariant.goes_on.lends) (c.requires.lent s (get_or_in c.args.stripes.now c.loop-stripe.stripe-index 0 c.loop-stripe-test.true))
 
 pub take-requires-clause-above : goal.take-requires-clause-above
 take-requires-clause-above g c = above g (goal.at.take-requires-clause-above g c).In-loop-stripe

@@ -13,11 +13,10 @@ use Rattle.rc_spec.specs.Ranges.{in_ranges}
 use Rattle.rc_plan.specs.Evaluation.{answer, some_differs}
 use Rattle.rc_plan.specs.declared.statement.Statement.{Statement}
 use Rattle.rc_machine.specs.Applied.{HasApplied}
-use Rattle.rc_machine.specs.Machine.{AreAsTaken}
 use Rattle.rc_machine.specs.Run.{IsAt}
 use Rattle.rc_machine.proofs.CheckStepLemmas.{probe_step, probe_within}
 use Rattle.rc_machine.proofs.StripeLemmas.{all_below}
-use Rattle.rc_machine.proofs.GoLemmas.{absent_goes, applied_replies, applied_told, at_is, can_apply, dep_goes, emit_replies, found_goes, if_err, lock_refused, locked_told, still_taken, told_same}
+use Rattle.rc_machine.proofs.GoLemmas.{absent_goes, applied_replies, applied_told, at_is, can_apply, dep_goes, emit_replies, found_goes, lock_named, lock_refused, locked_told, still_taken, told_alike}
 use Rattle.rc_machine.proofs.LentLemmas.{lent_goes_on}
 use Rattle.rc_machine.proofs.LockLemmas.{counted_stop_on}
 use Rattle.rc_machine.proofs.ReadStepLemmas.{are_good, are_readers, read_step}
@@ -53,6 +52,12 @@ kind_is g c op is = ap (λ (s : Spec). (op_at s c.args.call.now.op).kind) (sym (
 pub lock-requires-clause-known : goal.lock-requires-clause-known
 lock-requires-clause-known g c = (starts g (goal.at.lock-requires-clause-known g c).Start _ _ c.in-Lock.is).known _ (inl refl)
 
+pub lock-requires-clause-lent : goal.lock-requires-clause-lent
+lock-requires-clause-lent g c s m =
+    let start = (goal.at.lock-requires-clause-lent g c).Start in
+    c.requires.lent (s, c.in-Lock.mode)
+    (lock_named c.args.compiled.now.spec c.requires.sealed c.args.plan.now c.args.call.now c.requires.fits c.requires.planned _ _ _ _ _ _ _ (starts g start _ _ c.in-Lock.is) (one g start) s m)
+
 pub lock-requires-clause-above : goal.lock-requires-clause-above
 lock-requires-clause-above g c s m =
     lock_above c.args.compiled.now.spec c.requires.sealed c.args.plan.now c.args.call.now _ _ _ _ _ _ _ (starts g (goal.at.lock-requires-clause-above g c).Start _ _ c.in-Lock.is) s
@@ -63,7 +68,7 @@ returns-in_err-lock-in-Lock-clause-taken g c =
     locked_told (g.H.Holder.seen c.args.holder.now) (g.H.Holder.seen c.lock.new.holder) _ c.in-Lock.mode c.in_err-lock-in-Lock.ensures.some.1 c.in_err-lock-in-Lock.ensures.goes_on c.requires.taken
 
 pub returns-in_err-lock-in-Lock-clause-stopped : goal.returns-in_err-lock-in-Lock-clause-stopped
-returns-in_err-lock-in-Lock-clause-stopped g c = if_err c.from_residual.result (still_taken _ _ _ _ _ c.in_err-lock-in-Lock.ensures.some.1 c.requires.run.unchanged)
+returns-in_err-lock-in-Lock-clause-stopped g c h e = still_taken _ _ _ _ _ c.in_err-lock-in-Lock.ensures.some.1 c.requires.run.unchanged
 
 pub returns-in_err-lock-in-Lock-clause-refused : goal.returns-in_err-lock-in-Lock-clause-refused
 returns-in_err-lock-in-Lock-clause-refused g c h e =
@@ -199,10 +204,7 @@ pub returns-in_err-apply-in-Apply-clause-taken : goal.returns-in_err-apply-in-Ap
 returns-in_err-apply-in-Apply-clause-taken g c =
     let old = g.H.Holder.seen c.args.holder.now in
     let new = g.H.Holder.seen c.apply.new.holder in
-    told_same old new (lent_goes_on old new c.in_err-apply-in-Apply.ensures.lent) c.in_err-apply-in-Apply.ensures.err c.requires.taken
-
-pub returns-in_err-apply-in-Apply-clause-stopped : goal.returns-in_err-apply-in-Apply-clause-stopped
-returns-in_err-apply-in-Apply-clause-stopped g c = if_err _ (subst AreAsTaken (sym c.in_err-apply-in-Apply.ensures.err) c.requires.run.unchanged)
+    told_alike old new (lent_goes_on old new c.in_err-apply-in-Apply.ensures.lent) c.in_err-apply-in-Apply.ensures.alike c.requires.taken
 
 -- what Apply did with the bindings
 applied : (g : Over) (c : In_ok-apply-in-Apply g)

@@ -7,7 +7,7 @@ use Rattle.rc_instance.specs.Instance.{holding, stripes_of, IsOfOneRelation, IsW
 use Rattle.rc_instance.proofs.AlikeLemmas.{written}
 use Rattle.rc_instance.proofs.NumberLemmas.{all_rolled_back, are_below, whole_reverted}
 use Rattle.rc_instance.proofs.RevertLemmas.{holding-reverted, reverted_stripe, sound-reverted, stripes_of-reverted}
-use Rattle.rc_instance.proofs.instance.InstanceHolder.revert.Goals as goal
+use Rattle.rc_instance.proofs.instance.InstanceReverts.revert.Goals as goal
 
 pub revert_held-requires : goal.revert_held-requires
 revert_held-requires c n m =

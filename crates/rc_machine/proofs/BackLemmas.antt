@@ -1,0 +1,28 @@
+-- A holder that took all back.
+use Rattle.std.specs.Prelude.{◌≡◌, List, [], ◌∷◌, map}
+use Rattle.std.proofs.Common.{inl, refl, sym, ap, subst, ◌∙◌}
+use Rattle.rc_tuple.specs.RisingSet.{In}
+use Rattle.rc_tuple.specs.RisingSetLaws.{in_map}
+use Rattle.rc_fragment.specs.Holder.{GoesOn, HeldStripe, Holding, all_reverted, held_of, reverted}
+use Rattle.rc_fragment.specs.HoldingLaws.{goes_on_again, held-reverted}
+use Rattle.rc_machine.specs.Machine.{AreAsTaken, AreTakenAsOffered}
+use Rattle.rc_machine.proofs.GoLemmas.{told_alike}
+
+back_on : (mid new : Holding) → new ≡ all_reverted mid → GoesOn mid new
+back_on mid new e = subst (GoesOn mid) (sym e) (record { table = refl; lends = refl; offered = refl; through = refl; refused = inl (refl, refl) })
+
+pub back_goes_on : (old mid new : Holding) → new ≡ all_reverted mid → GoesOn old mid → GoesOn old new
+back_goes_on old mid new e on = goes_on_again old mid new on (back_on mid new e)
+
+twice : (held : List HeldStripe) → map reverted (map reverted held) ≡ map reverted held
+twice [] = refl
+twice (h ∷ held) = λ i. reverted h ∷ twice held i
+
+pub back_taken : (mid new : Holding) → new ≡ all_reverted mid → AreTakenAsOffered mid → AreTakenAsOffered new
+back_taken mid new e told =
+    told_alike mid new (back_on mid new e) (ap (map reverted) (ap held_of e ∙ held-reverted mid) ∙ twice (held_of mid)) told
+
+pub back_as_taken : (mid new : Holding) → new ≡ all_reverted mid → AreAsTaken (held_of new)
+back_as_taken mid new e h m =
+    let w : (g : HeldStripe) × In g (held_of mid) × (h ≡ reverted g) = in_map reverted h (held_of mid) (subst (In h) (ap held_of e ∙ held-reverted mid) m) in
+    ap (λ (z : HeldStripe). z.now) w.2 ∙ sym (ap (λ (z : HeldStripe). z.taken) w.2)
