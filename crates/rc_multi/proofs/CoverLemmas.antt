@@ -1,0 +1,123 @@
+-- Which stripes a Lock may take.
+use Rattle.std.proofs.Common.{◌≡◌, ℕ, Bool, true, false, List, [], ◌∷◌, Option, None, Some, ◌+◌, ◌<◌, ◌≤◌, ◌==◌, get_or, take, length, inl, inr, arith, refl, sym, ap, subst, ◌∙◌, ◌↔◌}
+use Rattle.std.proofs.lemmas.Bool.{eq-eqb, eqb-true, false≢true}
+use Rattle.std.proofs.lemmas.List.{take_more}
+use Rattle.rc_tuple.specs.RisingSet.{In}
+use Rattle.rc_tuple.specs.RisingSetLaws.{in_append}
+use Rattle.rc_tuple.specs.ColSet.{Within}
+use Rattle.rc_tuple.specs.ColSetLaws.{test_from_within, within_from_test}
+use Rattle.rc_tuple.specs.Tuple.{Pairs, cols_of}
+use Rattle.rc_spec.specs.declared.call.Call.{Call}
+use Rattle.rc_spec.specs.declared.lock.Mode.{Mode}
+use Rattle.rc_spec.specs.declared.lock.Mode.TheVariants.{Shared}
+use Rattle.rc_spec.specs.declared.spec.Spec.{Spec}
+use Rattle.rc_spec.specs.Locks.{StripeLock, Suffices}
+use Rattle.rc_spec.specs.Placement.{IsPlaced, class_at}
+use Rattle.rc_spec.specs.Stripes.{physical_stripe}
+use Rattle.rc_fragment.specs.Holder.{MayTake}
+use Rattle.rc_plan.specs.declared.statement.Statement.{Statement}
+use Rattle.rc_plan.specs.declared.statement.Statement.TheVariants.{Emit, Lock}
+use Rattle.rc_plan.specs.declared.statement.Which.{Which}
+use Rattle.rc_plan.specs.declared.statement.Which.TheVariants as which
+use Rattle.rc_plan.specs.Compiled.{SpecWithPlans, plan_at}
+use Rattle.rc_plan.specs.StripeLocksLaws.{IsOfClass-physical_stripe}
+use Rattle.rc_multi.specs.declared.class_lock.ClassLock.{ClassLock}
+use Rattle.rc_multi.specs.Covering.{IsBandCovered, IsCovered}
+use Rattle.rc_multi.specs.Group.{Covers}
+use Rattle.rc_multi.specs.GroupLocks.{chooses, class_lock, is_lock, may_be_any}
+use Rattle.rc_multi.specs.GroupLocksLaws.{lock_of}
+
+module _ (spec : Spec) (args : Pairs) (l : ClassLock) (locks : List StripeLock) where
+  -- where it may be any of the class, all must be there
+  free : may_be_any (chooses spec args l.class) l.choice ≡ true → l.choice ≡ which.Keyed → Within (class_at spec l.class).cols (cols_of args) → ⊥
+  free any keyed within =
+      let out : may_be_any true which.Keyed ≡ true =
+      (λ i. may_be_any (sym (test_from_within (class_at spec l.class).cols (cols_of args) within) i) (sym keyed i)) ∙ any in
+      false≢true out
+
+  pub any_covered : may_be_any (chooses spec args l.class) l.choice ≡ true → IsBandCovered spec l.class l.mode locks ↔ IsCovered spec args l locks
+  any_covered any = (
+    λ band stripe of own. band stripe of,
+    λ each stripe of. each stripe of (λ keyed within. absurd (free any keyed within)),
+  )
+
+  -- and else the arguments' own
+  pub own_covered : IsPlaced spec → l.class < length spec.classes → may_be_any (chooses spec args l.class) l.choice ≡ false
+      → MayTake (Some locks) (physical_stripe spec l.class args) l.mode ↔ IsCovered spec args l locks
+  own_covered placed known none = (
+    λ there stripe of own. subst (λ s. MayTake (Some locks) s l.mode) (sym (own keyed within)) there,
+    λ each. each (physical_stripe spec l.class args) (IsOfClass-physical_stripe spec placed l.class args known) (λ _ _. refl),
+  )
+    where
+      both : (choice : Which) (chosen : Bool) → may_be_any chosen choice ≡ false → (choice ≡ which.Keyed) × (chosen ≡ true)
+      both which.All chosen e = absurd (false≢true (sym e))
+      both which.Keyed true e = (refl, refl)
+      both which.Keyed false e = absurd (false≢true (sym e))
+
+      keyed : l.choice ≡ which.Keyed
+      keyed = (both l.choice (chooses spec args l.class) none).0
+
+      within : Within (class_at spec l.class).cols (cols_of args)
+      within = within_from_test (class_at spec l.class).cols (cols_of args) (both l.choice (chooses spec args l.class) none).1
+
+-- what holds of each Lock of the plan is that the locks cover the call
+abbrev pub AreCovered : Spec → Pairs → List Statement → List StripeLock → Type 0
+AreCovered spec args plan locks = (s : Statement) → In s plan → (l : ClassLock) → class_lock s ≡ Some l → IsCovered spec args l locks
+
+pub all_covered : (c : SpecWithPlans) (call : Call) (locks : List StripeLock) → AreCovered c.spec call.args (plan_at c.plans call.op) locks → Covers c call locks
+all_covered c call locks each lock n =
+    each (Lock n.class n.choice lock.1) n.locks (record { class = n.class; choice = n.choice; mode = lock.1 }) refl lock.0 n.of_class n.by_arguments
+
+-- and the other way round
+pub each_covered : (c : SpecWithPlans) (call : Call) (locks : List StripeLock) → Covers c call locks → AreCovered c.spec call.args (plan_at c.plans call.op) locks
+each_covered c call locks covers s m l e stripe of own =
+    covers (stripe, l.mode) (record {
+      class = l.class;
+      choice = l.choice;
+      locks = subst (λ x. In x (plan_at c.plans call.op)) (lock_is s l e) m;
+      of_class = of;
+      by_arguments = own;
+    })
+  where
+    lock_at : Option ClassLock → Statement
+    lock_at None = Emit
+    lock_at (Some k) = Lock k.class k.choice k.mode
+
+    lock_is : (x : Statement) (k : ClassLock) → class_lock x ≡ Some k → x ≡ Lock k.class k.choice k.mode
+    lock_is x k same =
+        let w = lock_of (λ _. true) x (ap (is_lock (λ _. true)) same) in
+        w.1 ∙ ap lock_at (sym (ap class_lock w.1) ∙ same)
+
+-- one more statement of a plan
+pub covered_more : (spec : Spec) (args : Pairs) (plan : List Statement) (locks : List StripeLock) (i : ℕ) (s : Statement) → i < length plan → s ≡ get_or plan i s
+    → AreCovered spec args (take i plan) locks → ((l : ClassLock) → class_lock s ≡ Some l → IsCovered spec args l locks) → AreCovered spec args (take (i + 1) plan) locks
+covered_more spec args plan locks i s l is before here x m =
+    elim (in_append x (take i plan) (get_or plan i s ∷ []) (subst (In x) (take_more plan i s l) m)) [
+      | inl a ↦ before x a
+      | inr (inl e) ↦ subst (λ (y : Statement). (k : ClassLock) → class_lock y ≡ Some k → IsCovered spec args k locks) (is ∙ sym e) here
+      | inr (inr z) ↦ absurd z
+    ]
+
+-- ---- loops
+
+-- one more lock that isn't the stripe's in a mode that suffices
+pub none_more : (locks : List StripeLock) (stripe : ℕ) (mode : Mode) (i : ℕ) → i < length locks → ((held : Mode) → In (stripe, held) (take i locks) → Suffices held mode → ⊥)
+    → ((get_or locks i (let none : StripeLock = (0, Shared) in none)).0 ≡ stripe → Suffices (get_or locks i (let none : StripeLock = (0, Shared) in none)).1 mode → ⊥)
+    → (held : Mode) → In (stripe, held) (take (i + 1) locks) → Suffices held mode → ⊥
+none_more locks stripe mode i l before here held m s =
+    let none : StripeLock = (0, Shared) in
+    elim (in_append (stripe, held) (take i locks) (get_or locks i none ∷ []) (subst (In (stripe, held)) (take_more locks i none l) m)) [
+      | inl a ↦ before held a s
+      | inr (inl e) ↦ here (ap (λ (x : StripeLock). x.0) (sym e)) (subst (λ (x : StripeLock). Suffices x.1 mode) e s)
+      | inr (inr z) ↦ absurd z
+    ]
+
+-- one more number of a range
+pub one_more : (P : ℕ → Type 0) (a n : ℕ) → ((s : ℕ) → a ≤ s → s < a + n → P s) → P (a + n) → (s : ℕ) → a ≤ s → s < a + (n + 1) → P s
+one_more P a n before here s low high = go (s == a + n) refl
+  where
+    go : (b : Bool) → s == a + n ≡ b → P s
+    go true e = subst P (sym (eqb-true s (a + n) e)) here
+    go false e =
+        let other : s ≡ a + n → ⊥ = (λ q. false≢true (sym e ∙ eq-eqb s (a + n) q)) in
+        before s low (omega (arith, low, high, other))

@@ -1,0 +1,18 @@
+use Rattle.std.proofs.Common.{◌+◌, ◌∷◌, ◌++◌, [], ℕ, sym, ap, ◌∙◌}
+use Rattle.std.proofs.lemmas.List.{append_assoc, map-append}
+use Rattle.std.specs.List.{range_with_len}
+use Rattle.rc_tuple.specs.ColSetLaws.{range_with_len_more}
+use Rattle.rc_spec.specs.Locks.{StripeLock}
+use Rattle.rc_multi.specs.ClassUse.{in_mode}
+use Rattle.rc_multi.proofs.locks.push_band.Goals as goal
+
+pub loop-place-preserved : goal.loop-place-preserved
+loop-place-preserved c =
+    let start : ℕ = c.band_start-start.result in
+    let place : ℕ = c.loop-place.place in
+    let new : StripeLock = (start + place, c.args.mode) in
+    c.in_ok-push.ensures.items ∙ ap (λ ls. ls ++ new ∷ []) c.loop-place.invariant
+    ∙ append_assoc c.args.locks.now.items (in_mode c.args.mode (range_with_len start place)) (new ∷ [])
+    ∙ ap (λ ls. c.args.locks.now.items ++ ls)
+    (sym (map-append (λ (s : ℕ). let l : StripeLock = (s, c.args.mode) in l) (range_with_len start place) ((start + place) ∷ []))
+    ∙ ap (in_mode c.args.mode) (sym (range_with_len_more start place)))

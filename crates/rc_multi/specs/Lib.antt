@@ -1,0 +1,16 @@
+pub mod ClassUse
+pub mod CommitLaws
+pub mod Covering
+pub mod Group
+pub mod GroupLaws
+pub mod GroupLocks
+pub mod GroupLocksLaws
+pub mod GroupRun
+pub mod GroupRunLaws
+pub mod HeldStripes
+pub mod KeptLaws
+pub mod Laws
+pub mod Offered
+pub mod OfferedLaws
+pub mod Offering
+pub mod OfferingLaws
