@@ -20,7 +20,7 @@ use Rattle.rc_core.specs.declared.state.Hold.{Hold}
 use Rattle.rc_core.specs.declared.state.PassState.{PassState}
 use Rattle.rc_core.specs.State.{hold}
 use Rattle.rc_core.specs.Good.{IsOfHistory}
-use Rattle.rc_core.specs.Passes.{took, released}
+use Rattle.rc_core.specs.Passes.{next_of, took, released}
 use Rattle.atomic_table.specs.Seated.{TableId}
 use Rattle.rc_row.specs.declared.law.Key.{Key}
 use Rattle.rc_row.specs.declared.law.Standing.{Standing}
@@ -182,7 +182,7 @@ with_note note pass = with_standing (after_learn note.told note.known pass.stand
 
 -- the next entry of a pass, where it is of one call
 abbrev pub next_entry : PassState → Call → Reply → Entry
-next_entry u call reply = record { pass = u.number; nth = length u.own; steps = record { call = call; reply = reply } ∷ [] }
+next_entry u call reply = next_of u (record { call = call; reply = reply } ∷ [])
 
 -- there is room for one more entry, where entries are kept
 abbrev pub HasSpare : Option PartEntries → Type 0

@@ -99,5 +99,5 @@ pub record HaveOneRelation (spec : Spec) (holds : List Hold) : Type 0 where
   pub relation : List Pairs
   pub is_relation : IsRelation (all_columns spec) relation
   pub satisfies : Satisfies relation spec.deps
-  pub few : length relation < 2 ^ 63
+  pub few : length relation < 2 ^ 60
   pub rows : (h : Hold) → In h holds → h.rows ≡ fragment_of spec relation h.stripe

@@ -1,11 +1,12 @@
 //! Commits, and what passes tell each other.
 
 ghost use Rattle.std.specs.Prelude.{◌≡◌, ◌*◌, ◌<◌, ◌≤◌, ◌^◌, [], ◌∷◌, None, Some, length};
-ghost use Rattle.rc_core.specs.Passes.{MayCommit, committed};
+ghost use Rattle.rc_core.specs.Passes.{MayCommit, committed, next_of};
 ghost use Rattle.rc_fragment.specs.FragmentRows.{settled};
 ghost use Rattle.rc_row.specs.Law.{pass_view, standing_of};
-ghost use Rattle.rc_row.specs.Passes.{HasAdded, HasLookedAt, HasSpare, IsPassOf, all_with, compiled_of, core_of, holds_now, next_entry, note_of, with_entry, with_note};
+ghost use Rattle.rc_row.specs.Passes.{HasAdded, HasLookedAt, HasSpare, IsPassOf, all_with, compiled_of, core_of, holds_now, note_of, with_entry, with_note};
 ghost use Rattle.rc_row.specs.Told.{HasCommitted};
+ghost use Rattle.rc_rel.specs.History.{with_replies};
 
 use crate::held::HeldFragment;
 use crate::law::View;
@@ -39,17 +40,17 @@ impl Row {
         place
     }
 
-    /// Commits a call with its reply as an entry of one step, where entries aren't kept, and answers its place. It does what
-    /// `commit` does, and neither moves nor copies the call and the reply.
-    pub fn commit_call(&self, pass: &mut Pass, call: &Call, reply: &Reply) -> u64
+    /// Commits calls with their replies as one entry, where entries aren't kept, and answers its place. It does what `commit`
+    /// does, and neither moves nor copies the calls and the replies.
+    pub fn commit_calls(&self, pass: &mut Pass, calls: &[Call], replies: &[Reply]) -> u64
         requires pass { IsPassOf self.now pass.old }
         requires counts { pass.old.kept ≡ None }
-        requires allowed { MayCommit (compiled_of self.now) (core_of pass.old) (next_entry (core_of pass.old) call.now reply.now) }
-        requires left { holds_now pass.old.held ≡ (committed (compiled_of self.now) (core_of pass.old) 0 (next_entry (core_of pass.old) call.now reply.now)).held }
+        requires allowed { MayCommit (compiled_of self.now) (core_of pass.old) (next_of (core_of pass.old) (with_replies calls.now replies.now)) }
+        requires left { holds_now pass.old.held ≡ (committed (compiled_of self.now) (core_of pass.old) 0 (next_of (core_of pass.old) (with_replies calls.now replies.now))).held }
         ensures pass { IsPassOf self.now pass.new }
-        ensures added { HasAdded self.now (next_entry (core_of pass.old) call.now reply.now) pass.old pass.new result }
+        ensures added { HasAdded self.now (next_of (core_of pass.old) (with_replies calls.now replies.now)) pass.old pass.new result }
     {
-        let place = self.commit_next::<Brand>(&mut pass.seat, call, reply);
+        let place = self.commit_next::<Brand>(&mut pass.seat, calls, replies);
         settle_all(&mut pass.held);
         pass.seen = place + 1;
         pass.made += 1;
@@ -70,23 +71,23 @@ impl Row {
         self.commit_step::<E>(seat)
     }
 
-    /// The step that commits this call with its reply as the pass's next entry, which a call picks by them.
+    /// The step that commits these calls with their replies as the pass's next entry, which a call picks by them.
     fn commit_next<E: Carries>(
         &self,
         seat: &mut Seat<Option<Keep>, View>,
-        call: &Call,
-        reply: &Reply,
+        calls: &[Call],
+        replies: &[Reply],
     ) -> u64
-        requires entry { E.entry ≡ next_entry (standing_of seat.old.me.0).core call.now reply.now }
+        requires entry { E.entry ≡ next_of (standing_of seat.old.me.0).core (with_replies calls.now replies.now) }
         requires key { E.told ≡ Some self.now.key }
         requires row { seat.old.table_id ≡ self.now.table }
         requires pass { seat.old.me.0 ≡ pass_view (standing_of seat.old.me.0) }
-        requires allowed { MayCommit (compiled_of self.now) (standing_of seat.old.me.0).core (next_entry (standing_of seat.old.me.0).core call.now reply.now) }
+        requires allowed { MayCommit (compiled_of self.now) (standing_of seat.old.me.0).core (next_of (standing_of seat.old.me.0).core (with_replies calls.now replies.now)) }
         ensures seat { (seat.new.table_id ≡ seat.old.table_id) × (seat.new.id ≡ seat.old.id) }
-        ensures told { HasCommitted self.now.key (next_entry (standing_of seat.old.me.0).core call.now reply.now) seat.old.me result seat.new.me }
+        ensures told { HasCommitted self.now.key (next_of (standing_of seat.old.me.0).core (with_replies calls.now replies.now)) seat.old.me result seat.new.me }
     {
-        let _ = call;
-        let _ = reply;
+        let _ = calls;
+        let _ = replies;
         self.commit_step::<E>(seat)
     }
 

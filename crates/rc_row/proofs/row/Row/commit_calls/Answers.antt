@@ -1,13 +1,14 @@
 use Rattle.std.proofs.Common.{◌≡◌, ◌+◌, length, Option, None, refl, sym, ap, ◌∙◌, subst}
 use Rattle.rc_journal.specs.PartEntries.{PartEntries}
 use Rattle.rc_rel.specs.declared.entry.Entry.{Entry}
-use Rattle.rc_rel.specs.History.{placed}
+use Rattle.rc_rel.specs.History.{placed, with_replies}
 use Rattle.rc_row.specs.declared.pass.Pass.TheInside.{Inside}
 use Rattle.rc_row.specs.Law.{standing_of}
-use Rattle.rc_row.specs.Passes.{IsPassOf, PassSeen, compiled_of, core_of, next_entry, with_entry}
+use Rattle.rc_core.specs.Passes.{next_of}
+use Rattle.rc_row.specs.Passes.{IsPassOf, PassSeen, compiled_of, core_of, with_entry}
 use Rattle.rc_row.specs.Told.{HasCommitted}
 use Rattle.rc_row.proofs.SettleLemmas.{HasSettled, has_added, pass_of_commit, seen_committed, whole_committed}
-use Rattle.rc_row.proofs.row.Row.commit_call.Goals as goal
+use Rattle.rc_row.proofs.row.Row.commit_calls.Goals as goal
 
 abbrev new : goal.After-pass-2-1 → Inside
 new c = record c.pass.inside {
@@ -18,12 +19,12 @@ new c = record c.pass.inside {
 }
 
 abbrev entry_of : goal.After-pass-2-1 → Entry
-entry_of c = next_entry (core_of c.args.pass.now) c.args.call.now c.args.reply.now
+entry_of c = next_of (core_of c.args.pass.now) (with_replies c.args.calls.now c.args.replies.now)
 
 -- what the step told, of the entry in the terms of the pass
 told_of : (c : goal.After-pass-2-1) → HasCommitted c.args.self.now.key (entry_of c) c.pass.inside.seat.me c.commit_next-place.result c.commit_next-place.new.seat.me
 told_of c =
-    let same : next_entry (standing_of c.pass.inside.seat.me.0).core c.args.call.now c.args.reply.now ≡ entry_of c = ap (λ (s : PassSeen). next_entry (core_of s) c.args.call.now c.args.reply.now) c.pass.view_is in
+    let same : next_of (standing_of c.pass.inside.seat.me.0).core (with_replies c.args.calls.now c.args.replies.now) ≡ entry_of c = ap (λ (s : PassSeen). next_of (core_of s) (with_replies c.args.calls.now c.args.replies.now)) c.pass.view_is in
     subst (λ (e : Entry). HasCommitted c.args.self.now.key e c.pass.inside.seat.me c.commit_next-place.result c.commit_next-place.new.seat.me) same c.commit_next-place.ensures.told
 
 has_settled : (c : goal.After-pass-2-1) → HasSettled (compiled_of c.args.self.now) (told_of c).before (entry_of c) c.pass.inside (new c)

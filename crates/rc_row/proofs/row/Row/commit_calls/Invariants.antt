@@ -1,0 +1,8 @@
+use Rattle.std.proofs.Common.{Some}
+use Rattle.rc_row.specs.Law.{standing_of}
+use Rattle.rc_core.specs.Passes.{next_of}
+use Rattle.rc_rel.specs.History.{with_replies}
+use Rattle.rc_row.proofs.row.Row.commit_calls.Given as goal
+
+abbrev pub ghosts-commit_next : goal.ghosts-commit_next
+ghosts-commit_next a = record { entry = next_of (standing_of a.seat.now.me.0).core (with_replies a.calls.now a.replies.now); told = Some a.self.now.key }
