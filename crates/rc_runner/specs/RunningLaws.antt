@@ -38,15 +38,15 @@ module _ (store : StoreSeen) (call : Call) (reply : Reply) (old new : PassSeen) 
   pub called_so : HasCalled call (stand_of old) (stand_of new)
   called_so = record {
     entry = placed receipt.place (next_entry (core_of old) call reply);
-    own = m.own;
+    own = m.entry.own;
     single = refl;
     made = refl;
-    after = m.seen;
-    before = subst (λ (u : PassState). receipt.place < u.seen) (sym m.core) (omega arith);
+    after = m.entry.seen;
+    before = subst (λ (u : PassState). receipt.place < u.seen) (sym m.entry.core) (omega arith);
   }
 
   pub called_number : number_of new ≡ number_of old
-  called_number = ap (λ (u : PassState). u.number) m.core ∙ ap (λ (u : PassState). u.number) m.was
+  called_number = ap (λ (u : PassState). u.number) m.entry.core ∙ ap (λ (u : PassState). u.number) m.entry.was
 
 -- ---- how many entries a pass has
 

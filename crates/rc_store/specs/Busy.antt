@@ -1,5 +1,5 @@
 -- Why a call was refused. (PLDI 2012, well-locked query plans.)
-use Rattle.std.specs.Prelude.{◌≡◌, ℕ, ◌<◌, List, Some}
+use Rattle.std.specs.Prelude.{◌≡◌, ℕ, ◌<◌, List, [], ◌∷◌, Some}
 use Rattle.std.specs.List.{flat_map}
 use Rattle.rc_tuple.specs.RisingSet.{In, gather}
 use Rattle.rc_spec.specs.declared.call.Call.{Call}
@@ -9,7 +9,10 @@ use Rattle.rc_spec.specs.Fragments.{EdgeRow, edge_row_cmp}
 use Rattle.rc_plan.specs.Compiled.{plan_at}
 use Rattle.rc_plan.specs.Evaluation.{eval}
 use Rattle.rc_plan.specs.NamedStripes.{IsNamedBy}
+use Rattle.rc_spec.specs.Locks.{StripeLock}
+use Rattle.rc_plan.specs.Turns.{with_plans}
 use Rattle.rc_core.specs.declared.state.Hold.{Hold}
+use Rattle.rc_multi.specs.GroupLocks.{group_locks}
 use Rattle.rc_row.specs.Passes.{PassSeen, RowSeen, compiled_of, core_of, spec_of}
 use Rattle.rc_row.specs.Standings.{KeepsOut}
 use Rattle.rc_store.specs.declared.receipt.TryFault.{TryFault}
@@ -31,9 +34,24 @@ pub record IsBusy (row : RowSeen) (call : Call) (old new : PassSeen) (stripe : �
   pub named : In (stripe, mode) (eval (spec_of row) (plan_at (compiled_of row).plans call.op) call (rows_of held)).named
   pub by_plan : IsNamedBy (spec_of row) call.args (plan_at (compiled_of row).plans call.op) (stripe, mode)
 
+-- The last refused step of the pass is of this call, asked for one of these locks, and found this in the way.
+pub record IsLockBusy (row : RowSeen) (locks : List StripeLock) (old new : PassSeen) (stripe : ℕ) (what : Found) : Type 0 where
+  pub mode : Mode
+  pub held : List Hold
+  pub risen : old.standing.refusals < new.standing.refusals
+  pub last : new.standing.last_refusal ≡ Some (record { stripe = stripe; mode = mode; found = what; held = held })
+  pub found : KeepsOut mode row.key.passes (core_of old).number what
+  pub wanted : In (stripe, mode) locks
+
+-- what is in the way of a call alone, and of a group of two or more
+abbrev pub AreBusy : RowSeen → List Call → PassSeen → PassSeen → ℕ → Found → Type 0
+AreBusy row [] old new stripe what = ⊥
+AreBusy row (call ∷ []) old new stripe what = IsBusy row call old new stripe what
+AreBusy row (call ∷ (other ∷ calls)) old new stripe what = IsLockBusy row (group_locks (spec_of row) (with_plans (compiled_of row).plans (call ∷ (other ∷ calls)))) old new stripe what
+
 -- Memory may be wanted at any time, but where a step was refused, that is the cause. That a pass is spent is found before anything else is done.
 -- Something is in the way only for that cause.
-abbrev pub HasCause : RowSeen → Call → PassSeen → PassSeen → TryFault → Type 0
-HasCause row call old new Memory = new.standing.refusals ≡ old.standing.refusals
-HasCause row call old new (Busy stripe found) = IsBusy row call old new stripe found
-HasCause row call old new Spent = new ≡ old
+abbrev pub HasCause : RowSeen → List Call → PassSeen → PassSeen → TryFault → Type 0
+HasCause row calls old new Memory = new.standing.refusals ≡ old.standing.refusals
+HasCause row calls old new (Busy stripe found) = AreBusy row calls old new stripe found
+HasCause row calls old new Spent = new ≡ old

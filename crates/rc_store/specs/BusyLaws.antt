@@ -19,7 +19,7 @@ use Rattle.rc_row.specs.Passes.{PassSeen, RowSeen, compiled_of, core_of, holds_t
 use Rattle.rc_row.specs.Standings.{KeepsOut}
 use Rattle.rc_store.specs.declared.lender.Refused.{Refused}
 use Rattle.rc_store.specs.Busy.{IsBusy, rows_of}
-use Rattle.rc_store.specs.HeldStripes.{hold_taken}
+use Rattle.rc_multi.specs.HeldStripes.{hold_taken}
 use Rattle.rc_store.specs.Lending.{IsToldOf, IsUnrefused, held_stripes, lending}
 use Rattle.rc_store.specs.LendingLaws.{all_taken-held}
 use Rattle.rc_store.specs.NamedLaws.{compiled_named_law}

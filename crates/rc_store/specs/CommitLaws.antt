@@ -23,15 +23,17 @@ use Rattle.rc_fragment.specs.Holder.{AreOfRelation, HeldStripe}
 use Rattle.rc_plan.specs.declared.statement.Statement.{Statement}
 use Rattle.rc_plan.specs.Compiled.{SpecWithPlans, plan_at}
 use Rattle.rc_plan.specs.Evaluation.{eval}
-use Rattle.rc_plan.specs.StripeLocks.{AreHeld, StripeLock, Suffices, mode_number, stripe_lock_cmp}
-use Rattle.rc_plan.specs.StripeLocksLaws.{stripe_lock_order}
+use Rattle.rc_spec.specs.Locks.{StripeLock, Suffices}
+use Rattle.rc_plan.specs.StripeLocks.{AreHeld, mode_number, stripe_lock_cmp, stripes_of}
+use Rattle.rc_plan.specs.StripeLocksLaws.{stripe_lock_order, stripes_of_in}
 use Rattle.rc_core.specs.declared.state.Hold.{Hold}
 use Rattle.rc_core.specs.declared.state.PassState.{PassState}
 use Rattle.rc_core.specs.Passes.{MayCommit, committed, renewed, renewed_as}
 use Rattle.rc_core.specs.State.{hold, locks_of, rows_held}
 use Rattle.rc_machine.specs.Machine.{HasEvaluated, HasServed, locks_of as locks_held, rows_taken, stripes_held}
 use Rattle.rc_row.specs.Passes.{next_entry}
-use Rattle.rc_store.specs.HeldStripes.{all_now, all_taken, hold_now, hold_taken}
+use Rattle.rc_multi.specs.HeldStripes.{all_now, all_taken, hold_now, hold_taken}
+use Rattle.rc_store.specs.Store.{HoldsExactly, one_step}
 
 -- ---- rows and locks of what is held
 
@@ -111,8 +113,13 @@ module _ (compiled : SpecWithPlans) (u : PassState) (call : Call) (held : List H
       fit = (fits, tt);
       replies = ap (λ (o : Option Reply). o ∷ []) (ap (λ rows. (eval spec plan call rows).reply) rows ∙ done.reply);
       held = (subst (λ locks. AreHeld locks (locks_of u)) (sym named) (λ lock m. (lock.1, m, suffices_itself lock.1)), tt);
-      no_more = gather-rising stripe_lock_cmp stripe_lock_order (locks_of u) (subst (IsRising stripe_lock_cmp) (sym locks) (rising_locks held done.rising)) ∙ sym named;
+      no_more = record { each = λ lock m. subst (λ (ls : List StripeLock). In lock.0 (stripes_of ls)) (sym named) (stripes_of_in lock (locks_of u) m) };
     }
+
+    -- And it holds exactly what evaluation names.
+    pub holds_what_is_named : HoldsExactly compiled u (one_step call answer)
+    holds_what_is_named =
+        gather-rising stripe_lock_cmp stripe_lock_order (locks_of u) (subst (IsRising stripe_lock_cmp) (sym locks) (rising_locks held done.rising)) ∙ sym named
 
   -- ---- what it leaves
 

@@ -39,11 +39,12 @@ refusal_told (Some at) = Some (record { answer = at.answer; mode = at.mode; held
 
 -- ---- all that is told
 
--- No rows are told of a stripe before it is taken.
+-- All stripes may be asked for. No rows are told of a stripe before it is taken.
 abbrev pub lending : RowSeen → PassSeen → Option Refused → ℕ → Holding
 lending row pass refused through = record {
   table = edge_table (spec_of row);
   lent = lent_stripes pass.held;
+  lends = None;
   offered = replicate (stripes_of row) None;
   refusals = count_told refused pass.standing;
   last_refusal = refusal_told refused;

@@ -17,18 +17,18 @@ use Rattle.rc_spec.specs.Stripes.{stripe_total}
 use Rattle.rc_fragment.specs.declared.held.Held.{Held}
 use Rattle.rc_fragment.specs.declared.shape.EdgeShape.{EdgeShape}
 use Rattle.rc_fragment.specs.Fragment.{HasAlone, HasColumns, HasSingle, edge_table}
-use Rattle.rc_fragment.specs.FragmentRows.{FragmentRows, changed, rolled_back, with_promise}
-use Rattle.rc_fragment.specs.Holder.{AreOfOneRelation, CanLower, CanRaise, HasRefused, HasRisen, HasRoom, HeldStripe, IsAbove as IsAboveHeld, IsHeld, IsHeldExclusive, IsLent, LentStripe, all_reverted, held_of, lent_reverted, with_change, with_change_at, with_room, with_room_at}
+use Rattle.rc_fragment.specs.FragmentRows.{FragmentRows, changed, with_promise}
+use Rattle.rc_fragment.specs.Holder.{AreOfOneRelation, CanLower, CanRaise, HasRefused, HasRisen, HasRoom, HeldStripe, IsAbove as IsAboveHeld, IsHeld, IsHeldExclusive, IsLent, LentStripe, held_of, with_change, with_change_at, with_room, with_room_at}
 use Rattle.rc_core.specs.declared.state.Hold.{Hold}
 use Rattle.rc_core.specs.ListLaws.{in_stripes, stripes_have, stripes_in_have}
 use Rattle.rc_core.specs.Passes.{IsAbove}
 use Rattle.rc_core.specs.State.{hold, stripes_in, writes_of}
 use Rattle.rc_row.specs.HeldRows.{HeldRows}
-use Rattle.rc_row.specs.Passes.{CanAddRow, CanSubRow, IsPassOf, OfHeld, PassSeen, RowSeen, core_of, holds_now, holds_taken, reverted, spec_of, stripes_of, with_fragment, with_held, with_standing}
+use Rattle.rc_row.specs.Passes.{CanAddRow, CanSubRow, IsPassOf, OfHeld, PassSeen, RowSeen, core_of, holds_now, holds_taken, spec_of, stripes_of, with_fragment, with_held, with_standing}
 use Rattle.rc_row.specs.Standings.{HaveOneRelation, turned_away}
 use Rattle.rc_row.specs.StandingsLaws.{refusals_first}
 use Rattle.rc_store.specs.declared.lender.Refused.{Refused}
-use Rattle.rc_store.specs.HeldStripes.{all_now, all_taken, hold_now, hold_taken}
+use Rattle.rc_multi.specs.HeldStripes.{all_now, all_taken, hold_now, hold_taken}
 use Rattle.rc_store.specs.Lending.{IsLentBy, IsLentSo, IsOnTheWay, IsToldOf, Lent, count_told, held_stripe, held_stripes, lending, lent_stripe, lent_stripes}
 
 -- ---- what is held
@@ -57,7 +57,7 @@ one_relation spec held holds agrees one = (
   record {
     relation = one.is_relation;
     satisfies = one.satisfies;
-    few = one.few;
+    few = (let l = one.few in omega arith);
     rows = λ h m.
         let taken : In (hold_taken h) holds = subst (In (hold_taken h)) (sym (all_taken-held held) ∙ agrees) (map_in hold_taken h (held_stripes held) m) in
         one.rows (hold_taken h) taken;
@@ -147,9 +147,6 @@ module _ (row : RowSeen) (pass : PassSeen) (refused : Option Refused) (n : ℕ) 
     now = λ g m e.
         let w : (h : HeldRows) × In h pass.held × (g ≡ held_stripe h) = in_map held_stripe g pass.held (subst (In g) (held_of-lending row pass refused n) m) in
         ap (λ (g : FragmentRows). g.now) (fragment_is w.0 w.1 (sym (ap (λ (h : HeldStripe). h.stripe) w.2) ∙ e)) ∙ sym (ap (λ (h : HeldStripe). h.now) w.2);
-    taken = λ g m e.
-        let w : (h : HeldRows) × In h pass.held × (g ≡ held_stripe h) = in_map held_stripe g pass.held (subst (In g) (held_of-lending row pass refused n) m) in
-        ap (λ (g : FragmentRows). g.taken) (fragment_is w.0 w.1 (sym (ap (λ (h : HeldStripe). h.stripe) w.2) ∙ e)) ∙ sym (ap (λ (h : HeldStripe). h.taken) w.2);
   }
     where
       fragment_is : (h : HeldRows) → In h pass.held → h.stripe ≡ p → f ≡ h.fragment
@@ -185,9 +182,6 @@ module _ (row : RowSeen) (pass : PassSeen) (refused : Option Refused) (n : ℕ) 
           ≡ record { held = cond b (record { stripe = h.stripe; mode = h.mode; now = change h.fragment.now; taken = h.fragment.taken }) (held_stripe h); room = cond b (pred h.fragment.room) h.fragment.room }
       one h true = refl
       one h false = refl
-
-  pub told_reverted : lending row (reverted pass) refused n ≡ all_reverted (lending row pass refused n)
-  told_reverted = ap (λ (ls : List LentStripe). record (lending row pass refused n) { lent = ls }) (lent_each (λ (h : HeldRows). rolled_back h.fragment) lent_reverted (λ h. refl) pass.held)
 
   -- ---- what stays after a change
 

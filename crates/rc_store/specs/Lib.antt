@@ -7,7 +7,6 @@ pub mod CommitLaws
 pub mod FreeLaws
 pub mod Headline
 pub mod HeadlineLaws
-pub mod HeldStripes
 pub mod Lending
 pub mod LendingLaws
 pub mod NamedLaws
@@ -23,3 +22,7 @@ pub mod StepLaws
 pub mod Store
 pub mod StoreInside
 pub mod Taking
+pub mod GroupLaws
+pub mod Locking
+pub mod LockingLaws
+pub mod RunningGroupLaws

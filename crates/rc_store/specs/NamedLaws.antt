@@ -10,7 +10,7 @@ use Rattle.rc_plan.specs.CompiledLaws.{own_plan_accepted}
 use Rattle.rc_plan.specs.Evaluation.{eval}
 use Rattle.rc_plan.specs.NamedStripes.{IsNamedBy}
 use Rattle.rc_plan.specs.NamedStripesLaws.{named_law}
-use Rattle.rc_plan.specs.StripeLocks.{StripeLock}
+use Rattle.rc_spec.specs.Locks.{StripeLock}
 use Rattle.rc_plan.specs.Turns.{HasAcceptedPlan, with_plan}
 
 -- Over an accepted specification with its plans: each stripe that evaluation of a call's own plan names, on any rows,

@@ -1,5 +1,5 @@
 -- What receipts mean, from what they say.
-use Rattle.std.specs.Prelude.{◌≡◌, ℕ, suc, List, [], ◌∷◌, ◌++◌, Some, length, take, get_or}
+use Rattle.std.specs.Prelude.{◌≡◌, ℕ, suc, List, [], ◌∷◌, ◌++◌, Some, length, take}
 use Rattle.std.specs.List.{slice_get}
 use Rattle.std.proofs.Common.{refl, sym, ap, subst, ◌∙◌, inl}
 use Rattle.std.proofs.lemmas.List.Elements.{All-contains}
@@ -21,16 +21,17 @@ use Rattle.rc_plan.specs.Laws.{Serves}
 use Rattle.rc_plan.specs.StripeLocks.{AreHeld, stripe_lock_cmp, stripes_of}
 use Rattle.rc_rel.specs.declared.entry.Entry.{Entry}
 use Rattle.rc_rel.specs.declared.entry.Step.{Step}
-use Rattle.rc_rel.specs.History.{IsLegal, IsPlain, IsPrefix, replay}
+use Rattle.rc_rel.specs.History.{AreLegalFrom, IsLegal, IsPlain, IsPrefix, after_steps, replay}
 use Rattle.rc_rel.specs.HistoryLaws.{replay_in_states, states_are_relations, states_satisfy}
-use Rattle.rc_rel.specs.PlaceLaws.{plain_at_each_place}
+use Rattle.rc_rel.specs.PlaceLaws.{legal_last}
 use Rattle.rc_core.specs.CommitLaws.{rows_held_are}
+use Rattle.rc_core.specs.Passes.{next_of}
 use Rattle.rc_core.specs.State.{locks_of, rows_held}
 use Rattle.rc_row.specs.Passes.{PassSeen, compiled_of, core_of, next_entry, spec_of}
 use Rattle.rc_store.specs.declared.receipt.Receipt.{Receipt}
 use Rattle.rc_store.specs.Closed.{ClosedSeen, HasClosed}
 use Rattle.rc_store.specs.Receipts.{ReceiptsAreOfTheClosed, ReceiptsArePlain, ReceiptsGoOn, TellingGoesOn, history_with}
-use Rattle.rc_store.specs.Store.{HasMade, StoreSeen}
+use Rattle.rc_store.specs.Store.{HasMade, HasMadeEntry, StoreSeen, one_step}
 
 -- ---- the last entry of a history, and those before it
 
@@ -38,42 +39,26 @@ last_there : (xs : List Entry) (y : Entry) (more : List Entry) → slice_get ((x
 last_there [] y more = refl
 last_there (x ∷ xs) y more = last_there xs y more
 
-those_before : (xs ys : List Entry) → take (length xs) (xs ++ ys) ≡ xs
-those_before [] ys = refl
-those_before (x ∷ xs) ys = λ i. x ∷ those_before xs ys i
-
 with_the_last : (xs : List Entry) (y : Entry) (more : List Entry) → take (suc (length xs)) ((xs ++ y ∷ []) ++ more) ≡ xs ++ y ∷ []
 with_the_last [] y more = refl
 with_the_last (x ∷ xs) y more = λ i. x ∷ with_the_last xs y more i
 
-append-none : (xs : List Entry) → xs ++ [] ≡ xs
-append-none [] = refl
-append-none (x ∷ xs) = λ i. x ∷ append-none xs i
-
 -- In a legal history the last entry, of one call, has the plain relation's reply after those before it, and leaves the plain relation.
-plain_last : (spec : Spec) (before : List Entry) (entry : Entry) → IsLegal spec (before ++ entry ∷ []) → length entry.steps ≡ 1
-    → IsPlain spec (replay spec before) (replay spec (before ++ entry ∷ [])) entry
-plain_last spec before entry legal single =
-    let whole : (before ++ entry ∷ []) ++ [] ≡ before ++ entry ∷ [] = append-none (before ++ entry ∷ []) in
-    subst (λ (x : List Entry × List Entry). IsPlain spec (replay spec x.0) (replay spec x.1) entry)
-    (λ i. (
-      those_before before (entry ∷ []) i,
-      (ap (take (suc (length before))) (sym whole) ∙ with_the_last before entry []) i,
-    ))
-    (plain_at_each_place spec (before ++ entry ∷ []) legal (length before) entry
-    (ap (λ (h : List Entry). slice_get h (length before)) (sym whole) ∙ last_there before entry []) single)
-
--- So has the step of which it is.
 pub plain_behind : (spec : Spec) (before : List Entry) (entry : Entry) (step : Step) → IsLegal spec (before ++ entry ∷ []) → entry.steps ≡ step ∷ []
     → (step.reply ≡ (plain spec (replay spec before) step.call).reply) × (replay spec (before ++ entry ∷ []) ≡ (plain spec (replay spec before) step.call).relation)
 plain_behind spec before entry step legal one =
-    let there = plain_last spec before entry legal (ap (λ (steps : List Step). length steps) one) in
-    let same : step ≡ there.step = ap (λ (steps : List Step). get_or steps 0 step) (sym one ∙ there.one) in (
-      subst (λ (s : Step). s.reply ≡ (plain spec (replay spec before) s.call).reply) (sym same) there.reply,
-      subst (λ (s : Step). replay spec (before ++ entry ∷ []) ≡ (plain spec (replay spec before) s.call).relation) (sym same) there.relation,
+    let there = legal_last spec before entry legal in (
+      (subst (AreLegalFrom spec (replay spec before)) one there.0).0,
+      there.1 ∙ ap (after_steps spec (replay spec before)) one,
     )
 
 -- ---- one receipt
+
+-- the replies are the plain relation's in turn
+pub entries_are_plain : (store : StoreSeen) (steps : List Step) (old new : PassSeen) (place nth : ℕ) (made : HasMadeEntry store steps old new place nth)
+    → AreLegalFrom (spec_of store.row) (replay (spec_of store.row) made.before) steps
+    × (replay (spec_of store.row) (history_with made.before old steps) ≡ after_steps (spec_of store.row) (replay (spec_of store.row) made.before) steps)
+entries_are_plain store steps old new place nth made = legal_last (spec_of store.row) made.before (next_of (core_of old) steps) made.after.good.legal
 
 module _ (store : StoreSeen) (ok : IsCompiled (spec_of store.row) (compiled_of store.row).plans) (call : Call) (reply : Reply) (old new : PassSeen) (receipt : Receipt)
     (made : HasMade store call reply old new receipt) where
@@ -87,50 +72,50 @@ module _ (store : StoreSeen) (ok : IsCompiled (spec_of store.row) (compiled_of s
   entry = next_entry (core_of old) call reply
 
   abbrev history : List Entry
-  history = history_with made.before old call reply
+  history = history_with made.entry.before old (one_step call reply)
 
   abbrev state : List Pairs
-  state = replay spec made.before
-
-  plain_there : IsPlain spec state (replay spec history) entry
-  plain_there = plain_last spec made.before entry made.after.good.legal refl
+  state = replay spec made.entry.before
 
   abbrev step : Step
   step = record { call = call; reply = reply }
 
-  pub reply_is : reply ≡ (plain spec state call).reply
-  reply_is = (plain_behind spec made.before entry step made.after.good.legal refl).0
+  behind : (reply ≡ (plain spec state call).reply) × (replay spec history ≡ (plain spec state call).relation)
+  behind = plain_behind spec made.entry.before entry step made.entry.after.good.legal refl
 
-  pub relation_is : replay spec history ≡ (plain spec state call).relation
-  relation_is = (plain_behind spec made.before entry step made.after.good.legal refl).1
+  plain_there : IsPlain spec state (replay spec history) entry
+  plain_there = record { step = step; one = refl; reply = behind.0; relation = behind.1 }
 
   -- what is held has the rows of the state before
-  rows_are : rows_held made.at_commit ≡ rows_on spec state (stripes_of (locks_of made.at_commit))
-  rows_are = rows_held_are spec made.before made.at_commit made.at.of.rows
+  rows_are : rows_held made.entry.at_commit ≡ rows_on spec state (stripes_of (locks_of made.entry.at_commit))
+  rows_are = rows_held_are spec made.entry.before made.entry.at_commit made.entry.at.of.rows
 
-  serves : Serves spec plan call state (locks_of made.at_commit)
+  serves : Serves spec plan call state (locks_of made.entry.at_commit)
   serves =
-      let is_relation : IsRelation (all_columns spec) state = states_are_relations spec made.before made.at.of.good.fit state (replay_in_states spec made.before) in
-      let satisfies : Satisfies state spec.deps = states_satisfy spec made.before state (replay_in_states spec made.before) in
-      compiled_law (compiled_of store.row) ok call made.allowed.fit.0 state is_relation satisfies (locks_of made.at_commit)
-      (subst (λ (rows : List EdgeRow). AreHeld (eval spec plan call rows).named (locks_of made.at_commit)) rows_are made.allowed.held.0)
+      let is_relation : IsRelation (all_columns spec) state = states_are_relations spec made.entry.before made.entry.at.of.good.fit state (replay_in_states spec made.entry.before) in
+      let satisfies : Satisfies state spec.deps = states_satisfy spec made.entry.before state (replay_in_states spec made.entry.before) in
+      compiled_law (compiled_of store.row) ok call made.entry.allowed.fit.0 state is_relation satisfies (locks_of made.entry.at_commit)
+      (subst (λ (rows : List EdgeRow). AreHeld (eval spec plan call rows).named (locks_of made.entry.at_commit)) rows_are made.entry.allowed.held.0)
 
-  held_is : gather stripe_lock_cmp (locks_of made.at_commit) ≡ touched spec plan call state
-  held_is = made.allowed.no_more ∙ ap (λ (rows : List EdgeRow). (eval spec plan call rows).named) rows_are ∙ serves.named
+  held_is : gather stripe_lock_cmp (locks_of made.entry.at_commit) ≡ touched spec plan call state
+  held_is = made.exact ∙ ap (λ (rows : List EdgeRow). (eval spec plan call rows).named) rows_are ∙ serves.named
 
 pub receipts_are_plain : ReceiptsArePlain
-receipts_are_plain store ok call reply old new receipt made = (
-  plain_there store ok call reply old new receipt made,
-  reply_is store ok call reply old new receipt made,
-  held_is store ok call reply old new receipt made,
-)
+receipts_are_plain = record {
+  entries = entries_are_plain;
+  calls = λ store ok call reply old new receipt made. (
+    plain_there store ok call reply old new receipt made,
+    (behind store ok call reply old new receipt made).0,
+    held_is store ok call reply old new receipt made,
+  );
+}
 
 -- ---- one after another
 
 pub receipts_go_on : ReceiptsGoOn
-receipts_go_on store call reply old new receipt made later_call later_reply later_old later_new later_receipt later m =
-    All-contains (λ (earlier : List Entry). IsPrefix earlier later.before) later_old.standing.known (history_with made.before old call reply) later.at.goes_on
-    (in_contains (history_with made.before old call reply) later_old.standing.known m)
+receipts_go_on store steps old new place nth made later_steps later_old later_new later_place later_nth later m =
+    All-contains (λ (earlier : List Entry). IsPrefix earlier later.before) later_old.standing.known (history_with made.before old steps) later.at.goes_on
+    (in_contains (history_with made.before old steps) later_old.standing.known m)
 
 -- those told of, and one more
 told_more : (known now : List (List Entry)) (history : List Entry) → now ≡ known ++ history ∷ [] → In history now × ((h : List Entry) → In h known → In h now)
@@ -141,7 +126,7 @@ told_more known now history e = (
 
 pub telling_goes_on : TellingGoesOn
 telling_goes_on = record {
-  made = λ store call reply old new receipt made. told_more old.standing.known new.standing.known (history_with made.before old call reply) made.known;
+  made = λ store steps old new place nth made. told_more old.standing.known new.standing.known (history_with made.before old steps) made.known;
   stopped = λ old new before history m. subst (In history) (sym before.known) m;
   looked = λ store old new length_is h.
       told_more old.standing.known new.standing.known h.history (ap (λ (q : PassSeen). q.standing.known) h.is);
@@ -163,9 +148,9 @@ pub there_within : (one before : List Entry) (entry : Entry) (place : ℕ) → p
 there_within one before entry place place_is begins = (λ i. slice_get (begins.1 i) (place_is i)) ∙ last_there before entry begins.0
 
 pub receipts_are_of_the_closed : ReceiptsAreOfTheClosed
-receipts_are_of_the_closed store passes closed h k pass is call reply old new receipt made m =
-    let begins : IsPrefix (history_with made.before old call reply) h.history = begins_closed store passes closed h k pass is (history_with made.before old call reply) m in
-    let entry : Entry = next_entry (core_of old) call reply in (
-      (λ i. take (suc (made.place i)) (begins.1 i)) ∙ with_the_last made.before entry begins.0,
-      there_within h.history made.before entry receipt.place made.place begins,
+receipts_are_of_the_closed store passes closed h k pass is steps old new place nth made m =
+    let begins : IsPrefix (history_with made.before old steps) h.history = begins_closed store passes closed h k pass is (history_with made.before old steps) m in
+    let entry : Entry = next_of (core_of old) steps in (
+      (λ i. take (suc (made.place_is i)) (begins.1 i)) ∙ with_the_last made.before entry begins.0,
+      there_within h.history made.before entry place made.place_is begins,
     )

@@ -1,5 +1,5 @@
 -- What a run of a plan over a lent row and pass leaves.
-use Rattle.std.specs.Prelude.{◌≡◌, ℕ, Bool, List, [], Option, None, Some, Result, Ok, Err, IfOk, IfErr, false}
+use Rattle.std.specs.Prelude.{◌≡◌, ℕ, Bool, List, [], ◌∷◌, Option, None, Some, Result, Ok, Err, IfOk, IfErr, false}
 use Rattle.std.proofs.Common.{refl, sym, ap, subst, ◌∙◌}
 use Rattle.rc_spec.specs.declared.call.Call.{Call}
 use Rattle.rc_spec.specs.declared.call.Reply.{Reply}
@@ -77,7 +77,7 @@ module _ (waits : Bool) (row other : RowSeen) (begun now : PassSeen) (last : Opt
 module _ (waits : Bool) (row : RowSeen) (call : Call) (begun now : PassSeen) (old new : Holding) (quiet : new.refusals ≡ old.refusals → IsUnrefused waits begun now) where
   -- a run that was refused only for causes stopped for a cause
   pub stopped_so : (answer : Result Reply Stop) → CountsOnlyHeld answer old new
-      → ((h : Held) → answer ≡ Err (stop.Held h) → (waits ≡ false) × IsBusy row call begun now h.stripe h.found) → IfErr answer (IsStoppedFor waits row call begun now)
+      → ((h : Held) → answer ≡ Err (stop.Held h) → (waits ≡ false) × IsBusy row call begun now h.stripe h.found) → IfErr answer (IsStoppedFor waits row (call ∷ []) begun now)
   stopped_so (Ok reply) counted busy = tt
   stopped_so (Err stop.Memory) counted busy = quiet counted
   stopped_so (Err (stop.Held h)) counted busy = busy h refl

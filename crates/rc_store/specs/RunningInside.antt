@@ -1,11 +1,16 @@
 -- What a prepared call keeps.
-use Rattle.std.specs.Prelude.{◌≡◌, None, IsSome}
+use Rattle.std.specs.Prelude.{◌≡◌, List, None, IsSome, length}
 use Rattle.rc_rel.specs.declared.entry.Step.{Step}
+use Rattle.rc_rel.specs.History.{with_replies}
+use Rattle.rc_core.specs.Passes.{next_of}
 use Rattle.rc_row.specs.Passes.{PassSeen, core_of, next_entry}
 use Rattle.rc_store.specs.declared.running.Prepared.{Prepared}
 use Rattle.rc_store.specs.declared.running.Prepared.TheVariants.{Entry, Counted}
 use Rattle.rc_store.specs.declared.running.Running.TheInside.{Inside}
-use Rattle.rc_store.specs.Running.{RunningSeen}
+use Rattle.rc_store.specs.declared.running_group.PreparedGroup.{PreparedGroup}
+use Rattle.rc_store.specs.declared.running_group.PreparedGroup.TheVariants as group
+use Rattle.rc_store.specs.declared.running_group.RunningGroup.TheInside.{Inside as GroupInside}
+use Rattle.rc_store.specs.Running.{RunningGroupSeen, RunningSeen}
 
 abbrev pub running_seen : Inside → RunningSeen
 running_seen a = record { begun = a.begun.value; pass = a.pass; call = a.step.value.call; reply = a.step.value.reply }
@@ -18,3 +23,21 @@ IsOfStep pass step (Counted counted) = (pass.kept ≡ None) × (counted ≡ step
 
 abbrev pub IsOfItsStep : Inside → Type 0
 IsOfItsStep a = IsOfStep a.pass a.step.value a.prepared
+
+-- ---- groups
+
+-- the calls with their replies that are to be committed
+abbrev pub steps_in : PreparedGroup → List Step
+steps_in (group.Entry entry) = entry.steps
+steps_in (group.Counted calls replies) = with_replies calls.items replies.items
+
+abbrev pub running_group_seen : GroupInside → RunningGroupSeen
+running_group_seen a = record { begun = a.begun.value; pass = a.pass; steps = steps_in a.prepared }
+
+-- what is to be committed is the pass's next entry where it keeps its entries, and else the calls with a reply each
+abbrev pub IsOfPass : PassSeen → PreparedGroup → Type 0
+IsOfPass pass (group.Entry entry) = IsSome pass.kept × (entry ≡ next_of (core_of pass) entry.steps)
+IsOfPass pass (group.Counted calls replies) = (pass.kept ≡ None) × (length replies.items ≡ length calls.items)
+
+abbrev pub IsWholeGroup : GroupInside → Type 0
+IsWholeGroup a = IsOfPass a.pass a.prepared

@@ -1,6 +1,7 @@
 -- What the steps of a call make of a pass.
-use Rattle.std.specs.Prelude.{◌≡◌, ℕ, ◌+◌, ◌<◌, ◌≤◌, ◌^◌, Bool, List, [], ◌∷◌, ◌++◌, length, None, All}
+use Rattle.std.specs.Prelude.{◌≡◌, ℕ, ◌+◌, ◌<◌, ◌≤◌, ◌^◌, Bool, List, [], ◌∷◌, ◌++◌, length, Option, None, Some, IsSome, All}
 use Rattle.std.proofs.Common.{refl, sym, ap, subst, ◌∙◌, arith}
+use Rattle.std.proofs.lemmas.Bool.{false≢true}
 use Rattle.std.proofs.lemmas.List.{length-append}
 use Rattle.std.proofs.lemmas.List.Elements.{All-cons, All-map, All-nil}
 use Rattle.rc_spec.specs.declared.call.Call.{Call}
@@ -8,30 +9,38 @@ use Rattle.rc_spec.specs.declared.lock.Found.{Found}
 use Rattle.rc_spec.specs.declared.call.Reply.{Reply}
 use Rattle.rc_spec.specs.Calls.{Fits}
 use Rattle.rc_fragment.specs.Holder.{AreOfOneRelation}
+use Rattle.rc_spec.specs.Locks.{StripeLock}
+use Rattle.rc_multi.specs.GroupLocks.{group_locks}
 use Rattle.rc_plan.specs.Compiled.{plan_at}
+use Rattle.rc_plan.specs.Turns.{with_plans}
 use Rattle.rc_machine.specs.declared.stop.Stop.{Stop}
 use Rattle.rc_machine.specs.declared.stop.Stop.TheVariants.{Held, Memory}
 use Rattle.rc_machine.specs.Machine.{HasReplied}
 use Rattle.rc_rel.specs.declared.entry.Entry.{Entry}
 use Rattle.rc_rel.specs.declared.entry.Placed.{Placed}
-use Rattle.rc_rel.specs.History.{IsPrefix, placed}
+use Rattle.rc_rel.specs.declared.entry.Step.{Step}
+use Rattle.rc_rel.specs.History.{IsPrefix, placed, with_replies}
 use Rattle.rc_core.specs.Good.{IsOfHistory}
-use Rattle.rc_core.specs.Passes.{MayCommit, committed}
+use Rattle.rc_core.specs.Passes.{MayCommit, committed, next_of}
 use Rattle.rc_fragment.specs.FragmentRows.{FragmentRows, rolled_back, settled}
 use Rattle.rc_fragment.specs.Keep.{IsAtRest}
 use Rattle.rc_core.specs.declared.state.PassState.{PassState}
+use Rattle.rc_journal.specs.PartEntries.{PartEntries}
+use Rattle.rc_row.specs.declared.keeping.Keeping.{Keeping}
+use Rattle.rc_row.specs.declared.keeping.Keeping.TheVariants.{Counts, Entries}
 use Rattle.rc_row.specs.declared.law.Standing.{Standing}
 use Rattle.rc_row.specs.HeldRows.{HeldRows}
-use Rattle.rc_row.specs.Passes.{AreAtRest, HasReserved, HasSpare, IsMoreRoom, IsPassOf, PassSeen, RowSeen, all_with, compiled_of, core_of, holds_now, holds_taken, idle, next_entry, reverted, spec_of, with_entry, with_fragment}
-use Rattle.rc_row.specs.Standings.{KeepsOut, KeepsRefusals}
-use Rattle.rc_store.specs.Busy.{IsBusy}
-use Rattle.rc_store.specs.CommitLaws.{may_commit, now_committed}
-use Rattle.rc_store.specs.HeldStripes.{all_taken}
+use Rattle.rc_row.specs.Passes.{AreAtRest, HasReserved, HasSpare, IsMoreRoom, IsPassOf, KeepsAs, PassSeen, RowSeen, all_with, compiled_of, core_of, holds_taken, idle, reverted, spec_of, with_entry, with_fragment}
+use Rattle.rc_row.specs.Standings.{HaveOneRelation, KeepsOut, KeepsRefusals}
+use Rattle.rc_store.specs.Busy.{AreBusy, IsBusy, IsLockBusy}
+use Rattle.rc_store.specs.CommitLaws.{holds_what_is_named, may_commit, now_committed}
+use Rattle.rc_multi.specs.HeldStripes.{all_taken}
 use Rattle.rc_store.specs.Lending.{IsOnTheWay, IsUnrefused, held_stripes}
 use Rattle.rc_store.specs.LendingLaws.{all_now-held, all_taken-held, one_relation, still_of_row}
 use Rattle.rc_store.specs.Prepared.{IsPrepared, IsReady}
 use Rattle.rc_store.specs.Runs.{IsStoppedFor}
-use Rattle.rc_store.specs.Store.{HasMade, IsAsBefore, IsFinished, IsFree, StoreSeen}
+use Rattle.rc_store.specs.Store.{AreRepliesFor, HasMade, HasMadeEntry, HasMadeGroup, HoldsExactly, IsAsBefore, IsCallFinished, IsFinished, IsFree, IsGroupFinished, IsReplyFor, StoreSeen, one_step}
+use Rattle.rc_store.specs.declared.receipt.GroupReceipt.{GroupReceipt}
 use Rattle.rc_store.specs.declared.receipt.Receipt.{Receipt}
 
 -- ---- giving back
@@ -100,76 +109,99 @@ module _ (waits : Bool) (row : RowSeen) (old reserved ran new : PassSeen) (room 
     by_plan = b.by_plan;
   }
 
+  lock_busy_before : (locks : List StripeLock) (stripe : ℕ) (what : Found) → new ≡ idle ran → IsLockBusy row locks reserved ran stripe what → IsLockBusy row locks old new stripe what
+  lock_busy_before locks stripe what e b = record {
+    mode = b.mode;
+    held = b.held;
+    risen = subst (λ (x : ℕ × ℕ). x.0 < x.1) (λ i. ((room.is i).standing.refusals, (sym e i).standing.refusals)) b.risen;
+    last = ap (λ (q : PassSeen). q.standing.last_refusal) e ∙ b.last;
+    found = subst (λ n. KeepsOut b.mode row.key.passes n what) (ap (λ (q : PassSeen). (core_of q).number) room.is) b.found;
+    wanted = b.wanted;
+  }
+
+  are_busy_before : (calls : List Call) (stripe : ℕ) (what : Found) → new ≡ idle ran → AreBusy row calls reserved ran stripe what → AreBusy row calls old new stripe what
+  are_busy_before [] stripe what e b = b
+  are_busy_before (call ∷ []) stripe what e b = busy_before call stripe what e b
+  are_busy_before (call ∷ (other ∷ calls)) stripe what e b = lock_busy_before (group_locks (spec_of row) (with_plans (compiled_of row).plans (call ∷ (other ∷ calls)))) stripe what e b
+
   unrefused_before : new ≡ idle ran → IsUnrefused waits reserved ran → IsUnrefused waits old new
   unrefused_before e none at_once =
       ap (λ (q : PassSeen). q.standing.refusals) e ∙ none at_once ∙ ap (λ (q : PassSeen). q.standing.refusals) room.is
 
-  pub cause_before : (call : Call) (s : Stop) → new ≡ idle ran → IsStoppedFor waits row call reserved ran s → IsStoppedFor waits row call old new s
-  cause_before call Memory e cause = unrefused_before e cause
-  cause_before call (Held h) e cause = (cause.0, busy_before call h.stripe h.found e cause.1)
+  pub cause_before : (calls : List Call) (s : Stop) → new ≡ idle ran → IsStoppedFor waits row calls reserved ran s → IsStoppedFor waits row calls old new s
+  cause_before calls Memory e cause = unrefused_before e cause
+  cause_before calls (Held h) e cause = (cause.0, are_busy_before calls h.stripe h.found e cause.1)
 
   -- and one that answered
   pub unrefused_so : IsUnrefused waits reserved ran → IsUnrefused waits old ran
   unrefused_so none at_once = none at_once ∙ ap (λ (q : PassSeen). q.standing.refusals) room.is
 
-  pub prepared_so : (call : Call) (reply : Reply) → Fits (spec_of row) call → length (core_of old).own < 2 ^ 48 → HasSpare reserved.kept
-      → HasReplied (spec_of row) (plan_at (compiled_of row).plans call.op) call (held_stripes ran.held) reply → IsPrepared row call old ran reply
-  prepared_so call reply fits few spare replied = record {
+  -- one that is ready was prepared
+  pub prepared_so : (steps : List Step) → IsReady row steps ran → IsPrepared row steps old ran
+  prepared_so steps ready = record {
     core = ran_core;
     table = way.ran.table ∙ ap (λ (q : PassSeen). q.table) room.is;
     more = subst (IsMoreRoom old.kept) (sym ran_kept) room.more;
     refusals = ran_refusals;
     known = ran_known;
-    ready = record {
-      fits = fits;
-      few = subst (λ (u : PassState). length u.own < 2 ^ 48) (sym ran_core) few;
-      room = subst HasSpare (sym way.ran.kept) spare;
-      agrees = way.agrees;
-      one = way.one;
-      replied = replied;
-    };
+    ready = ready;
   }
+
+  -- it has as many entries, and as much room
+  pub few_so : length (core_of old).own < 2 ^ 48 → length (core_of ran).own < 2 ^ 48
+  few_so few = subst (λ (u : PassState). length u.own < 2 ^ 48) (sym ran_core) few
+
+  pub spare_so : HasSpare reserved.kept → HasSpare ran.kept
+  spare_so spare = subst HasSpare (sym way.ran.kept) spare
 
 -- ---- what is free
 
--- one that had fewer entries than the limit is free after a call
-pub free_made : (store : StoreSeen) (call : Call) (reply : Reply) (old new : PassSeen) (receipt : Receipt) → length (core_of old).own < store.limit
-    → IsPassOf store.row new → HasMade store call reply old new receipt → IsFree store new
-free_made store call reply old new receipt left of made =
-    let entry : Placed = placed receipt.place (next_entry (core_of old) call reply) in
+-- one that had fewer entries than the limit is free after one more
+pub free_made : (store : StoreSeen) (steps : List Step) (old new : PassSeen) (place nth : ℕ) → length (core_of old).own < store.limit
+    → IsPassOf store.row new → HasMadeEntry store steps old new place nth → IsFree store new
+free_made store steps old new place nth left of made =
+    let entry : Placed = placed place (next_of (core_of old) steps) in
     let one_more : length (core_of new).own ≡ length (core_of old).own + 1 = ap (λ (l : List Placed). length l) made.own ∙ length-append (core_of old).own (entry ∷ []) in
     record { of_row = of; idle = made.held; few = omega (arith, left, one_more) }
 
 -- ---- the commit
 
-module _ (row : RowSeen) (call : Call) (pass : PassSeen) (reply : Reply) (ready : IsReady row call pass reply) where
+-- A call that ran is ready, and the pass holds exactly what it names.
+module _ (row : RowSeen) (call : Call) (pass : PassSeen) (reply : Reply) (fits : Fits (spec_of row) call)
+    (agrees : holds_taken pass.held ≡ (core_of pass).held) (one : HaveOneRelation (spec_of row) (core_of pass).held)
+    (replied : HasReplied (spec_of row) (plan_at (compiled_of row).plans call.op) call (held_stripes pass.held) reply) where
   as_taken : (core_of pass).held ≡ all_taken (held_stripes pass.held)
-  as_taken = sym ready.agrees ∙ all_taken-held pass.held
+  as_taken = sym agrees ∙ all_taken-held pass.held
 
-  -- what is ready may be committed
-  pub may_be_committed : MayCommit (compiled_of row) (core_of pass) (next_entry (core_of pass) call reply)
-  may_be_committed = may_commit (compiled_of row) (core_of pass) call (held_stripes pass.held) reply as_taken ready.replied.evaluated ready.fits ready.few
+  pub ready_so : length (core_of pass).own < 2 ^ 48 → HasSpare pass.kept → IsReady row (one_step call reply) pass
+  ready_so few room =
+      let of : AreOfOneRelation (spec_of row) (held_stripes pass.held) = one_relation (spec_of row) pass.held (core_of pass).held agrees one in
+      record {
+        room = room;
+        agrees = agrees;
+        one = one;
+        may = may_commit (compiled_of row) (core_of pass) call (held_stripes pass.held) reply as_taken replied.evaluated fits few;
+        left =
+            all_now-held pass.held
+            ∙ now_committed (compiled_of row) (core_of pass) call (held_stripes pass.held) reply as_taken of.0 of.1 replied.evaluated (replied.served of.0 of.1) 0;
+      }
 
-  -- and is held as the commit leaves it
-  pub is_as_committed : holds_now pass.held ≡ (committed (compiled_of row) (core_of pass) 0 (next_entry (core_of pass) call reply)).held
-  is_as_committed =
-      let of : AreOfOneRelation (spec_of row) (held_stripes pass.held) = one_relation (spec_of row) pass.held (core_of pass).held ready.agrees ready.one in
-      all_now-held pass.held
-      ∙ now_committed (compiled_of row) (core_of pass) call (held_stripes pass.held) reply as_taken of.0 of.1 ready.replied.evaluated (ready.replied.served of.0 of.1) 0
+  pub exact_so : HoldsExactly (compiled_of row) (core_of pass) (one_step call reply)
+  exact_so = holds_what_is_named (compiled_of row) (core_of pass) call (held_stripes pass.held) reply as_taken replied.evaluated
 
-module _ (store : StoreSeen) (call : Call) (old mid new : PassSeen) (reply : Reply) (prepared : IsPrepared store.row call old mid reply) where
-  same_entry : next_entry (core_of mid) call reply ≡ next_entry (core_of old) call reply
-  same_entry = ap (λ (u : PassState). next_entry u call reply) prepared.core
+module _ (store : StoreSeen) (steps : List Step) (old mid new : PassSeen) (prepared : IsPrepared store.row steps old mid) where
+  same_entry : next_of (core_of mid) steps ≡ next_of (core_of old) steps
+  same_entry = ap (λ (u : PassState). next_of u steps) prepared.core
 
-  -- a commit of what was prepared is a call that was made
-  pub made_so : (receipt : Receipt) → IsFinished store.row call mid new reply receipt → HasMade store call reply old new receipt
-  made_so receipt f = record {
+  -- a commit of what was prepared is an entry that was made
+  pub made_so : (place nth : ℕ) → IsFinished store.row steps mid new place nth → HasMadeEntry store steps old new place nth
+  made_so place nth f = record {
     at_commit = core_of mid;
     was = prepared.core;
-    allowed = subst (MayCommit (compiled_of store.row) (core_of mid)) same_entry (may_be_committed store.row call mid reply prepared.ready);
+    allowed = subst (MayCommit (compiled_of store.row) (core_of mid)) same_entry prepared.ready.may;
     one = prepared.ready.one;
     before = f.before;
-    place = f.place;
+    place_is = f.place_is;
     at = record {
       goes_on = subst (λ (known : List (List Entry)). All (λ earlier. IsPrefix earlier f.before) known) prepared.known f.at.goes_on;
       seen = f.at.seen;
@@ -181,20 +213,19 @@ module _ (store : StoreSeen) (call : Call) (old mid new : PassSeen) (reply : Rep
         ∙ (λ i. prepared.known i ++ (f.before ++ same_entry i ∷ []) ∷ []);
     core =
         ap core_of f.is
-        ∙ (λ i. record (committed (compiled_of store.row) (core_of mid) (sym f.place i) (same_entry i)) {
+        ∙ (λ i. record (committed (compiled_of store.row) (core_of mid) (sym f.place_is i) (same_entry i)) {
           held = [];
           wish = sym (ap (λ (q : PassSeen). (core_of q).wish) f.is) i;
         });
-    own = ap (λ (q : PassSeen). (core_of q).own) f.is ∙ (λ i. (prepared.core i).own ++ placed (sym f.place i) (same_entry i) ∷ []);
-    nth = f.nth ∙ ap (λ (u : PassState). length u.own) prepared.core;
-    seen = subst (λ (x : PassState × ℕ). x.0.seen ≤ x.1) (λ i. (prepared.core i, sym f.place i)) f.at.seen;
+    own = ap (λ (q : PassSeen). (core_of q).own) f.is ∙ (λ i. (prepared.core i).own ++ placed (sym f.place_is i) (same_entry i) ∷ []);
+    nth_is = f.nth_is ∙ ap (λ (u : PassState). length u.own) prepared.core;
+    seen = subst (λ (x : PassState × ℕ). x.0.seen ≤ x.1) (λ i. (prepared.core i, sym f.place_is i)) f.at.seen;
     small = f.small;
-    given = f.given;
     table = ap (λ (q : PassSeen). q.table) f.is ∙ prepared.table;
     held = ap (λ (q : PassSeen). q.held) f.is;
     kept = mid.kept;
     more = prepared.more;
-    keeps = ap (λ (q : PassSeen). q.kept) f.is ∙ (λ i. with_entry mid.kept (placed (sym f.place i) (same_entry i)));
+    keeps = ap (λ (q : PassSeen). q.kept) f.is ∙ (λ i. with_entry mid.kept (placed (sym f.place_is i) (same_entry i)));
     refusals = subst (KeepsRefusals old.standing) (sym (ap (λ (q : PassSeen). q.standing) f.is)) prepared.refusals;
   }
 
@@ -211,3 +242,51 @@ module _ (store : StoreSeen) (call : Call) (old mid new : PassSeen) (reply : Rep
     refusals = subst (KeepsRefusals old.standing) (sym (ap (λ (q : PassSeen). q.standing) e)) prepared.refusals;
     known = ap (λ (q : PassSeen). q.standing.known) e ∙ prepared.known;
   }
+
+-- a call that was prepared, and is finished, was made
+pub call_made : (store : StoreSeen) (call : Call) (old mid new : PassSeen) (reply : Reply) → IsPrepared store.row (one_step call reply) old mid
+    → HoldsExactly (compiled_of store.row) (core_of mid) (one_step call reply)
+    → (receipt : Receipt) → IsCallFinished store.row call mid new reply receipt → HasMade store call reply old new receipt
+unfolding made_so
+call_made store call old mid new reply prepared exact receipt f = record {
+  entry = made_so store (one_step call reply) old mid new prepared receipt.place receipt.nth f.entry;
+  exact = exact;
+  given = f.given;
+}
+
+-- and so a group
+pub group_made : (store : StoreSeen) (calls : List Call) (replies : List Reply) (old mid new : PassSeen) → length replies ≡ length calls
+    → IsPrepared store.row (with_replies calls replies) old mid → HoldsExactly (compiled_of store.row) (core_of mid) (with_replies calls replies)
+    → (receipt : GroupReceipt) → IsGroupFinished store.row calls replies mid new receipt → HasMadeGroup store calls replies old new receipt
+unfolding made_so
+group_made store calls replies old mid new count prepared exact receipt f = record {
+  count = count;
+  entry = made_so store (with_replies calls replies) old mid new prepared receipt.place receipt.nth f.entry;
+  exact = exact;
+  given = f.given;
+}
+
+-- ---- replies that come with receipts
+
+-- a pass keeps its entries exactly where the row's do
+pub is_counted : (keeping : Keeping) (kept : Option PartEntries) → KeepsAs keeping kept → kept ≡ None → keeping ≡ Counts
+is_counted Counts kept keeps none = refl
+is_counted Entries None keeps none = absurd keeps
+is_counted Entries (Some part) keeps none = absurd cc
+
+pub is_kept : (keeping : Keeping) (kept : Option PartEntries) → KeepsAs keeping kept → IsSome kept → keeping ≡ Entries
+is_kept Entries kept keeps some = refl
+is_kept Counts None keeps some = absurd (false≢true some)
+is_kept Counts (Some part) keeps some = absurd keeps
+
+pub reply_given : (keeping : Keeping) (reply : Reply) → keeping ≡ Counts → IsReplyFor keeping reply (Some reply)
+reply_given keeping reply e = subst (λ (k : Keeping). IsReplyFor k reply (Some reply)) (sym e) refl
+
+pub no_reply_given : (keeping : Keeping) (reply : Reply) → keeping ≡ Entries → IsReplyFor keeping reply None
+no_reply_given keeping reply e = subst (λ (k : Keeping). IsReplyFor k reply None) (sym e) refl
+
+pub replies_given : (keeping : Keeping) (replies : List Reply) → keeping ≡ Counts → AreRepliesFor keeping replies (Some replies)
+replies_given keeping replies e = subst (λ (k : Keeping). AreRepliesFor k replies (Some replies)) (sym e) refl
+
+pub no_replies_given : (keeping : Keeping) (replies : List Reply) → keeping ≡ Entries → AreRepliesFor keeping replies None
+no_replies_given keeping replies e = subst (λ (k : Keeping). AreRepliesFor k replies None) (sym e) refl

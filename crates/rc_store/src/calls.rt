@@ -1,6 +1,6 @@
 //! Calls.
 
-ghost use Rattle.std.specs.Prelude.{◌≡◌, ◌<◌, ◌↔◌, Err, IfErr, IfOk, IsTrue, length};
+ghost use Rattle.std.specs.Prelude.{◌≡◌, ◌<◌, ◌↔◌, [], ◌∷◌, Err, IfErr, IfOk, IsTrue, length};
 ghost use Rattle.rc_row.specs.Passes.{core_of};
 ghost use Rattle.rc_store.specs.Busy.{HasCause};
 ghost use Rattle.rc_store.specs.Runs.{IsStoppedFor};
@@ -36,7 +36,7 @@ impl<W: Wakes> Store<W> {
         ensures made { IfOk result (HasReceipt self.now call.now pass.old pass.new) }
         ensures before { IfErr result (λ _. IsAsBefore pass.old pass.new) }
         ensures spent { result ≡ Err fault.Spent ↔ length (core_of pass.old).own ≡ self.now.limit }
-        ensures cause { IfErr result (HasCause self.now.row call.now pass.old pass.new) }
+        ensures cause { IfErr result (HasCause self.now.row (call.now ∷ []) pass.old pass.new) }
     {
         if self.is_spent(pass) {
             return Err(TryFault::Spent);
@@ -69,7 +69,7 @@ impl<W: Wakes> Store<W> {
         ensures free { IsFree self.now pass.new }
         ensures made { IfOk result (HasReceipt self.now call.now pass.old pass.new) }
         ensures before { IfErr result (λ _. IsAsBefore pass.old pass.new) }
-        ensures cause { IfErr result (IsStoppedFor T.waits self.now.row call.now pass.old pass.new) }
+        ensures cause { IfErr result (IsStoppedFor T.waits self.now.row (call.now ∷ []) pass.old pass.new) }
     {
         pass.held_agrees();
         gate.at(pass.number(), Point::BeforeLocks);

@@ -1,9 +1,11 @@
 //! The end of a call.
 
 ghost use Rattle.std.specs.Prelude.{◌≡◌, IfOk, OnErr};
-ghost use Rattle.rc_row.specs.Passes.{IsPassOf, core_of, idle, next_entry};
+ghost use Rattle.rc_rel.specs.History.{with_replies};
+ghost use Rattle.rc_core.specs.Passes.{next_of};
+ghost use Rattle.rc_row.specs.Passes.{IsPassOf, core_of, idle};
 ghost use Rattle.rc_store.specs.Prepared.{IsReady};
-ghost use Rattle.rc_store.specs.Store.{IsFinished};
+ghost use Rattle.rc_store.specs.Store.{IsCallFinished, one_step};
 
 use crate::gate::Gate;
 use crate::receipt::Receipt;
@@ -14,6 +16,7 @@ use rc_row::{Keeping, Pass};
 use rc_spec::{Call, Reply};
 use rc_tuple::Memory;
 use std::alloc::Global;
+use std::slice;
 
 impl<W: Wakes> Store<W> {
     /// Commits a call that is ready, and gives all back that the pass holds. Where memory is wanted for the entry, what the
@@ -26,15 +29,22 @@ impl<W: Wakes> Store<W> {
         gate: &G,
     ) -> Result<Receipt, Memory>
         requires pass { IsPassOf self.now.row pass.old }
-        requires ready { IsReady self.now.row call.now pass.old reply }
+        requires ready { IsReady self.now.row (one_step call.now reply) pass.old }
         ensures pass { IsPassOf self.now.row pass.new }
-        ensures ok { IfOk result (IsFinished self.now.row call.now pass.old pass.new reply) }
+        ensures ok { IfOk result (IsCallFinished self.now.row call.now pass.old pass.new reply) }
         ensures err { OnErr result (pass.new ≡ idle pass.old) }
     {
         match self.row.keeping() {
-            Keeping::Counts => Ok(self.commit_counted(pass, call, reply, gate)),
+            Keeping::Counts => Ok(self.finish_counted(pass, call, reply, gate)),
             Keeping::Entries => match entry_of(self.alloc, pass, call, reply) {
-                Ok(entry) => Ok(self.commit_entry(pass, entry, gate)),
+                Ok(entry) => {
+                    let at = self.commit_entry(pass, entry, gate);
+                    Ok(Receipt {
+                        place: at.place,
+                        nth: at.nth,
+                        reply: None,
+                    })
+                }
                 Err(Memory) => {
                     self.give_back(pass);
                     Err(Memory)
@@ -42,11 +52,33 @@ impl<W: Wakes> Store<W> {
             },
         }
     }
+
+    /// Does so where the pass keeps no entries, and hands the reply out. It takes no memory.
+    pub(crate) fn finish_counted<G: Gate>(
+        &self,
+        pass: &mut Pass,
+        call: &Call,
+        reply: Reply,
+        gate: &G,
+    ) -> Receipt
+        requires pass { IsPassOf self.now.row pass.old }
+        requires ready { IsReady self.now.row (one_step call.now reply) pass.old }
+        requires counts { pass.old.kept ≡ None }
+        ensures pass { IsPassOf self.now.row pass.new }
+        ensures finished { IsCallFinished self.now.row call.now pass.old pass.new reply result }
+    {
+        let at = self.commit_counted(pass, slice::from_ref(call), slice::from_ref(&reply), gate);
+        Receipt {
+            place: at.place,
+            nth: at.nth,
+            reply: Some(reply),
+        }
+    }
 }
 
 /// The next entry of the pass, of the call with its reply.
 fn entry_of(alloc: Global, pass: &Pass, call: &Call, reply: Reply) -> Result<Entry, Memory>
-    ensures { IfOk result (λ entry. entry ≡ next_entry (core_of pass.now) call.now reply) }
+    ensures { IfOk result (λ entry. entry ≡ next_of (core_of pass.now) (one_step call.now reply)) }
 {
     let call = call.copy()?;
     entry_of_step(alloc, pass, Step { call, reply })
@@ -54,7 +86,7 @@ fn entry_of(alloc: Global, pass: &Pass, call: &Call, reply: Reply) -> Result<Ent
 
 /// The next entry of the pass, of one step.
 pub(crate) fn entry_of_step(alloc: Global, pass: &Pass, step: Step) -> Result<Entry, Memory>
-    ensures { IfOk result (λ entry. entry ≡ next_entry (core_of pass.now) step.call step.reply) }
+    ensures { IfOk result (λ entry. entry ≡ next_of (core_of pass.now) (one_step step.call step.reply)) }
 {
     let mut steps = Vec::with_capacity(alloc, 1)?;
     steps.push(step)?;

@@ -99,8 +99,4 @@ impl<'a, L: Lends, T: Takes> Holder for Lender<'a, L, T> {
         self.pass.held_agrees();
         self.pass.sub_row(stripe, edge, row);
     }
-
-    fn revert(&mut self) {
-        self.pass.revert();
-    }
 }

@@ -6,12 +6,17 @@ mod calls;
 mod close;
 mod closed;
 mod finish;
+mod finish_group;
 mod gate;
+mod group;
+mod group_run;
 mod laws;
 mod lender;
+mod locking;
 mod receipt;
 mod run;
 mod running;
+mod running_group;
 mod steps;
 mod store;
 mod taking;
@@ -24,7 +29,8 @@ pub use laws::{
     receipts_are_of_the_closed, receipts_are_plain, receipts_go_on, receipts_mean_one_history,
     telling_goes_on,
 };
-pub use receipt::{BeginBack, CallFault, Receipt, TryFault};
+pub use receipt::{BeginBack, CallFault, GroupReceipt, Receipt, TryFault};
 pub use running::Running;
+pub use running_group::RunningGroup;
 pub use store::Store;
 pub use wakes::{Quiet, Wakes, Waking};

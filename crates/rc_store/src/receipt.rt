@@ -2,6 +2,7 @@
 
 use rc_row::Pass;
 use rc_spec::{Found, Reply};
+use rc_tuple::SmallList;
 
 /// Where the entry of a call stands.
 #[derive(Drop, Debug)]
@@ -15,13 +16,32 @@ pub struct Receipt {
     pub reply: Option<Reply>,
 }
 
+/// Where the entry of a group of calls stands.
+#[derive(Drop, Debug)]
+pub struct GroupReceipt {
+    /// Its place in the history, counted from 0.
+    pub place: u64,
+    /// Its number among the pass's own entries, counted from 0.
+    pub nth: u64,
+    /// The replies of the calls, in their order, where the store's passes keep no entries. Where they do, they stand in the
+    /// pass's entry of that number.
+    pub replies: Option<SmallList<Reply>>,
+}
+
+/// Where an entry stands.
+#[derive(Clone, Copy)]
+pub(crate) struct Position {
+    pub(crate) place: u64,
+    pub(crate) nth: u64,
+}
+
 /// Why a call that waits for nobody has no receipt. History, fragments and the pass's own entries are as before, and the
 /// pass holds nothing.
 #[derive(Clone, Copy, Debug, PartialEq, Eq)]
 pub enum TryFault {
     /// Memory was wanted.
     Memory,
-    /// Something stood in the way of a stripe that the call's plan names.
+    /// Something stood in the way of a stripe that the call's plan names, or that is one of the group's locks.
     Busy {
         /// The number of the stripe, over all classes.
         stripe: u32,

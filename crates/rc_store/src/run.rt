@@ -7,7 +7,7 @@ ghost use Rattle.rc_store.specs.Runs.{HasRunPlan};
 
 use crate::lender::{Lender, Lends, Refused};
 use crate::taking::Takes;
-use rc_machine::{Stop, Workspace, run_plan};
+use rc_machine::{Stop, Workspace, run_statements};
 use rc_plan::Compiled;
 use rc_row::{Pass, Row};
 use rc_spec::{Call, Reply};
@@ -90,5 +90,5 @@ fn run_holder<L: Lends, T: Takes>(
 {
     lender.pass.held_agrees();
     let _ = compiled.accepted();
-    run_plan(compiled, call, space, lender)
+    run_statements(compiled, call, space, lender)
 }

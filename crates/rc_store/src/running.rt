@@ -1,13 +1,13 @@
 //! Prepared calls: a caller may stop between the reply and the commit.
 
-ghost use Rattle.std.specs.Prelude.{◌≡◌, ◌<◌, ◌↔◌, IfErr, IfOk, false, length};
+ghost use Rattle.std.specs.Prelude.{◌≡◌, ◌<◌, ◌↔◌, [], ◌∷◌, IfErr, IfOk, false, length};
 ghost use Rattle.rc_rel.specs.declared.entry.Step.{Step};
-ghost use Rattle.rc_row.specs.Passes.{IsPassOf, KeepsAs, core_of};
+ghost use Rattle.rc_row.specs.Passes.{IsPassOf, KeepsAs, compiled_of, core_of};
 ghost use Rattle.rc_store.specs.Prepared.{IsPrepared, IsReady};
 ghost use Rattle.rc_store.specs.Running.{HasBegun, IsFaultOf, IsHandedBack, IsRunningOn};
 ghost use Rattle.rc_store.specs.RunningInside.{IsOfStep};
 ghost use Rattle.rc_store.specs.Runs.{IsStoppedFor};
-ghost use Rattle.rc_store.specs.Store.{HasMade, IsAsBefore, IsFinished, IsFree, MayCall};
+ghost use Rattle.rc_store.specs.Store.{HasMade, HoldsExactly, IsAsBefore, IsCallFinished, IsFree, MayCall, one_step};
 ghost use Rattle.rc_store.specs.declared.receipt.TryFault.TheVariants as fault;
 
 use crate::finish::entry_of_step;
@@ -111,7 +111,7 @@ impl<W: Wakes> Store<W> {
     pub fn begin(&self, pass: Pass, call: &Call) -> Result<Running, BeginBack>
         requires { MayCall self.now pass call.now }
         ensures begun { IfOk result (HasBegun self.now call.now pass) }
-        ensures back { IfErr result (IsHandedBack self.now call.now pass) }
+        ensures back { IfErr result (IsHandedBack self.now (call.now ∷ []) pass) }
         ensures spent { IsFaultOf fault.Spent result ↔ length (core_of pass).own ≡ self.now.limit }
     {
         let mut pass = pass;
@@ -147,9 +147,10 @@ impl<W: Wakes> Store<W> {
         requires left { length (core_of pass.old).own < self.now.limit }
         ensures pass { IsPassOf self.now.row pass.new }
         ensures step { IfOk result (λ r. (r.1.value.call ≡ call.now) × IsOfStep pass.new r.1.value r.0) }
-        ensures prepared { IfOk result (λ r. IsPrepared self.now.row call.now pass.old pass.new r.1.value.reply) }
+        ensures prepared { IfOk result (λ r. IsPrepared self.now.row (one_step call.now r.1.value.reply) pass.old pass.new) }
+        ensures exact { IfOk result (λ r. HoldsExactly (compiled_of self.now.row) (core_of pass.new) (one_step call.now r.1.value.reply)) }
         ensures before { IfErr result (λ _. IsAsBefore pass.old pass.new) }
-        ensures cause { IfErr result (IsStoppedFor false self.now.row call.now pass.old pass.new) }
+        ensures cause { IfErr result (IsStoppedFor false self.now.row (call.now ∷ []) pass.old pass.new) }
     {
         pass.held_agrees();
         let taking = AtOnce { wakes: &self.wakes };
@@ -167,15 +168,22 @@ impl<W: Wakes> Store<W> {
     fn commit_prepared(&self, pass: &mut Pass, prepared: Prepared) -> Receipt
         requires pass { IsPassOf self.now.row pass.old }
         requires ready { (step : Step) × IsOfStep pass.old step prepared
-            × IsReady self.now.row step.call pass.old step.reply }
+            × IsReady self.now.row (one_step step.call step.reply) pass.old }
         ensures pass { IsPassOf self.now.row pass.new }
         ensures finished { (step : Step) → IsOfStep pass.old step prepared
-            → IsFinished self.now.row step.call pass.old pass.new step.reply result }
+            → IsCallFinished self.now.row step.call pass.old pass.new step.reply result }
     {
         match prepared {
-            Prepared::Entry(entry) => self.commit_entry(pass, entry, &OpenGate),
+            Prepared::Entry(entry) => {
+                let at = self.commit_entry(pass, entry, &OpenGate);
+                Receipt {
+                    place: at.place,
+                    nth: at.nth,
+                    reply: None,
+                }
+            }
             Prepared::Counted(Step { call, reply }) => {
-                self.commit_counted(pass, &call, reply, &OpenGate)
+                self.finish_counted(pass, &call, reply, &OpenGate)
             }
         }
     }

@@ -1,16 +1,16 @@
 //! The steps of a call.
 
-ghost use Rattle.std.specs.Prelude.{◌≡◌, ◌<◌, IfErr, IfOk, IsSome, None, length};
-ghost use Rattle.rc_spec.specs.declared.call.Call.{Call};
-ghost use Rattle.rc_spec.specs.declared.call.Reply.{Reply};
-ghost use Rattle.rc_row.specs.Passes.{AreAtRest, IsPassOf, core_of, idle, next_entry};
+ghost use Rattle.std.specs.Prelude.{◌≡◌, ◌<◌, [], ◌∷◌, IfErr, IfOk, None, length};
+ghost use Rattle.rc_rel.specs.History.{with_replies};
+ghost use Rattle.rc_core.specs.Passes.{next_of};
+ghost use Rattle.rc_row.specs.Passes.{AreAtRest, IsPassOf, compiled_of, core_of, idle};
 ghost use Rattle.rc_store.specs.Lending.{IsUnrefused};
 ghost use Rattle.rc_store.specs.Prepared.{IsPrepared, IsReady};
 ghost use Rattle.rc_store.specs.Runs.{IsStoppedFor};
-ghost use Rattle.rc_store.specs.Store.{IsAsBefore, IsFinished, MayCall};
+ghost use Rattle.rc_store.specs.Store.{HoldsExactly, IsAsBefore, IsFinished, MayCall, one_step};
 
 use crate::gate::{Gate, Point};
-use crate::receipt::Receipt;
+use crate::receipt::Position;
 use crate::run::run_call;
 use crate::store::Store;
 use crate::taking::Takes;
@@ -32,10 +32,11 @@ impl<W: Wakes> Store<W> {
         requires may { MayCall self.now pass.old call.now }
         requires left { length (core_of pass.old).own < self.now.limit }
         ensures pass { IsPassOf self.now.row pass.new }
-        ensures ok { IfOk result (IsPrepared self.now.row call.now pass.old pass.new) }
+        ensures ok { IfOk result (λ reply. IsPrepared self.now.row (one_step call.now reply) pass.old pass.new) }
+        ensures exact { IfOk result (λ reply. HoldsExactly (compiled_of self.now.row) (core_of pass.new) (one_step call.now reply)) }
         ensures unrefused { IfOk result (λ _. IsUnrefused T.waits pass.old pass.new) }
         ensures err { IfErr result (λ _. IsAsBefore pass.old pass.new) }
-        ensures cause { IfErr result (IsStoppedFor T.waits self.now.row call.now pass.old pass.new) }
+        ensures cause { IfErr result (IsStoppedFor T.waits self.now.row (call.now ∷ []) pass.old pass.new) }
     {
         pass.held_agrees();
         pass.reserve()?;
@@ -59,46 +60,37 @@ impl<W: Wakes> Store<W> {
         self.release_all(pass);
     }
 
-    /// Commits a call that is ready, where the pass keeps no entries, gives all back that the pass holds, and hands the
-    /// reply out.
+    /// Commits calls that are ready as one entry, where the pass keeps no entries, and gives all back that the pass holds.
     pub(crate) fn commit_counted<G: Gate>(
         &self,
         pass: &mut Pass,
-        call: &Call,
-        reply: Reply,
+        calls: &[Call],
+        replies: &[Reply],
         gate: &G,
-    ) -> Receipt
+    ) -> Position
         requires pass { IsPassOf self.now.row pass.old }
-        requires ready { IsReady self.now.row call.now pass.old reply }
+        requires ready { IsReady self.now.row (with_replies calls.now replies.now) pass.old }
         requires counts { pass.old.kept ≡ None }
         ensures pass { IsPassOf self.now.row pass.new }
-        ensures finished { IsFinished self.now.row call.now pass.old pass.new reply result }
+        ensures finished { IsFinished self.now.row (with_replies calls.now replies.now) pass.old pass.new result.place result.nth }
     {
         let number = pass.number();
         let nth = pass.made();
         gate.at(number, Point::BeforeCommit);
-        let place = self.row.commit_call(pass, call, &reply);
+        let place = self.row.commit_calls(pass, calls, replies);
         gate.at(number, Point::AfterCommit);
         self.release_all(pass);
         gate.at(number, Point::Answered);
-        Receipt {
-            place,
-            nth,
-            reply: Some(reply),
-        }
+        Position { place, nth }
     }
 
-    /// Commits the entry of a call that is ready, where the pass keeps its entries, and gives all back that the pass holds.
-    pub(crate) fn commit_entry<G: Gate>(&self, pass: &mut Pass, entry: Entry, gate: &G) -> Receipt
+    /// Commits the entry of calls that are ready, where the pass keeps its entries, and gives all back that the pass holds.
+    pub(crate) fn commit_entry<G: Gate>(&self, pass: &mut Pass, entry: Entry, gate: &G) -> Position
         requires pass { IsPassOf self.now.row pass.old }
-        requires ready { (call : Call) × (reply : Reply)
-            × (entry ≡ next_entry (core_of pass.old) call reply)
-            × IsReady self.now.row call pass.old reply }
-        requires kept { IsSome pass.old.kept }
+        requires next { entry ≡ next_of (core_of pass.old) entry.steps }
+        requires ready { IsReady self.now.row entry.steps pass.old }
         ensures pass { IsPassOf self.now.row pass.new }
-        ensures finished { (call : Call) (reply : Reply)
-            → entry ≡ next_entry (core_of pass.old) call reply
-            → IsFinished self.now.row call pass.old pass.new reply result }
+        ensures finished { IsFinished self.now.row entry.steps pass.old pass.new result.place result.nth }
     {
         let number = pass.number();
         let nth = pass.made();
@@ -107,11 +99,7 @@ impl<W: Wakes> Store<W> {
         gate.at(number, Point::AfterCommit);
         self.release_all(pass);
         gate.at(number, Point::Answered);
-        Receipt {
-            place,
-            nth,
-            reply: None,
-        }
+        Position { place, nth }
     }
 
     /// Gives all back that the pass holds, the last first, and wakes those who wait for it.

@@ -6,51 +6,51 @@ use Rattle.rc_store.specs.RunLaws.{answered_so, busy_so, each_ok, lent_run, none
 use Rattle.rc_store.proofs.run.run_holder.Given as given
 use Rattle.rc_store.proofs.run.run_holder.Goals as goal
 
-lent : (g : given.Over) (c : goal.After-run_plan g)
+lent : (g : given.Over) (c : goal.After-run_statements g)
     → IsLentBy g.T.Takes.waits
-    (record { row = c.args.lender.now.row.now; begun = c.args.lender.now.pass.now }) c.run_plan.new.holder.row.now
-    c.run_plan.new.holder.pass.now c.run_plan.new.holder.refused.now (spec_of c.args.lender.now.row.now)
+    (record { row = c.args.lender.now.row.now; begun = c.args.lender.now.pass.now }) c.run_statements.new.holder.row.now
+    c.run_statements.new.holder.pass.now c.run_statements.new.holder.refused.now (spec_of c.args.lender.now.row.now)
 lent g c =
-    lent_run g.T.Takes.waits g.L.Lends.lent c.args.lender.now.row.now c.run_plan.new.holder.row.now
-    c.args.lender.now.pass.now c.run_plan.new.holder.pass.now
-    c.args.lender.now.refused.now c.run_plan.new.holder.refused.now c.requires.lent c.requires.none
-    c.held_agrees.ensures c.requires.idle c.run_plan.ensures.sound
+    lent_run g.T.Takes.waits g.L.Lends.lent c.args.lender.now.row.now c.run_statements.new.holder.row.now
+    c.args.lender.now.pass.now c.run_statements.new.holder.pass.now
+    c.args.lender.now.refused.now c.run_statements.new.holder.refused.now c.requires.lent c.requires.none
+    c.held_agrees.ensures c.requires.idle c.run_statements.ensures.sound
 
 -- what the holder told before and after
-abbrev before : (g : given.Over) (c : goal.After-run_plan g) → Holding
+abbrev before : (g : given.Over) (c : goal.After-run_statements g) → Holding
 before g c = lending c.args.lender.now.row.now c.args.lender.now.pass.now c.args.lender.now.refused.now c.args.lender.now.pass.ghost_name
 
-abbrev after : (g : given.Over) (c : goal.After-run_plan g) → Holding
-after g c = lending c.run_plan.new.holder.row.now c.run_plan.new.holder.pass.now c.run_plan.new.holder.refused.now c.run_plan.new.holder.pass.ghost_name
+abbrev after : (g : given.Over) (c : goal.After-run_statements g) → Holding
+after g c = lending c.run_statements.new.holder.row.now c.run_statements.new.holder.pass.now c.run_statements.new.holder.refused.now c.run_statements.new.holder.pass.ghost_name
 
-quiet : (g : given.Over) (c : goal.After-run_plan g) → (after g c).refusals ≡ (before g c).refusals → IsUnrefused g.T.Takes.waits c.args.lender.now.pass.now c.run_plan.new.holder.pass.now
+quiet : (g : given.Over) (c : goal.After-run_statements g) → (after g c).refusals ≡ (before g c).refusals → IsUnrefused g.T.Takes.waits c.args.lender.now.pass.now c.run_statements.new.holder.pass.now
 quiet g c =
-    unrefused_so _ _ _ _ _ _ (lent g c) c.args.lender.now.refused.now c.args.lender.now.pass.ghost_name c.run_plan.new.holder.pass.ghost_name c.requires.none
+    unrefused_so _ _ _ _ _ _ (lent g c) c.args.lender.now.refused.now c.args.lender.now.pass.ghost_name c.run_statements.new.holder.pass.ghost_name c.requires.none
 
 pub returns-clause-run : goal.returns-clause-run
 returns-clause-run g c = record {
-  of_row = of_row_so _ _ _ _ _ _ (lent g c) c.run_plan.new.holder.of_row;
+  of_row = of_row_so _ _ _ _ _ _ (lent g c) c.run_statements.new.holder.of_row;
   way = way_so _ _ _ _ _ _ (lent g c);
   answered =
-      each_ok c.run_plan.result
+      each_ok c.run_statements.result
       (replied_so _ _ _ _ _ _
-      (lent g c) c.args.compiled.now c.requires.compiled c.args.call.now c.run_plan.new.holder.pass.ghost_name)
-      c.run_plan.ensures.answered;
+      (lent g c) c.args.compiled.now c.requires.compiled c.args.call.now c.run_statements.new.holder.pass.ghost_name)
+      c.run_statements.ensures.answered;
   unrefused =
       answered_so g.T.Takes.waits c.args.lender.now.row.now c.args.call.now c.args.lender.now.pass.now
-      c.run_plan.new.holder.pass.now (before g c) (after g c) (quiet g c) c.run_plan.result c.run_plan.ensures.counted;
+      c.run_statements.new.holder.pass.now (before g c) (after g c) (quiet g c) c.run_statements.result c.run_statements.ensures.counted;
   stopped =
       stopped_so g.T.Takes.waits c.args.lender.now.row.now c.args.call.now c.args.lender.now.pass.now
-      c.run_plan.new.holder.pass.now (before g c) (after g c) (quiet g c) c.run_plan.result c.run_plan.ensures.counted
+      c.run_statements.new.holder.pass.now (before g c) (after g c) (quiet g c) c.run_statements.result c.run_statements.ensures.counted
       (λ h e. (
         none_waits_so _ _ _ _ _ _ (lent g c) c.args.compiled.now c.requires.compiled c.args.call.now
             c.args.lender.now.refused.now
-            c.args.lender.now.pass.ghost_name c.run_plan.new.holder.pass.ghost_name c.requires.none h
-            (c.run_plan.ensures.refused h e),
+            c.args.lender.now.pass.ghost_name c.run_statements.new.holder.pass.ghost_name c.requires.none h
+            (c.run_statements.ensures.refused h e),
         busy_so _ _ _ _ _ _ (lent g c) c.args.compiled.now c.requires.compiled c.args.call.now
             c.args.lender.now.refused.now
-            c.args.lender.now.pass.ghost_name c.run_plan.new.holder.pass.ghost_name
+            c.args.lender.now.pass.ghost_name c.run_statements.new.holder.pass.ghost_name
             (record { sealed = c.accepted.ensures.sealed; planned = c.accepted.ensures.planned }) c.requires.fits
-            c.requires.none h (c.run_plan.ensures.refused h e),
+            c.requires.none h (c.run_statements.ensures.refused h e),
       ));
 }

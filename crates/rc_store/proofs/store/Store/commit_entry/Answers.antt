@@ -3,25 +3,18 @@ use Rattle.rc_rel.specs.declared.entry.Entry.{Entry}
 use Rattle.rc_core.specs.Passes.{MayCommit, committed}
 use Rattle.rc_row.specs.Passes.{PassSeen, RowSeen, compiled_of, core_of, holds_now}
 use Rattle.rc_store.specs.Prepared.{IsReady}
-use Rattle.rc_store.specs.StepLaws.{is_as_committed, may_be_committed, settled_at_rest}
+use Rattle.rc_store.specs.StepLaws.{settled_at_rest}
 use Rattle.rc_store.specs.Store.{StoreSeen}
 use Rattle.rc_store.proofs.store.Store.commit_entry.Goals as goal
 
 pub commit-place-requires-clause-allowed : goal.commit-place-requires-clause-allowed
 commit-place-requires-clause-allowed g c =
-    subst (λ (x : Entry). MayCommit (compiled_of c.self.inside.row) (core_of c.args.pass.now) x)
-    (sym c.requires.ready.2)
-    (may_be_committed c.self.inside.row c.requires.ready.0 c.args.pass.now c.requires.ready.1
-    (subst (λ (r : RowSeen). IsReady r c.requires.ready.0 c.args.pass.now c.requires.ready.1)
-    (sym (ap (λ (s : StoreSeen). s.row) c.self.view_is)) c.requires.ready.3))
+    subst (λ (x : Entry). MayCommit (compiled_of c.self.inside.row) (core_of c.args.pass.now) x) (sym c.requires.next) (subst (λ (r : RowSeen). IsReady r c.args.entry.steps c.args.pass.now) (sym (ap (λ (s : StoreSeen). s.row) c.self.view_is)) c.requires.ready).may
 
 pub commit-place-requires-clause-left : goal.commit-place-requires-clause-left
 commit-place-requires-clause-left g c =
-    subst
-    (λ (x : Entry). holds_now c.args.pass.now.held ≡ (committed (compiled_of c.self.inside.row) (core_of c.args.pass.now) 0 x).held) (sym c.requires.ready.2)
-    (is_as_committed c.self.inside.row c.requires.ready.0 c.args.pass.now c.requires.ready.1
-    (subst (λ (r : RowSeen). IsReady r c.requires.ready.0 c.args.pass.now c.requires.ready.1)
-    (sym (ap (λ (s : StoreSeen). s.row) c.self.view_is)) c.requires.ready.3))
+    subst (λ (x : Entry). holds_now c.args.pass.now.held ≡ (committed (compiled_of c.self.inside.row) (core_of c.args.pass.now) 0 x).held) (sym c.requires.next)
+    (subst (λ (r : RowSeen). IsReady r c.args.entry.steps c.args.pass.now) (sym (ap (λ (s : StoreSeen). s.row) c.self.view_is)) c.requires.ready).left
 
 pub release_all-requires-clause-rest : goal.release_all-requires-clause-rest
 release_all-requires-clause-rest g c =

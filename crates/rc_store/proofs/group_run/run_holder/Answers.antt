@@ -1,0 +1,86 @@
+use Rattle.std.specs.Prelude.{List, length}
+use Rattle.std.specs.Ordering.{nat_cmp}
+use Rattle.std.proofs.Common.{◌≡◌, ℕ, ap, sym, subst, ◌∙◌}
+use Rattle.std.proofs.lemmas.Result.{on_ok_weaker}
+use Rattle.rc_tuple.specs.RisingSet.{IsRising}
+use Rattle.rc_tuple.specs.Tuple.{Pairs}
+use Rattle.rc_spec.specs.declared.spec.Spec.{Spec}
+use Rattle.rc_fragment.specs.Holder.{HeldStripe, Holding}
+use Rattle.rc_plan.specs.Compiled.{SpecWithPlans}
+use Rattle.rc_machine.specs.Machine.{locks_of, stripes_held}
+use Rattle.rc_multi.specs.Group.{AreOfRelationFor, Suffice}
+use Rattle.rc_row.specs.Passes.{core_of, spec_of}
+use Rattle.rc_store.specs.Lending.{IsLentBy, IsLentSo, held_stripes}
+use Rattle.rc_store.specs.LendingLaws.{held_of-lending, lent_last}
+use Rattle.rc_store.specs.GroupLaws.{as_taken_held, lent_held, ran_so, relation_held}
+use Rattle.rc_store.specs.RunLaws.{of_row_so, unrefused_so, way_so}
+use Rattle.rc_store.proofs.group_run.run_holder.Given.{Over}
+use Rattle.rc_store.proofs.group_run.run_holder.Goals.{After-held_agrees, After-run_group}
+use Rattle.rc_store.proofs.group_run.run_holder.Goals as goal
+
+-- the specification is that of the row
+spec_is : (g : Over) (c : After-held_agrees g) → c.args.compiled.now.spec ≡ spec_of c.args.lender.now.row.now
+spec_is g c = sym (ap (λ (x : SpecWithPlans). x.spec) c.requires.compiled)
+
+pub run_group-requires-clause-sound : goal.run_group-requires-clause-sound
+run_group-requires-clause-sound g c =
+    let l = c.args.lender.now in
+    lent_held g.T.Takes.waits g.L.Lends.lent l.row.now l.pass.now l.refused.now c.args.compiled.now.spec c.requires.lent c.requires.none
+    (spec_is g (goal.at.run_group-requires-clause-sound g c).After-held_agrees) c.held_agrees.ensures c.requires.one
+
+pub run_group-requires-clause-unchanged : goal.run_group-requires-clause-unchanged
+run_group-requires-clause-unchanged g c =
+    let l = c.args.lender.now in
+    as_taken_held l.row.now l.pass.now l.refused.now l.pass.ghost_name c.requires.rest
+
+pub run_group-requires-clause-covered : goal.run_group-requires-clause-covered
+run_group-requires-clause-covered g c =
+    let l = c.args.lender.now in
+    subst (λ (hs : List HeldStripe). Suffice c.args.compiled.now c.args.calls.now (locks_of hs)) (sym (held_of-lending l.row.now l.pass.now l.refused.now l.pass.ghost_name)) c.requires.suffice
+
+pub run_group-requires-clause-rising : goal.run_group-requires-clause-rising
+run_group-requires-clause-rising g c =
+    let l = c.args.lender.now in
+    subst (λ (hs : List HeldStripe). IsRising nat_cmp (stripes_held hs)) (sym (held_of-lending l.row.now l.pass.now l.refused.now l.pass.ghost_name)) c.requires.rising
+
+pub run_group-requires-clause-relation : goal.run_group-requires-clause-relation
+run_group-requires-clause-relation g c =
+    let l = c.args.lender.now in
+    let n : ℕ = length c.args.calls.now in
+    subst (λ (x : SpecWithPlans × List HeldStripe). (r : List Pairs) × AreOfRelationFor x.0.spec x.1 r n)
+    (λ i. (c.requires.compiled i, sym (held_of-lending l.row.now l.pass.now l.refused.now l.pass.ghost_name) i))
+    (relation_held (spec_of l.row.now) l.pass.now.held (core_of l.pass.now).held n c.held_agrees.ensures c.requires.one c.requires.few)
+
+-- the holder at the end is that of the row and pass which were lent
+lent : (g : Over) (c : After-run_group g)
+    → IsLentBy g.T.Takes.waits (record { row = c.args.lender.now.row.now; begun = c.args.lender.now.pass.now })
+    c.run_group.new.holder.row.now c.run_group.new.holder.pass.now c.run_group.new.holder.refused.now (spec_of c.args.lender.now.row.now)
+lent g c =
+    let l = c.args.lender.now in
+    let n = c.run_group.new.holder in
+    lent_last g.T.Takes.waits g.L.Lends.lent l.row.now n.row.now l.pass.now n.pass.now n.refused.now (spec_of l.row.now) c.requires.lent
+    (subst (λ (s : Spec). IsLentSo g.T.Takes.waits g.L.Lends.lent n.row.now n.pass.now n.refused.now s) (sym (ap (λ (x : SpecWithPlans). x.spec) c.requires.compiled)) c.run_group.ensures.sound)
+
+pub returns-clause-same_reference : goal.returns-clause-same_reference
+returns-clause-same_reference g c = ap (λ (s : Holding). s.through) c.run_group.ensures.lent
+
+pub returns-clause-of_row : goal.returns-clause-of_row
+returns-clause-of_row g c = of_row_so _ _ _ _ _ _ (lent g (goal.at.returns-clause-of_row g c).After-run_group) c.run_group.new.holder.of_row
+
+pub returns-clause-way : goal.returns-clause-way
+returns-clause-way g c = way_so _ _ _ _ _ _ (lent g (goal.at.returns-clause-way g c).After-run_group)
+
+pub returns-clause-unrefused : goal.returns-clause-unrefused
+returns-clause-unrefused g c =
+    unrefused_so _ _ _ _ _ _ (lent g (goal.at.returns-clause-unrefused g c).After-run_group) c.args.lender.now.refused.now c.args.lender.now.pass.ghost_name c.run_group.new.holder.pass.ghost_name
+    c.requires.none (ap (λ (s : Holding). s.refusals) c.run_group.ensures.lent)
+
+pub returns-clause-ran : goal.returns-clause-ran
+returns-clause-ran g c =
+    let old = c.args.lender.now in
+    let new = c.run_group.new.holder in
+    on_ok_weaker c.run_group.result
+    (λ ran. ran_so (spec_of old.row.now) c.args.compiled.now.spec (held_stripes old.pass.now.held) (held_stripes new.pass.now.held) _ _ c.args.calls.now c.run_group.new.replies.items
+    (ap (λ (x : SpecWithPlans). x.spec) c.requires.compiled)
+    (held_of-lending old.row.now old.pass.now old.refused.now old.pass.ghost_name) (held_of-lending new.row.now new.pass.now new.refused.now new.pass.ghost_name) ran)
+    c.run_group.ensures.ran

@@ -1,0 +1,189 @@
+-- What takes in turn make of a pass: a group's locks, before the first of its plans.
+use Rattle.std.specs.Prelude.{◌≡◌, ℕ, zero, suc, ◌+◌, ◌<◌, ◌≤◌, Bool, false, List, [], ◌∷◌, ◌++◌, length, take, get_or, None, Option, Some}
+use Rattle.std.specs.Ordering.{nat_cmp}
+use Rattle.std.proofs.lemmas.Cmp.{ranked}
+use Rattle.std.specs.declared.cmp.Ordering.TheVariants.{Less}
+use Rattle.std.proofs.Common.{refl, sym, ap, subst, ◌∙◌, inl, inr, arith}
+use Rattle.std.proofs.lemmas.List.{take_more, take_all}
+use Rattle.std.proofs.lemmas.List.Elements.{All-nil, All-push}
+use Rattle.rc_tuple.specs.RisingSet.{In, IsRising}
+use Rattle.rc_tuple.specs.RisingSetLaws.{get_or_in, map_in}
+use Rattle.rc_spec.specs.declared.lock.Found.{Found}
+use Rattle.rc_spec.specs.declared.lock.Mode.{Mode}
+use Rattle.rc_spec.specs.Locks.{StripeLock}
+use Rattle.rc_fragment.specs.Keep.{IsAtRest}
+use Rattle.rc_plan.specs.StripeLocks.{stripes_of}
+use Rattle.rc_core.specs.declared.state.PassState.{PassState}
+use Rattle.rc_core.specs.Passes.{IsAbove, took}
+use Rattle.rc_core.specs.State.{hold, stripes_in}
+use Rattle.rc_machine.specs.Machine.{locks_of}
+use Rattle.rc_row.specs.declared.law.Standing.{Standing}
+use Rattle.rc_row.specs.HeldRows.{HeldRows, just_held}
+use Rattle.rc_row.specs.Law.{kept_of}
+use Rattle.rc_row.specs.Passes.{AreAtRest, HasWaited, PassSeen, RowSeen, core_of, holds_taken, spec_of, waited_so, with_standing}
+use Rattle.rc_row.specs.Standings.{HaveOneRelation, KeepsOut, KeepsRefusals, turned_away, without_wish}
+use Rattle.rc_row.specs.StandingsLaws.{refusals_first, refusals_more, refusals_on}
+use Rattle.rc_store.specs.Busy.{IsLockBusy}
+use Rattle.rc_store.specs.Lending.{IsOnTheWay, IsUnrefused, held_stripes}
+use Rattle.rc_store.specs.LendingLaws.{at_first}
+use Rattle.rc_store.specs.Locking.{HasTakenLocks}
+use Rattle.rc_store.specs.Taking.{HasGivenUp, HasTakenStripe, HasWaitedIf}
+
+pub none_taken : (waits : Bool) (row : RowSeen) (pass : PassSeen) → holds_taken pass.held ≡ (core_of pass).held → pass.held ≡ [] → HasTakenLocks waits row pass pass []
+none_taken waits row pass agrees idle = record {
+  way = at_first row pass agrees idle;
+  unrefused = λ at_once. refl;
+  locks = ap (λ (hs : List HeldRows). locks_of (held_stripes hs)) idle;
+  rest = subst AreAtRest (sym idle) (All-nil (λ (h : HeldRows). IsAtRest h.fragment));
+}
+
+locks_more : (hs : List HeldRows) (h : HeldRows) → locks_of (held_stripes (hs ++ h ∷ [])) ≡ locks_of (held_stripes hs) ++ (h.stripe, h.mode) ∷ []
+locks_more [] h = refl
+locks_more (x ∷ hs) h = ap (λ (l : List StripeLock). (x.stripe, x.mode) ∷ l) (locks_more hs h)
+
+-- ---- a pass that waited, or was refused, or gave up
+
+module _ (row : RowSeen) (begun old new : PassSeen) (way : IsOnTheWay row begun old) where
+  -- what it wants and its refused steps changed
+  pub stays_on : (s : Standing) → new ≡ with_standing s old → s.core ≡ record (core_of old) { wish = s.core.wish } → KeepsRefusals old.standing s → s.known ≡ old.standing.known
+      → IsOnTheWay row begun new
+  stays_on s e core refusals known =
+      let core_is : core_of new ≡ s.core = ap core_of e in
+      let core_held : (core_of new).held ≡ (core_of old).held = ap (λ (u : PassState). u.held) (core_is ∙ core) in
+      let held : new.held ≡ old.held = ap (λ (q : PassSeen). q.held) e in
+      record {
+        ran = record {
+          core = core_is ∙ core
+              ∙ ap (λ (u : PassState). record u { wish = s.core.wish }) way.ran.core
+              ∙ (λ i. record (core_of begun) { held = sym core_held i; wish = sym (ap (λ (u : PassState). u.wish) core_is) i });
+          table = ap (λ (q : PassSeen). q.table) e ∙ way.ran.table;
+          kept = ap (λ (q : PassSeen). q.kept) e ∙ way.ran.kept;
+          refusals = refusals_on begun.standing old.standing new.standing way.ran.refusals (subst (KeepsRefusals old.standing) (sym (ap (λ (q : PassSeen). q.standing) e)) refusals);
+          known = ap (λ (q : PassSeen). q.standing.known) e ∙ known ∙ way.ran.known;
+        };
+        agrees = ap holds_taken held ∙ way.agrees ∙ sym core_held;
+        one = subst (HaveOneRelation (spec_of row)) (sym core_held) way.one;
+      }
+
+  pub waited_way : (mode : Mode) (passes p : ℕ) → HasWaited mode passes p old new → IsOnTheWay row begun new
+  waited_way mode passes p w = go w.steps w.is
+    where
+      go : (steps : Option (ℕ × Found)) → new ≡ with_standing (waited_so mode old.standing p steps) old → IsOnTheWay row begun new
+      go None e = stays_on old.standing e refl (refusals_first old.standing) refl
+      go (Some (n, found)) e =
+          stays_on (waited_so mode old.standing p (Some (n, found))) e refl (refusals_more old.standing (waited_so mode old.standing p (Some (n, found))) (omega arith)) refl
+
+  pub refused_way : (mode : Mode) (stripe : ℕ) (found : Found) → new ≡ with_standing (turned_away mode old.standing stripe found) old → IsOnTheWay row begun new
+  refused_way mode stripe found e =
+      stays_on (turned_away mode old.standing stripe found) e refl (refusals_more old.standing (turned_away mode old.standing stripe found) (omega arith)) refl
+
+  pub wishless_way : new ≡ with_standing (without_wish old.standing) old → IsOnTheWay row begun new
+  wishless_way e = stays_on (without_wish old.standing) e refl (refusals_first old.standing) refl
+
+-- where nothing waits it is as it was
+unrefused_waiting : (waits : Bool) (mode : Mode) (passes p : ℕ) (begun old new : PassSeen) → IsUnrefused waits begun old → HasWaitedIf waits mode passes p old new → IsUnrefused waits begun new
+unrefused_waiting waits mode passes p begun old new none w at_once = ap (λ (q : PassSeen). q.standing.refusals) (w.at_once at_once) ∙ none at_once
+
+-- ---- a take
+
+module _ (waits : Bool) (row : RowSeen) (begun old new : PassSeen) (taken : List StripeLock) (at : HasTakenLocks waits row begun old taken) (mode : Mode) (stripe : ℕ) where
+  module _ (t : HasTakenStripe waits row mode stripe old new) (one : HaveOneRelation (spec_of row) (core_of new).held) (agrees : holds_taken new.held ≡ (core_of new).held) where
+    mid : IsOnTheWay row begun t.before
+    mid = waited_way row begun old t.before at.way mode row.key.passes stripe t.waits_so.waited
+
+    held_is : new.held ≡ old.held ++ just_held stripe mode (kept_of (spec_of row) t.rows) ∷ []
+    held_is = ap (λ (q : PassSeen). q.held) t.is ∙ ap (λ (q : PassSeen). q.held ++ just_held stripe mode (kept_of (spec_of row) t.rows) ∷ []) t.waits_so.waited.is
+
+    core_held : (core_of new).held ≡ (core_of t.before).held ++ hold stripe mode t.rows ∷ []
+    core_held = ap (λ (q : PassSeen). (core_of q).held) t.is
+
+    core_wish : (core_of new).wish ≡ None
+    core_wish = ap (λ (q : PassSeen). (core_of q).wish) t.is
+
+    way : IsOnTheWay row begun new
+    way = record {
+      ran = record {
+        core =
+            ap core_of t.is
+            ∙ ap (λ (u : PassState). took mode u stripe t.rows) mid.ran.core
+            ∙ (λ i. record (core_of begun) { held = sym core_held i; wish = sym core_wish i });
+        table = ap (λ (q : PassSeen). q.table) t.is ∙ mid.ran.table;
+        kept = ap (λ (q : PassSeen). q.kept) t.is ∙ mid.ran.kept;
+        refusals = subst (λ (q : PassSeen). KeepsRefusals begun.standing q.standing) (sym t.is) mid.ran.refusals;
+        known = ap (λ (q : PassSeen). q.standing.known) t.is ∙ mid.ran.known;
+      };
+      agrees = agrees;
+      one = one;
+    }
+
+    pub more_taken : HasTakenLocks waits row begun new (taken ++ (stripe, mode) ∷ [])
+    more_taken = record {
+      way = way;
+      unrefused = λ at_once.
+          ap (λ (q : PassSeen). q.standing.refusals) t.is
+          ∙ unrefused_waiting waits mode row.key.passes stripe begun old t.before at.unrefused t.waits_so at_once;
+      locks =
+          ap (λ (hs : List HeldRows). locks_of (held_stripes hs)) held_is
+          ∙ locks_more old.held (just_held stripe mode (kept_of (spec_of row) t.rows))
+          ∙ ap (λ (l : List StripeLock). l ++ (stripe, mode) ∷ []) at.locks;
+      rest =
+          subst AreAtRest (sym held_is)
+          (All-push (λ (h : HeldRows). IsAtRest h.fragment) old.held (just_held stripe mode (kept_of (spec_of row) t.rows)) at.rest (record { taken = refl; changes = refl }));
+    }
+
+  -- and one for which memory was wanted
+  module _ (t : HasGivenUp waits row mode stripe old new) where
+    pub given_up_way : IsOnTheWay row begun new
+    given_up_way = wishless_way row begun t.before new (waited_way row begun old t.before at.way mode row.key.passes stripe t.waits_so.waited) t.is
+
+    pub given_up_unrefused : IsUnrefused waits begun new
+    given_up_unrefused at_once =
+        ap (λ (q : PassSeen). q.standing.refusals) t.is
+        ∙ unrefused_waiting waits mode row.key.passes stripe begun old t.before at.unrefused t.waits_so at_once
+
+  -- a refused one is the cause
+  pub busy_there : (locks : List StripeLock) (found : Found) → waits ≡ false → new ≡ with_standing (turned_away mode old.standing stripe found) old
+      → KeepsOut mode row.key.passes (core_of old).number found → In (stripe, mode) locks → IsLockBusy row locks begun new stripe found
+  busy_there locks found at_once e out m = record {
+    mode = mode;
+    held = (core_of old).held;
+    risen = (let same : old.standing.refusals ≡ begun.standing.refusals = at.unrefused at_once in
+        let more : new.standing.refusals ≡ suc old.standing.refusals = ap (λ (q : PassSeen). q.standing.refusals) e in omega (arith, same, more));
+    last = ap (λ (q : PassSeen). q.standing.last_refusal) e;
+    found = subst (λ n. KeepsOut mode row.key.passes n found) (ap (λ (u : PassState). u.number) at.way.ran.core) out;
+    wanted = m;
+  }
+
+-- ---- the locks rise
+
+nat_cmp_less : (x y : ℕ) → nat_cmp x y ≡ Less → x < y
+nat_cmp_less x y e = ranked x y Less (sym e)
+
+below_next : (locks : List StripeLock) (n : ℕ) (d : StripeLock) → IsRising nat_cmp (stripes_of locks) → n < length locks → (q : ℕ) → In q (stripes_of (take n locks)) → q < (get_or locks n d).0
+below_next [] n d r l q m = absurd (omega (arith, l))
+below_next (x ∷ locks) zero d r l q m = absurd m
+below_next (x ∷ locks) (suc n) d r l q (inl e) =
+    let there : In (get_or locks n d) locks = get_or_in locks n d (omega (arith, l)) in
+    let less : x.0 < (get_or locks n d).0 = nat_cmp_less x.0 (get_or locks n d).0 (r.0 (get_or locks n d).0 (map_in (λ (k : StripeLock). k.0) (get_or locks n d) locks there)) in
+    subst (λ (k : ℕ). k < (get_or locks n d).0) (sym e) less
+below_next (x ∷ locks) (suc n) d r l q (inr m) = below_next locks n d r.1 (omega (arith, l)) q m
+
+stripes_held_in : (hs : List HeldRows) → stripes_in (holds_taken hs) ≡ stripes_of (locks_of (held_stripes hs))
+stripes_held_in [] = refl
+stripes_held_in (h ∷ hs) = ap (λ (l : List ℕ). h.stripe ∷ l) (stripes_held_in hs)
+
+-- the next lock is above all that is held
+pub next_above : (waits : Bool) (row : RowSeen) (begun now : PassSeen) (locks : List StripeLock) (n : ℕ) (d : StripeLock) → HasTakenLocks waits row begun now (take n locks)
+    → IsRising nat_cmp (stripes_of locks) → n < length locks → IsAbove (core_of now) (get_or locks n d).0
+next_above waits row begun now locks n d at rising l q m =
+    let same : stripes_in (core_of now).held ≡ stripes_of (locks_of (held_stripes now.held)) = ap stripes_in (sym at.way.agrees) ∙ stripes_held_in now.held in
+    below_next locks n d rising l q (subst (λ (xs : List ℕ). In q xs) (same ∙ ap stripes_of at.locks) m)
+
+-- one lock more of the list
+pub next_taken : (waits : Bool) (row : RowSeen) (begun now : PassSeen) (locks : List StripeLock) (n : ℕ) (lock : StripeLock) → n < length locks → lock ≡ get_or locks n lock
+    → HasTakenLocks waits row begun now (take n locks ++ (lock.0, lock.1) ∷ []) → HasTakenLocks waits row begun now (take (n + 1) locks)
+next_taken waits row begun now locks n lock l e at = subst (HasTakenLocks waits row begun now) ((λ i. take n locks ++ e i ∷ []) ∙ sym (take_more locks n lock l)) at
+
+pub whole_taken : (waits : Bool) (row : RowSeen) (begun now : PassSeen) (locks : List StripeLock) (n : ℕ) → length locks ≤ n → HasTakenLocks waits row begun now (take n locks)
+    → HasTakenLocks waits row begun now locks
+whole_taken waits row begun now locks n l at = subst (HasTakenLocks waits row begun now) (take_all n locks l) at
