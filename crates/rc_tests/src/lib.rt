@@ -8,6 +8,8 @@ mod gates;
 #[cfg(test)]
 mod graph;
 #[cfg(test)]
+mod group_tests;
+#[cfg(test)]
 mod outcome;
 #[cfg(test)]
 mod plan_tests;
