@@ -41,6 +41,9 @@ extern "C" {
  * greatest value of each range column, of 32 columns at most */
 #define RELC_VALUES 64
 
+/* how many calls of a group */
+#define RELC_GROUP 16
+
 /* how many values of a row, and of several rows at once */
 #define RELC_CELLS 32
 #define RELC_PAGE 1024
@@ -60,15 +63,16 @@ enum relc_code {
     RELC_SPENT = 3,        /* the session has made as many calls as its store lets it */
     RELC_OPERATION = 4,    /* no operation has this number, or this name */
     RELC_VALUE_COUNT = 5,  /* the operation takes another number of values */
-    RELC_PREPARED = 6,     /* a call is prepared, and neither committed nor cancelled */
-    RELC_NOT_PREPARED = 7, /* no call is prepared */
-    RELC_NO_ROW = 8,       /* the reply has no such row */
+    RELC_PREPARED = 6,     /* a call or a group is prepared, and neither committed nor cancelled */
+    RELC_NOT_PREPARED = 7, /* no call and no group is prepared */
+    RELC_NO_ROW = 8,       /* the reply has no such row, or there is no such reply */
     RELC_OPTIONS = 9,      /* passes, limit or rows are out of their ranges */
     RELC_TOO_LONG = 10,    /* the text is longer than 2^24 bytes */
     RELC_LINE = 11,        /* the text breaks a line rule: refusal of the frame */
     RELC_RULE = 12,        /* the specification breaks a rule of acceptance: the same */
     RELC_NONE_LEFT = 13,   /* as many sessions were begun as the store has passes */
-    RELC_UNSEEN = 14       /* the session has seen less than what was to be learned */
+    RELC_UNSEEN = 14,      /* the session has seen less than what was to be learned */
+    RELC_COUNT = 15        /* a group has no call, or more than RELC_GROUP */
 };
 
 /* kinds of a reply */
@@ -129,12 +133,13 @@ typedef struct relc_frame {
     uint32_t stripe;              /* told with RELC_BUSY: the stripe, over all classes */
     uint32_t who;                 /* told with RELC_BUSY: see enum relc_found */
     uint64_t number;              /* told: of rows, or of the dependency */
-    uint64_t place;               /* told by relc_try_call and relc_commit, and not by relc_begin:
-                                     the call's place in the one history of all calls */
-    uint64_t nth;                 /* told with it: the call's number among the session's own */
+    uint64_t place;               /* told where calls are made, and not where they are prepared: the
+                                     place of the call, or of the group, in the one history of all,
+                                     in which a group counts as one */
+    uint64_t nth;                 /* told with it: its number among the session's own */
     uint64_t seen;                /* asked and told by relc_learn: the length of a history that a
                                      session has seen */
-    uint64_t row;                 /* asked by relc_row: which row, from 0 */
+    uint64_t row;                 /* asked by relc_row: which row, from 0; by relc_pick: which call */
     uint64_t width;               /* told by relc_row: how many values it has */
     uint64_t cells[RELC_CELLS];   /* told by relc_row: its values, in the order of the query's
                                      outputs, or of the columns of the tuple that was there */
@@ -175,13 +180,30 @@ uint32_t relc_try_call(relc_session *session, relc_frame *frame);
  * RELC_BUSY. */
 uint32_t relc_begin(relc_session *session, relc_frame *frame);
 
-/* Commits the prepared call, which has the reply that was told. It takes no memory. RELC_DONE or
- * RELC_NOT_PREPARED. */
+/* Calls up to RELC_GROUP operations as one, and waits for nobody: each frame asks for one call, and
+ * nobody sees a state between them. RELC_DONE: they stand in the history at `place`, as one, and each
+ * frame tells its own reply. Else RELC_PREPARED, then RELC_COUNT, then of the first frame that has one
+ * of them RELC_OPERATION or RELC_VALUE_COUNT, then RELC_SPENT, in that order of tests, then RELC_MEMORY,
+ * or RELC_BUSY, which tells the first frame what was in the way. A reply as RELC_CONFLICT or
+ * RELC_ABSENT is a reply: the group goes on. */
+uint32_t relc_try_group(relc_session *session, relc_frame *frames, size_t count);
+
+/* Prepares calls as one: their stripes are taken, and their replies told; relc_commit or relc_cancel
+ * follows. Codes as relc_try_group. */
+uint32_t relc_begin_group(relc_session *session, relc_frame *frames, size_t count);
+
+/* Commits the prepared call or group, which has the replies that were told; of a group the frame tells
+ * that of the first call again. It takes no memory. RELC_DONE or RELC_NOT_PREPARED. */
 uint32_t relc_commit(relc_session *session, relc_frame *frame);
 
-/* Cancels the prepared call, as if it had not begun. It takes no memory, and neither reads nor
+/* Cancels the prepared call or group, as if it had not begun. It takes no memory, and neither reads nor
  * writes the frame. RELC_DONE or RELC_NOT_PREPARED. */
 uint32_t relc_cancel(relc_session *session, relc_frame *frame);
+
+/* Picks the reply to the call of a group that has the number `row`, from 0: relc_row and relc_rows read
+ * it from then on. Whatever is made, prepared, committed or cancelled next picks the first again.
+ * RELC_DONE, or RELC_NO_ROW, where there is no such call and nothing changes. */
+uint32_t relc_pick(relc_session *session, relc_frame *frame);
 
 /* Learns that another session of the store has seen `seen` calls of the history: later calls of
  * this one stand after all of them. RELC_DONE: `seen` tells how many this one has seen then, at
@@ -192,7 +214,8 @@ uint32_t relc_cancel(relc_session *session, relc_frame *frame);
 uint32_t relc_learn(relc_session *session, relc_frame *frame);
 
 /* Copies row `row` into `cells`: of the reply of the prepared call, where one is, else of the last
- * call that was made. RELC_DONE or RELC_NO_ROW. */
+ * call that was made; of a group that of the first call, or of the one that relc_pick picked.
+ * RELC_DONE or RELC_NO_ROW. */
 uint32_t relc_row(relc_session *session, relc_frame *frame);
 
 /* Copies the rows from `row` on into `cells`, one behind the other, as many as there is room for,
@@ -204,8 +227,8 @@ uint32_t relc_rows(relc_session *session, relc_page *page);
 /* Closes a store, where it isn't NULL. Its sessions may go on. */
 void relc_close_store(relc_store *store);
 
-/* Closes a session, where it isn't NULL, and cancels the call that it has prepared, where there is
- * one. */
+/* Closes a session, where it isn't NULL, and cancels the call or the group that it has prepared, where
+ * there is one. */
 void relc_close_session(relc_session *session);
 
 #ifdef __cplusplus

@@ -95,12 +95,27 @@ static unsigned epoch_of(relc_waiting *waiting)
     return epoch;
 }
 
-/* asks relc_try_call or relc_begin until no other session is in the way */
-static uint32_t ask(relc_waiting *waiting, relc_session *session, relc_frame *frame,
-    uint32_t (*export)(relc_session *, relc_frame *))
+/* what asks a session for calls: for one, or for a group */
+typedef uint32_t export(relc_session *, relc_frame *, size_t);
+
+static uint32_t try_one(relc_session *session, relc_frame *frames, size_t count)
+{
+    (void)count;
+    return relc_try_call(session, frames);
+}
+
+static uint32_t begin_one(relc_session *session, relc_frame *frames, size_t count)
+{
+    (void)count;
+    return relc_begin(session, frames);
+}
+
+/* asks until no other session is in the way */
+static uint32_t ask(relc_waiting *waiting, export *asks, relc_session *session, relc_frame *frames,
+    size_t count)
 {
     for (int tries = 0; tries < TRIES; tries++) {
-        uint32_t code = export(session, frame);
+        uint32_t code = asks(session, frames, count);
         if (code != RELC_BUSY)
             return code;
     }
@@ -108,7 +123,7 @@ static uint32_t ask(relc_waiting *waiting, relc_session *session, relc_frame *fr
     uint32_t code;
     for (;;) {
         unsigned before = epoch_of(waiting);
-        code = export(session, frame);
+        code = asks(session, frames, count);
         if (code != RELC_BUSY)
             break;
         nap(waiting, before);
@@ -117,17 +132,43 @@ static uint32_t ask(relc_waiting *waiting, relc_session *session, relc_frame *fr
     return code;
 }
 
-uint32_t relc_call(relc_waiting *waiting, relc_session *session, relc_frame *frame)
+/* calls are made, and their stripes are free again */
+static uint32_t call(relc_waiting *waiting, export *asks, relc_session *session, relc_frame *frames,
+    size_t count)
 {
-    uint32_t code = ask(waiting, session, frame, relc_try_call);
+    uint32_t code = ask(waiting, asks, session, frames, count);
     relc_ring(waiting);
     return code;
 }
 
-uint32_t relc_begin_waiting(relc_waiting *waiting, relc_session *session, relc_frame *frame)
+/* calls are prepared, and keep their stripes, but for those of a refused try */
+static uint32_t begin(relc_waiting *waiting, export *asks, relc_session *session, relc_frame *frames,
+    size_t count)
 {
-    uint32_t code = ask(waiting, session, frame, relc_begin);
+    uint32_t code = ask(waiting, asks, session, frames, count);
     if (code != RELC_DONE)
         relc_ring(waiting);
     return code;
+}
+
+uint32_t relc_call(relc_waiting *waiting, relc_session *session, relc_frame *frame)
+{
+    return call(waiting, try_one, session, frame, 1);
+}
+
+uint32_t relc_begin_waiting(relc_waiting *waiting, relc_session *session, relc_frame *frame)
+{
+    return begin(waiting, begin_one, session, frame, 1);
+}
+
+uint32_t relc_call_group(
+    relc_waiting *waiting, relc_session *session, relc_frame *frames, size_t count)
+{
+    return call(waiting, relc_try_group, session, frames, count);
+}
+
+uint32_t relc_begin_group_waiting(
+    relc_waiting *waiting, relc_session *session, relc_frame *frames, size_t count)
+{
+    return begin(waiting, relc_begin_group, session, frames, count);
 }

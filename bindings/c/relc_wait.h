@@ -1,4 +1,4 @@
-/* relc_wait.h: calls that wait, over relc_try_call and relc_begin. Not proved: tested. One
+/* relc_wait.h: calls and groups that wait, over those of relc.h that don't. Not proved: tested. One
  * relc_waiting is shared by all threads that call on one store. Calls that are made, committed or
  * cancelled beside it ring it by relc_ring. What relc.h says of sessions, frames and memory holds
  * here too; a relc_waiting is used by any number of calls at a time. No thread is cancelled
@@ -29,9 +29,15 @@ uint32_t relc_call(relc_waiting *waiting, relc_session *session, relc_frame *fra
 /* Prepares a call as relc_begin does, and waits as relc_call does. */
 uint32_t relc_begin_waiting(relc_waiting *waiting, relc_session *session, relc_frame *frame);
 
-/* Wakes those that wait: to be called after each relc_try_call, relc_commit, relc_cancel or
- * relc_close_session that stands alone, and after each relc_begin that is refused. Where nobody
- * waits it costs one load. */
+/* The same of groups, as relc_try_group and relc_begin_group make and prepare them. */
+uint32_t relc_call_group(
+    relc_waiting *waiting, relc_session *session, relc_frame *frames, size_t count);
+uint32_t relc_begin_group_waiting(
+    relc_waiting *waiting, relc_session *session, relc_frame *frames, size_t count);
+
+/* Wakes those that wait: to be called after each relc_try_call, relc_try_group, relc_commit,
+ * relc_cancel or relc_close_session that stands alone, and after each relc_begin or relc_begin_group
+ * that is refused. Where nobody waits it costs one load. */
 void relc_ring(relc_waiting *waiting);
 
 #ifdef __cplusplus

@@ -454,6 +454,108 @@ static void test_busy(void)
     relc_close_session(two);
 }
 
+/* A call that puts an edge of node 1 in, one that takes it out, and one that asks for node 1's. */
+static void ask_all(relc_store *store, relc_frame frames[3], uint64_t end, uint64_t weight)
+{
+    ask(&frames[0], operation(store, "ins").op, 3, 1, end, weight);
+    ask(&frames[1], operation(store, "del").op, 2, 1, end, 0);
+    ask(&frames[2], operation(store, "succ").op, 1, 1, 0, 0);
+}
+
+static void test_groups_are_refused(void)
+{
+    relc_store *store = opened(1, 1);
+    relc_session *session = session_of(store);
+    static relc_frame frames[RELC_GROUP + 1];
+    for (int at = 0; at + 3 <= RELC_GROUP; at += 3)
+        ask_all(store, frames + at, 2, 10);
+    ask(&frames[15], frames[2].op, 1, 1, 0, 0);
+    ask(&frames[16], frames[2].op, 1, 1, 0, 0);
+    relc_close_store(store);
+    CHECK(relc_try_group(session, frames, 0) == RELC_COUNT);
+    CHECK(relc_try_group(session, frames, RELC_GROUP + 1) == RELC_COUNT);
+    CHECK(relc_begin_group(session, frames, 0) == RELC_COUNT);
+    frames[1].count = 3;
+    frames[2].op = 99;
+    CHECK(relc_try_group(session, frames, 3) == RELC_VALUE_COUNT);
+    CHECK(relc_begin_group(session, frames, RELC_GROUP) == RELC_VALUE_COUNT);
+    frames[1].count = 1000000;
+    CHECK(relc_try_group(session, frames, 3) == RELC_VALUE_COUNT);
+    frames[1].count = 2;
+    CHECK(relc_try_group(session, frames, 3) == RELC_OPERATION);
+    frames[2].op = frames[5].op;
+    CHECK(relc_pick(session, frames) == RELC_NO_ROW);
+    CHECK(relc_begin_group(session, frames, RELC_GROUP) == RELC_DONE);
+    CHECK(relc_begin_group(session, frames, 0) == RELC_PREPARED);
+    CHECK(relc_try_group(session, frames, 3) == RELC_PREPARED);
+    CHECK(relc_try_call(session, frames) == RELC_PREPARED);
+    CHECK(relc_commit(session, frames) == RELC_DONE && frames[0].place == 0);
+    CHECK(relc_commit(session, frames) == RELC_NOT_PREPARED);
+    CHECK(relc_try_group(session, frames, 3) == RELC_SPENT);
+    frames[0].op = 99;
+    CHECK(relc_try_group(session, frames, 3) == RELC_OPERATION);
+    relc_close_session(session);
+}
+
+/* Each call of a group goes on from what those before it left, and others see none of it, or all. */
+static void test_groups(void)
+{
+    relc_store *store = opened(2, 6);
+    relc_session *session = session_of(store), *other = session_of(store);
+    relc_frame frames[3] = {0}, read = {0};
+    ask_all(store, frames, 2, 10);
+    ask(&read, frames[2].op, 1, 1, 0, 0);
+    relc_close_store(store);
+    CHECK(relc_try_group(session, frames, 3) == RELC_DONE);
+    CHECK(frames[0].kind == RELC_INSERTED && frames[1].kind == RELC_REMOVED);
+    CHECK(frames[1].number == 1 && frames[2].kind == RELC_ROWS && frames[2].number == 0);
+    for (int at = 0; at < 3; at++)
+        CHECK(frames[at].place == 0 && frames[at].nth == 0);
+    CHECK(relc_row(session, frames) == RELC_NO_ROW);
+    frames[0].row = 1;
+    CHECK(relc_pick(session, frames) == RELC_DONE);
+    frames[0].row = 3;
+    CHECK(relc_pick(session, frames) == RELC_NO_ROW);
+    frames[0].row = 0;
+    CHECK(relc_row(session, frames) == RELC_DONE && frames[0].width == 3 && frames[0].cells[2] == 10);
+
+    /* two of them: what is put in stays */
+    frames[1] = frames[2];
+    CHECK(relc_begin_group(session, frames, 2) == RELC_DONE);
+    CHECK(frames[0].kind == RELC_INSERTED && frames[1].kind == RELC_ROWS && frames[1].number == 1);
+    CHECK(relc_row(session, frames) == RELC_NO_ROW); /* the first is picked again */
+    frames[0].row = 1;
+    CHECK(relc_pick(session, frames) == RELC_DONE);
+    frames[0].row = 0;
+    CHECK(relc_row(session, frames) == RELC_DONE && frames[0].width == 2 && frames[0].cells[1] == 10);
+    read.stripe = read.found = read.who = 99;
+    CHECK(relc_try_call(other, &read) == RELC_BUSY && read.stripe < 12);
+    CHECK(read.found == RELC_WRITER && read.who == 0);
+    CHECK(relc_cancel(session, frames) == RELC_DONE);
+    CHECK(relc_try_call(other, &read) == RELC_DONE && read.number == 0 && read.place == 1);
+    CHECK(relc_begin_group(session, frames, 2) == RELC_DONE);
+    frames[0].kind = 99;
+    CHECK(relc_commit(session, frames) == RELC_DONE && frames[0].kind == RELC_INSERTED);
+    CHECK(frames[0].place == 2 && frames[0].nth == 1);
+    CHECK(relc_try_call(other, &read) == RELC_DONE && read.number == 1);
+
+    /* what is in the way is told to the first; a reply that changes nothing is no refusal */
+    CHECK(relc_begin(other, &read) == RELC_DONE);
+    frames[0].stripe = frames[1].stripe = frames[0].found = 99;
+    CHECK(relc_try_group(session, frames, 2) == RELC_BUSY);
+    CHECK(frames[0].stripe < 12 && frames[0].found == RELC_READERS && frames[0].who == 1);
+    CHECK(frames[1].stripe == 99);
+    CHECK(relc_cancel(other, &read) == RELC_DONE);
+    CHECK(relc_try_group(session, frames, 2) == RELC_DONE);
+    CHECK(frames[0].kind == RELC_PRESENT && frames[1].number == 1);
+    /* one call is a group too */
+    CHECK(relc_try_group(session, frames + 1, 1) == RELC_DONE && frames[1].number == 1);
+    CHECK(relc_begin_group(session, frames, 2) == RELC_DONE);
+    relc_close_session(session); /* cancels */
+    CHECK(relc_try_call(other, &read) == RELC_DONE && read.number == 1);
+    relc_close_session(other);
+}
+
 /* What closes, closes nothing where there is nothing. */
 static void test_closing(void)
 {
@@ -480,6 +582,9 @@ static void test_waiting(void)
     CHECK(relc_commit(session, &frame) == RELC_DONE && frame.place == 0);
     relc_ring(waiting);
     CHECK(relc_call(waiting, session, &frame) == RELC_SPENT);
+    CHECK(relc_call_group(waiting, session, &frame, 0) == RELC_COUNT);
+    CHECK(relc_call_group(waiting, session, &frame, 1) == RELC_SPENT);
+    CHECK(relc_begin_group_waiting(waiting, session, &frame, 1) == RELC_SPENT);
     relc_close_session(session);
     relc_close_waiting(waiting);
 }
@@ -596,6 +701,8 @@ int main(void)
     test_version_two();
     test_wide();
     test_busy();
+    test_groups_are_refused();
+    test_groups();
     test_closing();
     test_waiting();
     test_latch();
@@ -604,6 +711,6 @@ int main(void)
     CHECK(waiting != NULL);
     test_threads(waiting);
     relc_close_waiting(waiting);
-    puts("relc.h: 12 passed, 0 failed");
+    puts("relc.h: 14 passed, 0 failed");
     return 0;
 }

@@ -76,6 +76,21 @@ static void *wait_for_holder(void *of)
     return NULL;
 }
 
+/* puts that key and another one as a group */
+static uint32_t call_group(relc_waiting *waiting, relc_session *session, relc_frame *frame)
+{
+    relc_frame frames[2] = {*frame, *frame};
+    frames[1].values[0]++;
+    return relc_call_group(waiting, session, frames, 2);
+}
+
+static uint32_t begin_group(relc_waiting *waiting, relc_session *session, relc_frame *frame)
+{
+    relc_frame frames[2] = {*frame, *frame};
+    frames[1].values[0]++;
+    return relc_begin_group_waiting(waiting, session, frames, 2);
+}
+
 /* Lets a thread fall asleep behind a prepared call, and sees that it is back soon after
  * `let_go`. */
 static void test_waking(call_by *call, void (*let_go)(void))
@@ -113,13 +128,13 @@ static void test_waking(call_by *call, void (*let_go)(void))
 
 int main(void)
 {
-    call_by *const calls[] = {relc_call, relc_begin_waiting};
+    call_by *const calls[] = {relc_call, relc_begin_waiting, call_group, begin_group};
     void (*const ways[])(void) = {
         commit, cancel, close_holder, commit_and_call, commit_and_be_refused};
-    for (size_t call = 0; call < 2; call++) {
+    for (size_t call = 0; call < 4; call++) {
         for (size_t way = 0; way < 5; way++)
             test_waking(calls[call], ways[way]);
     }
-    puts("relc_wait.h: 10 passed, 0 failed");
+    puts("relc_wait.h: 20 passed, 0 failed");
     return 0;
 }

@@ -62,9 +62,13 @@ pub enum Error {
     },
     /// The session has made as many calls as its store lets it.
     Spent,
-    /// A prepared call was forgotten, and is neither committed nor cancelled. Drop the session: its
-    /// call is cancelled.
+    /// A prepared call or group was forgotten, and is neither committed nor cancelled. Drop the session:
+    /// it is cancelled.
     Prepared,
+    /// A group has no call, or would have more than 16.
+    Count,
+    /// The slot is another group's, or one of before this group was cleared.
+    Slot,
     /// The session has looked, and has seen less than what was to be learned. What a session of
     /// this store has seen is never refused so: it is built so, but that isn't proved.
     Unseen,
@@ -94,6 +98,8 @@ impl fmt::Display for Error {
             Error::Busy { stripe, found } => write!(f, "busy at stripe {stripe}: {found:?}"),
             Error::Spent => write!(f, "the session has made all its calls"),
             Error::Prepared => write!(f, "a prepared call was forgotten"),
+            Error::Count => write!(f, "a group has 1 to 16 calls"),
+            Error::Slot => write!(f, "the slot is another group's"),
             Error::Unseen => write!(f, "the session has seen less than that"),
             Error::Many(many) => many.fmt(f),
         }

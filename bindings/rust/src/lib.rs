@@ -12,6 +12,13 @@
 //! for [node, weight] in session.query(successors, [1])? {
 //!     println!("{node} {weight}");
 //! }
+//! // several calls as one: nobody sees a state between them
+//! let remove = store.remove::<2, 3>("del")?;
+//! let mut moved = relc::Group::new();
+//! let out = moved.add(remove, [1, 2])?;
+//! let back = moved.add(insert, [1, 3, 10])?;
+//! let mut done = session.transaction(&moved)?;
+//! println!("{:?} {:?}", done.reply(out)?, done.reply(back)?);
 //! # Ok(())
 //! # }
 //! ```
@@ -20,6 +27,7 @@
 //! with the archive, are tested.
 
 mod error;
+mod group;
 mod operation;
 mod session;
 mod store;
@@ -27,6 +35,7 @@ mod sys;
 mod waiting;
 
 pub use error::{Error, Found, Many};
-pub use operation::{Answer, Insert, Inserted, Operation, Query, Remove, Update, Updated};
+pub use group::{Done, Group, PreparedGroup, Slot};
+pub use operation::{Answer, Insert, Inserted, Operation, Query, Reading, Remove, Update, Updated};
 pub use session::{Position, Prepared, Rows, Seen, Session};
 pub use store::{Options, Store};

@@ -13,19 +13,28 @@ pub struct Number {
 
 /// An operation of a store, which takes `N` values: an [`Insert`], an [`Update`], a [`Remove`] or a
 /// [`Query`].
-pub trait Operation<const N: usize>: Copy + Sealed<Reading = Self::Reply> {
+pub trait Operation<const N: usize>: Copy + Sealed {
     /// What its calls answer.
-    type Reply;
+    type Reply: Reading;
 }
 
 /// What only this crate implements: so an operation takes as many values as its store said.
 pub trait Sealed {
-    type Reading;
-
     fn number(&self) -> Number;
+}
 
-    /// Reads the reply of the call that the session's frame tells of.
-    fn read(session: &mut Session) -> Self::Reading;
+/// The kind of a reply, and its number: of rows, or of the dependency that would be broken.
+#[derive(Clone, Copy, Debug)]
+pub struct Told {
+    pub(crate) kind: u32,
+    pub(crate) number: u64,
+}
+
+/// What an operation answers. Only this crate implements it.
+pub trait Reading: Sized {
+    /// Reads the session's reply, which is told so.
+    #[doc(hidden)]
+    fn read(session: &mut Session, told: Told) -> Self;
 }
 
 /// A kind of reply that the contract of the operation rules out.
@@ -61,17 +70,17 @@ impl<const N: usize> Operation<N> for Insert<N> {
 }
 
 impl<const N: usize> Sealed for Insert<N> {
-    type Reading = Inserted;
-
     fn number(&self) -> Number {
         self.0
     }
+}
 
-    fn read(session: &mut Session) -> Inserted {
-        match session.frame.kind {
+impl Reading for Inserted {
+    fn read(_: &mut Session, told: Told) -> Inserted {
+        match told.kind {
             sys::INSERTED => Inserted::Added,
             sys::PRESENT => Inserted::Present,
-            sys::CONFLICT => Inserted::Conflict(session.frame.number),
+            sys::CONFLICT => Inserted::Conflict(told.number),
             kind => no_such_kind(kind),
         }
     }
@@ -86,14 +95,14 @@ impl<const K: usize, const N: usize> Operation<K> for Remove<K, N> {
 }
 
 impl<const K: usize, const N: usize> Sealed for Remove<K, N> {
-    type Reading = Option<[u64; N]>;
-
     fn number(&self) -> Number {
         self.0
     }
+}
 
-    fn read(session: &mut Session) -> Option<[u64; N]> {
-        match session.frame.kind {
+impl<const N: usize> Reading for Option<[u64; N]> {
+    fn read(session: &mut Session, told: Told) -> Option<[u64; N]> {
+        match told.kind {
             sys::REMOVED => Some(row(session, 0)),
             sys::ABSENT => None,
             kind => no_such_kind(kind),
@@ -122,17 +131,17 @@ impl<const N: usize> Operation<N> for Update<N> {
 }
 
 impl<const N: usize> Sealed for Update<N> {
-    type Reading = Updated<N>;
-
     fn number(&self) -> Number {
         self.0
     }
+}
 
-    fn read(session: &mut Session) -> Updated<N> {
-        match session.frame.kind {
+impl<const N: usize> Reading for Updated<N> {
+    fn read(session: &mut Session, told: Told) -> Updated<N> {
+        match told.kind {
             sys::UPDATED => Updated::Replaced(row(session, 0)),
             sys::ABSENT => Updated::Absent,
-            sys::CONFLICT => Updated::Conflict(session.frame.number),
+            sys::CONFLICT => Updated::Conflict(told.number),
             kind => no_such_kind(kind),
         }
     }
@@ -168,17 +177,16 @@ impl<const K: usize, const N: usize> Operation<K> for Query<K, N> {
 }
 
 impl<const K: usize, const N: usize> Sealed for Query<K, N> {
-    type Reading = Answer<N>;
-
     fn number(&self) -> Number {
         self.0
     }
+}
 
-    fn read(session: &mut Session) -> Answer<N> {
-        let number = session.frame.number;
-        match session.frame.kind {
-            sys::ROWS => Answer::Rows(Rows::new(session, number).collect()),
-            sys::MANY => Answer::Many(number),
+impl<const N: usize> Reading for Answer<N> {
+    fn read(session: &mut Session, told: Told) -> Answer<N> {
+        match told.kind {
+            sys::ROWS => Answer::Rows(Rows::new(session, told.number).collect()),
+            sys::MANY => Answer::Many(told.number),
             kind => no_such_kind(kind),
         }
     }

@@ -1,7 +1,7 @@
 //! Sessions.
 
 use crate::error::{Error, Found, Many};
-use crate::operation::{Operation, Query};
+use crate::operation::{Operation, Query, Reading, Told};
 use crate::store::{Begun, Shared};
 use crate::sys::{self, Frame, Page};
 use std::ffi::c_void;
@@ -17,7 +17,11 @@ const TRIES: u32 = 20;
 /// An export that takes a session and a frame.
 type Export = unsafe extern "C" fn(*mut c_void, *mut Frame) -> u32;
 
-/// Where a call stands in the one history of all calls of its store.
+/// An export that takes a session and a group's frames.
+type GroupExport = unsafe extern "C" fn(*mut c_void, *mut Frame, usize) -> u32;
+
+/// Where a call, or a group, stands in the one history of all calls of its store, in which a group
+/// counts as one.
 #[derive(Clone, Copy, Debug, PartialEq, Eq)]
 pub struct Position {
     /// Its place, counted from 0.
@@ -53,6 +57,19 @@ impl Seen {
     }
 }
 
+/// What the frame tells of a stripe that was busy.
+fn busy(frame: &Frame) -> Error {
+    Error::Busy {
+        stripe: frame.stripe,
+        found: match frame.found {
+            sys::WRITER => Found::Writer(frame.who),
+            sys::READERS => Found::Readers(frame.who),
+            sys::LATCH => Found::Latch(frame.who),
+            found => unreachable!("a stripe has nothing of kind {found}"),
+        },
+    }
+}
+
 /// A thread's end of a store.
 pub struct Session {
     shared: Arc<Shared>,
@@ -60,6 +77,8 @@ pub struct Session {
     /// It has made all its calls.
     spent: bool,
     pub(crate) frame: Box<Frame>,
+    /// Those of the group that it made or prepared last.
+    pub(crate) frames: Vec<Frame>,
     /// Where rows are read, many at a time; none before the first.
     page: Option<Box<Page>>,
 }
@@ -68,7 +87,7 @@ impl Drop for Session {
     fn drop(&mut self) {
         // a call that was prepared and forgotten gives its stripes back
         if self.ask(sys::relc_cancel) == sys::DONE {
-            self.shared.events.ring();
+            self.ring();
         }
         // SAFETY: it is taken once, here.
         let begun = unsafe { ManuallyDrop::take(&mut self.begun) };
@@ -87,6 +106,7 @@ impl Session {
             begun: ManuallyDrop::new(begun),
             spent: false,
             frame: Box::new(Frame::new()),
+            frames: Vec::new(),
             page: None,
         }
     }
@@ -98,25 +118,51 @@ impl Session {
     }
 
     /// Calls one of the session's exports.
-    fn ask(&mut self, export: Export) -> u32 {
+    pub(crate) fn ask(&mut self, export: Export) -> u32 {
         // SAFETY: `&mut self` lets one call at a time use the session, and the frame is initialised
         // and lent for the call.
         unsafe { export(self.begun.handle.0.as_ptr(), &mut *self.frame) }
     }
 
-    /// Calls one of the session's exports until no other session is in the way.
-    fn ask_waiting(&mut self, export: Export) -> u32 {
+    /// Calls one of the exports that take a group, with the session's frames.
+    pub(crate) fn ask_group(&mut self, export: GroupExport) -> u32 {
+        // SAFETY: as above; and there are as many frames as are said.
+        unsafe {
+            export(
+                self.begun.handle.0.as_ptr(),
+                self.frames.as_mut_ptr(),
+                self.frames.len(),
+            )
+        }
+    }
+
+    /// Asks until no other session is in the way.
+    pub(crate) fn until_free(&mut self, ask: impl Fn(&mut Session) -> u32) -> u32 {
         for _ in 0..TRIES {
-            match self.ask(export) {
+            match ask(self) {
                 sys::BUSY => std::hint::spin_loop(),
                 code => return code,
             }
         }
         let shared = self.shared.clone();
-        shared.events.wait(|| match self.ask(export) {
+        shared.events.wait(|| match ask(self) {
             sys::BUSY => None,
             code => Some(code),
         })
+    }
+
+    fn ask_waiting(&mut self, export: Export) -> u32 {
+        self.until_free(|session| session.ask(export))
+    }
+
+    /// Wakes those that wait.
+    pub(crate) fn ring(&self) {
+        self.shared.events.ring();
+    }
+
+    /// The number of its store.
+    pub(crate) fn store(&self) -> u64 {
+        self.shared.number()
     }
 
     fn put<const N: usize, O: Operation<N>>(
@@ -125,12 +171,10 @@ impl Session {
         values: [u64; N],
     ) -> Result<(), Error> {
         let number = op.number();
-        if number.store != self.shared.number() {
+        if number.store != self.store() {
             return Err(Error::Foreign);
         }
-        self.frame.op = number.op;
-        self.frame.count = N as u32;
-        self.frame.values[..N].copy_from_slice(&values);
+        self.frame.ask(number.op, &values);
         Ok(())
     }
 
@@ -138,15 +182,7 @@ impl Session {
     fn error(&mut self, code: u32) -> Error {
         self.spent |= code == sys::SPENT;
         match code {
-            sys::BUSY => Error::Busy {
-                stripe: self.frame.stripe,
-                found: match self.frame.found {
-                    sys::WRITER => Found::Writer(self.frame.who),
-                    sys::READERS => Found::Readers(self.frame.who),
-                    sys::LATCH => Found::Latch(self.frame.who),
-                    found => unreachable!("a stripe has nothing of kind {found}"),
-                },
-            },
+            sys::BUSY => busy(&self.frame),
             sys::SPENT => Error::Spent,
             sys::PREPARED => Error::Prepared,
             sys::MEMORY => Error::Memory,
@@ -156,16 +192,35 @@ impl Session {
         }
     }
 
-    /// Where the call stands that was made just now. The last one that the session may make leaves
-    /// it spent.
-    fn position(&mut self) -> Position {
+    /// The error of a code other than 0 of a group.
+    pub(crate) fn group_error(&mut self, code: u32) -> Error {
+        match (code, self.frames.first()) {
+            (sys::BUSY, Some(frame)) => busy(frame),
+            (sys::COUNT, _) => Error::Count,
+            _ => self.error(code),
+        }
+    }
+
+    /// Where the call stands that was made just now, as the frame tells. The last one that the session
+    /// may make leaves it spent.
+    pub(crate) fn position(&mut self) -> Position {
         let Frame { place, nth, .. } = *self.frame;
+        self.placed(place, nth)
+    }
+
+    pub(crate) fn placed(&mut self, place: u64, nth: u64) -> Position {
         self.spent |= nth + 1 == self.shared.limit;
         Position {
             place,
             nth,
-            store: self.shared.number(),
+            store: self.store(),
         }
+    }
+
+    /// The reply that the frame tells of.
+    fn reply<R: Reading>(&mut self) -> R {
+        let Frame { kind, number, .. } = *self.frame;
+        R::read(self, Told { kind, number })
     }
 
     /// What a call was answered, and where it stands, or why it wasn't made.
@@ -176,7 +231,7 @@ impl Session {
         match code {
             sys::DONE => {
                 let position = self.position();
-                Ok((O::read(self), position))
+                Ok((self.reply(), position))
             }
             code => Err(self.error(code)),
         }
@@ -189,18 +244,25 @@ impl Session {
     ) -> Result<Prepared<'_, O::Reply>, Error> {
         match code {
             sys::DONE => Ok(Prepared {
-                reply: Some(O::read(self)),
+                reply: Some(self.reply()),
                 session: self,
             }),
             code => {
                 // a refused call may have stood in another one's way for a moment
-                self.shared.events.ring();
+                self.ring();
                 Err(self.error(code))
             }
         }
     }
 
-    /// Row `row` of the last reply.
+    /// Picks the reply to a call of the group: rows are its from then on.
+    pub(crate) fn pick(&mut self, call: usize) {
+        self.frame.row = call as u64;
+        let code = self.ask(sys::relc_pick);
+        assert_eq!(code, sys::DONE, "the group has the call");
+    }
+
+    /// Row `row` of the reply that is picked.
     pub(crate) fn row<const N: usize>(&mut self, row: u64) -> Option<[u64; N]> {
         self.frame.row = row;
         if self.ask(sys::relc_row) != sys::DONE {
@@ -230,7 +292,7 @@ impl Session {
     ) -> Result<Rows<'_, N>, Error> {
         self.put(&query, values)?;
         let code = self.ask_waiting(sys::relc_try_call);
-        self.shared.events.ring();
+        self.ring();
         if code != sys::DONE {
             return Err(self.error(code));
         }
@@ -250,7 +312,7 @@ impl Session {
     ) -> Result<(O::Reply, Position), Error> {
         self.put(&op, values)?;
         let code = self.ask(sys::relc_try_call);
-        self.shared.events.ring();
+        self.ring();
         self.made::<N, O>(code)
     }
 
@@ -273,7 +335,7 @@ impl Session {
     ) -> Result<(O::Reply, Position), Error> {
         self.put(&op, values)?;
         let code = self.ask_waiting(sys::relc_try_call);
-        self.shared.events.ring();
+        self.ring();
         self.made::<N, O>(code)
     }
 
@@ -320,7 +382,7 @@ impl Session {
     /// session come after all of it. Answers how much this one has seen then, at least as much. It
     /// looks also where it has seen less and answers `Unseen`.
     pub fn learn(&mut self, seen: Seen) -> Result<Seen, Error> {
-        if seen.store != self.shared.number() {
+        if seen.store != self.store() {
             return Err(Error::Foreign);
         }
         self.see(seen.length)
@@ -330,7 +392,7 @@ impl Session {
         self.frame.seen = length;
         match self.ask(sys::relc_learn) {
             sys::DONE => Ok(Seen {
-                store: self.shared.number(),
+                store: self.store(),
                 length: self.frame.seen,
             }),
             sys::UNSEEN => Err(Error::Unseen),
@@ -404,7 +466,7 @@ impl<R> Prepared<'_, R> {
     pub fn commit(mut self) -> (R, Position) {
         let code = self.session.ask(sys::relc_commit);
         assert_eq!(code, sys::DONE, "a call is prepared");
-        self.session.shared.events.ring();
+        self.session.ring();
         let reply = self.reply.take().expect("it is there until the commit");
         (reply, self.session.position())
     }
@@ -414,7 +476,7 @@ impl<R> Drop for Prepared<'_, R> {
     fn drop(&mut self) {
         if self.reply.is_some() {
             self.session.ask(sys::relc_cancel);
-            self.session.shared.events.ring();
+            self.session.ring();
         }
     }
 }

@@ -9,6 +9,8 @@ pub const VALUES: usize = 64;
 pub const CELLS: usize = 32;
 /// The most values of several rows at once.
 pub const PAGE: usize = 1024;
+/// The most calls of a group.
+pub const GROUP: usize = 16;
 /// The longest name of an operation.
 pub const NAME: usize = 16;
 /// The longest refusal.
@@ -26,6 +28,7 @@ pub const LINE: u32 = 11;
 pub const RULE: u32 = 12;
 pub const NONE_LEFT: u32 = 13;
 pub const UNSEEN: u32 = 14;
+pub const COUNT: u32 = 15;
 
 // Kinds of a reply.
 pub const ROWS: u32 = 0;
@@ -110,6 +113,13 @@ lies!(Frame, 840, number 536, place 544, nth 552, seen 560, row 568, width 576, 
 lies!(Page, 8208, row 0, rows 8, cells 16);
 
 impl Frame {
+    /// Asks for a call.
+    pub fn ask(&mut self, op: u32, values: &[u64]) {
+        self.op = op;
+        self.count = values.len() as u32;
+        self.values[..values.len()].copy_from_slice(values);
+    }
+
     /// A frame of zeros: every byte that is lent is initialised.
     pub fn new() -> Frame {
         Frame {
@@ -153,8 +163,11 @@ unsafe extern "C" {
     pub fn relc_open_session(store: *mut c_void, session: *mut *mut c_void) -> u32;
     pub fn relc_try_call(session: *mut c_void, frame: *mut Frame) -> u32;
     pub fn relc_begin(session: *mut c_void, frame: *mut Frame) -> u32;
+    pub fn relc_try_group(session: *mut c_void, frames: *mut Frame, count: usize) -> u32;
+    pub fn relc_begin_group(session: *mut c_void, frames: *mut Frame, count: usize) -> u32;
     pub fn relc_commit(session: *mut c_void, frame: *mut Frame) -> u32;
     pub fn relc_cancel(session: *mut c_void, frame: *mut Frame) -> u32;
+    pub fn relc_pick(session: *mut c_void, frame: *mut Frame) -> u32;
     pub fn relc_row(session: *mut c_void, frame: *mut Frame) -> u32;
     pub fn relc_rows(session: *mut c_void, page: *mut Page) -> u32;
     pub fn relc_learn(session: *mut c_void, frame: *mut Frame) -> u32;

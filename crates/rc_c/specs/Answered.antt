@@ -9,7 +9,7 @@ use Rattle.rc_embed.specs.declared.frame.Frame.{Frame}
 use Rattle.rc_embed.specs.declared.frame.Page.{Page}
 use Rattle.rc_embed.specs.declared.open_frame.OperationFrame.{OperationFrame}
 use Rattle.rc_embed.specs.Codes as codes
-use Rattle.rc_embed.specs.Frames.{AnswersCancel, AnswersRow, AnswersRows}
+use Rattle.rc_embed.specs.Frames.{AnswersCancel, AnswersPick, AnswersRow, AnswersRows}
 use Rattle.rc_embed.specs.OpenFrames.{AnswersOperation}
 use Rattle.rc_embed.specs.Opened.{OpenSeen}
 use Rattle.rc_embed.specs.Session.{SessionSeen}
@@ -19,11 +19,17 @@ abbrev pub lies_again : (T : RattleType) → Ptr → (T.Denot → Type 0) → Fm
 lies_again T pointer IsSo =
     fex T.Denot (λ after. fsep (fex (IsSo after) (λ _. ftrue)) (lies_at T full_share pointer after))
 
--- the prepared call is cancelled, and the frame is the same
+-- what is prepared is cancelled, and the frame is the same
 pub record AnswersSameFrame (old : SessionSeen) (before : Frame)
     (new : SessionSeen) (after : Frame) (code : ℕ) : Type 0 where
   pub same : after ≡ before
   pub cancelled : AnswersCancel old new code
+
+-- the frame is the same, and the reply that it asks for is picked
+pub record AnswersSamePick (old : SessionSeen) (before : Frame)
+    (new : SessionSeen) (after : Frame) (code : ℕ) : Type 0 where
+  pub same : after ≡ before
+  pub picked : AnswersPick old before new code
 
 -- the session is the same, and the frame has the row of its reply
 pub record AnswersSameRow (old : SessionSeen) (before : Frame)

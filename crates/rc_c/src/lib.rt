@@ -7,14 +7,15 @@ ghost use Rattle.std.specs.Prelude.{◌≡◌};
 ghost use Rattle.std.specs.Borrow.{full_share, sem};
 ghost use Rattle.std.specs.Ptr.{lies_at, room_at};
 ghost use Rattle.rc_embed.specs.Codes as codes;
-ghost use Rattle.rc_embed.specs.Frames.{AnswersBegin, AnswersCall, AnswersCommit, AnswersLearn};
+ghost use Rattle.rc_embed.specs.Frames.{AnswersBegin, AnswersBeginGroup, AnswersCall, AnswersCommit};
+ghost use Rattle.rc_embed.specs.Frames.{AnswersGroup, AnswersLearn};
 ghost use Rattle.rc_embed.specs.OpenFrames.{HasOpened, IsRefusedBy, KeepsAsked};
 ghost use Rattle.rc_embed.specs.Opened.{OpenSeen};
 ghost use Rattle.rc_embed.specs.Session.{SessionSeen};
 ghost use Rattle.rc_embed.specs.contracts.opening.OpenStore as stores;
 ghost use Rattle.rc_embed.specs.contracts.session.Session as sessions;
-ghost use Rattle.rc_c.specs.Answered.{AnswersSameFrame, AnswersSameOperation, AnswersSameRow};
-ghost use Rattle.rc_c.specs.Answered.{AnswersSameRows, AnswersSession, lies_again};
+ghost use Rattle.rc_c.specs.Answered.{AnswersSameFrame, AnswersSameOperation, AnswersSamePick};
+ghost use Rattle.rc_c.specs.Answered.{AnswersSameRow, AnswersSameRows, AnswersSession, lies_again};
 
 use rc_embed::{
     DONE, Frame, MEMORY, OpenFrame, OpenStore, OperationFrame, Page, Session, open_by, session_code,
@@ -125,14 +126,52 @@ pub unsafe extern "C" fn relc_begin(session: *mut u8, frame: &mut Frame) -> u32
     prepare_on(&mut *(session as *mut Session), frame)
 }
 
-/// Commits the prepared call.
+/// Makes the calls that the frames ask for as one, and waits for nobody.
+fn try_group_on(session: &mut Session, frames: &mut [Frame]) -> u32
+    ensures { AnswersGroup session.old frames.old session.new frames.new result }
+{
+    session.try_group_by(frames)
+}
+
+/// Makes the calls that the frames ask for as one, by the session at the pointer, and waits for
+/// nobody.
+#[unsafe(no_mangle)]
+pub unsafe extern "C" fn relc_try_group(session: *mut u8, frames: &mut [Frame]) -> u32
+    ghost held: { SessionSeen }
+    requires* { sem 𝓛 (lies_at sessions.the_row full_share session held) }
+    ensures* { sem 𝓛 (lies_again sessions.the_row session
+        (λ after. AnswersGroup held frames.old after frames.new result)) }
+{
+    try_group_on(&mut *(session as *mut Session), frames)
+}
+
+/// Prepares the calls that the frames ask for as one, and waits for nobody.
+fn prepare_group_on(session: &mut Session, frames: &mut [Frame]) -> u32
+    ensures { AnswersBeginGroup session.old frames.old session.new frames.new result }
+{
+    session.begin_group_by(frames)
+}
+
+/// Prepares the calls that the frames ask for as one, by the session at the pointer, and waits for
+/// nobody.
+#[unsafe(no_mangle)]
+pub unsafe extern "C" fn relc_begin_group(session: *mut u8, frames: &mut [Frame]) -> u32
+    ghost held: { SessionSeen }
+    requires* { sem 𝓛 (lies_at sessions.the_row full_share session held) }
+    ensures* { sem 𝓛 (lies_again sessions.the_row session
+        (λ after. AnswersBeginGroup held frames.old after frames.new result)) }
+{
+    prepare_group_on(&mut *(session as *mut Session), frames)
+}
+
+/// Commits the prepared call or group.
 fn commit_on(session: &mut Session, frame: &mut Frame) -> u32
     ensures { AnswersCommit session.old frame.old session.new frame.new result }
 {
     session.commit_by(frame)
 }
 
-/// Commits the call that the session at the pointer has prepared.
+/// Commits the call or the group that the session at the pointer has prepared.
 #[unsafe(no_mangle)]
 pub unsafe extern "C" fn relc_commit(session: *mut u8, frame: &mut Frame) -> u32
     ghost held: { SessionSeen }
@@ -143,7 +182,7 @@ pub unsafe extern "C" fn relc_commit(session: *mut u8, frame: &mut Frame) -> u32
     commit_on(&mut *(session as *mut Session), frame)
 }
 
-/// Cancels the prepared call. (The frame is neither read nor written: so the exports have one
+/// Cancels the prepared call or group. (The frame is neither read nor written: so the exports have one
 /// shape.)
 fn cancel_on(session: &mut Session, frame: &mut Frame) -> u32
     ensures { AnswersSameFrame session.old frame.old session.new frame.new result }
@@ -152,7 +191,7 @@ fn cancel_on(session: &mut Session, frame: &mut Frame) -> u32
     session.cancel_by()
 }
 
-/// Cancels the call that the session at the pointer has prepared.
+/// Cancels the call or the group that the session at the pointer has prepared.
 #[unsafe(no_mangle)]
 pub unsafe extern "C" fn relc_cancel(session: *mut u8, frame: &mut Frame) -> u32
     ghost held: { SessionSeen }
@@ -161,6 +200,25 @@ pub unsafe extern "C" fn relc_cancel(session: *mut u8, frame: &mut Frame) -> u32
         (λ after. AnswersSameFrame held frame.old after frame.new result)) }
 {
     cancel_on(&mut *(session as *mut Session), frame)
+}
+
+/// Picks the reply to a call of a group.
+fn pick_on(session: &mut Session, frame: &mut Frame) -> u32
+    ensures { AnswersSamePick session.old frame.old session.new frame.new result }
+{
+    session.pick_by(frame)
+}
+
+/// Picks the reply to the call whose number the frame has as that of a row, of those of the session at
+/// the pointer: its rows are read from then on.
+#[unsafe(no_mangle)]
+pub unsafe extern "C" fn relc_pick(session: *mut u8, frame: &mut Frame) -> u32
+    ghost held: { SessionSeen }
+    requires* { sem 𝓛 (lies_at sessions.the_row full_share session held) }
+    ensures* { sem 𝓛 (lies_again sessions.the_row session
+        (λ after. AnswersSamePick held frame.old after frame.new result)) }
+{
+    pick_on(&mut *(session as *mut Session), frame)
 }
 
 /// Copies a row of the reply.
@@ -232,14 +290,14 @@ pub unsafe extern "C" fn relc_end_store(store: *mut u8)
     let_store_go(std::ptr::read(store as *const OpenStore))
 }
 
-/// Drops the session. A call that it has prepared is cancelled before: nobody else could give its
-/// stripes back.
+/// Drops the session. What it has prepared is cancelled before: nobody else could give its stripes
+/// back.
 fn let_session_go(session: Session) {
     let mut session = session;
     let _ = session.cancel();
 }
 
-/// Ends the session at the pointer, and cancels the call that it has prepared, if any. The memory
+/// Ends the session at the pointer, and cancels what it has prepared, if anything. The memory
 /// behind the pointer is the caller's again, to be freed.
 #[unsafe(no_mangle)]
 pub unsafe extern "C" fn relc_end_session(session: *mut u8)

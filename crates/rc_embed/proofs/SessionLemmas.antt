@@ -1,11 +1,28 @@
--- A session that is the same is unchanged.
-use Rattle.std.proofs.Common.{◌≡◌, Option, Some, None, refl, ap, arith}
+-- A session that is the same is unchanged; and what is told of calls that were made.
+use Rattle.std.proofs.Common.{◌≡◌, ◌≤◌, List, [], ◌∷◌, length, Option, Some, None, refl, sym, ap, ◌∙◌, subst, arith}
+use Rattle.std.specs.List.{slice_get}
+use Rattle.std.proofs.lemmas.List.{length-map}
+use Rattle.rc_spec.specs.declared.call.Call.{Call as ACall}
+use Rattle.rc_spec.specs.declared.call.Reply.{Reply}
 use Rattle.rc_journal.specs.PartEntries.{PartEntries}
-use Rattle.rc_row.specs.Passes.{IsMoreRoom, PassSeen}
-use Rattle.rc_store.specs.Store.{IsAsBefore, StoreSeen}
+use Rattle.rc_rel.specs.declared.entry.Step.{Step}
+use Rattle.rc_rel.specs.History.{with_replies}
+use Rattle.rc_row.specs.declared.keeping.Keeping.{Keeping}
+use Rattle.rc_row.specs.declared.keeping.Keeping.TheVariants.{Counts}
+use Rattle.rc_row.specs.Passes.{IsMoreRoom, PassSeen, spec_of}
+use Rattle.rc_store.specs.declared.receipt.GroupReceipt.{GroupReceipt}
+use Rattle.rc_store.specs.declared.receipt.Receipt.{Receipt}
+use Rattle.rc_store.specs.Running.{HasBegun, HasBegunGroup, RunningGroupSeen, RunningSeen, calls_of, replies_of as replies_with}
+use Rattle.rc_store.specs.Store.{AreRepliesFor, HasMade, HasMadeGroup, IsAsBefore, IsReplyFor, StoreSeen}
+use Rattle.rc_work.specs.CallColumns.{call_of}
+use Rattle.rc_embed.specs.declared.session.Last.TheVariants.{Call, Group}
+use Rattle.rc_embed.specs.declared.session.Position.{Position}
 use Rattle.rc_embed.specs.declared.session.State.{State}
-use Rattle.rc_embed.specs.declared.session.State.TheVariants.{Idle, Prepared, Moving}
-use Rattle.rc_embed.specs.Session.{IsStateAsBefore, IsStateOf, IsUnchanged, SessionSeen}
+use Rattle.rc_embed.specs.declared.session.State.TheVariants.{Idle, Prepared, PreparedGroup, Moving}
+use Rattle.rc_embed.specs.Asked.{AskedCall}
+use Rattle.rc_embed.specs.EntriesLaws.{told_last}
+use Rattle.rc_embed.specs.Session.{HasCalled, HasCommitted, HasPrepared, IsStateAsBefore, IsStateOf, IsUnchanged, SessionSeen}
+use Rattle.rc_embed.specs.Session.{alone, receipt_of, replies_given, replies_in, replies_of, reply_of}
 
 same_room : (kept : Option PartEntries) → IsMoreRoom kept kept
 same_room None = tt
@@ -17,16 +34,116 @@ same_pass pass = record { core = refl; table = refl; held = refl; kept = same_ro
 same_state : (store : StoreSeen) (state : State) → IsStateOf store state → IsStateAsBefore state state
 same_state store (Idle pass) of = same_pass pass
 same_state store (Prepared running) of = refl
+same_state store (PreparedGroup running) of = refl
 same_state store Moving of = absurd of
 
 pub same_session : (session : SessionSeen) → IsStateOf session.store session.state → IsUnchanged session session
-same_session session of = record { state = same_state session.store session.state of; last = refl }
+same_session session of = record { state = same_state session.store session.state of; last = refl; picked = refl }
 
 abbrev pass_or : PassSeen → State → PassSeen
 pass_or d (Idle pass) = pass
 pass_or d (Prepared running) = d
+pass_or d (PreparedGroup running) = d
 pass_or d Moving = d
 
 -- an idle session has one pass
 pub same_idle : (pass other : PassSeen) → Idle pass ≡ Idle other → pass ≡ other
 same_idle pass other is = ap (pass_or pass) is
+
+-- ---- a call as a group of one
+
+pub told_alone : (keeping : Keeping) (reply : Reply) (given : Option Reply) → keeping ≡ Counts → IsReplyFor keeping reply given
+    → replies_given (Call given) ≡ reply ∷ []
+told_alone keeping reply given counts is =
+    ap (λ (o : Option Reply). replies_given (Call o)) (subst (λ (k : Keeping). IsReplyFor k reply given) counts is)
+
+pub made_alone : (store : StoreSeen) (call : ACall) (reply : Reply) (old new : PassSeen) (receipt : Receipt) → store.row.keeping ≡ Counts
+    → HasMade store call reply old new receipt
+    → HasMadeGroup store (call ∷ []) (reply ∷ []) old new (receipt_of (record { place = receipt.place; nth = receipt.nth }) (reply ∷ []))
+made_alone store call reply old new receipt counts made = record {
+  count = refl;
+  entry = made.entry;
+  exact = made.exact;
+  given = subst (λ (k : Keeping). AreRepliesFor k (reply ∷ []) (Some (reply ∷ []))) (sym counts) refl;
+}
+
+-- what is told of a call that was made alone
+pub told_made : (store : StoreSeen) (call : ACall) (reply : Reply) (old new : PassSeen) (receipt : Receipt) → store.row.keeping ≡ Counts
+    → HasMade store call reply old new receipt
+    → let told : List Reply = replies_given (Call receipt.reply) in
+    HasMadeGroup store (call ∷ []) told old new (receipt_of (record { place = receipt.place; nth = receipt.nth }) told)
+told_made store call reply old new receipt counts made =
+    subst (λ (told : List Reply). HasMadeGroup store (call ∷ []) told old new (receipt_of (record { place = receipt.place; nth = receipt.nth }) told))
+    (sym (told_alone store.row.keeping reply receipt.reply counts made.given))
+    (made_alone store call reply old new receipt counts made)
+
+-- what is told of a group that was made
+pub told_group : (store : StoreSeen) (calls : List ACall) (replies : List Reply) (old new : PassSeen) (receipt : GroupReceipt) → store.row.keeping ≡ Counts
+    → HasMadeGroup store calls replies old new receipt
+    → let told : List Reply = replies_given (Group receipt.replies) in
+    HasMadeGroup store calls told old new (receipt_of (record { place = receipt.place; nth = receipt.nth }) told)
+told_group store calls replies old new receipt counts made =
+    let given : receipt.replies ≡ Some replies = subst (λ (k : Keeping). AreRepliesFor k replies receipt.replies) counts made.given in
+    subst (λ (told : List Reply). HasMadeGroup store calls told old new (receipt_of (record { place = receipt.place; nth = receipt.nth }) told))
+    (sym (ap (λ (o : Option (List Reply)). replies_given (Group o)) given))
+    (record {
+      count = made.count;
+      entry = made.entry;
+      exact = made.exact;
+      given = subst (λ (k : Keeping). AreRepliesFor k replies (Some replies)) (sym counts) refl;
+    })
+
+-- a call that was begun is a group of one that was
+pub begun_alone : (store : StoreSeen) (call : ACall) (pass : PassSeen) (running : RunningSeen) → HasBegun store call pass running
+    → HasBegunGroup store (call ∷ []) pass (alone running)
+begun_alone store call pass running begun = record {
+  begun = begun.begun;
+  asked = ap (λ (c : ACall). c ∷ []) begun.asked;
+  runs = begun.runs;
+}
+
+-- and what is told of it once it is committed
+pub told_committed : (store : StoreSeen) (running : RunningSeen) (new : PassSeen) (receipt : Receipt) → store.row.keeping ≡ Counts
+    → HasMade store running.call running.reply running.begun new receipt → replies_given (Call receipt.reply) ≡ replies_with (alone running).steps
+told_committed store running new receipt counts made = told_alone store.row.keeping running.reply receipt.reply counts made.given
+
+pub told_group_committed : (store : StoreSeen) (running : RunningGroupSeen) (new : PassSeen) (receipt : GroupReceipt) → store.row.keeping ≡ Counts
+    → HasMadeGroup store (calls_of running.steps) (replies_with running.steps) running.begun new receipt → replies_given (Group receipt.replies) ≡ replies_with running.steps
+told_group_committed store running new receipt counts made =
+    ap (λ (o : Option (List Reply)). replies_given (Group o)) (subst (λ (k : Keeping). AreRepliesFor k (replies_with running.steps) receipt.replies) counts made.given)
+
+-- ---- how many replies there are
+
+-- as many as calls were made
+pub called_count : (old new : SessionSeen) (asked : List AskedCall) (at : Position) → HasCalled old asked new at
+    → length (replies_of new) ≡ length asked
+called_count old new asked at h =
+    ap (λ (l : List Reply). length l) (told_last new h.after h.is)
+    ∙ h.made.count
+    ∙ length-map asked (λ (call : AskedCall). call_of (spec_of old.store.row) call.op call.values)
+
+-- or prepared
+pub prepared_count : (old new : SessionSeen) (asked : List AskedCall) → HasPrepared old asked new
+    → length (replies_of new) ≡ length asked
+prepared_count old new asked h =
+    ap (λ (o : Option RunningGroupSeen). length (replies_in o new.last)) h.is
+    ∙ length-map h.running.steps (λ (s : Step). s.reply)
+    ∙ sym (length-map h.running.steps (λ (s : Step). s.call))
+    ∙ ap (λ (l : List ACall). length l) h.begun.asked
+    ∙ length-map asked (λ (call : AskedCall). call_of (spec_of old.store.row) call.op call.values)
+
+some_first : (calls : List ACall) (replies : List Reply) → 1 ≤ length (with_replies calls replies)
+    → (reply : Reply) × (slice_get replies 0 ≡ Some reply)
+some_first [] replies some = absurd (omega (arith, some))
+some_first (call ∷ calls) [] some = absurd (omega (arith, some))
+some_first (call ∷ calls) (reply ∷ replies) some = (reply, refl)
+
+-- of prepared calls that were committed the first reply is picked
+pub committed_first : (old new : SessionSeen) (at : Position) → HasCommitted old new at → (reply : Reply) × (reply_of new ≡ Some reply)
+committed_first old new at h =
+    let first = some_first (calls_of h.running.steps) new.last h.made.entry.allowed.some in (
+      first.0,
+      ap (λ (l : List Reply). slice_get l new.picked) (told_last new h.after h.is)
+          ∙ ap (slice_get new.last) h.picked
+          ∙ first.1,
+    )

@@ -1,8 +1,23 @@
--- What a caller asks for: an operation by its number, with plain numbers as values.
-use Rattle.std.specs.Prelude.{◌≡◌, ℕ, ◌<◌, List, length, map, Option}
+-- What a caller asks for: calls, each an operation by its number, with plain numbers as values.
+use Rattle.std.specs.Prelude.{◌≡◌, ℕ, ◌<◌, List, [], ◌∷◌, length, map, Option}
 use Rattle.std.specs.List.{range_with_len, slice_get}
+use Rattle.rc_spec.specs.declared.call.Call.{Call}
 use Rattle.rc_spec.specs.declared.spec.Spec.{Spec}
-use Rattle.rc_work.specs.CallColumns.{written_columns_at}
+use Rattle.rc_work.specs.CallColumns.{call_of, written_columns_at}
+
+-- a call that is asked for: the operation's number, how many values there are, and they
+pub record AskedCall : Type 0 where
+  pub op : ℕ
+  pub count : ℕ
+  pub values : List ℕ
+
+-- a call that is asked for alone
+abbrev pub one_call : ℕ → List ℕ → List AskedCall
+one_call op values = record { op = op; count = length values; values = values } ∷ []
+
+-- the calls that they are by a specification
+abbrev pub calls_by : Spec → List AskedCall → List Call
+calls_by spec asked = map (λ call. call_of spec call.op call.values) asked
 
 -- the operation is one of the specification's, and there is a value for each of its columns
 pub record TakesValues (spec : Spec) (op : ℕ) (values : List ℕ) : Type 0 where

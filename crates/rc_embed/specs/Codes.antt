@@ -60,3 +60,7 @@ none_left = 13
 -- the session has seen less than what was to be learned
 abbrev pub unseen : ℕ
 unseen = 14
+
+-- no call, or more than there may be in a group
+abbrev pub count : ℕ
+count = 15

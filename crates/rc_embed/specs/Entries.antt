@@ -1,33 +1,37 @@
 -- The entries that sessions have made, and where these stand. (PLDI 2012, serializable transactions.)
-use Rattle.std.specs.Prelude.{◌≡◌, ℕ, List, [], ◌∷◌, Option, Some, None}
+use Rattle.std.specs.Prelude.{◌≡◌, ℕ, List, [], length, Option, Some, None}
 use Rattle.rc_tuple.specs.RisingSet.{In}
 use Rattle.rc_spec.specs.declared.call.Call.{Call}
 use Rattle.rc_spec.specs.declared.call.Reply.{Reply}
 use Rattle.rc_rel.specs.declared.entry.Entry.{Entry}
 use Rattle.rc_rel.specs.declared.entry.Placed.{Placed}
-use Rattle.rc_rel.specs.History.{placed}
+use Rattle.rc_rel.specs.History.{placed, with_replies}
 use Rattle.rc_row.specs.Passes.{PassSeen, core_of}
 use Rattle.rc_embed.specs.declared.session.State.{State}
-use Rattle.rc_embed.specs.declared.session.State.TheVariants.{Idle, Prepared, Moving}
+use Rattle.rc_embed.specs.declared.session.State.TheVariants.{Idle, Prepared, PreparedGroup, Moving}
 use Rattle.rc_embed.specs.Session.{SessionSeen}
 
--- The entries of a session's pass, with their places; while a call is prepared, those before it.
+-- The entries of a session's pass, with their places; while calls are prepared, those before them.
 abbrev pub entries_of : State → List Placed
 entries_of (Idle pass) = (core_of pass).own
 entries_of (Prepared running) = (core_of running.begun).own
+entries_of (PreparedGroup running) = (core_of running.begun).own
 entries_of Moving = []
 
 -- the number of its pass
 abbrev pub number_in : State → Option ℕ
 number_in (Idle pass) = Some (core_of pass).number
 number_in (Prepared running) = Some (core_of running.begun).number
+number_in (PreparedGroup running) = Some (core_of running.begun).number
 number_in Moving = None
 
--- among the entries, at this place, is one of this call alone, with this reply
-pub record StandsAt (entries : List Placed) (place : ℕ) (call : Call) (reply : Reply) : Type 0 where
+-- among the entries, at this place, is one of these calls, with these replies, one each
+pub record StandsAt (entries : List Placed) (place : ℕ) (calls : List Call) (replies : List Reply)
+    : Type 0 where
   pub entry : Entry
   pub among : In (placed place entry) entries
-  pub one : entry.steps ≡ record { call = call; reply = reply } ∷ []
+  pub count : length replies ≡ length calls
+  pub steps_are : entry.steps ≡ with_replies calls replies
 
 -- The session has the pass that it had, with all entries of that.
 pub record KeepsPass (old new : SessionSeen) : Type 0 where

@@ -1,86 +1,86 @@
--- A call that a session was told stands among its entries, and these stay.
-use Rattle.std.proofs.Common.{◌≡◌, ◌⊎◌, ℕ, zero, suc, List, [], ◌∷◌, ◌++◌, take, drop, Some, refl, sym, ap, ◌∙◌, inl, inr, subst}
-use Rattle.std.proofs.lemmas.Option.{same_Some}
+-- The calls that a session was told of stand among its entries, and these stay.
+use Rattle.std.proofs.Common.{◌≡◌, ◌⊎◌, ℕ, zero, suc, List, [], ◌∷◌, ◌++◌, length, take, drop, Option, Some, None, refl, sym, ap, ◌∙◌, inl, inr, subst}
 use Rattle.rc_tuple.specs.RisingSet.{In}
 use Rattle.rc_tuple.specs.RisingSetLaws.{append_in_left, append_in_right}
 use Rattle.rc_spec.specs.declared.call.Call.{Call}
 use Rattle.rc_spec.specs.declared.call.Reply.{Reply}
 use Rattle.rc_rel.specs.declared.entry.Entry.{Entry}
 use Rattle.rc_rel.specs.declared.entry.Placed.{Placed}
-use Rattle.rc_rel.specs.declared.entry.Step.{Step}
-use Rattle.rc_rel.specs.History.{placed}
+use Rattle.rc_rel.specs.History.{placed, with_replies}
 use Rattle.rc_core.specs.declared.state.PassState.{PassState}
-use Rattle.rc_row.specs.Passes.{PassSeen, core_of, next_entry}
-use Rattle.rc_store.specs.Store.{HasMade, IsAsBefore, StoreSeen}
-use Rattle.rc_store.specs.declared.receipt.Receipt.{Receipt}
+use Rattle.rc_core.specs.Passes.{next_of}
+use Rattle.rc_row.specs.Passes.{PassSeen, core_of}
+use Rattle.rc_store.specs.declared.receipt.GroupReceipt.{GroupReceipt}
+use Rattle.rc_store.specs.Running.{RunningGroupSeen, calls_of}
+use Rattle.rc_store.specs.Store.{HasMadeGroup, IsAsBefore, StoreSeen}
 use Rattle.rc_embed.specs.declared.session.Position.{Position}
 use Rattle.rc_embed.specs.declared.session.State.{State}
-use Rattle.rc_embed.specs.declared.session.State.TheVariants.{Idle, Prepared, Moving}
+use Rattle.rc_embed.specs.declared.session.State.TheVariants.{Idle, Prepared, PreparedGroup, Moving}
+use Rattle.rc_embed.specs.Asked.{AskedCall}
 use Rattle.rc_embed.specs.Closing.{HasTakenBack}
 use Rattle.rc_embed.specs.Entries.{HasEntry, KeepsPass, StandsAt, entries_of, number_in}
 use Rattle.rc_embed.specs.Opened.{HasDealt, OpenSeen}
 use Rattle.rc_embed.specs.Session.{HasCalled, HasCancelled, HasCommitted, HasLooked, HasPrepared}
-use Rattle.rc_embed.specs.Session.{IsStateAsBefore, IsUnchanged, SessionSeen, call_in, reply_in, reply_of}
+use Rattle.rc_embed.specs.Session.{IsStateAsBefore, IsUnchanged, SessionSeen, calls_in, prepared_in, replies_in, replies_of, with_picked}
 
--- ---- where a call stands
+-- ---- where calls stand
 
--- an idle session tells the reply of its last call
-pub told_last : (session : SessionSeen) (pass : PassSeen) → session.state ≡ Idle pass → reply_of session ≡ session.last
-told_last session pass is = ap (λ (state : State). reply_in state session.last) is
+-- an idle session tells the replies of what it made last
+pub told_last : (session : SessionSeen) (pass : PassSeen) → session.state ≡ Idle pass → replies_of session ≡ session.last
+told_last session pass is = ap (λ (state : State). replies_in (prepared_in state) session.last) is
 
--- the entry of a call with a receipt is the last of its pass
-made_stands : (store : StoreSeen) (call : Call) (made told : Reply) (old new : PassSeen) (receipt : Receipt)
-    → HasMade store call made old new receipt → made ≡ told → StandsAt (core_of new).own receipt.place call told
-made_stands store call made told old new receipt has same =
-    let entry : Entry = next_entry (core_of old) call made in
+-- the entry of calls with a receipt is the last of its pass
+made_stands : (store : StoreSeen) (calls : List Call) (made told : List Reply) (old new : PassSeen) (receipt : GroupReceipt)
+    → HasMadeGroup store calls made old new receipt → made ≡ told → StandsAt (core_of new).own receipt.place calls told
+made_stands store calls made told old new receipt has same =
+    let entry : Entry = next_of (core_of old) (with_replies calls made) in
     let w : Placed = placed receipt.place entry in
     record {
       entry = entry;
       among =
-          subst (λ (l : List Placed). In w l) (sym has.own)
+          subst (λ (l : List Placed). In w l) (sym has.entry.own)
           (append_in_right w (core_of old).own (w ∷ []) (inl refl));
-      one = ap (λ (r : Reply). let steps : List Step = record { call = call; reply = r } ∷ [] in steps) same;
+      count = subst (λ (replies : List Reply). length replies ≡ length calls) same has.count;
+      steps_are = ap (with_replies calls) same;
     }
 
--- A call that a session has made stands at its position among the session's entries, with the reply that the session tells.
+-- Calls that a session has made as one stand at their position among the session's entries, with the replies that the
+-- session tells.
 abbrev pub CallsStand : Type 0
-CallsStand = (old new : SessionSeen) (op : ℕ) (values : List ℕ) (at : Position)
-    → HasCalled old op values new at → (reply : Reply) → reply_of new ≡ Some reply
-    → StandsAt (entries_of new.state) at.place (call_in old op values) reply
+CallsStand = (old new : SessionSeen) (asked : List AskedCall) (at : Position)
+    → HasCalled old asked new at
+    → StandsAt (entries_of new.state) at.place (calls_in old asked) (replies_of new)
 
 pub calls_stand : CallsStand
-calls_stand old new op values at h reply told =
-    let same : Some h.reply ≡ Some reply = sym h.told ∙ sym (told_last new h.after h.is) ∙ told in
-    subst (λ (state : State). StandsAt (entries_of state) at.place (call_in old op values) reply) (sym h.is)
-    (made_stands old.store (call_in old op values) h.reply reply h.before h.after _ h.made
-    (same_Some h.reply reply same))
+calls_stand old new asked at h =
+    subst (λ (state : State). StandsAt (entries_of state) at.place (calls_in old asked) (replies_of new)) (sym h.is)
+    (made_stands old.store (calls_in old asked) new.last (replies_of new) h.before h.after _ h.made
+    (sym (told_last new h.after h.is)))
 
--- And so does a prepared call, once it is committed.
+-- And so do prepared calls, once they are committed.
 abbrev pub CommitsStand : Type 0
 CommitsStand = (old new : SessionSeen) (at : Position) (h : HasCommitted old new at)
-    → (reply : Reply) → reply_of new ≡ Some reply
-    → StandsAt (entries_of new.state) at.place h.running.call reply
+    → StandsAt (entries_of new.state) at.place (calls_of h.running.steps) (replies_of new)
 
 pub commits_stand : CommitsStand
-commits_stand old new at h reply told =
-    let same : Some h.running.reply ≡ Some reply = sym h.told ∙ sym (told_last new h.after h.is) ∙ told in
-    subst (λ (state : State). StandsAt (entries_of state) at.place h.running.call reply) (sym h.is)
-    (made_stands old.store h.running.call h.running.reply reply h.running.begun h.after _ h.made
-    (same_Some h.running.reply reply same))
+commits_stand old new at h =
+    subst (λ (state : State). StandsAt (entries_of state) at.place (calls_of h.running.steps) (replies_of new)) (sym h.is)
+    (made_stands old.store (calls_of h.running.steps) new.last (replies_of new) h.running.begun h.after _ h.made
+    (sym (told_last new h.after h.is)))
 
 -- ---- a session keeps its pass, and the entries of that
 
 -- an entry stays where its pass makes another,
-made_keeps : (store : StoreSeen) (call : Call) (reply : Reply) (old new : PassSeen) (receipt : Receipt)
-    → HasMade store call reply old new receipt → (w : Placed) → In w (core_of old).own → In w (core_of new).own
-made_keeps store call reply old new receipt has w m =
-    subst (λ (l : List Placed). In w l) (sym has.own)
-    (append_in_left w (core_of old).own (placed receipt.place (next_entry (core_of old) call reply) ∷ []) m)
+made_keeps : (store : StoreSeen) (calls : List Call) (replies : List Reply) (old new : PassSeen) (receipt : GroupReceipt)
+    → HasMadeGroup store calls replies old new receipt → (w : Placed) → In w (core_of old).own → In w (core_of new).own
+made_keeps store calls replies old new receipt has w m =
+    subst (λ (l : List Placed). In w l) (sym has.entry.own)
+    (append_in_left w (core_of old).own (placed receipt.place (next_of (core_of old) (with_replies calls replies)) ∷ []) m)
 
-made_number : (store : StoreSeen) (call : Call) (reply : Reply) (old new : PassSeen) (receipt : Receipt)
-    → HasMade store call reply old new receipt → Some (core_of new).number ≡ Some (core_of old).number
-made_number store call reply old new receipt has =
-    ap (λ (core : PassState). Some core.number) has.core ∙ ap (λ (core : PassState). Some core.number) has.was
+made_number : (store : StoreSeen) (calls : List Call) (replies : List Reply) (old new : PassSeen) (receipt : GroupReceipt)
+    → HasMadeGroup store calls replies old new receipt → Some (core_of new).number ≡ Some (core_of old).number
+made_number store calls replies old new receipt has =
+    ap (λ (core : PassState). Some core.number) has.entry.core ∙ ap (λ (core : PassState). Some core.number) has.entry.was
 
 -- and where nothing of it changes
 before_keeps : (old new : PassSeen) → IsAsBefore old new → (w : Placed) → In w (core_of old).own → In w (core_of new).own
@@ -90,10 +90,26 @@ before_keeps old new h w m =
 before_number : (old new : PassSeen) → IsAsBefore old new → Some (core_of new).number ≡ Some (core_of old).number
 before_number old new h = ap (λ (core : PassState). Some core.number) h.core
 
--- from a state to the next, where these are they
-from_to : (before after : State) (old new : SessionSeen) → old.state ≡ before → new.state ≡ after
-    → number_in after ≡ number_in before
-    → ((w : Placed) → In w (entries_of before) → In w (entries_of after)) → KeepsPass old new
+-- what is prepared has the pass with which it was begun
+abbrev begun_or : PassSeen → Option RunningGroupSeen → PassSeen
+begun_or d None = d
+begun_or d (Some running) = running.begun
+
+prepared_keeps : (state : State) (running : RunningGroupSeen) → prepared_in state ≡ Some running
+    → (number_in state ≡ Some (core_of running.begun).number) × (entries_of state ≡ (core_of running.begun).own)
+prepared_keeps (Idle pass) running is = absurd cc
+prepared_keeps (Prepared call) running is =
+    let same : call.begun ≡ running.begun = ap (begun_or call.begun) is in
+    (ap (λ (pass : PassSeen). Some (core_of pass).number) same, ap (λ (pass : PassSeen). (core_of pass).own) same)
+prepared_keeps (PreparedGroup group) running is =
+    let same : group.begun ≡ running.begun = ap (begun_or group.begun) is in
+    (ap (λ (pass : PassSeen). Some (core_of pass).number) same, ap (λ (pass : PassSeen). (core_of pass).own) same)
+prepared_keeps Moving running is = absurd cc
+
+-- from an idle one to another
+from_to : (before after : PassSeen) (old new : SessionSeen) → old.state ≡ Idle before → new.state ≡ Idle after
+    → Some (core_of after).number ≡ Some (core_of before).number
+    → ((w : Placed) → In w (core_of before).own → In w (core_of after).own) → KeepsPass old new
 from_to before after old new was is same keeps = record {
   number = ap number_in is ∙ same ∙ sym (ap number_in was);
   entries = λ w m.
@@ -101,45 +117,64 @@ from_to before after old new was is same keeps = record {
       (keeps w (subst (λ (state : State). In w (entries_of state)) was m));
 }
 
+-- and from one that has prepared calls
+from_prepared : (running : RunningGroupSeen) (after : PassSeen) (old new : SessionSeen)
+    → prepared_in old.state ≡ Some running → new.state ≡ Idle after
+    → Some (core_of after).number ≡ Some (core_of running.begun).number
+    → ((w : Placed) → In w (core_of running.begun).own → In w (core_of after).own) → KeepsPass old new
+from_prepared running after old new was is same keeps =
+    let of = prepared_keeps old.state running was in
+    record {
+      number = ap number_in is ∙ same ∙ sym of.0;
+      entries = λ w m.
+          subst (λ (state : State). In w (entries_of state)) (sym is)
+          (keeps w (subst (λ (l : List Placed). In w l) of.1 m));
+    }
+
 -- what a session has made stays through its calls,
 abbrev pub CallsKeepPasses : Type 0
-CallsKeepPasses = (old new : SessionSeen) (op : ℕ) (values : List ℕ) (at : Position)
-    → HasCalled old op values new at → KeepsPass old new
+CallsKeepPasses = (old new : SessionSeen) (asked : List AskedCall) (at : Position)
+    → HasCalled old asked new at → KeepsPass old new
 
 pub calls_keep : CallsKeepPasses
-calls_keep old new op values at h =
-    from_to (Idle h.before) (Idle h.after) old new h.was h.is
-    (made_number old.store (call_in old op values) h.reply h.before h.after _ h.made)
-    (made_keeps old.store (call_in old op values) h.reply h.before h.after _ h.made)
+calls_keep old new asked at h =
+    from_to h.before h.after old new h.was h.is
+    (made_number old.store (calls_in old asked) new.last h.before h.after _ h.made)
+    (made_keeps old.store (calls_in old asked) new.last h.before h.after _ h.made)
 
--- while it prepares a call,
+-- while it prepares calls,
 abbrev pub PreparingKeepsPasses : Type 0
-PreparingKeepsPasses = (old new : SessionSeen) (op : ℕ) (values : List ℕ)
-    → HasPrepared old op values new → KeepsPass old new
+PreparingKeepsPasses = (old new : SessionSeen) (asked : List AskedCall)
+    → HasPrepared old asked new → KeepsPass old new
 
 pub preparing_keeps : PreparingKeepsPasses
-preparing_keeps old new op values h =
-    from_to (Idle h.before) (Prepared h.running) old new h.was h.is
-    (ap (λ (pass : PassSeen). Some (core_of pass).number) h.begun.begun)
-    (λ w m. subst (λ (pass : PassSeen). In w (core_of pass).own) (sym h.begun.begun) m)
+preparing_keeps old new asked h =
+    let of = prepared_keeps new.state h.running h.is in
+    record {
+      number = of.0 ∙ ap (λ (pass : PassSeen). Some (core_of pass).number) h.begun.begun ∙ sym (ap number_in h.was);
+      entries = λ w m.
+          subst (λ (l : List Placed). In w l) (sym of.1)
+          (subst (λ (pass : PassSeen). In w (core_of pass).own) (sym h.begun.begun)
+          (subst (λ (state : State). In w (entries_of state)) h.was m));
+    }
 
--- commits it,
+-- commits them,
 abbrev pub CommitsKeepPasses : Type 0
 CommitsKeepPasses = (old new : SessionSeen) (at : Position) → HasCommitted old new at → KeepsPass old new
 
 pub commits_keep : CommitsKeepPasses
 commits_keep old new at h =
-    from_to (Prepared h.running) (Idle h.after) old new h.was h.is
-    (made_number old.store h.running.call h.running.reply h.running.begun h.after _ h.made)
-    (made_keeps old.store h.running.call h.running.reply h.running.begun h.after _ h.made)
+    from_prepared h.running h.after old new h.was h.is
+    (made_number old.store (calls_of h.running.steps) new.last h.running.begun h.after _ h.made)
+    (made_keeps old.store (calls_of h.running.steps) new.last h.running.begun h.after _ h.made)
 
--- or cancels it,
+-- or cancels them,
 abbrev pub CancelsKeepPasses : Type 0
 CancelsKeepPasses = (old new : SessionSeen) → HasCancelled old new → KeepsPass old new
 
 pub cancels_keep : CancelsKeepPasses
 cancels_keep old new h =
-    from_to (Prepared h.running) (Idle h.after) old new h.was h.is
+    from_prepared h.running h.after old new h.was h.is
     (before_number h.running.begun h.after h.before)
     (before_keeps h.running.begun h.after h.before)
 
@@ -149,9 +184,16 @@ LooksKeepPasses = (old new : SessionSeen) (length : ℕ) → HasLooked old lengt
 
 pub looks_keep : LooksKeepPasses
 looks_keep old new length h =
-    from_to (Idle h.before) (Idle h.after) old new h.was h.is
+    from_to h.before h.after old new h.was h.is
     (ap (λ (p : PassSeen). Some (core_of p).number) h.looked.is)
     (λ w m. subst (λ (p : PassSeen). In w (core_of p).own) (sym h.looked.is) m)
+
+-- picks another reply,
+abbrev pub PicksKeepPasses : Type 0
+PicksKeepPasses = (old : SessionSeen) (call : ℕ) → KeepsPass old (with_picked call old)
+
+pub picks_keep : PicksKeepPasses
+picks_keep old call = record { number = refl; entries = λ w m. m }
 
 -- and where a call of it is refused.
 abbrev pub FaultsKeepPasses : Type 0
@@ -161,8 +203,13 @@ state_keeps : (old new : State) → IsStateAsBefore old new
     → (number_in new ≡ number_in old) × ((w : Placed) → In w (entries_of old) → In w (entries_of new))
 state_keeps (Idle old) (Idle new) h = (before_number old new h, before_keeps old new h)
 state_keeps (Idle old) (Prepared running) h = absurd h
+state_keeps (Idle old) (PreparedGroup running) h = absurd h
 state_keeps (Idle old) Moving h = absurd h
 state_keeps (Prepared running) new h = (
+  ap number_in h,
+  λ w m. subst (λ (state : State). In w (entries_of state)) (sym h) m,
+)
+state_keeps (PreparedGroup old) new h = (
   ap number_in h,
   λ w m. subst (λ (state : State). In w (entries_of state)) (sym h) m,
 )

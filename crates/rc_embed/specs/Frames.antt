@@ -1,5 +1,5 @@
 -- Frames, by which callers in other languages ask and are told.
-use Rattle.std.specs.Prelude.{◌≡◌, ◌⊎◌, ℕ, ◌<◌, ◌≤◌, ◌==◌, List, ◌++◌, length, take, drop, if◌then◌else◌}
+use Rattle.std.specs.Prelude.{◌≡◌, ◌⊎◌, ℕ, ◌<◌, ◌≤◌, ◌==◌, List, [], ◌∷◌, ◌++◌, length, map, take, drop, if◌then◌else◌}
 use Rattle.std.specs.Prelude.{Option, Some, None, IfSome}
 use Rattle.std.specs.List.{slice_get}
 use Rattle.rc_spec.specs.declared.call.Reply.{Reply}
@@ -13,10 +13,11 @@ use Rattle.rc_embed.specs.declared.frame.Frame.{Frame}
 use Rattle.rc_embed.specs.declared.frame.Page.{Page}
 use Rattle.rc_embed.specs.declared.session.Position.{Position}
 use Rattle.rc_embed.specs.Codes as codes
-use Rattle.rc_embed.specs.Refused.{HasCallCause, fault_for}
+use Rattle.rc_embed.specs.Asking.{asked_by}
+use Rattle.rc_embed.specs.Refused.{HasCallCause, fault_of}
 use Rattle.rc_embed.specs.Replies.{AreCopied, rows_told}
 use Rattle.rc_embed.specs.Session.{HasCalled, HasCancelled, HasCommitted, HasLearned, HasPrepared}
-use Rattle.rc_embed.specs.Session.{IsIdle, IsUnchanged, IsUnseenBy, SessionSeen, reply_of}
+use Rattle.rc_embed.specs.Session.{IsIdle, IsUnchanged, IsUnseenBy, SessionSeen, replies_of, reply_of, with_picked}
 
 -- the code of a fault
 abbrev pub call_code : CallFault → ℕ
@@ -26,6 +27,7 @@ call_code faults.Spent = codes.spent
 call_code faults.UnknownOperation = codes.operation
 call_code faults.Values = codes.value_count
 call_code faults.Prepared = codes.prepared
+call_code faults.Count = codes.count
 
 abbrev pub kind_code : Reply → ℕ
 kind_code (Rows rows) = 0
@@ -48,15 +50,21 @@ number_in (Removed t) = 1
 number_in (Updated t) = 1
 number_in Absent = 0
 
--- the values that a frame asks with
-abbrev pub asked_values : Frame → List ℕ
-asked_values frame = take frame.count frame.values
-
 -- ---- what is told
 
-abbrev pub with_reply : Option Reply → Frame → Frame
-with_reply None frame = frame
-with_reply (Some reply) frame = record frame { kind = kind_code reply; number = number_in reply }
+abbrev pub with_reply : Reply → Frame → Frame
+with_reply reply frame = record frame { kind = kind_code reply; number = number_in reply }
+
+-- that of the reply that is picked, where there is one
+abbrev pub with_picked_reply : Option Reply → Frame → Frame
+with_picked_reply None frame = frame
+with_picked_reply (Some reply) frame = with_reply reply frame
+
+-- each frame has the kind and the number of its call's reply
+abbrev pub with_replies : List Reply → List Frame → List Frame
+with_replies [] frames = frames
+with_replies (reply ∷ replies) [] = []
+with_replies (reply ∷ replies) (frame ∷ frames) = with_reply reply frame ∷ with_replies replies frames
 
 abbrev pub with_place : Position → Frame → Frame
 with_place at frame = record frame { place = at.place; nth = at.nth }
@@ -77,70 +85,88 @@ with_fault faults.Spent frame = frame
 with_fault faults.UnknownOperation frame = frame
 with_fault faults.Values frame = frame
 with_fault faults.Prepared frame = frame
+with_fault faults.Count frame = frame
+
+-- of several frames the first is told
+abbrev pub with_fault_first : CallFault → List Frame → List Frame
+with_fault_first fault [] = []
+with_fault_first fault (frame ∷ frames) = with_fault fault frame ∷ frames
 
 -- ---- what calls by frames answer
 
--- the frame has the kind and the number of the session's reply
-pub record HasReply (session : SessionSeen) (frame : Frame) : Type 0 where
-  pub reply : Reply
-  pub is : reply_of session ≡ Some reply
-  pub kind : frame.kind ≡ kind_code reply
-  pub number : frame.number ≡ number_in reply
+-- there is a reply for each frame, which has its kind and its number, and is the same in all else
+pub record HaveReplies (session : SessionSeen) (before after : List Frame) : Type 0 where
+  pub count : length (replies_of session) ≡ length before
+  pub same : after ≡ with_replies (replies_of session) before
 
--- it has them and the call's place, and is the same in all else
-pub record HasTold (session : SessionSeen) (before after : Frame) : Type 0 where
-  pub reply : HasReply session after
-  pub same : after ≡ with_reply (reply_of session) (with_place (place_told after) before)
-
--- a call was refused with a fault for a cause, and nothing changed; the frame tells what was in the
--- way
-pub record IsRefused (old : SessionSeen) (before : Frame)
-    (new : SessionSeen) (after : Frame) (code : ℕ) : Type 0 where
+-- calls were refused with a fault for a cause, and nothing changed; the first frame tells what was
+-- in the way
+pub record AreRefused (old : SessionSeen) (before : List Frame)
+    (new : SessionSeen) (after : List Frame) (code : ℕ) : Type 0 where
   pub fault : CallFault
   pub code_is : code ≡ call_code fault
-  pub cause : HasCallCause old new before.op (asked_values before) fault
+  pub cause : HasCallCause old new (map asked_by before) fault
   pub unchanged : IsUnchanged old new
-  pub told : after ≡ with_fault fault before
+  pub told : after ≡ with_fault_first fault before
 
--- What is so of an asked call whether it is made or prepared. One that has a fault of its own is
--- refused for it, before its values are read: session and frame are the same. Any other is made, or
--- refused for what stood in its way.
+-- What is so of calls that are asked for as one, whether they are made or prepared. Those that have
+-- a fault of their own are refused for it, before their values are read: session and frames are the
+-- same. Any others are made, or refused for what stood in their way.
 pub record AnswersAsked (MadeSo : Type 0)
-    (old : SessionSeen) (before : Frame) (new : SessionSeen) (after : Frame) (code : ℕ)
+    (old : SessionSeen) (before : List Frame) (new : SessionSeen) (after : List Frame) (code : ℕ)
     : Type 0 where
   pub store : new.store ≡ old.store
-  pub exact : IfSome (fault_for old before.op before.count)
+  pub exact : IfSome (fault_of old (map asked_by before))
       (λ fault. (code ≡ call_code fault) × (new ≡ old) × (after ≡ before))
   pub made : code ≡ codes.done → MadeSo
-  pub refused : fault_for old before.op before.count ≡ None
-      → (code ≡ codes.done → ⊥) → IsRefused old before new after code
+  pub refused : fault_of old (map asked_by before) ≡ None
+      → (code ≡ codes.done → ⊥) → AreRefused old before new after code
 
--- The call that the frame asks for is made, at the place and with the reply that the frame tells.
+-- The calls that the frames ask for are made as one, at the place that each frame tells, with the
+-- replies that they tell.
+abbrev pub AnswersGroup : SessionSeen → List Frame → SessionSeen → List Frame → ℕ → Type 0
+AnswersGroup old before new after code =
+    AnswersAsked
+    ((at : Position) × HasCalled old (map asked_by before) new at
+    × HaveReplies new (map (with_place at) before) after)
+    old before new after code
+
+-- The calls that the frames ask for are prepared as one, with the replies that they tell.
+abbrev pub AnswersBeginGroup : SessionSeen → List Frame → SessionSeen → List Frame → ℕ → Type 0
+AnswersBeginGroup old before new after code =
+    AnswersAsked
+    (HasPrepared old (map asked_by before) new × HaveReplies new before after)
+    old before new after code
+
+-- so of one call
 abbrev pub AnswersCall : SessionSeen → Frame → SessionSeen → Frame → ℕ → Type 0
-AnswersCall old before new after code =
-    AnswersAsked
-    (HasCalled old before.op (asked_values before) new (place_told after)
-    × HasTold new before after)
-    old before new after code
+AnswersCall old before new after code = AnswersGroup old (before ∷ []) new (after ∷ []) code
 
--- The call that the frame asks for is prepared, with the reply that the frame tells.
 abbrev pub AnswersBegin : SessionSeen → Frame → SessionSeen → Frame → ℕ → Type 0
-AnswersBegin old before new after code =
-    AnswersAsked
-    (HasPrepared old before.op (asked_values before) new × HasReply new after
-    × (after ≡ with_reply (reply_of new) before))
-    old before new after code
+AnswersBegin old before new after code = AnswersBeginGroup old (before ∷ []) new (after ∷ []) code
 
--- The prepared call is made, at the place and with the reply that the frame tells; or none is
--- prepared.
+-- the frame has the place, and the kind and the number of the reply that is picked, and is the same
+-- in all else
+pub record HasTold (session : SessionSeen) (at : Position) (before after : Frame) : Type 0 where
+  pub reply : Reply
+  pub picked : reply_of session ≡ Some reply
+  pub same : after ≡ with_reply reply (with_place at before)
+
+-- The prepared calls are made, at the place that the frame tells, with the reply to the first of
+-- them; or none are prepared.
 pub record AnswersCommit (old : SessionSeen) (before : Frame)
     (new : SessionSeen) (after : Frame) (code : ℕ) : Type 0 where
   pub store : new.store ≡ old.store
-  pub made : code ≡ codes.done → HasCommitted old new (place_told after) × HasTold new before after
+  pub made : code ≡ codes.done → (at : Position) × HasCommitted old new at × HasTold new at before after
   pub refused : (code ≡ codes.done → ⊥)
       → (code ≡ codes.not_prepared) × IsIdle old.state × (new ≡ old) × (after ≡ before)
 
--- The prepared call is not made; or none is prepared.
+-- the reply to the call is picked, by its number, counted from 0; or there is none
+pub record AnswersPick (old : SessionSeen) (frame : Frame) (new : SessionSeen) (code : ℕ) : Type 0 where
+  pub picked : frame.row < length (replies_of old) → (code ≡ codes.done) × (new ≡ with_picked frame.row old)
+  pub none : length (replies_of old) ≤ frame.row → (code ≡ codes.no_row) × (new ≡ old)
+
+-- The prepared calls are not made; or none are prepared.
 pub record AnswersCancel (old new : SessionSeen) (code : ℕ) : Type 0 where
   pub store : new.store ≡ old.store
   pub cancelled : code ≡ codes.done → HasCancelled old new

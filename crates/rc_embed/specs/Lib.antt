@@ -1,4 +1,5 @@
 pub mod Asked
+pub mod Asking
 pub mod Closing
 pub mod Codes
 pub mod Entries

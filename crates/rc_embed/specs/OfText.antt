@@ -1,18 +1,19 @@
 -- What a store that was opened by a text leaves, in terms of the specification that the text gives.
-use Rattle.std.specs.Prelude.{◌≡◌, ℕ, suc, List, [], ◌∷◌, ◌++◌, Some, length}
+use Rattle.std.specs.Prelude.{◌≡◌, ℕ, suc, List, Some, length}
 use Rattle.std.specs.List.{slice_get}
 use Rattle.rc_spec.specs.declared.call.Call.{Call}
 use Rattle.rc_spec.specs.declared.call.Reply.{Reply}
 use Rattle.rc_spec.specs.declared.spec.Spec.{Spec}
-use Rattle.rc_spec.specs.Plain.{plain}
 use Rattle.rc_inline.specs.Inlining.{inlined}
 use Rattle.rc_rel.specs.declared.entry.Entry.{Entry}
-use Rattle.rc_rel.specs.History.{own_placed, relation_at, replay}
+use Rattle.rc_rel.specs.declared.entry.Step.{Step}
+use Rattle.rc_rel.specs.History.{AreLegalFrom, after_steps, own_placed, relation_at, replay, with_replies}
 use Rattle.rc_core.specs.Good.{IsGoodHistory}
 use Rattle.rc_instance.specs.Instance.{IsOfRelation}
 use Rattle.rc_row.specs.Law.{AreKnown}
-use Rattle.rc_row.specs.Passes.{PassSeen, core_of, next_entry}
+use Rattle.rc_row.specs.Passes.{PassSeen, core_of}
 use Rattle.rc_store.specs.Closed.{ClosedSeen, made_by, where_kept}
+use Rattle.rc_store.specs.Receipts.{history_with}
 use Rattle.rc_store.specs.Store.{StoreSeen}
 
 -- The history is good for the specification, and what was closed has the rows of the relation that it leaves, as the
@@ -27,24 +28,26 @@ pub record IsHistoryOfText (spec : Spec) (store : StoreSeen) (passes : List Pass
   pub journal : closed.journal ≡ where_kept store.row.keeping history
   pub made : closed.made ≡ made_by passes
 
--- The history has at this place one entry of this call alone, with this reply: the plain relation's at the place, which
--- leaves that of the next. (PLDI 2011, the relation's operations.)
-pub record IsAnsweredAt (spec : Spec) (history : List Entry) (place : ℕ) (call : Call) (reply : Reply) : Type 0 where
+-- The history has at this place one entry of these calls, with these replies, one each: in turn the plain relation's from
+-- the place on, and after the last of them it is that of the next place. (PLDI 2011, the relation's operations.)
+pub record AreAnsweredAt (spec : Spec) (history : List Entry) (place : ℕ) (calls : List Call) (replies : List Reply)
+    : Type 0 where
   pub entry : Entry
   pub at : slice_get history place ≡ Some entry
-  pub one : entry.steps ≡ record { call = call; reply = reply } ∷ []
-  pub answer : reply ≡ (plain spec (relation_at spec history place) call).reply
-  pub relation : relation_at spec history (suc place) ≡ (plain spec (relation_at spec history place) call).relation
+  pub count : length replies ≡ length calls
+  pub steps_are : entry.steps ≡ with_replies calls replies
+  pub answers : AreLegalFrom spec (relation_at spec history place) (with_replies calls replies)
+  pub relation : relation_at spec history (suc place)
+      ≡ after_steps spec (relation_at spec history place) (with_replies calls replies)
 
--- Behind a call of a pass stands this history: with the call it is good for the specification, it has as many entries as
--- the call's place says, it goes on from all that the pass was told of, and has all that the pass made, at its places.
--- The reply is the plain relation's after it, which leaves that of the longer history.
-pub record IsBehind (spec : Spec) (passes : ℕ) (pass : PassSeen) (call : Call) (reply : Reply) (place : ℕ)
+-- Behind calls that a pass made as one stands this history: with them it is good for the specification, it has as many
+-- entries as their place says, it goes on from all that the pass was told of, and has all that the pass made, at its
+-- places. The replies are the plain relation's in turn after it, which leaves that of the longer history.
+pub record IsBehind (spec : Spec) (passes : ℕ) (pass : PassSeen) (steps : List Step) (place : ℕ)
     (before : List Entry) : Type 0 where
   pub place_is : place ≡ length before
-  pub good : IsGoodHistory spec passes (before ++ next_entry (core_of pass) call reply ∷ [])
+  pub good : IsGoodHistory spec passes (history_with before pass steps)
   pub goes_on : AreKnown before pass.standing.known
   pub own : (core_of pass).own ≡ own_placed before (core_of pass).number
-  pub answer : reply ≡ (plain spec (replay spec before) call).reply
-  pub relation : replay spec (before ++ next_entry (core_of pass) call reply ∷ [])
-      ≡ (plain spec (replay spec before) call).relation
+  pub answers : AreLegalFrom spec (replay spec before) steps
+  pub relation : replay spec (history_with before pass steps) ≡ after_steps spec (replay spec before) steps

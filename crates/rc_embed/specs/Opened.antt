@@ -1,5 +1,5 @@
 -- What opening a store answers, and what it hands out.
-use Rattle.std.specs.Prelude.{◌≡◌, ℕ, ◌-◌, ◌<◌, ◌≤◌, ◌^◌, List, ◌∷◌, None, Result, Ok, Err, IfSome, length, unwrap_or}
+use Rattle.std.specs.Prelude.{◌≡◌, ℕ, ◌-◌, ◌<◌, ◌≤◌, ◌^◌, List, [], ◌∷◌, Result, Ok, Err, IfSome, length, unwrap_or}
 use Rattle.rc_spec.specs.declared.spec.Spec.{Spec}
 use Rattle.rc_spec.specs.declared.refusal.Refusal.{Refusal}
 use Rattle.rc_spec.specs.Acceptance.{IsAccepted, IsFirstBroken, IsItemOf}
@@ -115,7 +115,7 @@ ReadsAccepted text options (Err (Rule spec refusal)) = IsRuleOf text options spe
 
 -- a session of the store with this pass: no call is prepared, and none was made
 abbrev pub new_session : StoreSeen → PassSeen → SessionSeen
-new_session store pass = record { store = store; state = Idle pass; last = None }
+new_session store pass = record { store = store; state = Idle pass; last = []; picked = 0 }
 
 -- it is a new session, with the first of the passes
 pub record HasDealt (old new : OpenSeen) (session : SessionSeen) : Type 0 where

@@ -1,99 +1,139 @@
 -- What contracts see of a session, and what its calls make of it. (PLDI 2012, serializable
 -- transactions over striped locks.)
-use Rattle.std.specs.Prelude.{◌≡◌, ℕ, ◌<◌, ◌≤◌, List, Option, Some, None}
+use Rattle.std.specs.Prelude.{◌≡◌, ℕ, ◌<◌, ◌≤◌, List, [], ◌∷◌, Option, Some, None}
+use Rattle.std.specs.List.{slice_get}
 use Rattle.rc_spec.specs.declared.call.Call.{Call}
 use Rattle.rc_spec.specs.declared.call.Reply.{Reply}
 use Rattle.rc_row.specs.Passes.{HasLookedAt, PassSeen, core_of, spec_of}
-use Rattle.rc_store.specs.Running.{HasBegun, IsRunningOn, RunningSeen}
-use Rattle.rc_store.specs.Store.{HasMade, IsAsBefore, IsFree, StoreSeen}
-use Rattle.rc_store.specs.declared.receipt.Receipt.{Receipt}
+use Rattle.rc_store.specs.Running.{HasBegunGroup, IsGroupRunningOn, IsRunningOn, RunningGroupSeen}
+use Rattle.rc_store.specs.Running.{RunningSeen, calls_of, replies_of as replies_with}
+use Rattle.rc_store.specs.Store.{HasMadeGroup, IsAsBefore, IsFree, StoreSeen, one_step}
+use Rattle.rc_store.specs.declared.receipt.GroupReceipt.{GroupReceipt}
+use Rattle.rc_embed.specs.declared.session.Last.{Last}
+use Rattle.rc_embed.specs.declared.session.Last.TheVariants as lasts
 use Rattle.rc_embed.specs.declared.session.Position.{Position}
 use Rattle.rc_embed.specs.declared.session.State.{State}
-use Rattle.rc_embed.specs.declared.session.State.TheVariants.{Idle, Prepared, Moving}
-use Rattle.rc_work.specs.CallColumns.{call_of}
+use Rattle.rc_embed.specs.declared.session.State.TheVariants.{Idle, Prepared, PreparedGroup, Moving}
+use Rattle.rc_embed.specs.Asked.{AskedCall, calls_by}
 
--- a session: its store, what it does, and the reply of the last call that it made
+-- A session: its store, what it does, the replies of the call, or of the calls of the group, that it
+-- made last, and whose reply is picked, counted from 0.
 pub record SessionSeen : Type 0 where
   pub store : StoreSeen
   pub state : State
-  pub last : Option Reply
+  pub last : List Reply
+  pub picked : ℕ
 
--- the reply that is told: that of the prepared call, where there is one, and else of the last
-abbrev pub reply_in : State → Option Reply → Option Reply
-reply_in (Idle pass) last = last
-reply_in (Prepared running) last = Some running.reply
-reply_in Moving last = last
+-- what a receipt gave
+abbrev pub replies_given : Last → List Reply
+replies_given (lasts.Call None) = []
+replies_given (lasts.Call (Some reply)) = reply ∷ []
+replies_given (lasts.Group None) = []
+replies_given (lasts.Group (Some replies)) = replies
 
+-- a prepared call as a group of one
+abbrev pub alone : RunningSeen → RunningGroupSeen
+alone running = record {
+  begun = running.begun;
+  pass = running.pass;
+  steps = one_step running.call running.reply;
+}
+
+-- the calls that are prepared as one, if any, with their replies
+abbrev pub prepared_in : State → Option RunningGroupSeen
+prepared_in (Idle pass) = None
+prepared_in (Prepared running) = Some (alone running)
+prepared_in (PreparedGroup running) = Some running
+prepared_in Moving = None
+
+-- the replies that are told: those of the prepared calls, where there are some, and else the last
+abbrev pub replies_in : Option RunningGroupSeen → List Reply → List Reply
+replies_in None last = last
+replies_in (Some running) last = replies_with running.steps
+
+abbrev pub replies_of : SessionSeen → List Reply
+replies_of session = replies_in (prepared_in session.state) session.last
+
+-- the one of them that is picked
 abbrev pub reply_of : SessionSeen → Option Reply
-reply_of session = reply_in session.state session.last
+reply_of session = slice_get (replies_of session) session.picked
+
+-- the session with another one picked
+abbrev pub with_picked : ℕ → SessionSeen → SessionSeen
+with_picked call session = record session { picked = call }
 
 -- no call is prepared
 abbrev pub IsIdle : State → Type 0
 IsIdle (Idle pass) = Unit {0}
 IsIdle (Prepared running) = ⊥
+IsIdle (PreparedGroup running) = ⊥
 IsIdle Moving = ⊥
 
--- its pass is free, or it has a call that runs on the store
+-- its pass is free, or it has a call or a group that runs on the store
 abbrev pub IsStateOf : StoreSeen → State → Type 0
 IsStateOf store (Idle pass) = IsFree store pass
 IsStateOf store (Prepared running) = IsRunningOn store running
+IsStateOf store (PreparedGroup running) = IsGroupRunningOn store running
 IsStateOf store Moving = ⊥
 
 -- the length of the history that it has seen
 abbrev pub seen_of : State → Option ℕ
 seen_of (Idle pass) = Some (core_of pass).seen
 seen_of (Prepared running) = None
+seen_of (PreparedGroup running) = None
 seen_of Moving = None
 
--- the call that an operation and values make on the session's store
-abbrev pub call_in : SessionSeen → ℕ → List ℕ → Call
-call_in session op values = call_of (spec_of session.store.row) op values
+-- the calls that are asked of the session's store
+abbrev pub calls_in : SessionSeen → List AskedCall → List Call
+calls_in session asked = calls_by (spec_of session.store.row) asked
 
--- the receipt of a call with this reply
-abbrev pub receipt_of : Position → Reply → Receipt
-receipt_of at reply = record { place = at.place; nth = at.nth; reply = Some reply }
+-- the receipt of calls with these replies
+abbrev pub receipt_of : Position → List Reply → GroupReceipt
+receipt_of at replies = record { place = at.place; nth = at.nth; replies = Some replies }
 
 -- ---- what calls make of a session
 
--- It has made the call of the operation with the values: its pass has the receipt of that very
--- call, with the reply that the session tells now.
-pub record HasCalled (old : SessionSeen) (op : ℕ) (values : List ℕ) (new : SessionSeen)
+-- It has made the calls that were asked for as one: its pass has the receipt of these very calls,
+-- with the replies that the session tells now, of which the first is picked.
+pub record HasCalled (old : SessionSeen) (asked : List AskedCall) (new : SessionSeen)
     (at : Position) : Type 0 where
   pub before : PassSeen
   pub after : PassSeen
-  pub reply : Reply
   pub was : old.state ≡ Idle before
   pub is : new.state ≡ Idle after
-  pub told : new.last ≡ Some reply
-  pub made : HasMade old.store (call_in old op values) reply before after (receipt_of at reply)
+  pub picked : new.picked ≡ 0
+  pub made : HasMadeGroup old.store (calls_in old asked) new.last before after (receipt_of at new.last)
 
--- it has prepared the call of the operation with the values
-pub record HasPrepared (old : SessionSeen) (op : ℕ) (values : List ℕ) (new : SessionSeen)
+-- it has prepared the calls that were asked for as one
+pub record HasPrepared (old : SessionSeen) (asked : List AskedCall) (new : SessionSeen)
     : Type 0 where
   pub before : PassSeen
-  pub running : RunningSeen
+  pub running : RunningGroupSeen
   pub was : old.state ≡ Idle before
-  pub is : new.state ≡ Prepared running
+  pub is : prepared_in new.state ≡ Some running
   pub last : new.last ≡ old.last
-  pub begun : HasBegun old.store (call_in old op values) before running
+  pub picked : new.picked ≡ 0
+  pub begun : HasBegunGroup old.store (calls_in old asked) before running
 
--- the prepared call is made, with the reply that was told
+-- the prepared calls are made, with the replies that were told
 pub record HasCommitted (old new : SessionSeen) (at : Position) : Type 0 where
-  pub running : RunningSeen
+  pub running : RunningGroupSeen
   pub after : PassSeen
-  pub was : old.state ≡ Prepared running
+  pub was : prepared_in old.state ≡ Some running
   pub is : new.state ≡ Idle after
-  pub told : new.last ≡ Some running.reply
-  pub made : HasMade old.store running.call running.reply running.begun after
-      (receipt_of at running.reply)
+  pub told : new.last ≡ replies_with running.steps
+  pub picked : new.picked ≡ 0
+  pub made : HasMadeGroup old.store (calls_of running.steps) new.last running.begun after
+      (receipt_of at new.last)
 
--- the prepared call is not made, and the pass is as before it was begun
+-- the prepared calls are not made, and the pass is as before they were begun
 pub record HasCancelled (old new : SessionSeen) : Type 0 where
-  pub running : RunningSeen
+  pub running : RunningGroupSeen
   pub after : PassSeen
-  pub was : old.state ≡ Prepared running
+  pub was : prepared_in old.state ≡ Some running
   pub is : new.state ≡ Idle after
   pub last : new.last ≡ old.last
+  pub picked : new.picked ≡ 0
   pub before : IsAsBefore running.begun after
 
 -- The session has seen a good history of that moment, which has this length, has all calls that it
@@ -106,6 +146,7 @@ pub record HasLooked (old : SessionSeen) (length : ℕ) (new : SessionSeen) : Ty
   pub looked : HasLookedAt old.store.row before after length
   pub seen : (core_of before).seen ≤ length
   pub last : new.last ≡ old.last
+  pub picked : new.picked ≡ old.picked
 
 -- it has seen at least what was told
 pub record HasLearned (old : SessionSeen) (told : ℕ) (new : SessionSeen) (length : ℕ) : Type 0 where
@@ -120,13 +161,15 @@ pub record IsUnseenBy (old : SessionSeen) (told : ℕ) (new : SessionSeen) : Typ
 
 -- ---- what faults leave
 
--- the pass, or the prepared call, is as before
+-- the pass, or what is prepared, is as before
 abbrev pub IsStateAsBefore : State → State → Type 0
 IsStateAsBefore (Idle old) (Idle new) = IsAsBefore old new
 IsStateAsBefore (Prepared old) new = new ≡ Prepared old
+IsStateAsBefore (PreparedGroup old) new = new ≡ PreparedGroup old
 IsStateAsBefore old new = ⊥
 
--- history, pass, prepared call and reply are as before
+-- history, pass, prepared calls and replies are as before
 pub record IsUnchanged (old new : SessionSeen) : Type 0 where
   pub state : IsStateAsBefore old.state new.state
   pub last : new.last ≡ old.last
+  pub picked : new.picked ≡ old.picked

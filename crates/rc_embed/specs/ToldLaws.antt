@@ -1,7 +1,9 @@
 -- What a closed store leaves is of the specification that its text gives, and so are the replies that its sessions were
 -- told. (PLDI 2012, serializable transactions.)
-use Rattle.std.proofs.Common.{◌≡◌, ℕ, zero, suc, ◌<◌, List, [], ◌∷◌, length, Some, ap, ◌∙◌, refl, subst, sym, arith}
+use Rattle.std.proofs.Common.{◌≡◌, ℕ, zero, suc, ◌<◌, List, [], ◌∷◌, ◌++◌, length, take, Option, Some, None, ap, ◌∙◌, refl, subst, sym, arith}
 use Rattle.std.specs.List.{slice_get}
+use Rattle.std.proofs.lemmas.List.{append-nil}
+use Rattle.std.proofs.lemmas.Option.{same_Some}
 use Rattle.rc_tuple.specs.RisingSet.{In}
 use Rattle.rc_tuple.specs.RisingSetLaws.{in_slice_get, slice_get_in}
 use Rattle.rc_tuple.specs.Tuple.{Pairs}
@@ -14,31 +16,30 @@ use Rattle.rc_plan.specs.Compiled.{SpecWithPlans}
 use Rattle.rc_rel.specs.declared.entry.Entry.{Entry}
 use Rattle.rc_rel.specs.declared.entry.Placed.{Placed}
 use Rattle.rc_rel.specs.declared.entry.Step.{Step}
-use Rattle.rc_rel.specs.History.{IsPlain, placed, relation_at, replay}
+use Rattle.rc_rel.specs.History.{AreLegalFrom, IsLegal, after_steps, placed, relation_at, replay, steps_of}
 use Rattle.rc_rel.specs.OwnLaws.{StandsIn, own_stands, same_places, stands_in_other}
-use Rattle.rc_rel.specs.PlaceLaws.{plain_at_each_place}
+use Rattle.rc_rel.specs.HistoryLaws.{after_steps-append}
 use Rattle.rc_instance.specs.Instance.{IsOfRelation}
 use Rattle.rc_row.specs.Passes.{PassSeen, spec_of}
 use Rattle.rc_store.specs.Closed.{ClosedSeen, HasClosed}
+use Rattle.rc_store.specs.Running.{RunningGroupSeen, calls_of}
 use Rattle.rc_store.specs.Store.{StoreSeen}
-use Rattle.rc_work.specs.CallColumns.{call_of}
-use Rattle.rc_embed.specs.declared.opening.Options as asked
+use Rattle.rc_embed.specs.declared.opening.Options as opening
 use Rattle.rc_embed.specs.declared.session.Position.{Position}
-use Rattle.rc_embed.specs.declared.session.State.{State}
-use Rattle.rc_embed.specs.declared.session.State.TheVariants.{Idle, Prepared, Moving}
+use Rattle.rc_embed.specs.Asked.{AskedCall, calls_by}
 use Rattle.rc_embed.specs.Entries.{HasEntry, HaveEntriesOf, StandsAt, entries_of}
 use Rattle.rc_embed.specs.EntriesLaws.{calls_stand, commits_stand}
-use Rattle.rc_embed.specs.OfText.{IsAnsweredAt, IsHistoryOfText}
+use Rattle.rc_embed.specs.OfText.{AreAnsweredAt, IsHistoryOfText}
 use Rattle.rc_embed.specs.Opened.{IsOpened, OpenSeen}
 use Rattle.rc_embed.specs.OpenedLaws.{histories_are_of_the_text, opened_calls, store_spec}
-use Rattle.rc_embed.specs.Session.{HasCalled, HasCommitted, HasPrepared, SessionSeen, call_in, reply_of}
+use Rattle.rc_embed.specs.Session.{HasCalled, HasCommitted, HasPrepared, SessionSeen, calls_in, prepared_in, replies_of}
 
 -- ---- what a store leaves that is closed
 
 -- It is one history of the text's specification, in which each pass's entries are its own, and what is left are the
 -- rows of its relation.
 abbrev pub ClosedIsOfTheText : Type 0
-ClosedIsOfTheText = (text : List ℕ) (options : asked.Options) (opened : OpenSeen) (is : IsOpened text options opened)
+ClosedIsOfTheText = (text : List ℕ) (options : opening.Options) (opened : OpenSeen) (is : IsOpened text options opened)
     → (passes : List PassSeen) (closed : ClosedSeen) (has : HasClosed opened.store passes closed)
     → IsHistoryOfText is.spec opened.store passes closed has.history
 
@@ -83,15 +84,49 @@ histories_of_text_are_one spec store passes closed history other is also =
     same_places history other (stands_in_both spec store passes closed history other is also)
     (stands_in_both spec store passes closed other history also is)
 
+-- ---- legal histories, place by place
+
+legal_first : (spec : Spec) (r : List Pairs) (xs ys : List Step) → AreLegalFrom spec r (xs ++ ys) → AreLegalFrom spec r xs
+legal_first spec r [] ys h = tt
+legal_first spec r (x ∷ xs) ys h = (h.0, legal_first spec (plain spec r x.call).relation xs ys h.1)
+
+legal_rest : (spec : Spec) (r : List Pairs) (xs ys : List Step) → AreLegalFrom spec r (xs ++ ys) → AreLegalFrom spec (after_steps spec r xs) ys
+legal_rest spec r [] ys h = h
+legal_rest spec r (x ∷ xs) ys h = legal_rest spec (plain spec r x.call).relation xs ys h.1
+
+legal_from : (spec : Spec) (r : List Pairs) (history : List Entry) → AreLegalFrom spec r (steps_of history)
+    → (place : ℕ) (entry : Entry) → slice_get history place ≡ Some entry
+    → AreLegalFrom spec (after_steps spec r (steps_of (take place history))) entry.steps
+    × (after_steps spec r (steps_of (take (suc place) history))
+    ≡ after_steps spec (after_steps spec r (steps_of (take place history))) entry.steps)
+legal_from spec r [] legal place entry at = absurd cc
+legal_from spec r (e ∷ es) legal zero entry at =
+    subst (λ (x : Entry). AreLegalFrom spec r x.steps × (after_steps spec r (e.steps ++ []) ≡ after_steps spec r x.steps))
+    (same_Some e entry at)
+    (legal_first spec r e.steps (steps_of es) legal, ap (after_steps spec r) (append-nil e.steps))
+legal_from spec r (e ∷ es) legal (suc n) entry at =
+    subst (λ (z : List Pairs × List Pairs). AreLegalFrom spec z.0 entry.steps × (z.1 ≡ after_steps spec z.0 entry.steps))
+    (λ i. (sym (after_steps-append spec r e.steps (steps_of (take n es))) i, sym (after_steps-append spec r e.steps (steps_of (take (suc n) es))) i))
+    (legal_from spec (after_steps spec r e.steps) es (legal_rest spec r e.steps (steps_of es) legal) n entry at)
+
+-- In a legal history the replies of an entry are in turn the plain relation's from its place on, which is that of the next
+-- place after the last of its calls.
+legal_at_each_place : (spec : Spec) (history : List Entry) → IsLegal spec history
+    → (place : ℕ) (entry : Entry) → slice_get history place ≡ Some entry
+    → AreLegalFrom spec (relation_at spec history place) entry.steps
+    × (relation_at spec history (suc place) ≡ after_steps spec (relation_at spec history place) entry.steps)
+legal_at_each_place spec history legal place entry at = legal_from spec [] history legal place entry at
+
 -- ---- the replies that sessions were told
 
--- Of each entry of one call among a pass's own, the reply is the plain relation's at its place, which leaves that of the
--- next.
+-- Of each entry among a pass's own, the replies are in turn the plain relation's from its place on, and after the last of
+-- its calls it is that of the next place.
 abbrev pub EntriesArePlain : Type 0
 EntriesArePlain = (spec : Spec) (store : StoreSeen) (passes : List PassSeen) (closed : ClosedSeen)
     (history : List Entry) → IsHistoryOfText spec store passes closed history
-    → (w : Placed) → HasEntry passes w → length w.entry.steps ≡ 1
-    → IsPlain spec (relation_at spec history w.place) (relation_at spec history (suc w.place)) w.entry
+    → (w : Placed) → HasEntry passes w
+    → AreLegalFrom spec (relation_at spec history w.place) w.entry.steps
+    × (relation_at spec history (suc w.place) ≡ after_steps spec (relation_at spec history w.place) w.entry.steps)
 
 -- where an entry of a pass stands
 stands : (spec : Spec) (store : StoreSeen) (passes : List PassSeen) (closed : ClosedSeen) (history : List Entry)
@@ -103,87 +138,77 @@ stands spec store passes closed history is w has =
     (subst (λ (l : List Placed). In w l) (is.own k.0 has.pass k.1) has.among)).0
 
 pub entries_are_plain : EntriesArePlain
-entries_are_plain spec store passes closed history is w has one =
-    plain_at_each_place spec history is.good.legal w.place w.entry
-    (stands spec store passes closed history is w has) one
+entries_are_plain spec store passes closed history is w has =
+    legal_at_each_place spec history is.good.legal w.place w.entry
+    (stands spec store passes closed history is w has)
 
-abbrev first_or : Step → List Step → Step
-first_or d [] = d
-first_or d (s ∷ steps) = s
-
-first_same : (a b : Step) → a ∷ [] ≡ b ∷ [] → a ≡ b
-first_same a b is = ap (first_or a) is
-
--- a call that stands among the entries of a pass is answered so
+-- calls that stand among the entries of a pass are answered so
 answered : (spec : Spec) (store : StoreSeen) (passes : List PassSeen) (closed : ClosedSeen) (history : List Entry)
     → IsHistoryOfText spec store passes closed history
     → (entries : List Placed) → ((w : Placed) → In w entries → HasEntry passes w)
-    → (place : ℕ) (call : Call) (reply : Reply) → StandsAt entries place call reply
-    → IsAnsweredAt spec history place call reply
-answered spec store passes closed history is entries have place call reply at =
+    → (place : ℕ) (calls : List Call) (replies : List Reply) → StandsAt entries place calls replies
+    → AreAnsweredAt spec history place calls replies
+answered spec store passes closed history is entries have place calls replies at =
     let has = have (placed place at.entry) at.among in
-    let one : length at.entry.steps ≡ 1 = ap (λ (steps : List Step). length steps) at.one in
-    let plainly = entries_are_plain spec store passes closed history is (placed place at.entry) has one in
-    let step : plainly.step ≡ record { call = call; reply = reply } = first_same plainly.step _ (sym plainly.one ∙ at.one) in
-    let same_call : plainly.step.call ≡ call = ap (λ (s : Step). s.call) step in
+    let plainly = entries_are_plain spec store passes closed history is (placed place at.entry) has in
     record {
       entry = at.entry;
       at = stands spec store passes closed history is (placed place at.entry) has;
-      one = at.one;
-      answer =
-          sym (ap (λ (s : Step). s.reply) step)
-          ∙ plainly.reply
-          ∙ ap (λ (c : Call). (plain spec (relation_at spec history place) c).reply) same_call;
-      relation =
-          plainly.relation
-          ∙ ap (λ (c : Call). (plain spec (relation_at spec history place) c).relation) same_call;
+      count = at.count;
+      steps_are = at.steps_are;
+      answers = subst (AreLegalFrom spec (relation_at spec history place)) at.steps_are plainly.0;
+      relation = plainly.1 ∙ ap (after_steps spec (relation_at spec history place)) at.steps_are;
     }
 
--- A reply that a session was told, of a call whose entry has come back to the store that is closed, is the plain
--- relation's, by the specification that the text gives, at the call's place of the one history.
+-- what is asked for are the same calls by the specification of a store as by that of the text which opened it
+same_calls : (text : List ℕ) (options : opening.Options) (opened : OpenSeen) (is : IsOpened text options opened)
+    → (asked : List AskedCall) → calls_by (store_spec opened) asked ≡ calls_by is.spec asked
+same_calls text options opened is [] = refl
+same_calls text options opened is (call ∷ asked) = λ i.
+    opened_calls text options opened is call.op call.values i ∷ same_calls text options opened is asked i
+
+-- The replies that a session was told, of calls whose entry has come back to the store that is closed, are in turn the
+-- plain relation's, by the specification that the text gives, at the place of the one history.
 abbrev pub ToldRepliesArePlain : Type 0
-ToldRepliesArePlain = (text : List ℕ) (options : asked.Options) (opened : OpenSeen)
+ToldRepliesArePlain = (text : List ℕ) (options : opening.Options) (opened : OpenSeen)
     (is : IsOpened text options opened) (passes : List PassSeen) (closed : ClosedSeen) (history : List Entry)
     → IsHistoryOfText is.spec opened.store passes closed history
-    → (old new : SessionSeen) (op : ℕ) (values : List ℕ) (at : Position)
-    → old.store ≡ opened.store → HasCalled old op values new at → HaveEntriesOf passes new
-    → (reply : Reply) → reply_of new ≡ Some reply
-    → IsAnsweredAt is.spec history at.place (call_of is.spec op values) reply
+    → (old new : SessionSeen) (asked : List AskedCall) (at : Position)
+    → old.store ≡ opened.store → HasCalled old asked new at → HaveEntriesOf passes new
+    → AreAnsweredAt is.spec history at.place (calls_by is.spec asked) (replies_of new)
 
 pub told_replies_are_plain : ToldRepliesArePlain
-told_replies_are_plain text options opened is passes closed history of old new op values at same called have reply told =
-    let call : call_in old op values ≡ call_of is.spec op values =
-    ap (λ (store : StoreSeen). call_of (spec_of store.row) op values) same
-    ∙ opened_calls text options opened is op values in
-    subst (λ (c : Call). IsAnsweredAt is.spec history at.place c reply) call
-    (answered is.spec opened.store passes closed history of (entries_of new.state) have at.place (call_in old op values)
-    reply (calls_stand old new op values at called reply told))
+told_replies_are_plain text options opened is passes closed history of old new asked at same called have =
+    let calls : calls_in old asked ≡ calls_by is.spec asked =
+    ap (λ (store : StoreSeen). calls_by (spec_of store.row) asked) same
+    ∙ same_calls text options opened is asked in
+    subst (λ (cs : List Call). AreAnsweredAt is.spec history at.place cs (replies_of new)) calls
+    (answered is.spec opened.store passes closed history of (entries_of new.state) have at.place (calls_in old asked)
+    (replies_of new) (calls_stand old new asked at called))
 
--- And so is that of a call that was prepared, once it is committed.
+-- And so are those of calls that were prepared, once they are committed.
 abbrev pub CommittedRepliesArePlain : Type 0
-CommittedRepliesArePlain = (text : List ℕ) (options : asked.Options) (opened : OpenSeen)
+CommittedRepliesArePlain = (text : List ℕ) (options : opening.Options) (opened : OpenSeen)
     (is : IsOpened text options opened) (passes : List PassSeen) (closed : ClosedSeen) (history : List Entry)
     → IsHistoryOfText is.spec opened.store passes closed history
-    → (old begun ready new : SessionSeen) (op : ℕ) (values : List ℕ) (at : Position)
-    → old.store ≡ opened.store → HasPrepared old op values begun → ready.state ≡ begun.state
+    → (old begun ready new : SessionSeen) (asked : List AskedCall) (at : Position)
+    → old.store ≡ opened.store → HasPrepared old asked begun → ready.state ≡ begun.state
     → HasCommitted ready new at → HaveEntriesOf passes new
-    → (reply : Reply) → reply_of new ≡ Some reply
-    → IsAnsweredAt is.spec history at.place (call_of is.spec op values) reply
+    → AreAnsweredAt is.spec history at.place (calls_by is.spec asked) (replies_of new)
 
--- the call that is prepared
-abbrev call_or : Call → State → Call
-call_or d (Idle pass) = d
-call_or d (Prepared running) = running.call
-call_or d Moving = d
+-- the calls that are prepared
+abbrev calls_or : List Call → Option RunningGroupSeen → List Call
+calls_or d None = d
+calls_or d (Some running) = calls_of running.steps
 
 pub committed_replies_are_plain : CommittedRepliesArePlain
-committed_replies_are_plain text options opened is passes closed history of old begun ready new op values at same prepared still committed have reply told =
-    let one : committed.running.call ≡ prepared.running.call =
-    ap (call_or prepared.running.call) (sym committed.was ∙ still ∙ prepared.is) in
-    let call : committed.running.call ≡ call_of is.spec op values =
-    one ∙ prepared.begun.asked
-    ∙ ap (λ (store : StoreSeen). call_of (spec_of store.row) op values) same
-    ∙ opened_calls text options opened is op values in
-    subst (λ (c : Call). IsAnsweredAt is.spec history at.place c reply) call
-    (answered is.spec opened.store passes closed history of (entries_of new.state) have at.place committed.running.call
-    reply (commits_stand ready new at committed reply told))
+committed_replies_are_plain text options opened is passes closed history of old begun ready new asked at same prepared still committed have =
+    let these : calls_of committed.running.steps ≡ calls_of prepared.running.steps =
+    ap (calls_or (calls_of prepared.running.steps)) (sym committed.was ∙ ap prepared_in still ∙ prepared.is) in
+    let calls : calls_of committed.running.steps ≡ calls_by is.spec asked =
+    these ∙ prepared.begun.asked
+    ∙ ap (λ (store : StoreSeen). calls_by (spec_of store.row) asked) same
+    ∙ same_calls text options opened is asked in
+    subst (λ (cs : List Call). AreAnsweredAt is.spec history at.place cs (replies_of new)) calls
+    (answered is.spec opened.store passes closed history of (entries_of new.state) have at.place
+    (calls_of committed.running.steps) (replies_of new) (commits_stand ready new at committed))

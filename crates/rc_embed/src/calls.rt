@@ -1,11 +1,12 @@
 //! Calls.
 
 ghost use Rattle.std.specs.Prelude.{◌≡◌, Err, IfSome, None};
+ghost use Rattle.rc_embed.specs.Asked.{one_call};
 ghost use Rattle.rc_embed.specs.Refused.{Answers, fault_of};
 ghost use Rattle.rc_embed.specs.Session.{HasCalled};
 
 use crate::fault::{CallFault, call_fault};
-use crate::session::{Position, Session, State};
+use crate::session::{Last, Position, Session, State};
 use rc_store::Receipt;
 
 impl Session {
@@ -19,9 +20,9 @@ impl Session {
     /// stripe that the call's plan names. After any fault history and session are as before. Costs
     /// what the call's plan costs.
     pub fn try_call(&mut self, op: u32, values: &[u64]) -> Result<Position, CallFault>
-        ensures answers { Answers (HasCalled self.old op values.now self.new)
-            self.old op values.now self.new result }
-        ensures refused { IfSome (fault_of self.old op values.now)
+        ensures answers { let calls = one_call op values.now in
+            Answers (HasCalled self.old calls self.new) self.old calls self.new result }
+        ensures refused { IfSome (fault_of self.old (one_call op values.now))
             (λ fault. (result ≡ Err fault) × (self.new ≡ self.old)) }
     {
         // A read of a field tells the check what holds of every session.
@@ -34,9 +35,9 @@ impl Session {
 
     /// Makes a call that has no fault of its own.
     pub(crate) fn call_idle(&mut self, op: u32, values: &[u64]) -> Result<Position, CallFault>
-        requires { fault_of self.old op values.now ≡ None }
-        ensures { Answers (HasCalled self.old op values.now self.new)
-            self.old op values.now self.new result }
+        requires { fault_of self.old (one_call op values.now) ≡ None }
+        ensures { let calls = one_call op values.now in
+            Answers (HasCalled self.old calls self.new) self.old calls self.new result }
     {
         let State::Idle(pass) = &mut self.state else {
             unreachable!()
@@ -44,7 +45,8 @@ impl Session {
         self.shared.refill_call(&mut self.call, op, values)?;
         match self.shared.store.try_call(pass, &self.call) {
             Ok(Receipt { place, nth, reply }) => {
-                self.last = reply;
+                self.last = Last::Call(reply);
+                self.picked = 0;
                 Ok(Position { place, nth })
             }
             Err(fault) => Err(call_fault(fault)),

@@ -31,3 +31,5 @@ pub const RULE: u32 = 12;
 pub const NONE_LEFT: u32 = 13;
 /// The session has seen less than what was to be learned.
 pub const UNSEEN: u32 = 14;
+/// No call, or more than there may be in a group.
+pub const COUNT: u32 = 15;

@@ -44,12 +44,14 @@ pub enum SessionFault {
     NoneLeft,
 }
 
-/// Why a call isn't made, or isn't begun. The session is as before.
+/// Why a call, or calls that are asked for as one, aren't made, or aren't begun. The session is as
+/// before.
 #[derive(Clone, Copy, Debug, PartialEq, Eq)]
 pub enum CallFault {
     /// Memory was wanted, and nothing stood in the way.
     Memory,
-    /// Something stood in the way of a stripe that the call's plan names.
+    /// Something stood in the way of a stripe that the call's plan names, or that is one of the
+    /// group's locks.
     Busy {
         /// The number of the stripe, over all classes.
         stripe: u32,
@@ -62,11 +64,13 @@ pub enum CallFault {
     UnknownOperation,
     /// The operation takes another number of values.
     Values,
-    /// A call is prepared, and neither committed nor cancelled.
+    /// A call or a group is prepared, and neither committed nor cancelled.
     Prepared,
+    /// A group has no call, or more than `MAX_GROUP`.
+    Count,
 }
 
-/// No call is prepared. The session is as before.
+/// No call and no group is prepared. The session is as before.
 #[derive(Clone, Copy, Debug, PartialEq, Eq)]
 pub struct NotPrepared;
 
@@ -81,13 +85,13 @@ impl From<Memory> for CallFault {
 /// Why a session doesn't learn what another one has seen.
 #[derive(Clone, Copy, Debug, PartialEq, Eq)]
 pub enum LearnFault {
-    /// A call is prepared. The session is as before.
+    /// A call or a group is prepared. The session is as before.
     Prepared,
     /// The session has looked, and has seen less than that.
     Unseen,
 }
 
-/// The fault of a call that the store refused.
+/// The fault of calls that the store refused.
 pub(crate) fn call_fault(fault: TryFault) -> CallFault
     ensures { result ≡ call_fault fault }
 {

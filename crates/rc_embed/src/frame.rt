@@ -1,15 +1,19 @@
 //! Frames, by which callers in other languages ask and are told.
 
-ghost use Rattle.std.specs.Prelude.{◌≡◌};
-ghost use Rattle.rc_embed.specs.Frames.{AnswersBegin, AnswersCall, AnswersCancel, AnswersCommit};
-ghost use Rattle.rc_embed.specs.Frames.{AnswersLearn, AnswersRow, AnswersRows, call_code, kind_code, number_in};
-ghost use Rattle.rc_embed.specs.Frames.{with_fault, with_place, with_reply};
-ghost use Rattle.rc_embed.specs.Session.{reply_of};
+ghost use Rattle.std.specs.Prelude.{◌≡◌, length, map};
+ghost use Rattle.rc_embed.specs.Frames.{AnswersBegin, AnswersBeginGroup, AnswersCall, AnswersCancel};
+ghost use Rattle.rc_embed.specs.Frames.{AnswersCommit, AnswersGroup, AnswersLearn, AnswersPick};
+ghost use Rattle.rc_embed.specs.Frames.{AnswersRow, AnswersRows, call_code, kind_code, number_in};
+ghost use Rattle.rc_embed.specs.Frames.{with_fault, with_fault_first, with_picked_reply, with_place};
+ghost use Rattle.rc_embed.specs.Frames.{with_replies, with_reply};
+ghost use Rattle.rc_embed.specs.Session.{replies_of, reply_of};
 
 use crate::codes::{
-    BUSY, DONE, MEMORY, NO_ROW, NOT_PREPARED, OPERATION, PREPARED, SPENT, UNSEEN, VALUE_COUNT,
+    BUSY, COUNT, DONE, MEMORY, NO_ROW, NOT_PREPARED, OPERATION, PREPARED, SPENT, UNSEEN,
+    VALUE_COUNT,
 };
 use crate::fault::{CallFault, LearnFault, NotPrepared};
+use crate::group::Asks;
 use crate::session::{Position, Session};
 use rc_spec::{Found, Reply};
 
@@ -47,7 +51,7 @@ pub struct Frame {
     pub nth: u64,
     /// Asked, and told: the length of a history that a session has seen.
     pub seen: u64,
-    /// Asked: which row of the reply.
+    /// Asked: which row of the reply; or whose reply is to be picked.
     pub row: u64,
     /// Told: how many values the row has.
     pub width: u64,
@@ -84,6 +88,7 @@ fn call_code(fault: CallFault) -> u32
         CallFault::UnknownOperation => OPERATION,
         CallFault::Values => VALUE_COUNT,
         CallFault::Prepared => PREPARED,
+        CallFault::Count => COUNT,
     }
 }
 
@@ -116,15 +121,31 @@ fn number_of(reply: &Reply) -> u64
     }
 }
 
+impl Asks for Frame {
+    ghost use Rattle.rc_embed.specs.Asking.{asked_by};
+
+    ghost asked = { asked_by };
+
+    fn op(&self) -> u32 {
+        self.op
+    }
+
+    fn count(&self) -> usize {
+        self.count as usize
+    }
+
+    fn values(&self) -> &[u64] {
+        &self.values[..self.count as usize]
+    }
+}
+
 impl Frame {
-    /// Tells the kind and the number of the session's reply.
-    fn tell_reply(&mut self, session: &Session)
-        ensures { self.new ≡ with_reply (reply_of session.now) self.old }
+    /// Tells the kind and the number of a reply.
+    fn tell_reply(&mut self, reply: &Reply)
+        ensures { self.new ≡ with_reply reply.now self.old }
     {
-        if let Some(reply) = session.reply() {
-            self.kind = kind_of(reply);
-            self.number = number_of(reply);
-        }
+        self.kind = kind_of(reply);
+        self.number = number_of(reply);
     }
 
     /// Tells where a call stands.
@@ -161,20 +182,51 @@ impl Frame {
     }
 }
 
+/// Tells each frame the reply to its call.
+fn tell_replies(frames: &mut [Frame], session: &Session)
+    requires { length (replies_of session.now) ≡ length frames.old }
+    ensures { frames.new ≡ with_replies (replies_of session.now) frames.old }
+{
+    for at in 0..frames.len() {
+        if let Some(reply) = session.reply_at(at) {
+            frames[at].tell_reply(reply);
+        }
+    }
+}
+
+/// Tells each frame where the calls stand.
+fn tell_places(frames: &mut [Frame], at: Position)
+    ensures { frames.new ≡ map (with_place at) frames.old }
+{
+    for frame in frames.iter_mut() {
+        frame.tell_place(at);
+    }
+}
+
+/// Tells the first frame what stood in the way, where something did, and answers the code.
+fn tell_first(frames: &mut [Frame], fault: CallFault) -> u32
+    ensures frames { frames.new ≡ with_fault_first fault frames.old }
+    ensures code { result ≡ call_code fault }
+{
+    if frames.is_empty() {
+        return call_code(fault);
+    }
+    frames[0].tell_fault(fault)
+}
+
 impl Session {
     /// Makes the call that the frame asks for, as `try_call` does, and tells the frame its place
     /// and its reply, or what stood in the way.
     pub fn try_call_by(&mut self, frame: &mut Frame) -> u32
         ensures { AnswersCall self.old frame.old self.new frame.new result }
     {
-        let count = frame.count as usize;
-        if let Some(fault) = self.fault_for(frame.op, count) {
+        if let Some(fault) = self.fault_for(frame.op, frame.count()) {
             return call_code(fault);
         }
-        match self.call_idle(frame.op, &frame.values[..count]) {
+        match self.call_idle(frame.op, frame.values()) {
             Ok(at) => {
                 frame.tell_place(at);
-                frame.tell_reply(self);
+                self.tell_picked(frame);
                 DONE
             }
             Err(fault) => frame.tell_fault(fault),
@@ -186,34 +238,89 @@ impl Session {
     pub fn begin_by(&mut self, frame: &mut Frame) -> u32
         ensures { AnswersBegin self.old frame.old self.new frame.new result }
     {
-        let count = frame.count as usize;
-        if let Some(fault) = self.fault_for(frame.op, count) {
+        if let Some(fault) = self.fault_for(frame.op, frame.count()) {
             return call_code(fault);
         }
-        match self.begin_idle(frame.op, &frame.values[..count]) {
+        match self.begin_idle(frame.op, frame.values()) {
             Ok(()) => {
-                frame.tell_reply(self);
+                self.tell_picked(frame);
                 DONE
             }
             Err(fault) => frame.tell_fault(fault),
         }
     }
 
-    /// Commits the prepared call, and tells the frame its place and its reply.
+    /// Makes the calls that the frames ask for as one, as `try_group` does, and tells each its place
+    /// and its reply, or the first one what stood in the way.
+    pub fn try_group_by(&mut self, frames: &mut [Frame]) -> u32
+        ensures { AnswersGroup self.old frames.old self.new frames.new result }
+    {
+        if let Some(fault) = self.fault_of(frames) {
+            return call_code(fault);
+        }
+        match self.group_idle(frames) {
+            Ok(at) => {
+                tell_places(frames, at);
+                tell_replies(frames, self);
+                DONE
+            }
+            Err(fault) => tell_first(frames, fault),
+        }
+    }
+
+    /// Prepares the calls that the frames ask for as one, as `begin_group` does, and tells each its
+    /// reply, or the first one what stood in the way.
+    pub fn begin_group_by(&mut self, frames: &mut [Frame]) -> u32
+        ensures { AnswersBeginGroup self.old frames.old self.new frames.new result }
+    {
+        if let Some(fault) = self.fault_of(frames) {
+            return call_code(fault);
+        }
+        match self.begin_group_idle(frames) {
+            Ok(()) => {
+                tell_replies(frames, self);
+                DONE
+            }
+            Err(fault) => tell_first(frames, fault),
+        }
+    }
+
+    /// Tells the frame the kind and the number of the reply that is picked.
+    fn tell_picked(&self, frame: &mut Frame)
+        ensures { frame.new ≡ with_picked_reply (reply_of self.now) frame.old }
+    {
+        if let Some(reply) = self.reply() {
+            frame.tell_reply(reply);
+        }
+    }
+
+    /// Picks the reply to the call whose number stands in the frame as that of a row.
+    pub fn pick_by(&mut self, frame: &Frame) -> u32
+        ensures { AnswersPick self.old frame.now self.new result }
+    {
+        if self.pick(frame.row as usize) {
+            DONE
+        } else {
+            NO_ROW
+        }
+    }
+
+    /// Commits the prepared call or group, and tells the frame its place, and the reply to its first
+    /// call.
     pub fn commit_by(&mut self, frame: &mut Frame) -> u32
         ensures { AnswersCommit self.old frame.old self.new frame.new result }
     {
         match self.commit() {
             Ok(at) => {
                 frame.tell_place(at);
-                frame.tell_reply(self);
+                self.tell_picked(frame);
                 DONE
             }
             Err(NotPrepared) => NOT_PREPARED,
         }
     }
 
-    /// Cancels the prepared call.
+    /// Cancels the prepared call or group.
     pub fn cancel_by(&mut self) -> u32
         ensures { AnswersCancel self.old self.new result }
     {

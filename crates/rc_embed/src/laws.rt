@@ -4,7 +4,7 @@
 ghost use Rattle.std.specs.Prelude.{◌≡◌};
 ghost use Rattle.rc_embed.specs.EntriesLaws.{CallsKeepPasses, CallsStand, CancelsKeepPasses};
 ghost use Rattle.rc_embed.specs.EntriesLaws.{CommitsKeepPasses, CommitsStand, DealingKeepsEntries};
-ghost use Rattle.rc_embed.specs.EntriesLaws.{FaultsKeepPasses, LooksKeepPasses};
+ghost use Rattle.rc_embed.specs.EntriesLaws.{FaultsKeepPasses, LooksKeepPasses, PicksKeepPasses};
 ghost use Rattle.rc_embed.specs.EntriesLaws.{PreparingKeepsPasses, TakingBackKeepsEntries};
 ghost use Rattle.rc_embed.specs.OpenedLaws.{HistoriesAreOfTheText, OpenedCalls, OpenedFits};
 ghost use Rattle.rc_embed.specs.OpenedLaws.{OpenedPlain, OpenedRows, OpenedSchema};
@@ -32,10 +32,11 @@ pub fn opened_stores_are_of_the_text()
     ensures histories { HistoriesAreOfTheText }
 {}
 
-/// A receipt means one history, whether the store is ever closed or not: behind its call stands one
-/// history, good for the specification that the text gives, of as many calls as the place says, with
-/// all of its session's earlier ones, which goes on from all that the session was told of; and the
-/// reply is the plain relation's after it. (PLDI 2012, serializable transactions.)
+/// A receipt means one history, of a call or of a group, whether the store is ever closed or not:
+/// behind its calls stands one history, good for the specification that the text gives, of as many
+/// entries as the place says, with all of its session's earlier ones, which goes on from all that the
+/// session was told of; and the replies are in turn the plain relation's after it. (PLDI 2012,
+/// serializable transactions.)
 pub fn receipts_are_of_the_text()
     ensures { ReceiptsAreOfTheText }
 {}
@@ -48,15 +49,16 @@ pub fn closed_stores_are_of_the_text()
     ensures one { HistoriesOfTextAreOne }
 {}
 
-/// A call that a session has made, and a prepared one that it has committed, stands at its position
-/// among the entries of the session's pass, with the reply that the session tells.
+/// Calls that a session has made as one, and prepared ones that it has committed, stand at their
+/// position among the entries of the session's pass, with the replies that the session tells.
 pub fn calls_stand()
     ensures calls { CallsStand }
     ensures commits { CommitsStand }
 {}
 
 /// A session keeps its pass, and the entries of that, through all that it does: calls, prepared
-/// ones that are committed or cancelled, looks at the history, and calls that are refused. One that
+/// ones that are committed or cancelled, looks at the history, picks of a reply, and calls that are
+/// refused; and so of groups. One that
 /// is taken back gives its entries to the store, which keeps those of its passes until a session
 /// begins with the pass.
 pub fn entries_stay()
@@ -65,6 +67,7 @@ pub fn entries_stay()
     ensures commits { CommitsKeepPasses }
     ensures cancels { CancelsKeepPasses }
     ensures looks { LooksKeepPasses }
+    ensures picks { PicksKeepPasses }
     ensures faults { FaultsKeepPasses }
     ensures taking_back { TakingBackKeepsEntries }
     ensures dealing { DealingKeepsEntries }
@@ -81,11 +84,11 @@ pub fn passes_come_back()
     ensures room { SomeOutsideLeaveRoom }
 {}
 
-/// Each reply that a session was told, of a call whose entry has come back to the store that is
-/// closed, is the plain relation's, by the specification that the text gives, at the call's place
-/// of the one history that the closed store leaves; and the call leaves the relation of the next
-/// place. So it is of each entry of one call of the passes. (PLDI 2012, serializable transactions;
-/// PLDI 2011, the relation's operations.)
+/// The replies that a session was told, of a call or of a group whose entry has come back to the store
+/// that is closed, are in turn the plain relation's, by the specification that the text gives, from
+/// the entry's place of the one history that the closed store leaves; and the last call leaves the
+/// relation of the next place. So it is of each entry of the passes. (PLDI 2012, serializable
+/// transactions; PLDI 2011, the relation's operations.)
 pub fn told_replies_are_plain()
     ensures entries { EntriesArePlain }
     ensures calls { ToldRepliesArePlain }

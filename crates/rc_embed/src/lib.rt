@@ -9,6 +9,7 @@ mod closing;
 mod codes;
 mod fault;
 mod frame;
+mod group;
 mod laws;
 mod open_frame;
 mod opening;
@@ -22,6 +23,7 @@ pub use closing::CloseBack;
 pub use codes::{DONE, MEMORY};
 pub use fault::{CallFault, LearnFault, NotPrepared, OpenFault, SessionFault};
 pub use frame::{Frame, MAX_CELLS, MAX_PAGE, MAX_VALUES, Page};
+pub use group::{Asked, MAX_GROUP};
 pub use laws::{
     calls_stand, closed_stores_are_of_the_text, entries_stay, opened_stores_are_of_the_text,
     passes_come_back, receipts_are_of_the_text, sessions_are_send, stores_are_send,

@@ -16,17 +16,17 @@ ghost use Rattle.rc_embed.specs.declared.fault.OpenFault.TheVariants as faults;
 ghost use Rattle.rc_embed.specs.declared.fault.SessionFault.TheVariants as session_faults;
 
 use crate::fault::{OpenFault, SessionFault};
-use crate::session::{Session, State};
-use crate::shared::Shared;
+use crate::session::{Last, Session, State};
+use crate::shared::{Shared, blank_call};
 use rc_inline::inline;
 use rc_maps::Seed;
 use rc_mutate::compile;
 use rc_place::{AcceptFault, accept};
 use rc_reader::{ReadRefusal, number_among, read_spec_only};
 use rc_row::{Keeping, Pass};
-use rc_spec::{Accepted, Call, Ranges, Spec, WellFormed};
+use rc_spec::{Accepted, Spec, WellFormed};
 use rc_store::{Quiet, Store};
-use rc_tuple::{Cols, Memory, Tuple};
+use rc_tuple::{Cols, Memory};
 use rc_work::written_columns_at;
 use std::alloc::{AllocFailed, Global};
 use std::marker::Model;
@@ -287,12 +287,10 @@ fn session_of(
     let session = Session {
         shared,
         state: State::Idle(pass),
-        call: Call {
-            op: 0,
-            args: Tuple::empty(alloc),
-            ranges: Ranges::new(alloc),
-        },
-        last: None,
+        call: blank_call(alloc),
+        calls: Vec::new(alloc),
+        last: Last::Call(None),
+        picked: 0,
     };
     match Box::new(alloc, session) {
         Ok(held) => Ok(held),

@@ -1,23 +1,28 @@
 //! Sessions.
 
-ghost use Rattle.std.specs.Prelude.{◌≡◌, ◌==◌, ◌<◌, ◌≤◌, None, option_copied};
+ghost use Rattle.std.specs.Prelude.{◌≡◌, ℕ, ◌<◌, ◌≤◌, IsFalse, IsTrue, List, [], ◌∷◌, None, length, map, option_copied};
+ghost use Rattle.std.specs.List.{slice_get};
 ghost use Rattle.rc_spec.specs.InRange.{IsInRange};
 ghost use Rattle.rc_spec.specs.Names.{IsWellNamed};
 ghost use Rattle.rc_row.specs.Passes.{spec_of};
-ghost use Rattle.rc_embed.specs.Refused.{fault_for};
-ghost use Rattle.rc_embed.specs.Session.{IsIdle, IsStateOf, reply_of, seen_of};
+ghost use Rattle.rc_embed.specs.Refused.{fault_of};
+ghost use Rattle.rc_embed.specs.Session.{IsIdle, IsStateOf, replies_given, replies_of, reply_of, seen_of};
+ghost use Rattle.rc_embed.specs.Session.{with_picked};
 ghost use Rattle.rc_embed.specs.declared.session.State.TheVariants as states;
 
 use crate::fault::CallFault;
+use crate::group::{Asks, MAX_GROUP};
 use crate::shared::Shared;
 use rc_row::Pass;
 use rc_spec::{Call, Reply, Spec};
-use rc_store::Running;
+use rc_store::{Running, RunningGroup};
+use rc_tuple::SmallList;
 use std::alloc::Global;
 use std::marker::Model;
 use std::sync::Arc;
 
-/// Where a call stands in the history of all calls of its store.
+/// Where a call, or a group of calls, stands in the history of all calls of its store, in which a
+/// group counts as one.
 #[derive(Clone, Copy, Debug, PartialEq, Eq)]
 pub struct Position {
     /// Its place in the history, counted from 0.
@@ -33,14 +38,50 @@ pub(crate) enum State {
     Idle(Pass),
     /// It has prepared a call, which is neither committed nor cancelled.
     Prepared(Running),
+    /// It has prepared a group of calls.
+    PreparedGroup(RunningGroup),
     /// The pass is on its way from one to the other. No session is so between calls.
     Moving,
 }
 
-/// A thread's end of a store: a pass, and the reply of its last call. One thread uses it at a
-/// time, and it may move to another. One that is dropped in the midst of a prepared call keeps
+/// What the last receipt of a session gave, of a call or of a group; nothing where none was made.
+#[derive(Drop)]
+pub(crate) enum Last {
+    /// The reply.
+    Call(Option<Reply>),
+    /// The replies.
+    Group(Option<SmallList<Reply>>),
+}
+
+impl Last {
+    /// How many replies.
+    fn count(&self) -> usize
+        ensures { result ≡ length (replies_given self.now) }
+    {
+        match self {
+            Last::Call(None) | Last::Group(None) => 0,
+            Last::Call(Some(_)) => 1,
+            Last::Group(Some(replies)) => replies.list().len(),
+        }
+    }
+
+    /// The reply to the call with this number.
+    fn reply(&self, call: usize) -> Option<&Reply>
+        ensures { option_copied result ≡ slice_get (replies_given self.now) call }
+    {
+        match self {
+            Last::Call(Some(reply)) if call == 0 => Some(reply),
+            Last::Group(Some(replies)) => replies.list().get(call),
+            Last::Call(_) | Last::Group(None) => None,
+        }
+    }
+}
+
+/// A thread's end of a store: a pass, and the replies of its last call or group. One thread uses it
+/// at a time, and it may move to another. One that is dropped in the midst of a prepared call keeps
 /// that call's stripes: cancel it before. It keeps the memory of its largest call, in which it
-/// makes the next ones, so that a call whose values fit there takes none for them.
+/// makes the next ones, so that a call whose values fit there takes none for them; and so it does for
+/// the calls of groups, once it has made one.
 #[derive(Drop)]
 pub struct Session {
     pub(crate) shared: Arc<Shared, Global>,
@@ -48,7 +89,11 @@ pub struct Session {
     /// A call whose memory is used again: each call is made in it, and what stands in it between
     /// calls means nothing.
     pub(crate) call: Call,
-    pub(crate) last: Option<Reply>,
+    /// Such calls for groups, as many as the largest had.
+    pub(crate) calls: Vec<Call>,
+    pub(crate) last: Last,
+    /// Whose reply is picked, counted from 0.
+    pub(crate) picked: usize,
 }
 
 impl Model for Session {
@@ -73,26 +118,63 @@ impl Session {
         self.shared.spec()
     }
 
-    /// The reply of the call that is prepared, where one is, and else of the last one that was
-    /// made; `None` before the first. A call that is refused leaves it.
+    /// How many replies there are: those of the calls that are prepared, where some are, and else of
+    /// the call or the group that was made last; none before the first. What is refused leaves them.
+    pub fn reply_count(&self) -> usize
+        ensures { result ≡ length (replies_of self.now) }
+    {
+        match &self.state {
+            State::Prepared(_) => 1,
+            State::PreparedGroup(running) => running.count(),
+            State::Idle(_) | State::Moving => self.last.count(),
+        }
+    }
+
+    /// The reply to the call with this number among them, counted from 0.
+    pub fn reply_at(&self, call: usize) -> Option<&Reply>
+        ensures reply { option_copied result ≡ slice_get (replies_of self.now) call }
+        ensures state { IsStateOf self.now.store self.now.state }
+    {
+        match &self.state {
+            State::Prepared(running) if call == 0 => Some(running.reply()),
+            State::PreparedGroup(running) if call < running.count() => Some(running.reply(call)),
+            State::Prepared(_) | State::PreparedGroup(_) => None,
+            State::Idle(_) | State::Moving => self.last.reply(call),
+        }
+    }
+
+    /// The reply that is picked: that of the call, and of a group the first one, or the one that
+    /// `pick` picked since.
     pub fn reply(&self) -> Option<&Reply>
         ensures reply { option_copied result ≡ reply_of self.now }
         ensures state { IsStateOf self.now.store self.now.state }
     {
-        match &self.state {
-            State::Prepared(running) => Some(running.reply()),
-            State::Idle(_) | State::Moving => self.last.as_ref(),
+        self.reply_at(self.picked)
+    }
+
+    /// Picks the reply to the call with this number, counted from 0, for `reply`, `row_count`,
+    /// `copy_row` and `copy_rows`; whether there is one. What is made, prepared, committed or
+    /// cancelled next picks the first again.
+    pub fn pick(&mut self, call: usize) -> bool
+        ensures picked { call < length (replies_of self.old)
+            → IsTrue result × (self.new ≡ with_picked call self.old) }
+        ensures none { length (replies_of self.old) ≤ call → IsFalse result × (self.new ≡ self.old) }
+    {
+        if call >= self.reply_count() {
+            return false;
         }
+        self.picked = call;
+        true
     }
 
     /// The length of the history that the session has seen: it is above the place of each of its
-    /// calls. `None` while a call is prepared.
+    /// calls. `None` while a call or a group is prepared.
     pub fn seen(&self) -> Option<u64>
         ensures { result ≡ seen_of self.now.state }
     {
         match &self.state {
             State::Idle(pass) => Some(pass.seen()),
-            State::Prepared(_) | State::Moving => None,
+            State::Prepared(_) | State::PreparedGroup(_) | State::Moving => None,
         }
     }
 
@@ -105,34 +187,48 @@ impl Session {
             shared: _,
             state,
             call: _,
+            calls: _,
             last: _,
+            picked: _,
         } = self;
         match state {
             State::Idle(pass) => pass,
-            State::Prepared(_) | State::Moving => unreachable!(),
+            State::Prepared(_) | State::PreparedGroup(_) | State::Moving => unreachable!(),
         }
     }
 
-    /// Why the call of an operation with so many values is refused, whatever the store has: for a
-    /// prepared call first, then for the operation, then for the number of values, and then
-    /// because the session is spent.
+    /// Why the call of an operation with so many values is refused, whatever the store has: for what
+    /// is prepared first, then for the operation, then for the number of values, and then because the
+    /// session is spent.
     pub(crate) fn fault_for(&self, op: u32, count: usize) -> Option<CallFault>
-        ensures fault { result ≡ fault_for self.now op count }
+        ensures fault { (values : List ℕ) → result
+            ≡ fault_of self.now (record { op = op; count = count; values = values } ∷ []) }
         ensures few { result ≡ None → count ≤ 64 }
     {
         let State::Idle(pass) = &self.state else {
             return Some(CallFault::Prepared);
         };
-        let spec = self.shared.spec();
-        if op as usize >= spec.ops.list().len() {
-            return Some(CallFault::UnknownOperation);
+        if let Some(fault) = self.shared.fault_at(op, count) {
+            return Some(fault);
         }
-        if count != self.shared.columns(op).len() {
-            return Some(CallFault::Values);
+        self.shared.spent_by(pass)
+    }
+
+    /// Why calls that are asked for as one are refused, whatever the store has: for what is prepared
+    /// first, then for how many they are, then for what is wrong with the first call that has a fault,
+    /// and then because the session is spent.
+    pub(crate) fn fault_of<A: Asks>(&self, calls: &[A]) -> Option<CallFault>
+        ensures { result ≡ fault_of self.now (map A.asked calls.now) }
+    {
+        let State::Idle(pass) = &self.state else {
+            return Some(CallFault::Prepared);
+        };
+        if calls.is_empty() || calls.len() > MAX_GROUP {
+            return Some(CallFault::Count);
         }
-        if pass.made() == self.shared.limit() {
-            return Some(CallFault::Spent);
+        if let Some(fault) = self.shared.first_fault(calls) {
+            return Some(fault);
         }
-        None
+        self.shared.spent_by(pass)
     }
 }

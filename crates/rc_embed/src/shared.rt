@@ -1,17 +1,23 @@
 //! What a store shares with its sessions.
 
-ghost use Rattle.std.specs.Prelude.{◌≡◌, ◌<◌, ◌≤◌, length, OnOk};
+ghost use Rattle.std.specs.Prelude.{◌≡◌, ◌<◌, ◌≤◌, None, OnOk, length, map, take};
+ghost use Rattle.std.specs.List.{AllByRecursion};
 ghost use Rattle.rc_spec.specs.Calls.{Fits};
 ghost use Rattle.rc_spec.specs.InRange.{IsInRange};
 ghost use Rattle.rc_spec.specs.Names.{IsWellNamed};
 ghost use Rattle.rc_row.specs.Passes.{spec_of};
 ghost use Rattle.rc_work.specs.CallColumns.{call_of, written_columns_at};
-ghost use Rattle.rc_embed.specs.Asked.{TakesValues};
+ghost use Rattle.rc_embed.specs.Asked.{TakesValues, calls_by};
+ghost use Rattle.rc_embed.specs.Refused.{fault_at, first_fault, spent_by};
 
-use rc_spec::{Call, Spec};
+use crate::fault::CallFault;
+use crate::group::Asks;
+use rc_row::Pass;
+use rc_spec::{Call, Ranges, Spec};
 use rc_store::{Quiet, Store};
-use rc_tuple::{Cols, Memory};
+use rc_tuple::{Cols, Memory, Tuple};
 use rc_work::refill_call;
+use std::alloc::Global;
 use std::marker::Model;
 
 /// A store, and the columns of each operation's values, which are looked up once.
@@ -47,7 +53,7 @@ impl Shared {
     }
 
     /// How many entries each pass may make.
-    pub(crate) fn limit(&self) -> u64
+    fn limit(&self) -> u64
         ensures { result ≡ self.now.limit }
     {
         self.limit
@@ -60,6 +66,44 @@ impl Shared {
         ensures few { length result.now ≤ 64 }
     {
         self.columns[op as usize].list()
+    }
+
+    /// What is wrong with a call of the operation with so many values, if anything: no operation has
+    /// this number, or it takes another number of values.
+    pub(crate) fn fault_at(&self, op: u32, count: usize) -> Option<CallFault>
+        ensures fault { result ≡ fault_at (spec_of self.now.row) op count }
+        ensures few { result ≡ None → count ≤ 64 }
+    {
+        if op as usize >= self.spec().ops.list().len() {
+            return Some(CallFault::UnknownOperation);
+        }
+        if count != self.columns(op).len() {
+            return Some(CallFault::Values);
+        }
+        None
+    }
+
+    /// What is wrong with the first of the calls that has such a fault, if one has.
+    pub(crate) fn first_fault<A: Asks>(&self, calls: &[A]) -> Option<CallFault>
+        ensures { result ≡ first_fault (spec_of self.now.row) (map A.asked calls.now) }
+    {
+        for call in calls {
+            if let Some(fault) = self.fault_at(call.op(), call.count()) {
+                return Some(fault);
+            }
+        }
+        None
+    }
+
+    /// Whether the pass has made as many entries as the store lets it: the fault then.
+    pub(crate) fn spent_by(&self, pass: &Pass) -> Option<CallFault>
+        ensures { result ≡ spent_by self.now pass.now }
+    {
+        if pass.made() == self.limit() {
+            Some(CallFault::Spent)
+        } else {
+            None
+        }
     }
 
     /// Makes the call that of an operation with values that it takes, its tuple in the memory that
@@ -75,4 +119,47 @@ impl Shared {
         refill_call(call, spec, number, self.columns(op), values)?;
         Ok(())
     }
+
+    /// Makes the first calls those that are asked for, each in the memory that it has, and adds calls
+    /// where there are fewer.
+    pub(crate) fn refill_all<A: Asks>(
+        &self,
+        calls: &mut Vec<Call>,
+        asked: &[A],
+    ) -> Result<(), Memory>
+        requires { first_fault (spec_of self.now.row) (map A.asked asked.now) ≡ None }
+        ensures many { OnOk result (length asked.now ≤ length calls.new.items) }
+        ensures calls { OnOk result (take (length asked.now) calls.new.items
+            ≡ calls_by (spec_of self.now.row) (map A.asked asked.now)) }
+        ensures fit { OnOk result (AllByRecursion (Fits (spec_of self.now.row))
+            (take (length asked.now) calls.new.items)) }
+    {
+        // A call of `spec` tells the check that no operation takes more than 64 values.
+        let _ = self.spec();
+        grow(calls, asked.len())?;
+        for (at, call) in asked.iter().enumerate() {
+            self.refill_call(&mut calls[at], call.op(), call.values())?;
+        }
+        Ok(())
+    }
+}
+
+/// A call whose memory is yet to be taken.
+pub(crate) fn blank_call(alloc: Global) -> Call {
+    Call {
+        op: 0,
+        args: Tuple::empty(alloc),
+        ranges: Ranges::new(alloc),
+    }
+}
+
+/// Adds calls until there are so many.
+fn grow(calls: &mut Vec<Call>, count: usize) -> Result<(), Memory>
+    ensures { OnOk result (count ≤ length calls.new.items) }
+{
+    let alloc = *calls.allocator();
+    while calls.len() < count {
+        calls.push(blank_call(alloc))?;
+    }
+    Ok(())
 }

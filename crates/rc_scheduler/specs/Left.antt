@@ -11,8 +11,9 @@ use Rattle.rc_rel.specs.declared.entry.Placed.{Placed}
 use Rattle.rc_rel.specs.declared.entry.Step.{Step}
 use Rattle.rc_row.specs.Passes.{PassSeen}
 use Rattle.rc_store.specs.Store.{StoreSeen}
+use Rattle.rc_embed.specs.Asked.{one_call}
 use Rattle.rc_embed.specs.Entries.{HasEntry, StandsAt, entries_of}
-use Rattle.rc_embed.specs.Session.{SessionSeen, call_in}
+use Rattle.rc_embed.specs.Session.{SessionSeen, calls_in}
 use Rattle.rc_scheduler.specs.declared.processes.Process.{Process}
 use Rattle.rc_scheduler.specs.Processes.{HasChanged, HasSpawned, IsLeft, process_values}
 
@@ -40,14 +41,14 @@ KeepsTuple t e = (s : Step) → In s e.steps → TookOut t s.reply → ⊥
 abbrev pub SpawnsStand : Type 0
 SpawnsStand = (old new : SessionSeen) (op : ℕ) (process : Process)
     (h : HasSpawned old op process true new)
-    → StandsAt (entries_of new.state) h.at.place (call_in old op (process_values process)) Inserted
+    → StandsAt (entries_of new.state) h.at.place (calls_in old (one_call op (process_values process))) (Inserted ∷ [])
 
 -- and so does one that changed a process
 abbrev pub ChangesStand : Type 0
 ChangesStand = (old new : SessionSeen) (op : ℕ) (process : Process)
     (h : HasChanged old op process true new)
     → (t : Pairs)
-    × StandsAt (entries_of new.state) h.at.place (call_in old op (process_values process)) (Updated t)
+    × StandsAt (entries_of new.state) h.at.place (calls_in old (one_call op (process_values process))) (Updated t ∷ [])
 
 -- a tuple that an entry of a pass put in, and that no later entry of the history took out, is
 -- left

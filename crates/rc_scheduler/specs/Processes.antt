@@ -10,6 +10,7 @@ use Rattle.rc_row.specs.Passes.{PassSeen, spec_of}
 use Rattle.rc_store.specs.Closed.{ClosedSeen, HasClosed}
 use Rattle.rc_store.specs.Store.{StoreSeen}
 use Rattle.rc_embed.specs.declared.session.Position.{Position}
+use Rattle.rc_embed.specs.Asked.{one_call}
 use Rattle.rc_embed.specs.Session.{HasCalled, SessionSeen}
 use Rattle.rc_scheduler.specs.declared.processes.Process.{Process}
 use Rattle.rc_scheduler.specs.declared.work.Operations.{Operations}
@@ -23,24 +24,24 @@ process_values process = process.ns ∷ process.pid ∷ process.state ∷ proces
 pub record HasSpawned (old : SessionSeen) (op : ℕ) (process : Process) (is_new : Bool)
     (new : SessionSeen) : Type 0 where
   pub at : Position
-  pub called : HasCalled old op (process_values process) new at
-  pub told : is_new ≡ true ↔ new.last ≡ Some Inserted
+  pub called : HasCalled old (one_call op (process_values process)) new at
+  pub told : is_new ≡ true ↔ new.last ≡ Inserted ∷ []
 
 -- The session has made the call of the operation with the process's values, and there was one of its
 -- name exactly where the process came in the place of a tuple.
 pub record HasChanged (old : SessionSeen) (op : ℕ) (process : Process) (is_there : Bool)
     (new : SessionSeen) : Type 0 where
   pub at : Position
-  pub called : HasCalled old op (process_values process) new at
-  pub told : is_there ≡ true ↔ (t : Pairs) × (new.last ≡ Some (Updated t))
+  pub called : HasCalled old (one_call op (process_values process)) new at
+  pub told : is_there ≡ true ↔ (t : Pairs) × (new.last ≡ Updated t ∷ [])
 
 -- The session has made the call of the operation with the name, and the process was there exactly
 -- where a tuple was taken out.
 pub record HasKilled (old : SessionSeen) (op : ℕ) (name : List ℕ) (is_there : Bool)
     (new : SessionSeen) : Type 0 where
   pub at : Position
-  pub called : HasCalled old op name new at
-  pub told : is_there ≡ true ↔ (t : Pairs) × (new.last ≡ Some (Removed t))
+  pub called : HasCalled old (one_call op name) new at
+  pub told : is_there ≡ true ↔ (t : Pairs) × (new.last ≡ Removed t ∷ [])
 
 -- the operations of these names have these numbers
 pub record HasNumbers (spec : Spec) (operations : Operations) : Type 0 where

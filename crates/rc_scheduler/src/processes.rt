@@ -1,6 +1,7 @@
 //! Processes in a store.
 
 ghost use Rattle.std.specs.Prelude.{◌≡◌, IfOk, [], ◌∷◌};
+ghost use Rattle.rc_embed.specs.Asked.{one_call};
 ghost use Rattle.rc_embed.specs.Refused.{Answers};
 ghost use Rattle.rc_scheduler.specs.Processes.{HasChanged, HasKilled, HasSpawned, IsLeft, process_values};
 
@@ -38,7 +39,7 @@ impl Process {
 /// those of `Session::try_call`, and leave all as it was. Costs a call.
 pub fn spawn(session: &mut Session, op: u32, process: Process) -> Result<bool, CallFault>
     ensures { Answers (λ is_new. HasSpawned session.old op process is_new session.new)
-        session.old op (process_values process) session.new result }
+        session.old (one_call op (process_values process)) session.new result }
 {
     session.try_call(op, &process.values())?;
     match session.reply() {
@@ -51,7 +52,7 @@ pub fn spawn(session: &mut Session, op: u32, process: Process) -> Result<bool, C
 /// there was one. Faults are those of `Session::try_call`, and leave all as it was. Costs a call.
 pub fn change(session: &mut Session, op: u32, process: Process) -> Result<bool, CallFault>
     ensures { Answers (λ is_there. HasChanged session.old op process is_there session.new)
-        session.old op (process_values process) session.new result }
+        session.old (one_call op (process_values process)) session.new result }
 {
     session.try_call(op, &process.values())?;
     match session.reply() {
@@ -64,7 +65,7 @@ pub fn change(session: &mut Session, op: u32, process: Process) -> Result<bool, 
 /// Faults are those of `Session::try_call`, and leave all as it was. Costs a call.
 pub fn kill(session: &mut Session, op: u32, ns: u64, pid: u64) -> Result<bool, CallFault>
     ensures { Answers (λ is_there. HasKilled session.old op (ns ∷ pid ∷ []) is_there session.new)
-        session.old op (ns ∷ pid ∷ []) session.new result }
+        session.old (one_call op (ns ∷ pid ∷ [])) session.new result }
 {
     session.try_call(op, &[ns, pid])?;
     match session.reply() {

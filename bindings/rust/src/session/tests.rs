@@ -2,7 +2,7 @@
 //! whoever is back soon was woken.
 
 use super::*;
-use crate::{Insert, Inserted, Options, Query, Store};
+use crate::{Group, Insert, Inserted, Options, Query, Store};
 use std::mem::forget;
 use std::thread;
 use std::time::{Duration, Instant};
@@ -34,6 +34,14 @@ impl Graph {
     fn session(&self) -> Session {
         self.store.session().unwrap()
     }
+
+    /// A group that puts an edge of the node in, and looks for it.
+    fn group(&self, node: u64) -> Group {
+        let mut group = Group::new();
+        group.add(self.insert, [node, 2, 10]).unwrap();
+        group.add(self.find, [node, 2]).unwrap();
+        group
+    }
 }
 
 fn prepared(session: &mut Session) -> Prepared<'_, Inserted> {
@@ -52,7 +60,18 @@ fn wakes(let_go: impl Fn(&Graph, Session)) {
     let begin = |graph: &Graph, waiter: &mut Session| {
         drop(waiter.begin_waiting(graph.insert, EDGE).unwrap());
     };
-    for waits in [call as fn(&Graph, &mut Session), begin] {
+    let transaction = |graph: &Graph, waiter: &mut Session| {
+        waiter.transaction(&graph.group(1)).unwrap();
+    };
+    let begin_transaction = |graph: &Graph, waiter: &mut Session| {
+        drop(waiter.begin_transaction_waiting(&graph.group(1)).unwrap());
+    };
+    for waits in [
+        call as fn(&Graph, &mut Session),
+        begin,
+        transaction,
+        begin_transaction,
+    ] {
         let graph = &Graph::open();
         let (mut holder, mut waiter) = (graph.session(), graph.session());
         forget(holder.begin(graph.insert, EDGE).unwrap());
@@ -123,6 +142,24 @@ fn a_call_wakes() {
 }
 
 #[test]
+fn a_group_wakes() {
+    wakes(|graph, holder| {
+        commit_silently(holder);
+        graph.session().transaction(&graph.group(1)).unwrap();
+    });
+    wakes(|graph, holder| {
+        commit_silently(holder);
+        graph.session().try_transaction(&graph.group(1)).unwrap();
+    });
+    wakes(|graph, holder| {
+        commit_silently(holder);
+        let mut session = graph.session();
+        let group = graph.group(1);
+        let _ = session.begin_transaction_waiting(&group).unwrap().commit();
+    });
+}
+
+#[test]
 fn a_refused_call_wakes() {
     let is_busy = |error: Option<Error>| matches!(error, Some(Error::Busy { .. }));
     wakes(|graph, holder| {
@@ -136,5 +173,15 @@ fn a_refused_call_wakes() {
         let node = other_node(graph);
         commit_silently(holder);
         assert!(is_busy(graph.session().begin(graph.find, [node, 1]).err()));
+    });
+    wakes(|graph, holder| {
+        let group = graph.group(other_node(graph));
+        commit_silently(holder);
+        assert!(is_busy(graph.session().try_transaction(&group).err()));
+    });
+    wakes(|graph, holder| {
+        let group = graph.group(other_node(graph));
+        commit_silently(holder);
+        assert!(is_busy(graph.session().begin_transaction(&group).err()));
     });
 }

@@ -16,6 +16,9 @@ returns-clause-cancels c = laws.cancels_keep
 pub returns-clause-looks : goal.returns-clause-looks
 returns-clause-looks c = laws.looks_keep
 
+pub returns-clause-picks : goal.returns-clause-picks
+returns-clause-picks c = laws.picks_keep
+
 pub returns-clause-faults : goal.returns-clause-faults
 returns-clause-faults c = laws.faults_keep
 

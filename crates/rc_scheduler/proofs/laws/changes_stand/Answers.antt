@@ -1,16 +1,21 @@
-use Rattle.std.proofs.Common.{refl, ◌∙◌}
-use Rattle.rc_spec.specs.declared.call.Reply.TheVariants.{Updated}
+use Rattle.std.proofs.Common.{List, [], ◌∷◌, refl, ◌∙◌, subst}
+use Rattle.rc_spec.specs.declared.call.Reply.{Reply}
+use Rattle.rc_embed.specs.Asked.{one_call}
+use Rattle.rc_embed.specs.Entries.{StandsAt, entries_of}
 use Rattle.rc_embed.specs.EntriesLaws.{calls_stand, told_last}
+use Rattle.rc_embed.specs.Session.{calls_in}
 use Rattle.rc_scheduler.specs.Processes.{process_values}
 use Rattle.rc_scheduler.specs.Left.{ChangesStand}
 use Rattle.rc_scheduler.proofs.laws.changes_stand.Goals as goal
 
 stand : ChangesStand
 stand old new op process h =
-    let was = h.told.0 refl in (
+    let was = h.told.0 refl in
+    let calls = one_call op (process_values process) in (
       was.0,
-      calls_stand old new op (process_values process) h.at h.called (Updated was.0)
-          (told_last new h.called.after h.called.is ∙ was.1),
+      subst (λ (replies : List Reply). StandsAt (entries_of new.state) h.at.place (calls_in old calls) replies)
+          (told_last new h.called.after h.called.is ∙ was.1)
+          (calls_stand old new calls h.at h.called),
     )
 
 pub returns : goal.returns

@@ -1,0 +1,17 @@
+use Rattle.std.proofs.Common.{◌≡◌, ap, rules, refl}
+use Rattle.rc_embed.specs.declared.session.State.TheVariants as states
+use Rattle.rc_embed.specs.Session.{SessionSeen, alone, prepared_in}
+use Rattle.rc_embed.proofs.session.Session.cancel.Goals as goal
+
+pub returns-in-Prepared-clause-cancelled : goal.returns-in-Prepared-clause-cancelled
+returns-in-Prepared-clause-cancelled c =
+    let state : c.args.self.now.state ≡ states.Prepared c.in-Prepared.running = search rules in
+    record {
+      running = alone c.in-Prepared.running;
+      after = c.cancel.result;
+      was = ap prepared_in state;
+      is = refl;
+      last = ap (λ (s : SessionSeen). s.last) c.self.view_is;
+      picked = refl;
+      before = c.cancel.ensures.before;
+    }
