@@ -22,7 +22,7 @@ PAGE = TOP / "docs" / "BELIEVING.md"
 HEADLINE = "rc_answer/specs/Headline.antt"
 PLANS = "rc_answer/specs/Plans.antt"
 STORE = "rc_store/specs/Headline.antt"
-STORE_BEFORE = [("rc_store/specs/Store.antt", "HasMade"), ("rc_store/specs/Closed.antt", "HasClosed")]
+STORE_BEFORE = [("rc_store/specs/Store.antt", "HasMadeEntry"), ("rc_store/specs/Closed.antt", "HasClosed")]
 
 # The groups of the first list, in the order in which they are read: what is reached of these files, or that name of one, and all
 # that this reaches. A file stands in the first group that has a definition of it.
