@@ -20,3 +20,4 @@ pub mod WaitLemmas
 pub mod SettleLemmas
 pub mod ShareLemmas
 pub mod GiveAllLemmas
+pub mod BackLemmas

@@ -2,6 +2,7 @@
 use Rattle.std.specs.Prelude.{◌≡◌, ℕ, List}
 use Rattle.rc_tuple.specs.RisingSet.{In}
 use Rattle.rc_spec.specs.declared.lock.Mode.{Mode}
+use Rattle.rc_fragment.specs.FragmentRows.{FragmentRows}
 use Rattle.rc_row.specs.HeldRows.{HeldRows}
 
 -- the stripe is held in this mode
@@ -10,3 +11,7 @@ pub record IsHeldSo (held : List HeldRows) (stripe : ℕ) (mode : Mode) : Type 0
   pub among : In here held
   pub stripe_is : here.stripe ≡ stripe
   pub mode_is : here.mode ≡ mode
+
+-- its rows are what they were as taken
+abbrev pub IsUnchanged : FragmentRows → Type 0
+IsUnchanged f = f.now ≡ f.taken

@@ -55,6 +55,14 @@ impl Pass {
         sub_row_at(&mut self.held, stripe, edge, row);
     }
 
+    /// Makes the rows of a held stripe what they were as taken. Takes no memory, and costs the changes.
+    pub(crate) fn revert_stripe(&mut self, stripe: u32)
+        requires held { In stripe (stripes_in (core_of self.old).held) }
+        ensures { self.new ≡ with_held stripe rolled_back self.old }
+    {
+        revert_at(&mut self.held, stripe);
+    }
+
     /// Takes back all changes that aren't committed. Takes no memory, and costs the changes.
     pub fn revert(&mut self)
         ensures { self.new ≡ reverted self.old }
@@ -108,6 +116,17 @@ fn sub_row_at(held: &mut Vec<HeldFragment>, stripe: u32, edge: u8, row: &Tuple)
 {
     let at = place_of(held, stripe);
     held[at].fragment.sub_row(edge, row);
+}
+
+/// Makes the rows of a held stripe what they were as taken.
+fn revert_at(held: &mut Vec<HeldFragment>, stripe: u32)
+    requires held { In stripe (stripes_in (holds_taken held.old.items)) }
+    requires rising { IsRising nat_cmp (stripes_in (holds_taken held.old.items)) }
+    ensures items { held.new.items ≡ held_with stripe rolled_back held.old.items }
+    ensures room { held.new.cap ≡ held.old.cap }
+{
+    let at = place_of(held, stripe);
+    held[at].fragment.revert();
 }
 
 /// Makes the rows of all that is held what they were as taken.

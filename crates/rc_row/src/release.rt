@@ -1,8 +1,8 @@
 //! Giving all back.
 
 ghost use Rattle.std.specs.Prelude.{◌≡◌, ◌<◌, [], IfNone, IfSome, length};
-ghost use Rattle.rc_row.specs.Passes.{AreAtRest, IsPassOf, idle, stripes_of, without_stripe};
-ghost use Rattle.rc_row.specs.Released.{IsHeldSo};
+ghost use Rattle.rc_row.specs.Passes.{AreAtRest, IsPassOf, OfHeld, idle, stripes_of, without_stripe};
+ghost use Rattle.rc_row.specs.Released.{IsHeldSo, IsUnchanged};
 
 use crate::pass::Pass;
 use crate::row::Row;
@@ -31,6 +31,24 @@ impl Row {
         ensures fewer { length pass.new.held < length pass.old.held }
     {
         pass.held_agrees();
+        match mode {
+            Mode::Exclusive => self.unlock(pass, stripe),
+            Mode::Shared => self.unshare(pass, stripe),
+        }
+    }
+
+    /// Gives a held stripe back whose rows are what they were as taken: changes of it that came to nothing are taken back.
+    /// Costs these and what `unlock` or `unshare` does, takes no memory, and wakes nobody.
+    pub fn release_unchanged(&self, pass: &mut Pass, stripe: u32, mode: Mode)
+        requires pass { IsPassOf self.now pass.old }
+        requires held { IsHeldSo pass.old.held stripe mode }
+        requires unchanged { OfHeld pass.old.held stripe IsUnchanged }
+        ensures pass { IsPassOf self.now pass.new }
+        ensures value { pass.new ≡ without_stripe stripe pass.old }
+        ensures inside { stripe < stripes_of self.now }
+    {
+        pass.held_agrees();
+        pass.revert_stripe(stripe);
         match mode {
             Mode::Exclusive => self.unlock(pass, stripe),
             Mode::Shared => self.unshare(pass, stripe),
