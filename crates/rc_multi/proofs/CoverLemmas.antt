@@ -16,7 +16,7 @@ use Rattle.rc_spec.specs.Placement.{IsPlaced, class_at}
 use Rattle.rc_spec.specs.Stripes.{physical_stripe}
 use Rattle.rc_fragment.specs.Holder.{MayTake}
 use Rattle.rc_plan.specs.declared.statement.Statement.{Statement}
-use Rattle.rc_plan.specs.declared.statement.Statement.TheVariants.{Emit, Lock}
+use Rattle.rc_plan.specs.declared.statement.Statement.TheVariants.{Lock}
 use Rattle.rc_plan.specs.declared.statement.Which.{Which}
 use Rattle.rc_plan.specs.declared.statement.Which.TheVariants as which
 use Rattle.rc_plan.specs.Compiled.{SpecWithPlans, plan_at}
@@ -24,8 +24,8 @@ use Rattle.rc_plan.specs.StripeLocksLaws.{IsOfClass-physical_stripe}
 use Rattle.rc_multi.specs.declared.class_lock.ClassLock.{ClassLock}
 use Rattle.rc_multi.specs.Covering.{IsBandCovered, IsCovered}
 use Rattle.rc_multi.specs.Group.{Covers}
-use Rattle.rc_multi.specs.GroupLocks.{chooses, class_lock, is_lock, may_be_any}
-use Rattle.rc_multi.specs.GroupLocksLaws.{lock_of}
+use Rattle.rc_multi.specs.GroupLocks.{chooses, class_lock, may_be_any}
+use Rattle.rc_multi.specs.GroupLocksLaws.{lock_is}
 
 module _ (spec : Spec) (args : Pairs) (l : ClassLock) (locks : List StripeLock) where
   -- where it may be any of the class, all must be there
@@ -78,15 +78,6 @@ each_covered c call locks covers s m l e stripe of own =
       of_class = of;
       by_arguments = own;
     })
-  where
-    lock_at : Option ClassLock → Statement
-    lock_at None = Emit
-    lock_at (Some k) = Lock k.class k.choice k.mode
-
-    lock_is : (x : Statement) (k : ClassLock) → class_lock x ≡ Some k → x ≡ Lock k.class k.choice k.mode
-    lock_is x k same =
-        let w = lock_of (λ _. true) x (ap (is_lock (λ _. true)) same) in
-        w.1 ∙ ap lock_at (sym (ap class_lock w.1) ∙ same)
 
 -- one more statement of a plan
 pub covered_more : (spec : Spec) (args : Pairs) (plan : List Statement) (locks : List StripeLock) (i : ℕ) (s : Statement) → i < length plan → s ≡ get_or plan i s

@@ -1,5 +1,6 @@
 -- Several calls as one, over stripes that are all held before the first. (PLDI 2012, serializable transactions over two-phase locks.)
 use Rattle.std.specs.Prelude.{◌≡◌, ℕ, ◌+◌, ◌<◌, ◌^◌, ◌==◌, List, [], ◌∷◌, ◌++◌, length, map, Some, if◌then◌else◌}
+use Rattle.rc_tuple.specs.ColSet.{Within}
 use Rattle.rc_tuple.specs.RisingSet.{In}
 use Rattle.rc_tuple.specs.Relation.{IsRelation, Satisfies}
 use Rattle.rc_tuple.specs.Tuple.{Pairs}
@@ -13,10 +14,11 @@ use Rattle.rc_fragment.specs.Holder.{HeldStripe, MayTake}
 use Rattle.rc_plan.specs.declared.statement.Statement.{Statement}
 use Rattle.rc_plan.specs.Compiled.{SpecWithPlans, plan_at}
 use Rattle.rc_plan.specs.NamedStripes.{IsNamedBy}
+use Rattle.rc_plan.specs.StripeLocks.{stripes_of}
 use Rattle.rc_spec.specs.Locks.{StripeLock, Suffices}
 use Rattle.rc_rel.specs.declared.entry.Step.{Step}
 use Rattle.rc_rel.specs.History.{AreLegalFrom, after_steps}
-use Rattle.rc_machine.specs.Machine.{HasReplied, locks_of}
+use Rattle.rc_machine.specs.Machine.{HasReplied, locks_of, stripes_held}
 
 -- ---- which locks suffice
 
@@ -86,3 +88,9 @@ pub record HasRunIn (spec : Spec) (plan : List Statement) (call : Call) (before 
   pub part : List HeldStripe
   pub over : HasRunOver before after part
   pub replied : HasReplied spec plan call part answer
+
+-- it ran so, and of the stripes that were held it took just those of these locks, in whatever mode
+pub record HasRunTaking (spec : Spec) (plan : List Statement) (call : Call) (before after : List HeldStripe) (took : List StripeLock) (answer : Reply) : Type 0 where
+  pub ran : HasRunIn spec plan call before after answer
+  pub only : Within (stripes_held ran.part) (stripes_of took)
+  pub each : (p : ℕ) → In p (stripes_of took) → In p (stripes_held before) → In p (stripes_held ran.part)

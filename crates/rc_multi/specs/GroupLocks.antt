@@ -1,11 +1,12 @@
 -- The locks of a group: of each class that a plan of one of its calls locks, all stripes where some call may take any, and else those that the
 -- calls' arguments choose. (PLDI 2012, lock striping.)
-use Rattle.std.specs.Prelude.{ℕ, ◌==◌, ◌&&◌, not, Bool, true, false, List, Option, Some, None, map, filter, length, if◌then◌else◌}
+use Rattle.std.specs.Prelude.{◌≡◌, ℕ, ◌<◌, ◌==◌, ◌&&◌, not, Bool, true, false, List, Option, Some, None, map, filter, length, if◌then◌else◌}
 use Rattle.std.specs.List.{flat_map, list_any, range_with_len}
 use Rattle.std.specs.Ordering.{nat_cmp}
 use Rattle.rc_tuple.specs.RisingSet.{gather}
 use Rattle.rc_tuple.specs.ColSet.{is_within}
 use Rattle.rc_tuple.specs.Tuple.{Pairs, cols_of}
+use Rattle.rc_spec.specs.declared.call.Call.{Call}
 use Rattle.rc_spec.specs.declared.lock.Mode.{Mode}
 use Rattle.rc_spec.specs.declared.lock.Mode.TheVariants.{Exclusive, Shared}
 use Rattle.rc_spec.specs.declared.spec.Spec.{Spec}
@@ -16,9 +17,15 @@ use Rattle.rc_plan.specs.declared.statement.Statement.{Statement}
 use Rattle.rc_plan.specs.declared.statement.Statement.TheVariants.{Lock, Probe, Read, CheckAbsent, CheckFound, CheckDep, Apply, Emit, Commit, Release}
 use Rattle.rc_plan.specs.declared.statement.Which.{Which}
 use Rattle.rc_plan.specs.declared.statement.Which.TheVariants as which
-use Rattle.rc_plan.specs.StripeLocks.{band}
+use Rattle.rc_plan.specs.StripeLocks.{IsOfClass, band}
 use Rattle.rc_plan.specs.Turns.{CallWithPlan}
 use Rattle.rc_multi.specs.declared.class_lock.ClassLock.{ClassLock}
+
+-- ---- which calls may be declared
+
+-- the call's operation is one of the specification's, whatever its arguments are
+abbrev pub HasOperation : Spec → Call → Type 0
+HasOperation spec call = call.op < length spec.ops
 
 -- ---- what a statement locks
 
@@ -62,6 +69,10 @@ takes_any spec args c s = is_lock (λ l. (l.class == c) && may_be_any (chooses s
 
 abbrev pub writes_class : ℕ → Statement → Bool
 writes_class c s = is_lock (λ l. (l.class == c) && is_exclusive l.mode) (class_lock s)
+
+-- it locks the class of the stripe
+abbrev pub LocksClassOf : Spec → ℕ → Statement → Type 0
+LocksClassOf spec stripe s = (lock : ClassLock) × (class_lock s ≡ Some lock) × IsOfClass spec stripe lock.class
 
 -- ---- what a group locks
 

@@ -1,16 +1,19 @@
 -- The locks of a group suffice for its calls.
-use Rattle.std.specs.Prelude.{◌≡◌, ℕ, zero, suc, ◌+◌, ◌++◌, ◌<◌, ◌≤◌, ◌==◌, ◌&&◌, ◌⊎◌, not, Bool, true, false, List, [], ◌∷◌, map, filter, length, if◌then◌else◌}
-use Rattle.std.specs.List.{flat_map, list_any, range_with_len}
+use Rattle.std.specs.Prelude.{◌≡◌, ◌↔◌, ℕ, zero, suc, ◌+◌, ◌++◌, ◌<◌, ◌≤◌, ◌==◌, ◌&&◌, ◌⊎◌, not, All, Bool, true, false, List, [], ◌∷◌, Option, None, Some, filter, get_or, length, map, nat_lt, if◌then◌else◌}
+use Rattle.std.specs.List.{flat_map, list_all, list_any, range_with_len}
 use Rattle.std.specs.Ordering.{nat_cmp}
 use Rattle.std.specs.Cmp.{nat_cmp_is}
 use Rattle.std.specs.declared.cmp.Ordering.TheVariants.{Less}
 use Rattle.std.proofs.Common.{refl, sym, ap, subst, ◌∙◌, inl, inr, arith}
-use Rattle.std.proofs.lemmas.Bool.{eqb-true, eq-eqb, false≢true}
+use Rattle.std.proofs.lemmas.Bool.{eqb-true, eq-eqb, false≢true, lt-ltb, ltb-true}
+use Rattle.std.proofs.lemmas.List.Elements.{All-contains, All-nil, All-cons}
+use Rattle.std.proofs.lemmas.Option.{slice_get_within}
 use Rattle.rc_tuple.specs.RisingSet.{In, IsRising}
-use Rattle.rc_tuple.specs.RisingSetLaws.{each_in, in_append, rising_gather, filter_in, flat_map_in, gather_in, in_filter, in_flat_map, in_gather, in_map, map_in, nat_order}
+use Rattle.rc_tuple.specs.RisingSetLaws.{each_in, filter_in, flat_map_in, gather_in, get_or_in, in_append, in_contains, in_filter, in_flat_map, in_gather, in_list_all, in_map, list_all_in, map_in, nat_order, rising_gather}
 use Rattle.rc_tuple.specs.RelationLaws.{in_list_any, list_any_in}
 use Rattle.rc_tuple.specs.ColSetLaws.{within_from_test, in_range_below, in_range_bounds, rising_range}
 use Rattle.rc_tuple.specs.Tuple.{cols_of}
+use Rattle.rc_spec.specs.declared.call.Call.{Call}
 use Rattle.rc_spec.specs.declared.lock.Mode.{Mode}
 use Rattle.rc_spec.specs.declared.lock.Mode.TheVariants.{Exclusive, Shared}
 use Rattle.rc_spec.specs.declared.spec.Spec.{Spec}
@@ -36,8 +39,23 @@ use Rattle.rc_plan.specs.Turns.{CallWithPlan, with_plan, with_plans}
 use Rattle.rc_core.specs.Passes.{IsOfClassLocked}
 use Rattle.rc_multi.specs.declared.class_lock.ClassLock.{ClassLock}
 use Rattle.rc_multi.specs.ClassUse.{class_locks, in_mode}
-use Rattle.rc_multi.specs.Laws.{GroupLocksAreLocked, GroupLocksLieInside, GroupLocksRise, GroupLocksSuffice}
-use Rattle.rc_multi.specs.GroupLocks.{chooses, chosen_stripes, class_lock, group_locks, group_mode, group_stripes, is_exclusive, is_lock, locks_class, may_be_any, may_take_any, takes_any, writes_class}
+use Rattle.rc_multi.specs.Laws.{CallsThatFitHaveOperations, GroupLocksAreLocked, GroupLocksLieInside, GroupLocksRise, GroupLocksSuffice}
+use Rattle.rc_multi.specs.GroupLocks.{HasOperation, chooses, chosen_stripes, class_lock, group_locks, group_mode, group_stripes, is_exclusive, is_lock, locks_class, may_be_any, may_take_any, takes_any, writes_class}
+
+-- calls that fit have operations
+pub have_operations : CallsThatFitHaveOperations
+have_operations spec [] fit = All-nil (HasOperation spec)
+have_operations spec (call ∷ calls) fit = All-cons (HasOperation spec) call calls (slice_get_within spec.ops call.op fit.0.0 fit.0.1.known) (have_operations spec calls fit.1)
+
+-- that each call's operation is known can be tested
+pub known_tests : (spec : Spec) (calls : List Call) → (list_all (λ (call : Call). nat_lt call.op (length spec.ops)) calls ≡ true) ↔ All (HasOperation spec) calls
+known_tests spec calls = (
+  λ e i d l. ltb-true (get_or calls i d).op (length spec.ops) (list_all_in known calls e (get_or calls i d) (get_or_in calls i d l)),
+  λ all. in_list_all known calls (λ call m. lt-ltb call.op (length spec.ops) (All-contains (HasOperation spec) calls call all (in_contains call calls m))),
+)
+  where
+    known : Call → Bool
+    known call = nat_lt call.op (length spec.ops)
 
 and_both : (a b : Bool) → a ≡ true → b ≡ true → a && b ≡ true
 and_both true b e f = f
@@ -138,6 +156,16 @@ lock_of test Apply e = absurd (false≢true e)
 lock_of test Emit e = absurd (false≢true e)
 lock_of test Commit e = absurd (false≢true e)
 lock_of test (Release c) e = absurd (false≢true e)
+
+-- a statement is the Lock that it has
+pub lock_is : (s : Statement) (l : ClassLock) → class_lock s ≡ Some l → s ≡ Lock l.class l.choice l.mode
+lock_is s l e =
+    let w = lock_of (λ _. true) s (ap (is_lock (λ _. true)) e) in
+    w.1 ∙ ap lock_at (sym (ap class_lock w.1) ∙ e)
+  where
+    lock_at : Option ClassLock → Statement
+    lock_at None = Emit
+    lock_at (Some k) = Lock k.class k.choice k.mode
 
 -- a plan with a Lock that is of the class locks the stripes of the class
 class_locked : (spec : Spec) (c p : ℕ) (test : ClassLock → Bool) → ((l : ClassLock) → test l ≡ true → l.class == c ≡ true) → (plan : List Statement)

@@ -1,5 +1,5 @@
 -- The laws of groups, each named by the contract of a function.
-use Rattle.std.specs.Prelude.{◌≡◌, ℕ, ◌<◌, ◌≤◌, ◌^◌, List, [], ◌∷◌, length, map}
+use Rattle.std.specs.Prelude.{◌≡◌, ℕ, ◌<◌, ◌≤◌, ◌^◌, List, [], ◌∷◌, length, map, All}
 use Rattle.std.specs.List.{AllByRecursion}
 use Rattle.std.specs.Ordering.{nat_cmp}
 use Rattle.rc_tuple.specs.ColSet.{Within}
@@ -22,10 +22,14 @@ use Rattle.rc_core.specs.Passes.{HoldsNoMore, IsOfClassLocked, MayCommit, calls_
 use Rattle.rc_core.specs.State.{locks_of as locks_held}
 use Rattle.rc_machine.specs.Machine.{AreAsTaken, locks_of, stripes_held}
 use Rattle.rc_multi.specs.Group.{AreOfRelationFor, HasRunIn, HasServedAll, Suffice}
-use Rattle.rc_multi.specs.GroupLocks.{group_locks}
+use Rattle.rc_multi.specs.GroupLocks.{HasOperation, group_locks}
 use Rattle.rc_multi.specs.HeldStripes.{all_now, all_taken}
 
 -- ---- the locks of a group
+
+-- calls that fit have operations of the specification
+abbrev pub CallsThatFitHaveOperations : Type 0
+CallsThatFitHaveOperations = (spec : Spec) (calls : List Call) → AllByRecursion (Fits spec) calls → All (HasOperation spec) calls
 
 -- whatever a plan of one of the calls may name is among the group's locks, in a mode that suffices
 abbrev pub GroupLocksSuffice : Type 0

@@ -11,6 +11,7 @@ pub mod HeldStripes
 pub mod KeptLaws
 pub mod Laws
 pub mod Offered
+pub mod UseLaws
 pub mod OfferedLaws
 pub mod Offering
 pub mod OfferingLaws

@@ -15,10 +15,10 @@ use Rattle.rc_tuple.specs.Tuple.{Pairs}
 use Rattle.rc_spec.specs.declared.call.Call.{Call}
 use Rattle.rc_spec.specs.declared.call.Reply.{Reply}
 use Rattle.rc_plan.specs.declared.statement.Statement.{Statement}
-use Rattle.rc_multi.specs.Group.{AreNowOf, HasRunIn}
+use Rattle.rc_multi.specs.Group.{AreNowOf, HasRunTaking}
 use Rattle.rc_multi.specs.Offered.{IsFrom, IsFromSo, Start}
 use Rattle.rc_multi.specs.Offering.{IsOffered, offering}
-use Rattle.rc_multi.specs.OfferingLaws.{has_run_over, has_taken, lock_lent, offered_first, offered_rows, taken_offered}
+use Rattle.rc_multi.specs.OfferingLaws.{has_run_over, has_taken, lock_lent, offered_first, offered_rows, part_taken, taken_offered, taken_part}
 
 suffices_once : (held wanted : Mode) → IsProp (Suffices held wanted)
 suffices_once Exclusive wanted = hlevel props
@@ -89,11 +89,15 @@ pub held_end : (start : Option Start) (spec : Spec) (told begun : Holding) → s
 held_end start spec told begun e from =
     let f : IsFrom (record { spec = spec; told = told }) begun spec = subst (λ (x : Option Start). IsFromSo x begun spec) e from in f.told_is
 
-pub ran_in : (begun held : List HeldStripe) (s : Holding) (taken : List StripeLock) (n : ℕ) (spec : Spec) (plan : List Statement) (call : Call) (reply : Reply) → begun ≡ held
-    → IsOffered begun s taken → HasReplied spec plan call (held_of (offering begun s taken n)) reply → HasRunIn spec plan call held (held_of s) reply
-ran_in begun held s taken n spec plan call reply e k replied =
-    subst (λ (hs : List HeldStripe). HasRunIn spec plan call hs (held_of s) reply) e
-    (record { part = held_of (offering begun s taken n); over = has_run_over begun s taken k; replied = replied })
+pub ran_taking : (begun held : List HeldStripe) (s : Holding) (taken : List StripeLock) (n : ℕ) (spec : Spec) (plan : List Statement) (call : Call) (reply : Reply) → begun ≡ held
+    → IsOffered begun s taken → HasReplied spec plan call (held_of (offering begun s taken n)) reply → HasRunTaking spec plan call held (held_of s) taken reply
+ran_taking begun held s taken n spec plan call reply e k replied =
+    subst (λ (hs : List HeldStripe). HasRunTaking spec plan call hs (held_of s) taken reply) e
+    (record {
+      ran = record { part = held_of (offering begun s taken n); over = has_run_over begun s taken k; replied = replied };
+      only = part_taken begun s.lent taken;
+      each = taken_part begun s taken k;
+    })
 
 -- no take of it is refused
 pub none_risen : HasRisen 0 0 → ⊥

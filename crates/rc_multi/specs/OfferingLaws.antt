@@ -6,6 +6,7 @@ use Rattle.std.proofs.Common.{refl, sym, ap, subst, ◌∙◌, inl, inr, arith, 
 use Rattle.std.proofs.lemmas.Bool.{eqb-true, eq-eqb, false≢true}
 use Rattle.std.proofs.lemmas.List.{length-replicate, map-append}
 use Rattle.std.proofs.lemmas.Simd.{map-map}
+use Rattle.rc_tuple.specs.ColSet.{Within}
 use Rattle.rc_tuple.specs.RisingSet.{In, IsRising}
 use Rattle.rc_tuple.specs.RisingSetLaws.{in_append, append_in_left, append_in_right, in_filter, filter_in, in_map, map_in, nat_order, not_below_itself}
 use Rattle.rc_tuple.specs.Tuple.{Pairs}
@@ -20,6 +21,8 @@ use Rattle.rc_fragment.specs.FragmentRows.{FragmentRows}
 use Rattle.rc_fragment.specs.Holder.{AreOfRelation, AreOffered, CanLower, CanRaise, HasRoom, HasTaken, HeldStripe, Holding, IsHeld, IsHeldExclusive, IsLent, LentStripe, changed_at, held_of, just_taken, with_change, with_change_at, with_now, with_room, with_room_at}
 use Rattle.rc_fragment.specs.HoldingLaws.{held-change, held-room}
 use Rattle.rc_spec.specs.Locks.{StripeLock, Suffices}
+use Rattle.rc_plan.specs.StripeLocks.{stripes_of}
+use Rattle.rc_plan.specs.StripeLocksLaws.{in_stripes_of, stripes_of_in}
 use Rattle.rc_machine.specs.Machine.{locks_of, stripes_held}
 use Rattle.rc_multi.specs.CommitLaws.{one_held}
 use Rattle.rc_multi.specs.Group.{AreNowOf, HasRunOver, now_after, with_part}
@@ -488,6 +491,30 @@ has_run_over begun s taken k = record {
       };
   becomes = k.same;
 }
+
+-- Each is of one of the locks that it took,
+pub part_taken : (begun : List HeldStripe) (lent : List LentStripe) (taken : List StripeLock) → Within (stripes_held (helds (part_of begun lent taken))) (stripes_of taken)
+part_taken begun lent taken p m =
+    let g : (h : HeldStripe) × In h (helds (part_of begun lent taken)) × (p ≡ h.stripe) = in_map (λ (h : HeldStripe). h.stripe) p (helds (part_of begun lent taken)) m in
+    let w : (l : LentStripe) × In l (part_of begun lent taken) × (g.0 ≡ l.held) = in_map (λ (l : LentStripe). l.held) g.0 (part_of begun lent taken) g.1 in
+    let q = in_part begun lent taken w.0 w.1 in
+    let stripe : q.lock.0 ≡ p =
+    sym q.stripe ∙ sym (ap (λ (l : LentStripe). l.held.stripe) q.is) ∙ sym (ap (λ (h : HeldStripe). h.stripe) w.2) ∙ sym g.2 in
+    subst (λ (s : ℕ). In s (stripes_of taken)) stripe (stripes_of_in q.lock taken q.locked)
+
+-- and it has each that the group held of those.
+pub taken_part : (begun : List HeldStripe) (s : Holding) (taken : List StripeLock) → IsOffered begun s taken → (p : ℕ) → In p (stripes_of taken) → In p (stripes_held begun)
+    → In p (stripes_held (helds (part_of begun s.lent taken)))
+taken_part begun s taken k p m n =
+    let part : List HeldStripe = helds (part_of begun s.lent taken) in
+    let t : (l : StripeLock) × In l taken × (p ≡ l.0) = in_map (λ (l : StripeLock). l.0) p taken m in
+    let w : (h : HeldStripe) × In h begun × (p ≡ h.stripe) = in_map (λ (h : HeldStripe). h.stripe) p begun n in
+    let there : In (with_part part w.0) (held_of s) = subst (In (with_part part w.0)) (sym k.same) (map_in (with_part part) w.0 begun w.1) in
+    let x : (l : LentStripe) × In l s.lent × (with_part part w.0 ≡ l.held) = in_map (λ (l : LentStripe). l.held) (with_part part w.0) s.lent there in
+    let stripe : x.0.held.stripe ≡ p = sym (ap (λ (h : HeldStripe). h.stripe) x.2) ∙ sym w.2 in
+    let told : In (as_part begun t.0.1 x.0) (part_of begun s.lent taken) = part_in begun s.lent taken t.0 x.0 t.1 x.1 (stripe ∙ t.2) in
+    subst (λ (q : ℕ). In q (stripes_held part)) stripe
+    (map_in (λ (h : HeldStripe). h.stripe) (as_part begun t.0.1 x.0).held part (map_in (λ (l : LentStripe). l.held) (as_part begun t.0.1 x.0) (part_of begun s.lent taken) told))
 
 -- At a plan's start it has nothing, and the group's stripes are as they are.
 pub offered_first : (s : Holding) → IsRising nat_cmp (stripes_held (held_of s)) → IsOffered (held_of s) s []

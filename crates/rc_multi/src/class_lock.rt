@@ -2,10 +2,9 @@
 
 ghost use Rattle.std.specs.Prelude.{◌≡◌, ◌<◌, false, length, if◌then◌else◌};
 ghost use Rattle.rc_spec.specs.declared.lock.Mode.TheVariants.{Exclusive, Shared};
-ghost use Rattle.rc_spec.specs.Calls.{Fits};
 ghost use Rattle.rc_plan.specs.Turns.{with_plan};
 ghost use Rattle.rc_multi.specs.ClassUse.{class_use, either, statement_use};
-ghost use Rattle.rc_multi.specs.GroupLocks.{class_lock, is_exclusive, may_be_any};
+ghost use Rattle.rc_multi.specs.GroupLocks.{HasOperation, class_lock, is_exclusive, may_be_any};
 
 use rc_plan::{Compiled, Statement, Which};
 use rc_spec::{Call, Mode};
@@ -125,7 +124,7 @@ fn statement_use(statement: &Statement, class: u8, chosen: bool) -> ClassUse
 
 /// What the call's plan asks of the class. Costs a walk over the plan.
 pub(crate) fn class_use(compiled: &Compiled, call: &Call, class: u8) -> ClassUse
-    requires fits { Fits compiled.now.spec call.now }
+    requires operation { HasOperation compiled.now.spec call.now }
     requires known { class < length compiled.now.spec.classes }
     ensures { result ≡ class_use compiled.now.spec class (with_plan compiled.now.plans call.now) }
 {

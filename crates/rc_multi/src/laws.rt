@@ -1,6 +1,11 @@
 //! What is true of groups, as laws. The proofs stand in `specs/`.
 
-ghost use Rattle.rc_multi.specs.Laws.{GroupLocksAreLocked, GroupLocksLieInside, GroupLocksRise, GroupLocksSuffice, GroupsHoldNoMore, GroupsKeepWhatTheyUse, GroupsLeaveWhatIsCommitted, GroupsMayCommit, OneCallKeepsWhatItTook};
+ghost use Rattle.rc_multi.specs.Laws.{CallsThatFitHaveOperations, GroupLocksAreLocked, GroupLocksLieInside, GroupLocksRise, GroupLocksSuffice, GroupsHoldNoMore, GroupsKeepWhatTheyUse, GroupsLeaveWhatIsCommitted, GroupsMayCommit, OneCallKeepsWhatItTook};
+
+/// Calls that fit have operations of the specification, which is all that `group_locks` and `uses` ask of a call.
+pub fn calls_that_fit_have_operations()
+    ensures { CallsThatFitHaveOperations }
+{}
 
 /// Whatever a plan of one of a group's calls may name, on any rows, is among the group's locks, in a mode that suffices.
 /// (PLDI 2012, well-locked query plans.)

@@ -12,12 +12,15 @@ mod group;
 mod laws;
 mod locks;
 mod offered;
+mod using;
 
 pub use covering::covers;
-pub use fitting::all_fit;
+pub use fitting::{all_fit, all_known};
 pub use group::{run_group, run_in_group};
 pub use laws::{
-    group_locks_are_locked, group_locks_lie_inside, group_locks_rise, group_locks_suffice,
-    groups_keep_what_they_use, groups_leave_what_is_committed, groups_may_commit,
+    calls_that_fit_have_operations, group_locks_are_locked, group_locks_lie_inside,
+    group_locks_rise, group_locks_suffice, groups_keep_what_they_use,
+    groups_leave_what_is_committed, groups_may_commit,
 };
 pub use locks::group_locks;
+pub use using::uses;

@@ -1,17 +1,15 @@
 //! The locks of a group.
 
-ghost use Rattle.std.specs.Prelude.{◌≡◌, ℕ, ◌<◌, ◌≤◌, ◌++◌, List, IfOk, OnOk, length, map};
-ghost use Rattle.std.specs.List.{AllByRecursion};
+ghost use Rattle.std.specs.Prelude.{◌≡◌, ℕ, ◌<◌, ◌≤◌, ◌++◌, All, List, IfOk, OnOk, length, map};
 ghost use Rattle.std.specs.Ordering.{nat_cmp};
 ghost use Rattle.rc_tuple.specs.RisingSet.{IsPlace, put};
 ghost use Rattle.rc_spec.specs.declared.lock.Mode.TheVariants.{Shared};
-ghost use Rattle.rc_spec.specs.Calls.{Fits};
 ghost use Rattle.rc_spec.specs.Locks.{StripeLock};
 ghost use Rattle.rc_spec.specs.Stripes.{physical_stripe};
 ghost use Rattle.rc_plan.specs.StripeLocks.{band, stripes_of};
 ghost use Rattle.rc_plan.specs.Turns.{with_plan, with_plans};
 ghost use Rattle.rc_multi.specs.ClassUse.{class_locks, class_use, group_use, in_mode, with_chosen};
-ghost use Rattle.rc_multi.specs.GroupLocks.{chosen_stripes, group_locks};
+ghost use Rattle.rc_multi.specs.GroupLocks.{HasOperation, chosen_stripes, group_locks};
 
 use crate::class_lock::{ClassUse, class_use};
 use rc_plan::Compiled;
@@ -23,13 +21,15 @@ use std::cmp::Ordering;
 /// locks, all stripes where some call may take any, and else those that the calls' arguments choose, Exclusive where
 /// some plan locks the class so. They rise, and each stripe stands once. (PLDI 2012, lock striping.)
 ///
-/// Takes memory only where the list has no room. Costs, for each class, a walk over the plans of the calls.
+/// A call may be a declaration that has only some of its arguments: its operation decides which classes it locks, and the
+/// arguments that it has choose stripes. Takes memory only where the list has no room. Costs, for each class, a walk over the
+/// plans of the calls.
 pub fn group_locks(
     compiled: &Compiled,
     calls: &[Call],
     locks: &mut Vec<(u32, Mode)>,
 ) -> Result<(), Memory>
-    requires fit { AllByRecursion (Fits compiled.now.spec) calls.now }
+    requires fit { All (HasOperation compiled.now.spec) calls.now }
     ensures { OnOk result
         (locks.new.items ≡ group_locks compiled.now.spec (with_plans compiled.now.plans calls.now)) }
 {
@@ -47,7 +47,7 @@ fn push_class(
     class: u8,
     locks: &mut Vec<(u32, Mode)>,
 ) -> Result<(), Memory>
-    requires fit { AllByRecursion (Fits compiled.now.spec) calls.now }
+    requires fit { All (HasOperation compiled.now.spec) calls.now }
     requires known { class < length compiled.now.spec.classes }
     ensures { OnOk result (locks.new.items ≡ locks.old.items
         ++ class_locks compiled.now.spec (with_plans compiled.now.plans calls.now) class) }
@@ -71,7 +71,7 @@ fn push_chosen(
     class: u8,
     locks: &mut Vec<(u32, Mode)>,
 ) -> Result<ClassUse, Memory>
-    requires fit { AllByRecursion (Fits compiled.now.spec) calls.now }
+    requires fit { All (HasOperation compiled.now.spec) calls.now }
     requires known { class < length compiled.now.spec.classes }
     ensures asked { IfOk result
         (λ asked. asked ≡ group_use compiled.now.spec class (with_plans compiled.now.plans calls.now)) }
@@ -95,7 +95,7 @@ fn put_chosen(
     start: usize,
     locks: &mut Vec<(u32, Mode)>,
 ) -> Result<ClassUse, Memory>
-    requires fits { Fits compiled.now.spec call.now }
+    requires operation { HasOperation compiled.now.spec call.now }
     requires known { class < length compiled.now.spec.classes }
     requires inside { start ≤ length locks.old.items }
     ensures asked { IfOk result

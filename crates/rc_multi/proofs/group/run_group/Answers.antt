@@ -37,7 +37,7 @@ loop-call-preserved g c =
     record {
       at = subst (IsGroupAt c.args.compiled.now.spec c.args.calls.now _ first new) (sym c.in_ok-push.ensures.items)
           (next_at c.args.compiled.now.spec c.args.calls.now c.requires.fit first c.loop-call.call-index (held_of (g.H.Holder.seen c.loop-call.holder)) new c.loop-call.replies.items
-          (plan_at c.args.compiled.now.plans c.call-item.result.op) c.call-item.result c.in_ok-reply.reply c.loop-call-test.true c.call-item.is c.loop-call.invariant.at c.in_ok-reply.ensures.ran);
+          (plan_at c.args.compiled.now.plans c.call-item.result.op) c.call-item.result c.in_ok-reply.reply c.loop-call-test.true c.call-item.is c.loop-call.invariant.at c.in_ok-reply.ensures.ran.ran);
       sound = c.run_in_group.ensures.sound;
       lent = lent_again (g.H.Holder.seen c.args.holder.now) (g.H.Holder.seen c.loop-call.holder) (g.H.Holder.seen c.run_in_group.new.holder) c.loop-call.invariant.lent c.run_in_group.ensures.lent;
     }

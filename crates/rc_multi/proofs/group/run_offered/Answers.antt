@@ -8,7 +8,7 @@ use Rattle.rc_multi.specs.GroupRunLaws.{taken_after}
 use Rattle.rc_multi.specs.HeldStripes.{all_taken}
 use Rattle.rc_multi.specs.Offered.{IsFromSo}
 use Rattle.rc_multi.specs.OfferingLaws.{has_run_over}
-use Rattle.rc_multi.specs.OfferedLaws.{from_start, held_end, none_risen, ran_in}
+use Rattle.rc_multi.specs.OfferedLaws.{from_start, held_end, none_risen, ran_taking}
 use Rattle.rc_multi.proofs.group.run_offered.Given.{Over}
 use Rattle.rc_multi.proofs.group.run_offered.Goals.{After-run_statements}
 use Rattle.rc_multi.proofs.group.run_offered.Goals as goal
@@ -43,7 +43,7 @@ unreachable-requires g c = none_risen (c.run_statements.ensures.refused _ (c.in-
 pub returns-in-Ok-clause-ran : goal.returns-in-Ok-clause-ran
 returns-in-Ok-clause-ran g c =
     let new = c.run_statements.new.holder in
-    ran_in (held_of (g.H.Holder.seen new.begun.now.value)) (held_of (g.H.Holder.seen c.args.offered.now.holder.now)) (g.H.Holder.seen new.holder.now) new.taken.now.items new.holder.ghost_name
+    ran_taking (held_of (g.H.Holder.seen new.begun.now.value)) (held_of (g.H.Holder.seen c.args.offered.now.holder.now)) (g.H.Holder.seen new.holder.now) new.taken.now.items new.holder.ghost_name
     c.args.compiled.now.spec (plan_at c.args.compiled.now.plans c.args.call.now.op) c.args.call.now c.in-Ok.reply (ap held_of (same g (goal.at.returns-in-Ok-clause-ran g c).After-run_statements)) new.kept c.in-Ok.ensures.answered
 
 pub returns-in-Ok-clause-taken : goal.returns-in-Ok-clause-taken
