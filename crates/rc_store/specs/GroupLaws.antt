@@ -1,5 +1,5 @@
 -- What the run of a group's plans over a lent row and pass leaves, and that the core allows its commit as one entry. (PLDI 2012, serializable transactions by two-phase locks.)
-use Rattle.std.specs.Prelude.{◌≡◌, ℕ, ◌<◌, ◌≤◌, ◌^◌, Bool, List, [], ◌∷◌, length, map, Option, None, Some, All}
+use Rattle.std.specs.Prelude.{◌≡◌, ℕ, ◌<◌, ◌≤◌, ◌^◌, Bool, List, [], ◌∷◌, length, map, Option, None, Some}
 use Rattle.std.specs.List.{AllByRecursion}
 use Rattle.std.specs.Ordering.{nat_cmp}
 use Rattle.std.proofs.Common.{refl, sym, ap, subst, ◌∙◌, arith}
@@ -16,7 +16,7 @@ use Rattle.rc_spec.specs.Calls.{Fits}
 use Rattle.rc_spec.specs.Locks.{StripeLock}
 use Rattle.rc_fragment.specs.Holder.{HeldStripe, held_of}
 use Rattle.rc_fragment.specs.Keep.{IsAtRest}
-use Rattle.rc_plan.specs.Compiled.{IsCompiled, SpecWithPlans, plan_at}
+use Rattle.rc_plan.specs.Compiled.{IsCompiled, plan_at}
 use Rattle.rc_plan.specs.StripeLocks.{stripes_of}
 use Rattle.rc_plan.specs.Turns.{CallWithPlan, with_plan, with_plans}
 use Rattle.rc_rel.specs.declared.entry.Step.{Step}
@@ -41,7 +41,6 @@ use Rattle.rc_row.specs.StandingsLaws.{refusals_first}
 use Rattle.rc_store.specs.declared.lender.Refused.{Refused}
 use Rattle.rc_store.specs.Lending.{IsLentSo, IsOnTheWay, Lent, held_stripe, held_stripes, lending}
 use Rattle.rc_store.specs.LendingLaws.{all_now-held, all_taken-held, held_of-lending}
-use Rattle.rc_store.specs.Locking.{HasTakenLocks}
 use Rattle.rc_store.specs.Prepared.{AreReady, IsReady}
 use Rattle.rc_store.specs.Store.{HoldsExactly}
 

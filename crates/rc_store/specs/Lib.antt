@@ -26,3 +26,8 @@ pub mod GroupLaws
 pub mod Locking
 pub mod LockingLaws
 pub mod RunningGroupLaws
+pub mod OpenGroups
+pub mod OpenInside
+pub mod OpenBacks
+pub mod OpenGroupLaws
+pub mod ReleaseLaws

@@ -179,11 +179,6 @@ next_above waits row begun now locks n d at rising l q m =
     let same : stripes_in (core_of now).held ≡ stripes_of (locks_of (held_stripes now.held)) = ap stripes_in (sym at.way.agrees) ∙ stripes_held_in now.held in
     below_next locks n d rising l q (subst (λ (xs : List ℕ). In q xs) (same ∙ ap stripes_of at.locks) m)
 
--- one lock more of the list
-pub next_taken : (waits : Bool) (row : RowSeen) (begun now : PassSeen) (locks : List StripeLock) (n : ℕ) (lock : StripeLock) → n < length locks → lock ≡ get_or locks n lock
-    → HasTakenLocks waits row begun now (take n locks ++ (lock.0, lock.1) ∷ []) → HasTakenLocks waits row begun now (take (n + 1) locks)
-next_taken waits row begun now locks n lock l e at = subst (HasTakenLocks waits row begun now) ((λ i. take n locks ++ e i ∷ []) ∙ sym (take_more locks n lock l)) at
-
 pub whole_taken : (waits : Bool) (row : RowSeen) (begun now : PassSeen) (locks : List StripeLock) (n : ℕ) → length locks ≤ n → HasTakenLocks waits row begun now (take n locks)
     → HasTakenLocks waits row begun now locks
 whole_taken waits row begun now locks n l at = subst (HasTakenLocks waits row begun now) (take_all n locks l) at

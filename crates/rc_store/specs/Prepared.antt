@@ -18,13 +18,17 @@ pub record IsReady (row : RowSeen) (steps : List Step) (pass : PassSeen) : Type 
   pub may : MayCommit (compiled_of row) (core_of pass) (next_of (core_of pass) steps)
   pub left : holds_now pass.held ≡ (committed (compiled_of row) (core_of pass) 0 (next_of (core_of pass) steps)).held
 
--- It is so now, and else only what it wants changed, its refused steps, and the room for its entries.
-pub record IsPrepared (row : RowSeen) (steps : List Step) (old new : PassSeen) : Type 0 where
+-- Since then only what the pass holds and wants changed, its refused steps, and the room for its entries.
+pub record HasGoneOn (old new : PassSeen) : Type 0 where
   pub core : core_of new ≡ record (core_of old) { held = (core_of new).held; wish = (core_of new).wish }
   pub table : new.table ≡ old.table
   pub more : IsMoreRoom old.kept new.kept
   pub refusals : KeepsRefusals old.standing new.standing
   pub known : new.standing.known ≡ old.standing.known
+
+-- so it became ready
+pub record IsPrepared (row : RowSeen) (steps : List Step) (old new : PassSeen) : Type 0 where
+  pub since : HasGoneOn old new
   pub ready : IsReady row steps new
 
 -- ---- the calls of a group

@@ -1,5 +1,5 @@
 -- What a prepared group has: its replies, by number, and its commit.
-use Rattle.std.specs.Prelude.{◌≡◌, ℕ, zero, suc, ◌<◌, List, [], ◌∷◌, Some, get_or, length}
+use Rattle.std.specs.Prelude.{◌≡◌, ℕ, zero, suc, ◌<◌, List, [], ◌∷◌, ◌++◌, Some, get_or, length}
 use Rattle.std.specs.List.{slice_get}
 use Rattle.std.proofs.Common.{refl, sym, ap, subst, ◌∙◌, arith}
 use Rattle.std.proofs.lemmas.List.{length-map}
@@ -8,6 +8,7 @@ use Rattle.rc_spec.specs.declared.call.Reply.{Reply}
 use Rattle.rc_rel.specs.declared.entry.Step.{Step}
 use Rattle.rc_rel.specs.History.{with_replies}
 use Rattle.rc_rel.specs.HistoryLaws.{with_replies-parts}
+use Rattle.rc_multi.specs.Group.{with_step}
 use Rattle.rc_row.specs.Passes.{PassSeen, compiled_of, core_of}
 use Rattle.rc_store.specs.declared.receipt.GroupReceipt.{GroupReceipt}
 use Rattle.rc_store.specs.Prepared.{IsPrepared}
@@ -25,6 +26,11 @@ reply_there [] n d l = absurd (omega (arith, l))
 reply_there (s ∷ steps) zero d l = refl
 reply_there (s ∷ steps) (suc n) d l = reply_there steps n d (omega (arith, l))
 
+pub call_there : (steps : List Step) (n : ℕ) (d : Step) → n < length steps → slice_get (calls_of steps) n ≡ Some (get_or steps n d).call
+call_there [] n d l = absurd (omega (arith, l))
+call_there (s ∷ steps) zero d l = refl
+call_there (s ∷ steps) (suc n) d l = call_there steps n d (omega (arith, l))
+
 pub replies_are : (calls : List Call) (replies : List Reply) → length replies ≡ length calls → replies_of (with_replies calls replies) ≡ replies
 replies_are [] [] e = refl
 replies_are [] (reply ∷ replies) e = absurd (omega (arith, e))
@@ -33,6 +39,15 @@ replies_are (call ∷ calls) (reply ∷ replies) e = ap (λ (l : List Reply). re
 
 pub as_many : (calls : List Call) (replies : List Reply) → length replies ≡ length calls → length (with_replies calls replies) ≡ length replies
 as_many calls replies e = sym (length-map (with_replies calls replies) (λ (s : Step). s.reply)) ∙ ap (λ (l : List Reply). length l) (replies_are calls replies e)
+
+-- one call more with its reply is one step more
+pub with_one_more : (calls : List Call) (replies : List Reply) (call : Call) (reply : Reply) → length replies ≡ length calls
+    → with_replies (calls ++ call ∷ []) (replies ++ reply ∷ []) ≡ with_step (with_replies calls replies) call reply
+with_one_more [] [] call reply e = refl
+with_one_more [] (r ∷ replies) call reply e = absurd (omega (arith, e))
+with_one_more (c ∷ calls) [] call reply e = absurd (omega (arith, e))
+with_one_more (c ∷ calls) (r ∷ replies) call reply e =
+    ap (λ (l : List Step). record { call = c; reply = r } ∷ l) (with_one_more calls replies call reply (omega (arith, e)))
 
 -- ---- a prepared group that was committed
 

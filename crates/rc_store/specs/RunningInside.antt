@@ -39,5 +39,10 @@ abbrev pub IsOfPass : PassSeen → PreparedGroup → Type 0
 IsOfPass pass (group.Entry entry) = IsSome pass.kept × (entry ≡ next_of (core_of pass) entry.steps)
 IsOfPass pass (group.Counted calls replies) = (pass.kept ≡ None) × (length replies.items ≡ length calls.items)
 
+-- each call has a reply
+abbrev pub HasReplyEach : PreparedGroup → Type 0
+HasReplyEach (group.Entry entry) = Unit {0}
+HasReplyEach (group.Counted calls replies) = length replies.items ≡ length calls.items
+
 abbrev pub IsWholeGroup : GroupInside → Type 0
 IsWholeGroup a = IsOfPass a.pass a.prepared

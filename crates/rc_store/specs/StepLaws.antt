@@ -37,8 +37,8 @@ use Rattle.rc_store.specs.CommitLaws.{holds_what_is_named, may_commit, now_commi
 use Rattle.rc_multi.specs.HeldStripes.{all_taken}
 use Rattle.rc_store.specs.Lending.{IsOnTheWay, IsUnrefused, held_stripes}
 use Rattle.rc_store.specs.LendingLaws.{all_now-held, all_taken-held, one_relation, still_of_row}
-use Rattle.rc_store.specs.Prepared.{IsPrepared, IsReady}
-use Rattle.rc_store.specs.Runs.{IsStoppedFor}
+use Rattle.rc_store.specs.Prepared.{HasGoneOn, IsPrepared, IsReady}
+use Rattle.rc_store.specs.Runs.{IsStoppedBy, IsStoppedFor}
 use Rattle.rc_store.specs.Store.{AreRepliesFor, HasMade, HasMadeEntry, HasMadeGroup, HoldsExactly, IsAsBefore, IsCallFinished, IsFinished, IsFree, IsGroupFinished, IsReplyFor, StoreSeen, one_step}
 use Rattle.rc_store.specs.declared.receipt.GroupReceipt.{GroupReceipt}
 use Rattle.rc_store.specs.declared.receipt.Receipt.{Receipt}
@@ -132,20 +132,28 @@ module _ (waits : Bool) (row : RowSeen) (old reserved ran new : PassSeen) (room 
   cause_before calls Memory e cause = unrefused_before e cause
   cause_before calls (Held h) e cause = (cause.0, are_busy_before calls h.stripe h.found e cause.1)
 
+  -- the same of locks that are taken for calls to come
+  pub stopped_before : (locks : List StripeLock) (s : Stop) → new ≡ idle ran → IsStoppedBy waits (IsLockBusy row locks reserved ran) reserved ran s
+      → IsStoppedBy waits (IsLockBusy row locks old new) old new s
+  stopped_before locks Memory e cause = unrefused_before e cause
+  stopped_before locks (Held h) e cause = (cause.0, lock_busy_before locks h.stripe h.found e cause.1)
+
   -- and one that answered
   pub unrefused_so : IsUnrefused waits reserved ran → IsUnrefused waits old ran
   unrefused_so none at_once = none at_once ∙ ap (λ (q : PassSeen). q.standing.refusals) room.is
 
   -- one that is ready was prepared
-  pub prepared_so : (steps : List Step) → IsReady row steps ran → IsPrepared row steps old ran
-  prepared_so steps ready = record {
+  pub since_so : HasGoneOn old ran
+  since_so = record {
     core = ran_core;
     table = way.ran.table ∙ ap (λ (q : PassSeen). q.table) room.is;
     more = subst (IsMoreRoom old.kept) (sym ran_kept) room.more;
     refusals = ran_refusals;
     known = ran_known;
-    ready = ready;
   }
+
+  pub prepared_so : (steps : List Step) → IsReady row steps ran → IsPrepared row steps old ran
+  prepared_so steps ready = record { since = since_so; ready = ready }
 
   -- it has as many entries, and as much room
   pub few_so : length (core_of old).own < 2 ^ 48 → length (core_of ran).own < 2 ^ 48
@@ -191,57 +199,62 @@ module _ (row : RowSeen) (call : Call) (pass : PassSeen) (reply : Reply) (fits :
 
 module _ (store : StoreSeen) (steps : List Step) (old mid new : PassSeen) (prepared : IsPrepared store.row steps old mid) where
   same_entry : next_of (core_of mid) steps ≡ next_of (core_of old) steps
-  same_entry = ap (λ (u : PassState). next_of u steps) prepared.core
+  same_entry = ap (λ (u : PassState). next_of u steps) prepared.since.core
 
   -- a commit of what was prepared is an entry that was made
   pub made_so : (place nth : ℕ) → IsFinished store.row steps mid new place nth → HasMadeEntry store steps old new place nth
   made_so place nth f = record {
     at_commit = core_of mid;
-    was = prepared.core;
+    was = prepared.since.core;
     allowed = subst (MayCommit (compiled_of store.row) (core_of mid)) same_entry prepared.ready.may;
     one = prepared.ready.one;
     before = f.before;
     place_is = f.place_is;
     at = record {
-      goes_on = subst (λ (known : List (List Entry)). All (λ earlier. IsPrefix earlier f.before) known) prepared.known f.at.goes_on;
+      goes_on = subst (λ (known : List (List Entry)). All (λ earlier. IsPrefix earlier f.before) known) prepared.since.known f.at.goes_on;
       seen = f.at.seen;
       of = f.at.of;
     };
     after = subst (λ (x : Entry). IsOfHistory (spec_of store.row) store.row.key.passes (f.before ++ x ∷ []) (core_of new)) same_entry f.after;
     known =
         ap (λ (q : PassSeen). q.standing.known) f.is
-        ∙ (λ i. prepared.known i ++ (f.before ++ same_entry i ∷ []) ∷ []);
+        ∙ (λ i. prepared.since.known i ++ (f.before ++ same_entry i ∷ []) ∷ []);
     core =
         ap core_of f.is
         ∙ (λ i. record (committed (compiled_of store.row) (core_of mid) (sym f.place_is i) (same_entry i)) {
           held = [];
           wish = sym (ap (λ (q : PassSeen). (core_of q).wish) f.is) i;
         });
-    own = ap (λ (q : PassSeen). (core_of q).own) f.is ∙ (λ i. (prepared.core i).own ++ placed (sym f.place_is i) (same_entry i) ∷ []);
-    nth_is = f.nth_is ∙ ap (λ (u : PassState). length u.own) prepared.core;
-    seen = subst (λ (x : PassState × ℕ). x.0.seen ≤ x.1) (λ i. (prepared.core i, sym f.place_is i)) f.at.seen;
+    own = ap (λ (q : PassSeen). (core_of q).own) f.is ∙ (λ i. (prepared.since.core i).own ++ placed (sym f.place_is i) (same_entry i) ∷ []);
+    nth_is = f.nth_is ∙ ap (λ (u : PassState). length u.own) prepared.since.core;
+    seen = subst (λ (x : PassState × ℕ). x.0.seen ≤ x.1) (λ i. (prepared.since.core i, sym f.place_is i)) f.at.seen;
     small = f.small;
-    table = ap (λ (q : PassSeen). q.table) f.is ∙ prepared.table;
+    table = ap (λ (q : PassSeen). q.table) f.is ∙ prepared.since.table;
     held = ap (λ (q : PassSeen). q.held) f.is;
     kept = mid.kept;
-    more = prepared.more;
+    more = prepared.since.more;
     keeps = ap (λ (q : PassSeen). q.kept) f.is ∙ (λ i. with_entry mid.kept (placed (sym f.place_is i) (same_entry i)));
-    refusals = subst (KeepsRefusals old.standing) (sym (ap (λ (q : PassSeen). q.standing) f.is)) prepared.refusals;
+    refusals = subst (KeepsRefusals old.standing) (sym (ap (λ (q : PassSeen). q.standing) f.is)) prepared.since.refusals;
   }
 
-  -- and what was prepared and is taken back is as before
-  pub undone_so : old.held ≡ [] → (core_of old).held ≡ [] → new ≡ idle mid → IsAsBefore old new
-  undone_so free idle_core e = record {
-    core =
-        ap core_of e
-        ∙ ap (λ (u : PassState). record u { held = [] }) prepared.core
-        ∙ (λ i. record (core_of old) { held = sym idle_core i; wish = sym (ap (λ q. (core_of q).wish) e) i });
-    table = ap (λ (q : PassSeen). q.table) e ∙ prepared.table;
-    held = ap (λ (q : PassSeen). q.held) e ∙ sym free;
-    kept = subst (IsMoreRoom old.kept) (sym (ap (λ (q : PassSeen). q.kept) e)) prepared.more;
-    refusals = subst (KeepsRefusals old.standing) (sym (ap (λ (q : PassSeen). q.standing) e)) prepared.refusals;
-    known = ap (λ (q : PassSeen). q.standing.known) e ∙ prepared.known;
-  }
+  -- its commit was that of the pass as it was prepared
+  pub made_commits : (place nth : ℕ) (f : IsFinished store.row steps mid new place nth) → (made_so place nth f).at_commit ≡ core_of mid
+  unfolding made_so
+  made_commits place nth f = refl
+
+-- what was prepared, or has gone on without a commit, and is taken back is as before
+pub undone : (old mid new : PassSeen) → HasGoneOn old mid → old.held ≡ [] → (core_of old).held ≡ [] → new ≡ idle mid → IsAsBefore old new
+undone old mid new since free idle_core e = record {
+  core =
+      ap core_of e
+      ∙ ap (λ (u : PassState). record u { held = [] }) since.core
+      ∙ (λ i. record (core_of old) { held = sym idle_core i; wish = sym (ap (λ q. (core_of q).wish) e) i });
+  table = ap (λ (q : PassSeen). q.table) e ∙ since.table;
+  held = ap (λ (q : PassSeen). q.held) e ∙ sym free;
+  kept = subst (IsMoreRoom old.kept) (sym (ap (λ (q : PassSeen). q.kept) e)) since.more;
+  refusals = subst (KeepsRefusals old.standing) (sym (ap (λ (q : PassSeen). q.standing) e)) since.refusals;
+  known = ap (λ (q : PassSeen). q.standing.known) e ∙ since.known;
+}
 
 -- a call that was prepared, and is finished, was made
 pub call_made : (store : StoreSeen) (call : Call) (old mid new : PassSeen) (reply : Reply) → IsPrepared store.row (one_step call reply) old mid
@@ -279,14 +292,8 @@ is_kept Entries kept keeps some = refl
 is_kept Counts None keeps some = absurd (false≢true some)
 is_kept Counts (Some part) keeps some = absurd keeps
 
-pub reply_given : (keeping : Keeping) (reply : Reply) → keeping ≡ Counts → IsReplyFor keeping reply (Some reply)
-reply_given keeping reply e = subst (λ (k : Keeping). IsReplyFor k reply (Some reply)) (sym e) refl
-
 pub no_reply_given : (keeping : Keeping) (reply : Reply) → keeping ≡ Entries → IsReplyFor keeping reply None
 no_reply_given keeping reply e = subst (λ (k : Keeping). IsReplyFor k reply None) (sym e) refl
 
 pub replies_given : (keeping : Keeping) (replies : List Reply) → keeping ≡ Counts → AreRepliesFor keeping replies (Some replies)
 replies_given keeping replies e = subst (λ (k : Keeping). AreRepliesFor k replies (Some replies)) (sym e) refl
-
-pub no_replies_given : (keeping : Keeping) (replies : List Reply) → keeping ≡ Entries → AreRepliesFor keeping replies None
-no_replies_given keeping replies e = subst (λ (k : Keeping). AreRepliesFor k replies None) (sym e) refl

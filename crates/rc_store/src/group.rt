@@ -20,7 +20,7 @@ use crate::taking::{AtOnce, Patiently, Takes};
 use crate::wakes::{Wakes, Waking};
 use rc_fragment::Held;
 use rc_machine::Stop;
-use rc_multi::group_locks;
+use rc_multi::{calls_that_fit_have_operations, group_locks};
 use rc_row::Pass;
 use rc_spec::{Call, Reply};
 use rc_tuple::Memory;
@@ -151,6 +151,7 @@ impl<W: Wakes> Store<W> {
     {
         pass.held_agrees();
         let mut locks = Vec::new(self.alloc);
+        calls_that_fit_have_operations();
         group_locks(&self.compiled, calls, &mut locks)?;
         pass.reserve()?;
         let answer = lock_and_run(

@@ -130,6 +130,7 @@ fn run_lent<L: Lends, T: Takes>(
     ensures ran { OnOk result (HasRunGroup (spec_of row.now) calls.now (held_stripes pass.old.held) (held_stripes pass.new.held) replies.new.items) }
 {
     let mut taken = Vec::new(alloc);
+    let mut took = Vec::new(alloc);
     let mut lender = Lender::<L, T> {
         row,
         pass,
@@ -137,7 +138,15 @@ fn run_lent<L: Lends, T: Takes>(
         refused,
         lends: PhantomData,
     };
-    let ran = run_holder(compiled, calls, space, &mut taken, replies, &mut lender);
+    let ran = run_holder(
+        compiled,
+        calls,
+        space,
+        &mut taken,
+        &mut took,
+        replies,
+        &mut lender,
+    );
     let Lender {
         row: _,
         pass: _,
@@ -154,6 +163,7 @@ fn run_holder<L: Lends, T: Takes>(
     calls: &[Call],
     space: &mut Workspace,
     taken: &mut Vec<(u32, Mode)>,
+    took: &mut Vec<(u32, Mode)>,
     replies: &mut Vec<Reply>,
     lender: &mut Lender<'_, L, T>,
 ) -> Result<(), Memory>
@@ -173,5 +183,5 @@ fn run_holder<L: Lends, T: Takes>(
     ensures ran { OnOk result (HasRunGroup (spec_of lender.old.row.now) calls.now (held_stripes lender.old.pass.now.held) (held_stripes lender.new.pass.now.held) replies.new.items) }
 {
     lender.pass.held_agrees();
-    run_group(compiled, calls, space, taken, replies, lender)
+    run_group(compiled, calls, space, taken, took, replies, lender)
 }

@@ -13,6 +13,10 @@ mod group_run;
 mod laws;
 mod lender;
 mod locking;
+mod open_group;
+mod open_run;
+mod opening;
+mod prepared_group;
 mod receipt;
 mod run;
 mod running;
@@ -29,6 +33,7 @@ pub use laws::{
     receipts_are_of_the_closed, receipts_are_plain, receipts_go_on, receipts_mean_one_history,
     telling_goes_on,
 };
+pub use open_group::{OpenBack, OpenGroup};
 pub use receipt::{BeginBack, CallFault, GroupReceipt, Receipt, TryFault};
 pub use running::Running;
 pub use running_group::RunningGroup;

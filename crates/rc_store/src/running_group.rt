@@ -63,10 +63,7 @@ impl RunningGroup {
     pub fn count(&self) -> usize
         ensures { result ≡ length self.now.steps }
     {
-        match &self.prepared {
-            PreparedGroup::Entry(entry) => entry.steps.list().len(),
-            PreparedGroup::Counted(calls, _) => calls.len(),
-        }
+        self.prepared.count()
     }
 
     /// The reply that the call with this number, counted from 0, has if the group is committed.
@@ -74,10 +71,7 @@ impl RunningGroup {
         requires { at < length self.now.steps }
         ensures { slice_get (replies_of self.now.steps) at ≡ Some result.now }
     {
-        match &self.prepared {
-            PreparedGroup::Entry(entry) => &entry.steps.list()[at].reply,
-            PreparedGroup::Counted(_, replies) => &replies[at],
-        }
+        self.prepared.reply(at)
     }
 
     /// Commits the group, gives all back, and hands out the pass with the receipt. It takes no memory and isn't refused.
@@ -173,7 +167,7 @@ impl<W: Wakes> Store<W> {
     }
 
     /// Commits what was prepared, and gives all back that the pass holds.
-    fn commit_group(&self, pass: &mut Pass, prepared: PreparedGroup) -> GroupReceipt
+    pub(crate) fn commit_group(&self, pass: &mut Pass, prepared: PreparedGroup) -> GroupReceipt
         requires pass { IsPassOf self.now.row pass.old }
         requires whole { IsOfPass pass.old prepared }
         requires ready { IsReady self.now.row (steps_in prepared) pass.old }

@@ -1,4 +1,4 @@
-use Rattle.std.proofs.Common.{◌≡◌, List, sym, subst}
+use Rattle.std.proofs.Common.{List, sym, subst}
 use Rattle.rc_plan.specs.Compiled.{IsCompiled, SpecWithPlans}
 use Rattle.rc_spec.specs.Locks.{StripeLock}
 use Rattle.rc_multi.specs.Group.{Suffice}

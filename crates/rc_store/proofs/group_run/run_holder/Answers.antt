@@ -1,6 +1,6 @@
 use Rattle.std.specs.Prelude.{List, length}
 use Rattle.std.specs.Ordering.{nat_cmp}
-use Rattle.std.proofs.Common.{◌≡◌, ℕ, ap, sym, subst, ◌∙◌}
+use Rattle.std.proofs.Common.{◌≡◌, ℕ, ap, sym, subst}
 use Rattle.std.proofs.lemmas.Result.{on_ok_weaker}
 use Rattle.rc_tuple.specs.RisingSet.{IsRising}
 use Rattle.rc_tuple.specs.Tuple.{Pairs}

@@ -1,5 +1,5 @@
 use Rattle.std.specs.Prelude.{get_or, take}
-use Rattle.std.proofs.Common.{◌≡◌, ℕ, false}
+use Rattle.std.proofs.Common.{◌≡◌, false}
 use Rattle.rc_tuple.specs.RisingSetLaws.{get_or_in, map_in}
 use Rattle.rc_spec.specs.declared.lock.Mode.TheVariants.{Shared}
 use Rattle.rc_spec.specs.Locks.{StripeLock}

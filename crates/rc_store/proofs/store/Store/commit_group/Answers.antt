@@ -1,7 +1,6 @@
 use Rattle.std.proofs.Common.{◌≡◌, List, ap, subst, sym, ◌∙◌}
 use Rattle.rc_spec.specs.declared.call.Call.{Call}
 use Rattle.rc_spec.specs.declared.call.Reply.{Reply}
-use Rattle.rc_rel.specs.declared.entry.Step.{Step}
 use Rattle.rc_rel.specs.HistoryLaws.{calls-with_replies, with_replies-parts}
 use Rattle.rc_store.specs.Running.{calls_of, replies_of}
 use Rattle.rc_store.specs.RunningGroupLaws.{replies_are}

@@ -1,0 +1,40 @@
+use Rattle.std.proofs.Common.{rules, ◌≡◌, ◌<◌, List, Some, ap, length, subst, sym, ◌∙◌}
+use Rattle.std.specs.List.{slice_get}
+use Rattle.rc_spec.specs.declared.call.Call.{Call}
+use Rattle.rc_rel.specs.declared.entry.Step.{Step}
+use Rattle.rc_rel.specs.History.{with_replies}
+use Rattle.rc_rel.specs.HistoryLaws.{calls-with_replies}
+use Rattle.rc_store.specs.Running.{calls_of}
+use Rattle.rc_store.specs.RunningGroupLaws.{as_many, call_there, item_there}
+use Rattle.rc_store.specs.RunningInside.{HasReplyEach, steps_in}
+use Rattle.rc_store.proofs.running_group.PreparedGroup.call.Goals.{In-Counted}
+use Rattle.rc_store.proofs.running_group.PreparedGroup.call.Goals as goal
+
+-- the calls have a reply each, and these are the steps
+count : (c : In-Counted) → length c.in-Counted.field-1.items ≡ length c.in-Counted.calls.items
+count c = subst HasReplyEach c.in-Counted.is c.requires.each
+
+steps : (c : In-Counted) → steps_in c.args.self.now ≡ with_replies c.in-Counted.calls.items c.in-Counted.field-1.items
+steps c = ap steps_in c.in-Counted.is
+
+below : (c : In-Counted) → c.args.at < length c.in-Counted.calls.items
+below c =
+    subst (λ n. c.args.at < n)
+    (ap (λ (l : List Step). length l) (steps c) ∙ as_many c.in-Counted.calls.items c.in-Counted.field-1.items (count c) ∙ count c) c.requires.at
+
+pub index-requires : goal.index-requires
+index-requires c = let there = below c in search rules
+
+pub returns-in-Entry : goal.returns-in-Entry
+returns-in-Entry c =
+    let same : steps_in c.args.self.now ≡ c.list.result.now = ap steps_in c.in-Entry.is ∙ sym c.list.ensures in
+    ap (λ (l : List Step). slice_get (calls_of l) c.args.at) same
+    ∙ call_there c.list.result.now c.args.at c.index-list-at.result (subst (λ (l : List Step). c.args.at < length l) same c.requires.at)
+
+pub returns-in-Counted : goal.returns-in-Counted
+returns-in-Counted c =
+    let at = (goal.at.returns-in-Counted c).In-Counted in
+    ap (λ (l : List Step). slice_get (calls_of l) c.args.at) (steps at)
+    ∙ ap (λ (l : List Call). slice_get l c.args.at) (calls-with_replies c.in-Counted.calls.items c.in-Counted.field-1.items (count at))
+    ∙ item_there c.in-Counted.calls.items c.args.at c.index.result.now (below at)
+    ∙ ap Some (sym c.index.ensures)
