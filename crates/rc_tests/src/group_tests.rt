@@ -79,53 +79,89 @@ fn groups_go_well(rt: HostRuntime) -> Result<(), Fail> {
     Ok(())
 }
 
+/// A call of a trial's group.
+#[derive(Clone, Copy)]
+pub(crate) enum Asked {
+    Insert { from: u64, to: u64, weight: u64 },
+    Remove { from: u64, to: u64 },
+    Find { from: u64, to: u64 },
+}
+
+/// The edge of the start.
+pub(crate) const EDGE: Asked = Asked::Insert {
+    from: 1,
+    to: 2,
+    weight: 10,
+};
+
+/// The same with another weight.
+pub(crate) const HEAVIER: Asked = Asked::Insert {
+    from: 1,
+    to: 2,
+    weight: 11,
+};
+
+/// Another edge of its source.
+const OTHER: Asked = Asked::Insert {
+    from: 1,
+    to: 3,
+    weight: 7,
+};
+
+pub(crate) const REMOVE: Asked = Asked::Remove { from: 1, to: 2 };
+
+const REMOVE_OTHER: Asked = Asked::Remove { from: 1, to: 3 };
+
+pub(crate) const FIND: Asked = Asked::Find { from: 1, to: 2 };
+
+/// The calls of the trial's group.
+fn asked_of(trial: Trial) -> &'static [Asked] {
+    match trial {
+        Trial::SeesTheFirst => &[REMOVE, FIND, HEAVIER, OTHER],
+        Trial::Present => &[OTHER, HEAVIER],
+        Trial::LeavesNothing => &[OTHER, REMOVE_OTHER, REMOVE],
+        Trial::OfOne => &[FIND],
+        Trial::Moved | Trial::Cancelled | Trial::Committed | Trial::Spent => &[REMOVE, HEAVIER],
+    }
+}
+
 /// Whether the trial goes as it should, whether passes keep their entries or not.
 fn goes_well(alloc: Global, trial: Trial) -> Result<bool, Fail> {
-    let mut edge = blank(alloc);
-    fill_insert(&mut edge, 1, 2, 10)?;
-    let calls = calls_of(alloc, trial)?;
+    let edge = call_of(alloc, EDGE)?;
+    let mut calls = Vec::new(alloc);
+    push_calls(alloc, &mut calls, asked_of(trial))?;
     Ok(
         goes_well_keeping(alloc, Keeping::Counts, &edge, &calls, trial)?
             && goes_well_keeping(alloc, Keeping::Entries, &edge, &calls, trial)?,
     )
 }
 
-/// The calls of the trial's group.
-fn calls_of(alloc: Global, trial: Trial) -> Result<Vec<Call>, Memory> {
-    let mut remove = blank(alloc);
-    fill_remove(&mut remove, 1, 2)?;
-    let mut heavier = blank(alloc);
-    fill_insert(&mut heavier, 1, 2, 11)?;
-    let mut find = blank(alloc);
-    fill_find(&mut find, 1, 2)?;
-    let mut other = blank(alloc);
-    fill_insert(&mut other, 1, 3, 7)?;
-    let mut remove_other = blank(alloc);
-    fill_remove(&mut remove_other, 1, 3)?;
-    let mut calls = Vec::new(alloc);
-    match trial {
-        Trial::SeesTheFirst => {
-            calls.push(remove)?;
-            calls.push(find)?;
-            calls.push(heavier)?;
-            calls.push(other)?;
-        }
-        Trial::Present => {
-            calls.push(other)?;
-            calls.push(heavier)?;
-        }
-        Trial::LeavesNothing => {
-            calls.push(other)?;
-            calls.push(remove_other)?;
-            calls.push(remove)?;
-        }
-        Trial::OfOne => calls.push(find)?,
-        Trial::Moved | Trial::Cancelled | Trial::Committed | Trial::Spent => {
-            calls.push(remove)?;
-            calls.push(heavier)?;
-        }
+/// Appends the calls that are asked for.
+pub(crate) fn push_calls(
+    alloc: Global,
+    calls: &mut Vec<Call>,
+    asked: &[Asked],
+) -> Result<(), Memory> {
+    for one in asked {
+        calls.push(call_of(alloc, *one)?)?;
     }
-    Ok(calls)
+    Ok(())
+}
+
+/// The call that is asked for.
+pub(crate) fn call_of(alloc: Global, asked: Asked) -> Result<Call, Memory> {
+    let mut call = blank(alloc);
+    fill(&mut call, asked)?;
+    Ok(call)
+}
+
+/// Makes it the call that is asked for.
+fn fill(call: &mut Call, asked: Asked) -> Result<(), Memory> {
+    match asked {
+        Asked::Insert { from, to, weight } => fill_insert(call, from, to, weight),
+        Asked::Remove { from, to } => fill_remove(call, from, to),
+        Asked::Find { from, to } => fill_find(call, from, to),
+    }
 }
 
 /// Whether it does on a new store that keeps entries so, where the first pass has inserted the edge.
@@ -171,10 +207,8 @@ fn goes_well_on(
     requires two { IsFree store.now two }
     requires fit { AllByRecursion (Fits (spec_of store.now.row)) calls.now }
 {
-    let mut find = blank(alloc);
-    fill_find(&mut find, 1, 2)?;
-    let mut elsewhere = blank(alloc);
-    fill_find(&mut elsewhere, 2, 2)?;
+    let find = call_of(alloc, FIND)?;
+    let elsewhere = call_of(alloc, Asked::Find { from: 2, to: 2 })?;
     Ok(match trial {
         Trial::Moved => {
             make_group(store, &mut one, calls) == made(1, 1, Answer::Inserted)

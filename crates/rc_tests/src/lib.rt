@@ -10,6 +10,8 @@ mod graph;
 #[cfg(test)]
 mod group_tests;
 #[cfg(test)]
+mod open_group_tests;
+#[cfg(test)]
 mod outcome;
 #[cfg(test)]
 mod plan_tests;
