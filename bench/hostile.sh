@@ -1,6 +1,6 @@
 #!/bin/sh
-# Cuts the examples at each byte and changes them at random, runs `relc run` on each text that comes of it, and compares the
-# answer with what crates/rc_cases/data/hostile.py, a second reading of the line rules, says of the text:
+# Cuts the examples at each byte and changes them at random, runs `relc run` or `relc group` on each text that comes of it, and
+# compares the answer with what crates/rc_cases/data/hostile.py, a second reading of the line rules, says of the text:
 # hostile.sh [PROGRAM [SEED [COUNT]]]. A text that keeps the line rules is refused for no line, and where its specification is
 # accepted the journal has the calls of the text. Prints each text that is answered otherwise. Build first: ./relc-build
 here=$(cd "$(dirname "$0")" && pwd)
@@ -83,32 +83,42 @@ def answer(command, text):
     return ran.returncode, ran.stdout.decode("latin-1")
 
 
-def has_calls(report, rounds):
-    """Whether the entries of a report are the calls of these rounds, those of each thread in order."""
-    lines, total = report.split("\n"), sum(len(calls) for calls in rounds)
+def beginnings(place, turn):
+    """How the lines begin that are printed of a turn at that place."""
+    thread, calls = turn
+    for name, values in calls:
+        words = ['"%s"' % value.text if isinstance(value, hostile.Text) else str(value) for value in values]
+        yield " ".join([str(place), str(thread), name, *words, "-> "])
+
+
+def has_turns(report, rounds):
+    """Whether the entries of a report are the turns of these rounds, those of each thread in order."""
+    lines, total, place = report.split("\n"), sum(len(turns) for turns in rounds), 0
     if "journal %d" % total not in lines:
         return False
-    first = lines.index("journal %d" % total) + 1
-    entries, place = lines[first : first + total], 0
-    for calls in rounds:
-        left = {thread: [call for call in calls if call[0] == thread] for thread, _, _ in calls}
-        for entry in entries[place : place + len(calls)]:
-            waiting = [thread for thread in left if left[thread] and entry.startswith("%d %d " % (place, thread))]
+    at = lines.index("journal %d" % total) + 1
+    for turns in rounds:
+        left = {thread: [turn for turn in turns if turn[0] == thread] for thread, _ in turns}
+        for _ in turns:
+            waiting = [thread for thread in left if left[thread] and lines[at].startswith("%d %d " % (place, thread))]
             if not waiting:
                 return False
-            thread, name, values = left[waiting[0]].pop(0)
-            words = ['"%s"' % value.text if isinstance(value, hostile.Text) else str(value) for value in values]
-            if not entry.startswith(" ".join([str(place), str(thread), name, *words, "-> "])):
-                return False
+            turn = left[waiting[0]].pop(0)
+            if len(turn[1]) > 1:
+                if lines[at] != "%d %d & %d" % (place, turn[0], len(turn[1])):
+                    return False
+                at += 1
+            for beginning in beginnings(place, turn):
+                if not lines[at].startswith(beginning):
+                    return False
+                at += 1
             place += 1
-    tuples = len(lines) - first - total - 3
-    final = lines[first + total : first + total + 1]
-    return place == total and final == ["final %d" % tuples] and lines[-2:] == ["end", ""]
+    return lines[at] == "final %d" % (len(lines) - at - 3) and lines[-2:] == ["end", ""]
 
 
-def judged(text):
-    """What kind of answer a text has, and what is wrong with it or None."""
-    status, said = answer("run", text)
+def judged(text, command):
+    """What kind of answer a text has from `run` or `group`, and what is wrong with it or None."""
+    status, said = answer(command, text)
     lines = hostile.Lines(text)
     try:
         spec = hostile.read_spec(lines)
@@ -123,11 +133,11 @@ def judged(text):
         is_good = checked[0] == 3 and ACCEPTANCE.match(checked[1]) and (status, said) == checked
         return "A, P, O", None if is_good else (status, said, checked)
     try:
-        rounds = hostile.read_work(lines, spec)
+        rounds = hostile.read_work(lines, spec, command == "group")
     except hostile.Broken as broken:
         wanted = (3, "refused %s\n" % broken)
         return "work " + str(broken)[:2], None if (status, said) == wanted else (status, said, wanted)
-    return "report", None if status == 0 and has_calls(said, rounds) else (status, said, rounds)
+    return "report", None if status == 0 and has_turns(said, rounds) else (status, said, rounds)
 
 
 examples = [open(path, "rb").read() for path in sorted(glob.glob(top + "/examples/*.relc"))]
@@ -139,7 +149,7 @@ for _ in range(count):
         text = r.choice(CHANGES)(r, text)
     texts.append((text, False))
 for number, (text, is_cut) in enumerate(texts):
-    kind, fault = judged(text)
+    kind, fault = judged(text, "group" if number % 2 else "run")
     kinds[kind] += 1
     if is_cut and kind == "report":
         fault = ("a report", "of a text that is cut", "a refusal")

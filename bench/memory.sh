@@ -44,5 +44,7 @@ tell("check", ["check"], specification, same)
 tell("plan", ["plan"], specification, same)
 # (threads of one round come in any order, so that the journal may be another one of the same length)
 tell("run", ["run"], seats, lambda written, whole: len(written) == len(whole))
+group = open(os.path.join(here, "..", "examples", "group.relc"), "rb").read()
+tell("group", ["group"], group, lambda written, whole: len(written) == len(whole))
 tell("big 7 20", ["big", "7", "20"], b"", same)
 END

@@ -8,13 +8,13 @@ use Rattle.rc_reader.specs.declared.reading.Rest.{Rest}
 use Rattle.rc_text.specs.Lines.{TextPlace}
 use Rattle.rc_spec.specs.declared.spec.Spec.{Spec}
 use Rattle.rc_spec.specs.Acceptance.{IsAccepted}
+use Rattle.rc_work.specs.declared.also.Also.{Also}
 use Rattle.rc_work.specs.declared.work.Work.{Work}
 use Rattle.rc_work.specs.Ranking.{work_reading}
-use Rattle.rc_answer.specs.Answers.{Answers, AnswersAlone, AnswersRun, AnswersWork, IsRefusal, IsReport}
+use Rattle.rc_answer.specs.Answers.{AnswersAlone, AnswersRun, AnswersWork, IsRefusal, IsReport}
 use Rattle.rc_work.specs.WholeText.{place_after}
 use Rattle.rc_answer.specs.Refusals.{WritesRefusal}
 use Rattle.rc_answer.specs.Writes.{Writes}
-use Rattle.rc_command.specs.declared.command.TextCommand.TheVariants.{Run}
 use Rattle.rc_answer.specs.declared.status.Status.{Status}
 use Rattle.rc_answer.specs.declared.status.Stop.{Stop}
 use Rattle.rc_answer.specs.declared.status.Stop.TheVariants.{Memory, Sink}
@@ -36,30 +36,31 @@ alone_answers OfAccepted reading spec accepted read same is text status written 
 pub read_place : (input : List ℕ) (reading : Reading) (spec : Spec) (rest : Rest) → IsRead input spec rest reading → place_after input reading ≡ rest_place input rest
 read_place input reading spec rest is = let P : ℕ → ℕ → TextPlace = λ at line. record { text = input; at = at; line = line } in ap (λ at. P at (reading.last.number + 1)) (sym is.at) ∙ ap (P rest.at) (sym is.line)
 
-module _ (input : List ℕ) (reading : Reading) (spec : Spec) (rest : Rest) (read : spec_reading input ≡ Ok reading) (is : IsRead input spec rest reading) (accepted : IsAccepted spec) where
-  -- what is written of the workload behind an accepted specification is what `run` may write
-  work_answers : (found : Result Work Broken) → work_reading spec (rest_place input rest) ≡ found → (text : List ℕ) (status : Status) → AnswersWork spec found text status
-      → Answers Run input text status
+module _ (also : Also) (input : List ℕ) (reading : Reading) (spec : Spec) (rest : Rest) (read : spec_reading input ≡ Ok reading) (is : IsRead input spec rest reading) (accepted : IsAccepted spec) where
+  -- what is written of the workload behind an accepted specification is what may be written of both
+  work_answers : (found : Result Work Broken) → work_reading also spec (rest_place input rest) ≡ found → (text : List ℕ) (status : Status) → AnswersWork spec found text status
+      → AnswersRun also input (spec_reading input) text status
   work_answers found made text status written =
-      subst (λ (r : Result Reading Broken). AnswersRun input r text status) (sym read)
+      subst (λ (r : Result Reading Broken). AnswersRun also input r text status) (sym read)
       (inl (subst (λ (s : Spec). IsAccepted s) (sym is.value) accepted, answers))
     where
-      behind : work_reading reading.spec (place_after input reading) ≡ found
-      behind = ap (λ (s : Spec). work_reading s (place_after input reading)) is.value ∙ ap (work_reading spec) (read_place input reading spec rest is) ∙ made
+      behind : work_reading also reading.spec (place_after input reading) ≡ found
+      behind = ap (λ (s : Spec). work_reading also s (place_after input reading)) is.value ∙ ap (work_reading also spec) (read_place input reading spec rest is) ∙ made
 
-      answers : AnswersWork reading.spec (work_reading reading.spec (place_after input reading)) text status
+      answers : AnswersWork reading.spec (work_reading also reading.spec (place_after input reading)) text status
       answers =
           subst (λ (r : Result Work Broken). AnswersWork reading.spec r text status) (sym behind)
           (subst (λ (s : Spec). AnswersWork s found text status) (sym is.value) written)
 
   -- so its report
-  pub report_answers : (work : Work) → work_reading spec (rest_place input rest) ≡ Ok work → (text : List ℕ) (status : Status) → IsReport spec work text status → Answers Run input text status
+  pub report_answers : (work : Work) → work_reading also spec (rest_place input rest) ≡ Ok work → (text : List ℕ) (status : Status) → IsReport spec work text status
+      → AnswersRun also input (spec_reading input) text status
   report_answers work made text status report = work_answers (Ok work) made text status report
 
   -- and its refusal
-  pub refusal_answers : (refusal : ReadRefusal) (old new : Option (List ℕ)) (r : Result Status Stop) → ReadsAs (Err refusal) (work_reading spec (rest_place input rest))
-      → WritesRefusal old new refusal r → Writes (Answers Run input) old new r
-  refusal_answers refusals.Memory old new r made (is_memory, same) = subst (Writes (Answers Run input) old new) (sym is_memory) (inl same)
+  pub refusal_answers : (refusal : ReadRefusal) (old new : Option (List ℕ)) (r : Result Status Stop) → ReadsAs (Err refusal) (work_reading also spec (rest_place input rest))
+      → WritesRefusal old new refusal r → Writes (AnswersRun also input (spec_reading input)) old new r
+  refusal_answers refusals.Memory old new r made (is_memory, same) = subst (Writes (AnswersRun also input (spec_reading input)) old new) (sym is_memory) (inl same)
   refusal_answers (refusals.Line rule line) old new r made written =
-      writes_wider (IsRefusal (record { rule = rule; line = line })) (Answers Run input) old new r
+      writes_wider (IsRefusal (record { rule = rule; line = line })) (AnswersRun also input (spec_reading input)) old new r
       (λ text status refused. work_answers (Err (record { rule = rule; line = line })) made text status refused) written

@@ -22,6 +22,7 @@ use Rattle.rc_reader.specs.declared.reading.Rest.{Rest}
 use Rattle.rc_work.specs.Ranking.{work_reading}
 use Rattle.rc_answer.proofs.AnswerLemmas.{read_place}
 use Rattle.rc_runner.specs.Running.{HasRun}
+use Rattle.rc_work.specs.declared.also.Also.{Also}
 use Rattle.rc_work.specs.declared.work.Work.{Work}
 use Rattle.rc_work.specs.Report.{report}
 use Rattle.rc_work.specs.Runs.{Runs}
@@ -50,7 +51,6 @@ module _ (accepted : Spec) (made : SpecWithPlans) (work : Work) (closed : Closed
         history = h.history;
         journal = h.journal;
         runs = subst (λ (s : Spec). Runs s work h.history) of h.runs;
-        single = h.single;
         last = rows (replay closed.compiled.spec h.history) h.leaves.relation ∙ ap (λ (s : Spec). replay s h.history) of;
       }
 
@@ -126,23 +126,23 @@ module _ (r : Result Ran Stop) (o : Result Outcome Stop) (is : o ≡ outcome_in 
       go (Err stop) = tt
 
 -- an input that was read as a specification and a workload
-pub read_as : (input : List ℕ) (reading : Reading) (spec : Spec) (rest : Rest) (work : Work) → spec_reading input ≡ Ok reading → IsRead input spec rest reading → IsAccepted spec
-    → work_reading spec (rest_place input rest) ≡ Ok work → IsReadAs input spec work
-read_as input reading spec rest work read is accepted made = record {
+pub read_as : (also : Also) (input : List ℕ) (reading : Reading) (spec : Spec) (rest : Rest) (work : Work) → spec_reading input ≡ Ok reading → IsRead input spec rest reading → IsAccepted spec
+    → work_reading also spec (rest_place input rest) ≡ Ok work → IsReadAs also input spec work
+read_as also input reading spec rest work read is accepted made = record {
   reading = reading;
   read = read;
   of_spec = is.value;
   accepted = accepted;
-  work_read = ap (work_reading spec) (read_place input reading spec rest is) ∙ made;
+  work_read = ap (work_reading also spec) (read_place input reading spec rest is) ∙ made;
 }
 
-module _ (input : List ℕ) (spec : Spec) (work : Work) (old new : Option (List ℕ)) (read : IsReadAs input spec work) where
+module _ (also : Also) (input : List ℕ) (spec : Spec) (work : Work) (old new : Option (List ℕ)) (read : IsReadAs also input spec work) where
   pub done_ran : (r : Result Ran Stop) (o : Result Outcome Stop) → o ≡ outcome_in r → IfOk r (IsRunOf spec work) → IfOk r IsOfItsStore
       → IfOk r (λ ran. Adds old (run_text work.ranks ran) new)
-      → IfOk o (λ x. IfSome x.ran (HasRunText input old new))
-  done_ran r o is run store written = subst (λ (x : Result Outcome Stop). IfOk x (λ x. IfSome x.ran (HasRunText input old new))) (sym is) (go r run store written)
+      → IfOk o (λ x. IfSome x.ran (HasRunText also input old new))
+  done_ran r o is run store written = subst (λ (x : Result Outcome Stop). IfOk x (λ x. IfSome x.ran (HasRunText also input old new))) (sym is) (go r run store written)
     where
       go : (r : Result Ran Stop) → IfOk r (IsRunOf spec work) → IfOk r IsOfItsStore → IfOk r (λ ran. Adds old (run_text work.ranks ran) new)
-          → IfOk (outcome_in r) (λ x. IfSome x.ran (HasRunText input old new))
+          → IfOk (outcome_in r) (λ x. IfSome x.ran (HasRunText also input old new))
       go (Ok ran) run store written = record { spec = spec; work = work; read = read; run = run; store = store; written = written }
       go (Err stop) run store written = tt

@@ -13,16 +13,18 @@ use Rattle.rc_rel.specs.declared.entry.Entry.{Entry}
 use Rattle.rc_rel.specs.History.{replay}
 use Rattle.rc_reader.specs.Grammar.{Broken, Reading, spec_reading, spec_of}
 use Rattle.rc_reader.specs.RuleText.{line_rule_text}
+use Rattle.rc_work.specs.declared.also.Also.{Also}
+use Rattle.rc_work.specs.declared.also.Also.TheVariants.{Nothing, Groups}
 use Rattle.rc_work.specs.declared.work.Work.{Work}
 use Rattle.rc_work.specs.LineRules.{op_number}
 use Rattle.rc_work.specs.Printed.{words_text}
 use Rattle.rc_work.specs.Ranking.{work_reading}
 use Rattle.rc_work.specs.Report.{report}
-use Rattle.rc_work.specs.Runs.{Runs, HasSingleSteps}
+use Rattle.rc_work.specs.Runs.{Runs}
 use Rattle.rc_work.specs.WholeText.{place_after}
 use Rattle.rc_answer.specs.Plans.{ArePlanned, plans_and_end, plans_text}
 use Rattle.rc_command.specs.declared.command.TextCommand.{TextCommand}
-use Rattle.rc_command.specs.declared.command.TextCommand.TheVariants.{Check, Plan, Run, Dot, DotPlan}
+use Rattle.rc_command.specs.declared.command.TextCommand.TheVariants.{Check, Plan, Run, Group, Dot, DotPlan}
 use Rattle.rc_answer.specs.declared.status.Status.{Status}
 use Rattle.rc_answer.specs.declared.status.Status.TheVariants.{Done, Refused}
 
@@ -94,7 +96,7 @@ abbrev pub AnswersAlone : (Spec → List ℕ → Status → Type 0) → Result S
 AnswersAlone OfAccepted (Err broken) text status = IsRefusal broken text status
 AnswersAlone OfAccepted (Ok spec) text status = AnswersRules spec (OfAccepted spec) text status
 
--- ---- run
+-- ---- run and group
 
 -- the plans, and then the report of a history and of the rows of its replay
 abbrev pub plans_and_report : Spec → Work → List (List Statement) → List Entry → List ℕ
@@ -106,7 +108,6 @@ pub record IsReport (spec : Spec) (work : Work) (text : List ℕ) (status : Stat
   pub planned : ArePlanned spec plans
   pub history : List Entry
   pub runs : Runs spec work history
-  pub single : HasSingleSteps history
   pub printed : text ≡ plans_and_report spec work plans history
   pub done : status ≡ Done
 
@@ -114,22 +115,43 @@ abbrev pub AnswersWork : Spec → Result Work Broken → List ℕ → Status →
 AnswersWork spec (Err broken) text status = IsRefusal broken text status
 AnswersWork spec (Ok work) text status = IsReport spec work text status
 
-abbrev pub AnswersRun : List ℕ → Result Reading Broken → List ℕ → Status → Type 0
-AnswersRun input (Err broken) text status = IsRefusal broken text status
-AnswersRun input (Ok reading) text status = AnswersRules reading.spec (AnswersWork reading.spec (work_reading reading.spec (place_after input reading))) text status
+-- what is written of a specification and a workload, in which groups may stand or not
+abbrev pub AnswersRun : Also → List ℕ → Result Reading Broken → List ℕ → Status → Type 0
+AnswersRun also input (Err broken) text status = IsRefusal broken text status
+AnswersRun also input (Ok reading) text status = AnswersRules reading.spec (AnswersWork reading.spec (work_reading also reading.spec (place_after input reading))) text status
 
 -- ---- all commands that read a text
 
 -- What an input that is not too long may have written. `check`, `plan` and `dot` read a specification alone: the refusal of its
 -- first broken line rule, then of its first broken rule of acceptance, else `accepted`, the plans, or the drawing. Where an
--- operation is named, the drawing has its plan; where none has the name, the name is refused. `run` reads a workload behind it,
--- and refuses by its line rules last; else it writes the plans and the report of a run.
+-- operation is named, the drawing has its plan; where none has the name, the name is refused. `run` and `group` read a workload
+-- behind it, `group` one in which groups may stand, and refuse by its line rules last; else they write the plans and the report
+-- of a run.
 abbrev pub Answers : TextCommand → List ℕ → List ℕ → Status → Type 0
 Answers Check input text status = AnswersAlone (λ spec. IsAcceptedText) (spec_of input) text status
 Answers Plan input text status = AnswersAlone IsPlansText (spec_of input) text status
-Answers Run input text status = AnswersRun input (spec_reading input) text status
+Answers Run input text status = AnswersRun Nothing input (spec_reading input) text status
+Answers Group input text status = AnswersRun Groups input (spec_reading input) text status
 Answers Dot input text status = AnswersAlone IsDrawing (spec_of input) text status
 Answers (DotPlan op) input text status = AnswersAlone (IsPlanDrawingNamed op) (spec_of input) text status
+
+-- the command makes the calls of a workload
+abbrev pub MakesCalls : TextCommand → Type 0
+MakesCalls Check = ⊥
+MakesCalls Plan = ⊥
+MakesCalls Run = Unit {0}
+MakesCalls Group = Unit {0}
+MakesCalls Dot = ⊥
+MakesCalls (DotPlan op) = ⊥
+
+-- in which groups may stand or not
+abbrev pub also_of : TextCommand → Also
+also_of Check = Nothing
+also_of Plan = Nothing
+also_of Run = Nothing
+also_of Group = Groups
+also_of Dot = Nothing
+also_of (DotPlan op) = Nothing
 
 -- an input that is too long
 abbrev pub IsSizeRefusal : List ℕ → Status → Type 0

@@ -1,35 +1,47 @@
--- What `run` answers to a text that is cut.
+-- What `run` and `group` answer to a text that is cut.
 use Rattle.std.proofs.Common.{◌≡◌, ℕ, ◌≤◌, List, Result, Ok, Err, inl, inr, take}
 use Rattle.rc_spec.specs.declared.spec.Spec.{Spec}
 use Rattle.rc_reader.specs.Grammar.{Broken, Reading, spec_reading}
+use Rattle.rc_work.specs.declared.also.Also.{Also}
 use Rattle.rc_work.specs.declared.work.Work.{Work}
 use Rattle.rc_work.specs.Prefix.{IsLastLetter}
 use Rattle.rc_work.specs.PrefixLaws.{cut_texts_are_refused}
 use Rattle.rc_work.specs.Ranking.{work_reading}
 use Rattle.rc_work.specs.WholeText.{Whole, place_after, text_reading, text_reading_by, whole_by}
-use Rattle.rc_command.specs.declared.command.TextCommand.TheVariants.{Run}
+use Rattle.rc_command.specs.declared.command.TextCommand.{TextCommand}
+use Rattle.rc_command.specs.declared.command.TextCommand.TheVariants.{Check, Plan, Run, Group, Dot, DotPlan}
 use Rattle.rc_answer.specs.declared.status.Status.{Status}
 use Rattle.rc_answer.specs.declared.status.Status.TheVariants.{Refused}
-use Rattle.rc_answer.specs.Answers.{Answers, AnswersRules, AnswersRun, AnswersWork}
+use Rattle.rc_answer.specs.Answers.{Answers, AnswersRules, AnswersRun, AnswersWork, MakesCalls, also_of}
 
 -- a text that gives no specification with a workload is refused
-module _ (text out : List ℕ) (status : Status) (broken : Broken) where
+module _ (also : Also) (text out : List ℕ) (status : Status) (broken : Broken) where
   no_work : (spec : Spec) (reading : Result Work Broken) → whole_by spec reading ≡ Err broken → AnswersRules spec (AnswersWork spec reading) out status → status ≡ Refused
   no_work spec (Ok work) e is = absurd cc
   no_work spec (Err other) e (inl (accepted, refusal)) = refusal.1
   no_work spec (Err other) e (inr (refusal, first, is)) = is.1
 
-  no_text : (reading : Result Reading Broken) → text_reading_by text reading ≡ Err broken → AnswersRun text reading out status → status ≡ Refused
+  no_text : (reading : Result Reading Broken) → text_reading_by also text reading ≡ Err broken → AnswersRun also text reading out status → status ≡ Refused
   no_text (Err other) e is = is.1
-  no_text (Ok reading) e is = no_work reading.spec (work_reading reading.spec (place_after text reading)) e is
+  no_text (Ok reading) e is = no_work reading.spec (work_reading also reading.spec (place_after text reading)) e is
 
--- Where a text gives a specification and a workload, `run` refuses each prefix of it that ends before the `d` of its last
--- content line.
+cut_is_refused : (also : Also) (text : List ℕ) (whole : Whole) (at n : ℕ) → text_reading also text ≡ Ok whole → IsLastLetter text at → n ≤ at
+    → (out : List ℕ) (status : Status) → AnswersRun also (take n text) (spec_reading (take n text)) out status → status ≡ Refused
+cut_is_refused also text whole at n is letter before out status answers =
+    let refused = cut_texts_are_refused also text whole at n is letter before in
+    no_text also (take n text) out status refused.0 (spec_reading (take n text)) refused.1 answers
+
+-- Where a text gives a specification and a workload, `run` or `group`, whichever reads it so, refuses each prefix of it that ends
+-- before the `d` of its last content line.
 abbrev pub CutRunsAreRefused : Type 0
-CutRunsAreRefused = (text : List ℕ) (whole : Whole) (at n : ℕ) → text_reading text ≡ Ok whole → IsLastLetter text at → n ≤ at
-    → (out : List ℕ) (status : Status) → Answers Run (take n text) out status → status ≡ Refused
+CutRunsAreRefused = (command : TextCommand) → MakesCalls command
+    → (text : List ℕ) (whole : Whole) (at n : ℕ) → text_reading (also_of command) text ≡ Ok whole → IsLastLetter text at → n ≤ at
+    → (out : List ℕ) (status : Status) → Answers command (take n text) out status → status ≡ Refused
 
 pub cut_runs_are_refused : CutRunsAreRefused
-cut_runs_are_refused text whole at n is letter before out status answers =
-    let refused = cut_texts_are_refused text whole at n is letter before in
-    no_text (take n text) out status refused.0 (spec_reading (take n text)) refused.1 answers
+cut_runs_are_refused Check calls text whole at n is letter before out status answers = absurd calls
+cut_runs_are_refused Plan calls text whole at n is letter before out status answers = absurd calls
+cut_runs_are_refused Run calls text whole at n is letter before out status answers = cut_is_refused (also_of Run) text whole at n is letter before out status answers
+cut_runs_are_refused Group calls text whole at n is letter before out status answers = cut_is_refused (also_of Group) text whole at n is letter before out status answers
+cut_runs_are_refused Dot calls text whole at n is letter before out status answers = absurd calls
+cut_runs_are_refused (DotPlan op) calls text whole at n is letter before out status answers = absurd calls

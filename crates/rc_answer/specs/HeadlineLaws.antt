@@ -1,24 +1,32 @@
--- The headline holds of what `run` and `check` answer with the status Done or Refused.
-use Rattle.std.proofs.Common.{◌≡◌, ◌↔◌, ℕ, List, [], ◌∷◌, ◌++◌, take, Option, Some, None, Result, Ok, Err, refl, sym, ap, subst, ◌∙◌, inl, inr}
+-- The headline holds of what `run`, `group` and `check` answer with the status Done or Refused.
+use Rattle.std.proofs.Common.{◌≡◌, ◌↔◌, ℕ, suc, ◌+◌, List, [], ◌∷◌, ◌++◌, take, drop, Option, Some, None, Result, Ok, Err, refl, sym, ap, subst, ◌∙◌, inl, inr, arith}
 use Rattle.std.specs.Prelude.{IfSome, IsSome}
-use Rattle.rc_tuple.specs.RisingSetLaws.{slice_get_in}
+use Rattle.std.specs.List.{slice_get}
+use Rattle.std.proofs.lemmas.List.{take-append-drop, take_more}
+use Rattle.std.proofs.lemmas.Option.{get_or_from_slice_get, slice_get_within}
+use Rattle.rc_tuple.specs.Tuple.{Pairs}
 use Rattle.rc_text.specs.Lines.{printed_lines}
 use Rattle.rc_io.specs.Bytes.{Adds}
 use Rattle.rc_spec.specs.declared.spec.Spec.{Spec}
 use Rattle.rc_spec.specs.AcceptanceLaws.{refused_not_accepted}
 use Rattle.rc_spec.specs.RefusalText as rules
+use Rattle.rc_spec.specs.Plain.{plain}
 use Rattle.rc_rel.specs.declared.entry.Entry.{Entry}
-use Rattle.rc_rel.specs.History.{AllFit, replay}
-use Rattle.rc_rel.specs.HistoryLaws.{replay_in_states, states_satisfy}
-use Rattle.rc_rel.specs.PlaceLaws.{plain_at_each_place}
+use Rattle.rc_rel.specs.declared.entry.Step.{Step}
+use Rattle.rc_rel.specs.History.{AllFit, AreLegalFrom, IsLegal, after_steps, relation_at, replay, steps_of}
+use Rattle.rc_rel.specs.HistoryLaws.{replay_in_states, states_satisfy, steps_of-append}
+use Rattle.rc_rel.specs.PlaceLaws.{legal_last}
 use Rattle.rc_reader.specs.Grammar.{Broken, Reading, spec_of, spec_reading}
+use Rattle.rc_work.specs.declared.also.Also.{Also}
+use Rattle.rc_work.specs.declared.also.Also.TheVariants.{Nothing}
 use Rattle.rc_work.specs.declared.work.Work.{Work}
+use Rattle.rc_work.specs.Limits.{HasSingleTurns}
 use Rattle.rc_work.specs.Ranking.{work_reading}
 use Rattle.rc_work.specs.Report.{report}
 use Rattle.rc_work.specs.Runs.{HasSingleSteps, Runs}
-use Rattle.rc_work.specs.RunsLaws.{runs_make_calls}
+use Rattle.rc_work.specs.RunsLaws.{runs_make_calls, runs_make_turns, single_turns_are_single_steps}
 use Rattle.rc_work.specs.WholeText.{place_after}
-use Rattle.rc_command.specs.declared.command.TextCommand.TheVariants.{Check, Run}
+use Rattle.rc_command.specs.declared.command.TextCommand.TheVariants.{Check}
 use Rattle.rc_answer.specs.declared.outcome.Outcome.{Outcome}
 use Rattle.rc_answer.specs.declared.outcome.Ran.{Ran}
 use Rattle.rc_answer.specs.declared.status.Status.{Status}
@@ -26,16 +34,55 @@ use Rattle.rc_answer.specs.declared.status.Status.TheVariants.{Done, Refused}
 use Rattle.rc_answer.specs.Answers.{Answers, AnswersAlone, AnswersRules, AnswersRun, AnswersWork, IsAcceptedText, accepted_text, line_refusal_text}
 use Rattle.rc_answer.specs.Plans.{plans_text}
 use Rattle.rc_answer.specs.Ran.{HasRunText, IsRunOf, entries_in, run_text}
+use Rattle.rc_answer.specs.RanLaws.{single_without_groups}
 use Rattle.rc_answer.specs.Writes.{WritesWhole}
-use Rattle.rc_answer.specs.Headline.{Accepts, CheckHeadline, Headline, HasRunOnce, IsOneLegalHistory, OfAlone, OfReading, OfSpec, OfWork, Refuses}
+use Rattle.rc_answer.specs.Headline.{Accepts, CheckHeadline, Headline, HasRunOnce, IsAnswered, IsOneLegalHistory, OfAlone, OfReading, OfSpec, OfWork, Refuses}
 
--- a run of single calls that fit is one legal history
-pub one_legal_history : (spec : Spec) (work : Work) (journal : List Entry) → Runs spec work journal → HasSingleSteps journal → AllFit spec journal
-    → IsOneLegalHistory spec work journal
-one_legal_history spec work journal run single fit = record {
-  replies = λ place entry at. plain_at_each_place spec journal run.legal place entry at (single entry (slice_get_in journal place entry at));
+-- ---- one legal history
+
+-- of legal steps the first ones are legal
+legal_first : (spec : Spec) (r : List Pairs) (xs ys : List Step) → AreLegalFrom spec r (xs ++ ys) → AreLegalFrom spec r xs
+legal_first spec r [] ys h = tt
+legal_first spec r (x ∷ xs) ys h = (h.0, legal_first spec (plain spec r x.call).relation xs ys h.1)
+
+-- in a legal history each entry is answered at its place
+answered_there : (spec : Spec) (journal : List Entry) → IsLegal spec journal → (place : ℕ) (entry : Entry) → slice_get journal place ≡ Some entry
+    → IsAnswered spec (relation_at spec journal place) (relation_at spec journal (suc place)) entry
+answered_there spec journal legal place entry at = record {
+  replies = last.0;
+  relation = ap (replay spec) more ∙ last.1;
+}
+  where
+    more : take (suc place) journal ≡ take place journal ++ entry ∷ []
+    more =
+        let next : place + 1 ≡ suc place = omega arith in
+        ap (λ n. take n journal) (sym next) ∙ take_more journal place entry (slice_get_within journal place entry at)
+        ∙ ap (λ e. take place journal ++ e ∷ []) (get_or_from_slice_get journal place entry entry at)
+
+    all : take (suc place) journal ++ drop (suc place) journal ≡ journal
+    all = take-append-drop (suc place) journal
+
+    steps : steps_of journal ≡ steps_of (take (suc place) journal) ++ steps_of (drop (suc place) journal)
+    steps = ap steps_of (sym all) ∙ steps_of-append (take (suc place) journal) (drop (suc place) journal)
+
+    first : IsLegal spec (take (suc place) journal)
+    first =
+        legal_first spec [] (steps_of (take (suc place) journal)) (steps_of (drop (suc place) journal))
+        (subst (λ (l : List Step). AreLegalFrom spec [] l) steps legal)
+
+    last : AreLegalFrom spec (replay spec (take place journal)) entry.steps
+        × (replay spec (take place journal ++ entry ∷ []) ≡ after_steps spec (replay spec (take place journal)) entry.steps)
+    last = legal_last spec (take place journal) entry (subst (IsLegal spec) more first)
+
+-- a run of calls that fit is one legal history
+pub one_legal_history : (also : Also) (spec : Spec) (work : Work) (journal : List Entry) → Runs spec work journal → (also ≡ Nothing → HasSingleSteps journal)
+    → AllFit spec journal → IsOneLegalHistory also spec work journal
+one_legal_history also spec work journal run single fit = record {
+  replies = answered_there spec journal run.legal;
   fit = fit;
   calls = λ thread. runs_make_calls spec work journal thread run;
+  turns = λ thread. runs_make_turns spec work journal thread run;
+  single = single;
   threads = run.threads;
   rounds = run.rounds;
   states = λ place. states_satisfy spec (take place journal) (replay spec (take place journal)) (replay_in_states spec (take place journal));
@@ -88,7 +135,7 @@ module _ (old new : Option (List ℕ)) (outcome : Outcome) (none : outcome.ran �
   pub check_headline : (input : List ℕ) → WritesWhole (Answers Check input) old new outcome.status → CheckHeadline input old new outcome
   check_headline input (out, answers, adds) = of_alone (spec_of input) out answers adds
 
--- ---- run
+-- ---- run and group
 
 done_not_refused : Done ≡ Refused → ⊥
 done_not_refused e = cc
@@ -97,20 +144,20 @@ none_is_not_some : (o : Option Ran) → o ≡ None → IsSome o → ⊥
 none_is_not_some None is some = cc
 none_is_not_some (Some r) is some = cc
 
-module _ (input : List ℕ) (old new : Option (List ℕ)) (outcome : Outcome)
-    (has : IsSome outcome.ran ↔ (outcome.status ≡ Done)) (ran : IfSome outcome.ran (HasRunText input old new)) where
+module _ (also : Also) (input : List ℕ) (old new : Option (List ℕ)) (outcome : Outcome)
+    (has : IsSome outcome.ran ↔ (outcome.status ≡ Done)) (ran : IfSome outcome.ran (HasRunText also input old new)) where
   none_of : (o : Option Ran) → outcome.ran ≡ o → outcome.status ≡ Refused → o ≡ None
   none_of None is refused = refl
   none_of (Some r) is refused = absurd (done_not_refused (sym (has.0 (subst (λ (o : Option Ran). IsSome o) (sym is) refl)) ∙ refused))
 
-  some_of : (o : Option Ran) → outcome.ran ≡ o → outcome.status ≡ Done → (r : Ran) × (outcome.ran ≡ Some r) × HasRunText input old new r
+  some_of : (o : Option Ran) → outcome.ran ≡ o → outcome.status ≡ Done → (r : Ran) × (outcome.ran ≡ Some r) × HasRunText also input old new r
   some_of None is done = absurd (none_is_not_some outcome.ran is (has.1 done))
-  some_of (Some r) is done = (r, is, subst (λ (o : Option Ran). IfSome o (HasRunText input old new)) is ran)
+  some_of (Some r) is done = (r, is, subst (λ (o : Option Ran). IfSome o (HasRunText also input old new)) is ran)
 
-  run_once : (spec : Spec) (work : Work) (r : Ran) → outcome.ran ≡ Some r → outcome.status ≡ Done → (run : IsRunOf spec work r)
-      → AllFit r.closed.compiled.spec (entries_in r.closed.journal)
-      → Adds old (run_text work.ranks r) new → HasRunOnce spec work old new outcome
-  run_once spec work r at done run fit adds = record {
+  run_once : (spec : Spec) (work : Work) (r : Ran) → outcome.ran ≡ Some r → outcome.status ≡ Done → (also ≡ Nothing → HasSingleTurns work)
+      → (run : IsRunOf spec work r) → AllFit r.closed.compiled.spec (entries_in r.closed.journal)
+      → Adds old (run_text work.ranks r) new → HasRunOnce also spec work old new outcome
+  run_once spec work r at done single run fit adds = record {
     status = done;
     ran = r;
     is = at;
@@ -118,7 +165,7 @@ module _ (input : List ℕ) (old new : Option (List ℕ)) (outcome : Outcome)
     planned = run.planned;
     journal = run.history;
     closed = run.journal;
-    history = one_legal_history spec work run.history run.runs run.single
+    history = one_legal_history also spec work run.history run.runs (λ nothing. single_turns_are_single_steps spec work run.history (single nothing) run.runs)
         (subst (λ (z : Spec × List Entry). AllFit z.0 z.1) (λ i. (run.of_spec i, entries_in (run.journal i))) fit);
     last = run.last;
     printed = subst (λ (l : List ℕ). Adds old l new)
@@ -127,31 +174,31 @@ module _ (input : List ℕ) (old new : Option (List ℕ)) (outcome : Outcome)
   }
 
   of_work : (reading : Reading) → spec_reading input ≡ Ok reading → (read : Result Work Broken)
-      → work_reading reading.spec (place_after input reading) ≡ read
-      → (out : List ℕ) → AnswersWork reading.spec read out outcome.status → Adds old out new → OfWork reading.spec read old new outcome
+      → work_reading also reading.spec (place_after input reading) ≡ read
+      → (out : List ℕ) → AnswersWork reading.spec read out outcome.status → Adds old out new → OfWork also reading.spec read old new outcome
   unfolding reading_in work_in
   of_work reading is (Err broken) works out (printed, refused) adds =
       refuses old new outcome (line_refusal_text broken) out (none_of outcome.ran refl refused) printed refused adds
   of_work reading is (Ok work) works out answers adds = go (some_of outcome.ran refl answers.done)
     where
-      go : ((r : Ran) × (outcome.ran ≡ Some r) × HasRunText input old new r) → HasRunOnce reading.spec work old new outcome
+      go : ((r : Ran) × (outcome.ran ≡ Some r) × HasRunText also input old new r) → HasRunOnce also reading.spec work old new outcome
       go (r, at, h) =
           let same : reading ≡ h.read.reading = ap (reading_in reading) (sym is ∙ h.read.read) in
           let spec_same : reading.spec ≡ h.spec = ap (λ (x : Reading). x.spec) same ∙ h.read.of_spec in
           let work_same : work ≡ h.work =
-          ap (work_in work) (sym works ∙ (λ i. work_reading (spec_same i) (place_after input (same i))) ∙ h.read.work_read) in
-          run_once reading.spec work r at answers.done
+          ap (work_in work) (sym works ∙ (λ i. work_reading also (spec_same i) (place_after input (same i))) ∙ h.read.work_read) in
+          run_once reading.spec work r at answers.done (single_without_groups also reading.spec (place_after input reading) work works)
           (subst (λ (z : Spec × Work). IsRunOf z.0 z.1 r) (λ i. (sym spec_same i, sym work_same i)) h.run) h.store.fit
           (subst (λ (w : Work). Adds old (run_text w.ranks r) new) (sym work_same) h.written)
 
   of_reading : (read : Result Reading Broken) → spec_reading input ≡ read → (out : List ℕ)
-      → AnswersRun input read out outcome.status → Adds old out new → OfReading input read old new outcome
+      → AnswersRun also input read out outcome.status → Adds old out new → OfReading also input read old new outcome
   of_reading (Err broken) is out (printed, refused) adds =
       refuses old new outcome (line_refusal_text broken) out (none_of outcome.ran refl refused) printed refused adds
   of_reading (Ok reading) is out answers adds =
-      let work = work_reading reading.spec (place_after input reading) in
-      of_rules old new outcome reading.spec (AnswersWork reading.spec work) (OfWork reading.spec work) out (none_of outcome.ran refl)
+      let work = work_reading also reading.spec (place_after input reading) in
+      of_rules old new outcome reading.spec (AnswersWork reading.spec work) (OfWork also reading.spec work) out (none_of outcome.ran refl)
       (λ h. of_work reading is work refl out h adds) answers adds
 
-  pub headline : WritesWhole (Answers Run input) old new outcome.status → Headline input old new outcome
+  pub headline : WritesWhole (AnswersRun also input (spec_reading input)) old new outcome.status → Headline also input old new outcome
   headline (out, answers, adds) = of_reading (spec_reading input) refl out answers adds

@@ -11,6 +11,8 @@ use Rattle.rc_spec.specs.Acceptance.{IsAccepted}
 use Rattle.rc_rel.specs.declared.entry.Entry.{Entry}
 use Rattle.rc_rel.specs.History.{AllFit, IsLegal, IsNumbered, replay, states}
 use Rattle.rc_reader.specs.Grammar.{Reading, spec_reading}
+use Rattle.rc_work.specs.declared.also.Also.{Also}
+use Rattle.rc_work.specs.declared.also.Also.TheVariants.{Nothing}
 use Rattle.rc_work.specs.declared.work.Work.{Work}
 use Rattle.rc_work.specs.Ranking.{work_reading}
 use Rattle.rc_work.specs.Report.{report}
@@ -46,7 +48,6 @@ pub record IsRunOf (spec : Spec) (work : Work) (ran : Ran) : Type 0 where
   pub history : List Entry
   pub journal : ran.closed.journal ≡ Some history
   pub runs : Runs spec work history
-  pub single : HasSingleSteps history
   pub last : ran.last ≡ replay spec history
 
 -- what the closed store keeps: the calls of the journal fit its specification, and each entry is of a pass that it had
@@ -54,27 +55,27 @@ pub record IsOfItsStore (ran : Ran) : Type 0 where
   pub fit : AllFit ran.closed.compiled.spec (entries_in ran.closed.journal)
   pub passes : (e : Entry) → In e (entries_in ran.closed.journal) → e.pass < length ran.closed.made
 
--- an input is read as an accepted specification, and a workload behind it
-pub record IsReadAs (input : List ℕ) (spec : Spec) (work : Work) : Type 0 where
+-- an input is read as an accepted specification, and a workload behind it, in which groups may stand or not
+pub record IsReadAs (also : Also) (input : List ℕ) (spec : Spec) (work : Work) : Type 0 where
   pub reading : Reading
   pub read : spec_reading input ≡ Ok reading
   pub of_spec : reading.spec ≡ spec
   pub accepted : IsAccepted spec
-  pub work_read : work_reading spec (place_after input reading) ≡ Ok work
+  pub work_read : work_reading also spec (place_after input reading) ≡ Ok work
 
 -- a run of what was read was made, and its text was written
-pub record HasRunText (input : List ℕ) (old new : Option (List ℕ)) (ran : Ran) : Type 0 where
+pub record HasRunText (also : Also) (input : List ℕ) (old new : Option (List ℕ)) (ran : Ran) : Type 0 where
   pub spec : Spec
   pub work : Work
-  pub read : IsReadAs input spec work
+  pub read : IsReadAs also input spec work
   pub run : IsRunOf spec work ran
   pub store : IsOfItsStore ran
   pub written : Adds old (run_text work.ranks ran) new
 
 -- What is so of a run, whatever was read: the specification is accepted and its plans are the planned ones; the journal
--- is one legal history in which each pass of the store numbers its entries, each of one call, which fits; every state of it
--- satisfies the dependencies; and the rows are those of the last.
-pub record IsOneHistory (ran : Ran) : Type 0 where
+-- is one legal history in which each pass of the store numbers its entries, each of calls that fit and, where no groups are
+-- read, of one; every state of it satisfies the dependencies; and the rows are those of the last.
+pub record IsOneHistory (also : Also) (ran : Ran) : Type 0 where
   pub accepted : IsAccepted ran.closed.compiled.spec
   pub planned : ArePlanned ran.closed.compiled.spec ran.closed.compiled.plans
   pub history : List Entry
@@ -83,7 +84,7 @@ pub record IsOneHistory (ran : Ran) : Type 0 where
   pub fit : AllFit ran.closed.compiled.spec history
   pub passes : (e : Entry) → In e history → e.pass < length ran.closed.made
   pub numbered : IsNumbered history
-  pub single : HasSingleSteps history
+  pub single : also ≡ Nothing → HasSingleSteps history
   pub satisfy : (r : List Pairs) → In r (states ran.closed.compiled.spec history)
       → Satisfies r ran.closed.compiled.spec.deps
   pub last : ran.last ≡ replay ran.closed.compiled.spec history

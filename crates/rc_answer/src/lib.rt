@@ -1,5 +1,5 @@
-//! Answers a text as a command asks: reads it, tests its rules, plans its operations, makes its calls, and writes the
-//! plans and the report, or a drawing, or the refusal of the first broken rule.
+//! Answers a text as a command asks: reads it, tests its rules, plans its operations, makes its calls and its groups of calls,
+//! and writes the plans and the report, or a drawing, or the refusal of the first broken rule.
 #![tactic(auto)]
 
 mod drawing;

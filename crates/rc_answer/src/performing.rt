@@ -3,15 +3,14 @@
 
 ghost use Rattle.std.specs.Prelude.{◌≡◌, ◌≤◌, ◌^◌, ◌↔◌, length, IfOk, IfSome, IsSome, OnErr, OnOk};
 ghost use Rattle.rc_io.specs.Bytes.{Adds, AddsPrefix};
-ghost use Rattle.rc_reader.specs.Grammar.{spec_of};
+ghost use Rattle.rc_reader.specs.Grammar.{spec_of, spec_reading};
 ghost use Rattle.rc_rel.specs.History.{AllFit};
 ghost use Rattle.rc_work.specs.Fitting.{RoundsFit, HasThreads};
 ghost use Rattle.rc_work.specs.Limits.{KeepsLimits};
-ghost use Rattle.rc_answer.specs.Answers.{Answers, AnswersAlone, IsReport};
+ghost use Rattle.rc_answer.specs.Answers.{Answers, AnswersAlone, AnswersRun, IsReport, MakesCalls, also_of};
 ghost use Rattle.rc_answer.specs.Ran.{HasRunText, IsOfItsStore, IsRunOf, done_in, entries_in, run_text, status_in};
 ghost use Rattle.rc_answer.specs.Writes.{CountsFaults, Writes};
 ghost use Rattle.rc_answer.specs.Asked.{IsAskedText};
-ghost use Rattle.rc_command.specs.declared.command.TextCommand.TheVariants as commands;
 
 use crate::drawing::{write_drawing, write_drawn_plan};
 use crate::outcome::{Outcome, Ran, with_run, without_run};
@@ -29,12 +28,12 @@ use rc_runner::run_work;
 use rc_spec::Accepted;
 use rc_store::Gate;
 use rc_tuple::{Memory, SmallList};
-use rc_work::{Report, Work, read_work};
+use rc_work::{Also, Report, Work, read_work};
 use std::alloc::Global;
 use std::sync::Wait;
 use std::thread::Threads;
 
-/// Plans the operations of an accepted specification, and makes the calls of a workload by them, on a store of its own.
+/// Plans the operations of an accepted specification, and makes the turns of a workload by them, on a store of its own.
 pub(crate) fn make_run<R: Threads + Wait + Sync, G: Gate + Sync>(
     rt: &R,
     alloc: Global,
@@ -83,7 +82,7 @@ fn write_run<K: Sink>(alloc: Global, sink: &mut K, ran: &Ran, work: &Work) -> Re
     write_report(alloc, sink, &printed)
 }
 
-/// Makes the calls of a workload, and writes the plans and the report.
+/// Makes the turns of a workload, and writes the plans and the report.
 fn perform<R: Threads + Wait + Sync, K: Sink, G: Gate + Sync>(
     rt: &R,
     alloc: Global,
@@ -164,21 +163,23 @@ fn answer_alone<K: Sink>(
     }
 }
 
-/// Answers a specification and the workload behind it: makes the calls where all rules are kept.
+/// Answers a specification and the workload behind it, in which groups may stand or not: makes its turns where all rules are
+/// kept.
 fn run<R: Threads + Wait + Sync, K: Sink, G: Gate + Sync>(
     rt: &R,
     alloc: Global,
     hash_seed: Seed,
+    also: Also,
     text: &[u8],
     sink: &mut K,
     gate: &G,
 ) -> Result<Outcome, Stop>
     requires { length text.now ≤ 2 ^ 24 }
-    ensures written { Writes (Answers commands.Run text.now) (K.held sink.old) (K.held sink.new)
-        (status_in result) }
+    ensures written { Writes (AnswersRun also text.now (spec_reading text.now)) (K.held sink.old)
+        (K.held sink.new) (status_in result) }
     ensures has_ran { IfOk result (λ outcome. IsSome outcome.ran ↔ outcome.status ≡ Status.Done) }
     ensures ran { IfOk result (λ outcome.
-        IfSome outcome.ran (HasRunText text.now (K.held sink.old) (K.held sink.new))) }
+        IfSome outcome.ran (HasRunText also text.now (K.held sink.old) (K.held sink.new))) }
     ensures faults { CountsFaults (K.faults sink.old) (K.faults sink.new) result }
 {
     let (spec, rest) = match read_spec(alloc, text) {
@@ -189,7 +190,7 @@ fn run<R: Threads + Wait + Sync, K: Sink, G: Gate + Sync>(
         Ok(accepted) => accepted,
         Err(fault) => return refuse_run_of(alloc, sink, fault),
     };
-    let work = match read_work(alloc, text, rest, accepted.spec()) {
+    let work = match read_work(alloc, text, rest, accepted.spec(), also) {
         Ok(work) => work,
         Err(refusal) => return refuse_run(alloc, sink, refusal),
     };
@@ -198,8 +199,9 @@ fn run<R: Threads + Wait + Sync, K: Sink, G: Gate + Sync>(
 
 /// Answers a text of at most 2^24 bytes as the command asks, and writes the answer line by line: what the command asks of
 /// a text that keeps its rules, else the refusal of the first broken one. `run` makes the calls of its workload by threads
-/// that run beside each other, and hands out what they left; the gate is told of each point that a call reaches, and the
-/// seed is that of the store's hash tables. Costs the text's length and, for `run`, what the plans of its calls cost.
+/// that run beside each other, and hands out what they left; `group` does so too, and makes the calls of each group as one. The
+/// gate is told of each point that a turn reaches, and the seed is that of the store's hash tables. Costs the text's length
+/// and, for these two, what the plans of the calls cost.
 ///
 /// `Err` where memory is wanted, with nothing or a first part of the answer written, and where a write fails, with a first
 /// part written.
@@ -216,15 +218,16 @@ pub fn answer<R: Threads + Wait + Sync, K: Sink, G: Gate + Sync>(
     ensures written { Writes (Answers command text.now) (K.held sink.old) (K.held sink.new)
         (status_in result) }
     ensures has_ran { IfOk result (λ outcome.
-        IsSome outcome.ran ↔ (command ≡ commands.Run) × (outcome.status ≡ Status.Done)) }
-    ensures ran { IfOk result (λ outcome.
-        IfSome outcome.ran (HasRunText text.now (K.held sink.old) (K.held sink.new))) }
+        IsSome outcome.ran ↔ MakesCalls command × (outcome.status ≡ Status.Done)) }
+    ensures ran { IfOk result (λ outcome. IfSome outcome.ran
+        (HasRunText (also_of command) text.now (K.held sink.old) (K.held sink.new))) }
     ensures faults { CountsFaults (K.faults sink.old) (K.faults sink.new) result }
 {
     match command {
         TextCommand::Check => without_run(answer_alone(alloc, Asked::Acceptance, text, sink)),
         TextCommand::Plan => without_run(answer_alone(alloc, Asked::Plans, text, sink)),
-        TextCommand::Run => run(rt, alloc, hash_seed, text, sink, gate),
+        TextCommand::Run => run(rt, alloc, hash_seed, Also::Nothing, text, sink, gate),
+        TextCommand::Group => run(rt, alloc, hash_seed, Also::Groups, text, sink, gate),
         TextCommand::Dot => without_run(answer_alone(alloc, Asked::Drawing, text, sink)),
         TextCommand::DotPlan { op } => {
             without_run(answer_alone(alloc, Asked::DrawnPlan { op }, text, sink))

@@ -62,9 +62,9 @@ pub(crate) fn write_report<K: Sink>(
     ensures prefix { OnErr result (AddsPrefix (K.held sink.old) (printed_lines (report printed.now.spec.now printed.now.ranks.now printed.now.entries.now printed.now.rows.now)) (K.held sink.new)) }
     ensures faults { CountsFaults (K.faults sink.old) (K.faults sink.new) result }
 {
-    for number in 0..printed.line_count() {
-        match printed.line(alloc, number)? {
-            Some(line) => write_line(sink, line)?,
+    for number in 0..printed.part_count() {
+        match printed.part(alloc, number)? {
+            Some(part) => write_text(sink, &part)?,
             None => return Ok(()),
         }
     }

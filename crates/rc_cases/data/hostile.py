@@ -1,14 +1,15 @@
 #!/usr/bin/env python3
 """Writes hostile.case: texts that are nearly right, limits, reads and writes that fail, texts that are cut.
 
-It is a second reading of the line rules, S1 to S8 and W1 to W3, as docs/LANGUAGE.md gives them: of a text it says the first
-broken rule with its line, or else the specification and the workload. It shares nothing with the program, and what its
+It is a second reading of the line rules, S1 to S8, W1 to W3 and W5, as docs/LANGUAGE.md gives them: of a text it says the
+first broken rule with its line, or else the specification and the workload. It shares nothing with the program, and what its
 cases want doesn't come from the program. It tests no rule of acceptance and plans nothing: of a text that keeps the line
 rules the answer is written out here.
 
     python3 hostile.py          writes hostile.case beside itself
     python3 hostile.py check    says what the line rules say of the specification on standard input
     python3 hostile.py run      of the specification and workload on standard input
+    python3 hostile.py group    of those, where groups may stand in the workload
 """
 
 import collections
@@ -18,6 +19,7 @@ import sys
 
 MOST_BYTES = 16777216
 MOST_CALLS = 20000
+MOST_IN_GROUP = 16
 LIMITS = {"fd": 32, "node": 16, "edge": 24, "lock": 16, "place": 24, "op": 32}
 MOST_COLUMNS = {1: 16, 2: 32}
 
@@ -186,8 +188,13 @@ def read_spec(lines):
 # ---- the workload
 
 
+def is_group_line(words):
+    """Whether words are the line of a group: a thread, `&` and a number."""
+    return words is not None and len(words) == 3 and is_digits(words[0]) and words[1] == "&" and is_digits(words[2])
+
+
 def has_form(words):
-    """Whether words are a line of a workload."""
+    """Whether words are a line of a workload without groups."""
     if words is None or isinstance(words[0], Text):
         return False
     if words[0] in ("round", "end"):
@@ -219,25 +226,29 @@ def broken_by_call(spec, name, values):
     return None
 
 
-def read_work(lines, spec):
-    """The workload of the lines that are left: for each round its calls, each a thread, an operation and values."""
+def read_work(lines, spec, has_groups=False):
+    """The workload of the lines that are left: for each round its turns, each a thread and calls, an operation and values each."""
     number, words = lines.next("S1")
     if words is None or len(words) != 2 or words[0] != "work" or not is_digits(words[1]):
         raise Broken("S1", number)
     threads = value_of(words[1], 8)
     if not 1 <= threads <= 8:
         raise Broken("S5", number)
-    rounds, has_ended = [], False
+    rounds, count, has_ended, group, size = [], 0, False, None, 0
     while not has_ended or lines.at < len(lines.content):
         number, words = lines.next("S8")
-        if not has_form(words):
+        is_group = has_groups and is_group_line(words)
+        if not is_group and not has_form(words):
             raise Broken("S2", number)
-        is_call, is_round = is_digits(words[0]), words[0] == "round"
+        is_call, is_round = is_digits(words[0]) and not is_group, words[0] == "round"
+        thread = value_of(words[0], 8) if is_call or is_group else None
         values = [word if isinstance(word, Text) else value_of(word, 2**64 - 1) for word in words[2:]]
         too_large = [v for v in values if (len(v.text) > 64 if isinstance(v, Text) else v == 2**64)]
-        if is_call and (value_of(words[0], 8) >= threads or too_large):
+        if is_call and (thread >= threads or too_large):
             raise Broken("S5", number)
-        if is_round and len(rounds) == 64 or is_call and sum(map(len, rounds)) == MOST_CALLS:
+        if is_group and (thread >= threads or not 2 <= values[0] <= MOST_IN_GROUP):
+            raise Broken("S5", number)
+        if is_round and len(rounds) == 64 or is_call and count == MOST_CALLS:
             raise Broken("S6", number)
         if is_call and not rounds:
             raise Broken("S7", number)
@@ -246,31 +257,40 @@ def read_work(lines, spec):
         rule = broken_by_call(spec, words[1], values) if is_call else None
         if rule is not None:
             raise Broken(rule, number)
+        if group is not None and not (is_call and thread == group[0]):
+            raise Broken("W5", number)
         if is_call:
-            rounds[-1].append((value_of(words[0], 8), words[1], values))
+            count += 1
+            turn = group or (thread, [])
+            turn[1].append((words[1], values))
+            if group is None or len(turn[1]) == size:
+                rounds[-1].append(turn)
+                group = None
+        elif is_group:
+            group, size = (thread, []), values[0]
         elif is_round:
             rounds.append([])
         has_ended = words[0] == "end"
     return rounds
 
 
-def read_text(text, is_run):
-    """The specification and the workload of a text, which without `is_run` is a specification alone."""
+def read_text(text, command):
+    """The specification and the workload of a text, which but for `run` and `group` is a specification alone."""
     if len(text) > MOST_BYTES:
         raise Broken("size")
     lines = Lines(text)
     spec = read_spec(lines)
-    if is_run:
-        return spec, read_work(lines, spec)
+    if command in ("run", "group"):
+        return spec, read_work(lines, spec, command == "group")
     if lines.at < len(lines.content):
         raise Broken("S8", lines.content[lines.at][0])
     return spec, []
 
 
-def refusal_of(text, is_run=True):
+def refusal_of(text, command="run"):
     """The line that refuses a text by a line rule, or None."""
     try:
-        read_text(text, is_run)
+        read_text(text, command)
     except Broken as broken:
         return "refused %s" % broken
     return None
@@ -320,7 +340,7 @@ class File:
 
     def case(self, name, body, answer=None, words="run", status=0):
         """A text that is refused for a line, or else, where it breaks no line rule, has this answer."""
-        refusal = refusal_of(self.made(body), words == "run")
+        refusal = refusal_of(self.made(body), words)
         assert (refusal is None) != (answer is None), (name, refusal)
         if refusal is not None:
             status, answer = 3, ["|" + refusal]
@@ -517,7 +537,7 @@ HERE = os.path.dirname(os.path.abspath(__file__))
 
 def main():
     if len(sys.argv) > 1:
-        return print(refusal_of(sys.stdin.buffer.read(), sys.argv[1] == "run") or "no line rule is broken")
+        return print(refusal_of(sys.stdin.buffer.read(), sys.argv[1]) or "no line rule is broken")
     file = File(HEAD)
     for table in forms, limits, wrong_bytes, failures, cut_texts, others:
         table(file)

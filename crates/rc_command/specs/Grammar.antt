@@ -32,7 +32,9 @@ dot_app = with_rule (new_app (codes "dot")) (new_rule (codes "OP"))
 
 -- the program with the commands that take no further word
 abbrev pub program_alone : App
-program_alone = with_subcommand (with_subcommand (with_subcommand program (new_app (codes "check")).top) (new_app (codes "plan")).top) (new_app (codes "run")).top
+program_alone =
+    with_subcommand (with_subcommand (with_subcommand (with_subcommand program (new_app (codes "check")).top) (new_app (codes "plan")).top)
+    (new_app (codes "run")).top) (new_app (codes "group")).top
 
 -- the program with its commands
 abbrev pub grammar : App

@@ -23,6 +23,8 @@ pub enum TextCommand {
     Plan,
     /// Reads a specification and a workload, makes the calls, and prints the plans, the journal and the final relation.
     Run,
+    /// Does so with a workload in which some calls may stand as groups, which are made as one.
+    Group,
     /// Reads a specification alone, and prints its drawing.
     Dot,
     /// Reads a specification alone, and prints its drawing with the plan of an operation.
@@ -84,13 +86,15 @@ fn reader<'a>(alloc: Global) -> Result<clap::Command<'a>, AllocError>
     let check = clap::Command::new(alloc, "check");
     let plan = clap::Command::new(alloc, "plan");
     let run = clap::Command::new(alloc, "run");
+    let group = clap::Command::new(alloc, "group");
     let program = clap::Command::new(alloc, "relc")
         .subcommand_required(true)
         .disable_help_flag(true)
         .disable_help_subcommand(true)
         .subcommand(check)?
         .subcommand(plan)?
-        .subcommand(run)?;
+        .subcommand(run)?
+        .subcommand(group)?;
     let program = add_dot(alloc, program)?;
     add_big(alloc, program)
 }
@@ -203,6 +207,7 @@ fn command_named(name: &str) -> Option<TextCommand>
         "check" => Some(TextCommand::Check),
         "plan" => Some(TextCommand::Plan),
         "run" => Some(TextCommand::Run),
+        "group" => Some(TextCommand::Group),
         _ => None,
     }
 }

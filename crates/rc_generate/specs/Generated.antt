@@ -33,9 +33,13 @@ call_of_kind kind src dst weight = if nat_le kind 3 then insert_call src dst wei
 abbrev pub call_by : ℕ → ℕ → Call
 call_by thread x = call_of_kind (x / 2 ^ 28) (4 * (x / 2 ^ 24 % 16) + thread) (x / 2 ^ 19 % 32) (x / 2 ^ 9 % 1024)
 
--- the turn at a place, counted from 0
+-- the call at a place, counted from 0
+abbrev pub call_at : ℕ → ℕ → Call
+call_at seed place = call_by (place % 4) (next_number (number_at seed place))
+
+-- and its turn, which has no other
 abbrev pub turn_at : ℕ → ℕ → Turn
-turn_at seed place = record { thread = place % 4; call = call_by (place % 4) (next_number (number_at seed place)) }
+turn_at seed place = record { thread = place % 4; calls = call_at seed place ∷ [] }
 
 -- the turns at the first so many places
 abbrev pub generated_turns : ℕ → ℕ → List Turn
@@ -43,7 +47,7 @@ generated_turns seed calls = map (turn_at seed) (range_with_len 0 calls)
 
 -- their calls, in order
 abbrev pub generated_calls : ℕ → ℕ → List Call
-generated_calls seed calls = map (λ t. t.call) (generated_turns seed calls)
+generated_calls seed calls = map (call_at seed) (range_with_len 0 calls)
 
 -- four threads make them in one round; there are no texts
 abbrev pub generated : ℕ → ℕ → Work

@@ -8,8 +8,8 @@ use Rattle.rc_generate.specs.Generated.{insert_call, query_call, generated_turns
 use Rattle.rc_generate.specs.SummaryText.{summary_lines}
 
 four_turns : generated_turns 7 4
-    ≡ record { thread = 0; call = query_call 48 } ∷ record { thread = 1; call = insert_call 25 9 807 } ∷ record { thread = 2; call = insert_call 42 14 552 }
-    ∷ record { thread = 3; call = query_call 35 } ∷ []
+    ≡ record { thread = 0; calls = query_call 48 ∷ [] } ∷ record { thread = 1; calls = insert_call 25 9 807 ∷ [] }
+    ∷ record { thread = 2; calls = insert_call 42 14 552 ∷ [] } ∷ record { thread = 3; calls = query_call 35 ∷ [] } ∷ []
 four_turns = refl
 
 four_counts : one_thread_summary sample_graph (generated_calls 7 4)

@@ -1,9 +1,11 @@
 -- Laws of the generated workload: its calls fit the sample, it keeps the limits, and every run is as if one thread had made its calls in order.
-use Rattle.std.proofs.Common.{◌≡◌, ℕ, ◌+◌, ◌*◌, ◌/◌, ◌%◌, ◌^◌, ◌<◌, ◌≤◌, Bool, true, false, cond, nat_le, List, [], ◌∷◌, length, refl, sym, ◌∙◌, subst, arith}
-use Rattle.std.specs.List.{AllByRecursion, range_with_len, zip}
-use Rattle.std.proofs.lemmas.List.{append-nil, length-map}
+use Rattle.std.proofs.Common.{◌≡◌, ℕ, ◌+◌, ◌*◌, ◌/◌, ◌%◌, ◌^◌, ◌<◌, ◌≤◌, Bool, true, false, cond, nat_le, List, [], ◌∷◌, length, map, refl, sym, ap, ◌∙◌, subst, arith}
+use Rattle.std.specs.Prelude.{sum_by}
+use Rattle.std.specs.List.{AllByRecursion, flat_map, range_with_len, zip}
+use Rattle.std.proofs.lemmas.List.{append-nil}
+use Rattle.std.proofs.lemmas.List.Sums.{sum_by-cons}
 use Rattle.std.proofs.lemmas.List.Elements.{All-nil}
-use Rattle.std.proofs.lemmas.List.FromFn.{length-map-range_with_len}
+use Rattle.std.proofs.lemmas.List.FromFn.{length-map-range_with_len, length-range_with_len}
 use Rattle.rc_tuple.specs.RisingSetLaws.{in_map, in_each, each_in}
 use Rattle.rc_tuple.specs.ColSet.{IsColSet}
 use Rattle.rc_tuple.specs.ColSetLaws.{rising_range, in_range_bounds}
@@ -16,16 +18,16 @@ use Rattle.rc_rel.specs.declared.entry.Entry.{Entry}
 use Rattle.rc_rel.specs.History.{own, steps_of, replay}
 use Rattle.rc_work.specs.declared.work.Turn.{Turn}
 use Rattle.rc_work.specs.Fitting.{RoundsFit, HasThreads}
-use Rattle.rc_work.specs.Limits.{KeepsLimits}
+use Rattle.rc_work.specs.Limits.{HasSingleTurns, KeepsLimits}
 use Rattle.rc_work.specs.Runs.{Runs}
 use Rattle.rc_generate.specs.Shards.{shard_of, IsAsOneThread}
 use Rattle.rc_generate.specs.Summary.{rows_in, counted, summary, one_thread_summary}
 use Rattle.rc_generate.specs.SummaryLaws.{summaries_are_one_threads, length_as_one_thread, rows_are_few}
 use Rattle.rc_generate.specs.Sample.{sample_graph}
 use Rattle.rc_generate.specs.SampleLaws.{sample_is_sharded}
-use Rattle.rc_generate.specs.SharedRuns.{TurnsKeepShards}
+use Rattle.rc_generate.specs.SharedRuns.{TurnsKeepShards, all_calls}
 use Rattle.rc_generate.specs.SharedRunsLaws.{shared_runs_are_as_one_thread, shared_runs_have_same_replies}
-use Rattle.rc_generate.specs.Generated.{next_number, number_at, insert_call, remove_call, query_call, call_of_kind, call_by, turn_at, generated_turns, generated_calls, generated}
+use Rattle.rc_generate.specs.Generated.{next_number, number_at, insert_call, remove_call, query_call, call_of_kind, call_by, call_at, turn_at, generated_turns, generated_calls, generated}
 
 -- ---- the calls fit, and each is of its thread's shard
 
@@ -65,11 +67,16 @@ each_turn P seed calls h = in_each P (generated_turns seed calls)
     (λ t m. let at = in_map (turn_at seed) t (range_with_len 0 calls) m in subst P (sym at.2) (h at.0))
 
 pub generated_fits : (seed calls : ℕ) → RoundsFit sample_graph (generated seed calls).rounds
-generated_fits seed calls = (each_turn (λ (t : Turn). Fits sample_graph t.call) seed calls (λ place. (right_by place (next_number (number_at seed place))).fits), tt)
+generated_fits seed calls = (
+  each_turn (λ (t : Turn). AllByRecursion (Fits sample_graph) t.calls) seed calls
+      (λ place. ((right_by place (next_number (number_at seed place))).fits, tt)),
+  tt,
+)
 
 pub generated_keeps_shards : (seed calls : ℕ) → TurnsKeepShards 0 (λ v. v % 4) (generated seed calls).rounds
 generated_keeps_shards seed calls = (
-  each_turn (λ (t : Turn). shard_of 0 (λ v. v % 4) t.call.args ≡ t.thread) seed calls (λ place. (right_by place (next_number (number_at seed place))).shard),
+  each_turn (λ (t : Turn). AllByRecursion (λ (c : Call). shard_of 0 (λ v. v % 4) c.args ≡ t.thread) t.calls) seed calls
+      (λ place. ((right_by place (next_number (number_at seed place))).shard, tt)),
   tt,
 )
 
@@ -78,10 +85,45 @@ generated_keeps_shards seed calls = (
 pub generated_has_threads : (seed calls : ℕ) → HasThreads (generated seed calls)
 generated_has_threads seed calls = (each_turn (λ (t : Turn). t.thread < 4) seed calls (λ place. omega arith), tt)
 
+abbrev turn_calls : Turn → ℕ
+turn_calls t = length t.calls
+
+-- turns of one call have as many calls as they are
+one_each : (seed : ℕ) (places : List ℕ) → sum_by turn_calls (map (turn_at seed) places) ≡ length places
+one_each seed [] = refl
+one_each seed (place ∷ places) =
+    omega (arith, sum_by-cons turn_calls (turn_at seed place) (map (turn_at seed) places), one_each seed places)
+
 pub generated_keeps_limits : (seed calls : ℕ) → calls ≤ 20000 → KeepsLimits (generated seed calls)
-generated_keeps_limits seed calls few =
-    let count : length (generated_turns seed calls) ≡ calls = length-map-range_with_len (turn_at seed) 0 calls in
-    record { some_thread = omega arith; few_threads = omega arith; few_rounds = omega arith; few_calls = omega (arith, count, few) }
+generated_keeps_limits seed calls few = record {
+  some_thread = omega arith;
+  few_threads = omega arith;
+  few_rounds = omega arith;
+  few_calls = omega (
+    arith,
+    sum_by-cons (sum_by turn_calls) (generated_turns seed calls) [],
+    one_each seed (range_with_len 0 calls),
+    length-range_with_len 0 calls,
+    few,
+  );
+  turns = (
+    each_turn (λ (t : Turn). (1 ≤ length t.calls) × (length t.calls ≤ 16)) seed calls (λ place. (omega arith, omega arith)),
+    tt,
+  );
+}
+
+-- no turn is a group
+pub generated_has_single_turns : (seed calls : ℕ) → HasSingleTurns (generated seed calls)
+generated_has_single_turns seed calls = (each_turn (λ (t : Turn). length t.calls ≡ 1) seed calls (λ place. refl), tt)
+
+turns_calls : (seed : ℕ) (places : List ℕ) → flat_map (λ (t : Turn). t.calls) (map (turn_at seed) places) ≡ map (call_at seed) places
+turns_calls seed [] = refl
+turns_calls seed (place ∷ places) = ap (λ l. call_at seed place ∷ l) (turns_calls seed places)
+
+-- the calls of the turns, in order
+all_generated : (seed calls : ℕ) → all_calls (generated seed calls).rounds ≡ generated_calls seed calls
+all_generated seed calls =
+    append-nil (flat_map (λ (t : Turn). t.calls) (generated_turns seed calls)) ∙ turns_calls seed (range_with_len 0 calls)
 
 -- ---- its runs
 
@@ -91,7 +133,7 @@ GeneratedAsOneThread = (seed calls : ℕ) (history : List Entry) → Runs sample
 
 pub generated_as_one_thread : GeneratedAsOneThread
 generated_as_one_thread seed calls history run =
-    subst (λ (cs : List Call). IsAsOneThread sample_graph cs history) (append-nil (generated_calls seed calls))
+    subst (λ (cs : List Call). IsAsOneThread sample_graph cs history) (all_generated seed calls)
     (shared_runs_are_as_one_thread sample_graph 0 (λ v. v % 4) (generated seed calls) history sample_is_sharded (generated_keeps_shards seed calls) (generated_fits seed calls) run)
 
 -- so its summary is the same in every run: that of one thread that makes the calls in order
@@ -122,7 +164,6 @@ pub generated_runs_are_small : GeneratedRunsAreSmall
 generated_runs_are_small seed calls history run =
     let steps : length (steps_of history) ≡ length (generated_calls seed calls) =
     length_as_one_thread sample_graph (generated_calls seed calls) history (generated_as_one_thread seed calls history run) in
-    let turns : length (generated_calls seed calls) ≡ length (generated_turns seed calls) = length-map (generated_turns seed calls) (λ (t : Turn). t.call) in
-    let places : length (generated_turns seed calls) ≡ calls = length-map-range_with_len (turn_at seed) 0 calls in
+    let places : length (generated_calls seed calls) ≡ calls = length-map-range_with_len (call_at seed) 0 calls in
     let rows : counted rows_in (steps_of history) ≤ length (steps_of history) * 256 = rows_are_few sample_graph history run.legal in
-    (steps ∙ turns ∙ places, omega (arith, steps, turns, places, rows))
+    (steps ∙ places, omega (arith, steps, places, rows))

@@ -1,5 +1,5 @@
 -- Workloads whose threads make calls of their own shards.
-use Rattle.std.specs.Prelude.{◌≡◌, ℕ, List, map}
+use Rattle.std.specs.Prelude.{◌≡◌, ℕ, List}
 use Rattle.std.specs.List.{flat_map, AllByRecursion}
 use Rattle.rc_spec.specs.declared.call.Call.{Call}
 use Rattle.rc_work.specs.declared.work.Turn.{Turn}
@@ -7,8 +7,9 @@ use Rattle.rc_generate.specs.Shards.{shard_of}
 
 -- all calls of some rounds, in written order
 abbrev pub all_calls : List (List Turn) → List Call
-all_calls rounds = flat_map (map (λ t. t.call)) rounds
+all_calls rounds = flat_map (flat_map (λ t. t.calls)) rounds
 
--- each turn's call is of the shard with its thread's number
+-- each call of each turn is of the shard with the thread's number
 abbrev pub TurnsKeepShards : ℕ → (ℕ → ℕ) → List (List Turn) → Type 0
-TurnsKeepShards key share rounds = AllByRecursion (AllByRecursion (λ t. shard_of key share t.call.args ≡ t.thread)) rounds
+TurnsKeepShards key share rounds =
+    AllByRecursion (AllByRecursion (λ t. AllByRecursion (λ c. shard_of key share c.args ≡ t.thread) t.calls)) rounds

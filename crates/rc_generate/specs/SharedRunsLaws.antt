@@ -1,7 +1,9 @@
 -- Runs of workloads whose threads make calls of their own shards: each is as if one thread had made all calls in written order.
-use Rattle.std.proofs.Common.{◌≡◌, ℕ, ◌==◌, Bool, true, false, cond, List, [], ◌∷◌, ◌++◌, map, refl, sym, ap, ◌∙◌}
+use Rattle.std.proofs.Common.{◌≡◌, ℕ, ◌==◌, Bool, true, false, cond, List, [], ◌∷◌, ◌++◌, refl, sym, ap, ◌∙◌}
 use Rattle.std.specs.List.{filter, flat_map, AllByRecursion}
 use Rattle.std.proofs.lemmas.List.Elements.{filter-append}
+use Rattle.rc_tuple.specs.RisingSet.{In}
+use Rattle.rc_tuple.specs.RisingSetLaws.{each_in}
 use Rattle.rc_spec.specs.declared.call.Call.{Call}
 use Rattle.rc_spec.specs.declared.spec.Spec.{Spec}
 use Rattle.rc_rel.specs.declared.entry.Entry.{Entry}
@@ -11,21 +13,35 @@ use Rattle.rc_work.specs.declared.work.Work.{Work}
 use Rattle.rc_work.specs.Fitting.{TurnsFit, RoundsFit}
 use Rattle.rc_work.specs.Runs.{thread_calls, Runs}
 use Rattle.rc_work.specs.RunsLaws.{runs_make_calls}
+use Rattle.rc_generate.specs.FilterLaws.{filter-every, filter-none}
 use Rattle.rc_generate.specs.Shards.{IsSharded, IsSharedOut, MakesShards, shard_of, calls_in, CallsFit, IsAsOneThread}
 use Rattle.rc_generate.specs.ShardLaws.{all_fit, keeps_shards, same_in_every_schedule, shards_are_as_one_thread}
 use Rattle.rc_generate.specs.SharedRuns.{all_calls, TurnsKeepShards}
 
-round_calls : (key : ℕ) (share : ℕ → ℕ) (thread : ℕ) (round : List Turn) → AllByRecursion (λ t. shard_of key share t.call.args ≡ t.thread) round
-    → thread_calls thread round ≡ calls_in key share thread (map (λ t. t.call) round)
+abbrev calls_of_turns : List Turn → List Call
+calls_of_turns turns = flat_map (λ (t : Turn). t.calls) turns
+
+round_calls : (key : ℕ) (share : ℕ → ℕ) (thread : ℕ) (round : List Turn)
+    → AllByRecursion (λ t. AllByRecursion (λ c. shard_of key share c.args ≡ t.thread) t.calls) round
+    → thread_calls thread round ≡ calls_in key share thread (calls_of_turns round)
 round_calls key share thread [] h = refl
 round_calls key share thread (t ∷ round) h =
-    go (t.thread == thread) ∙ ap (λ l. cond (t.thread == thread) (t.call ∷ l) l) (round_calls key share thread round h.1)
-    ∙ ap (λ n. cond (n == thread) (t.call ∷ calls_in key share thread (map (λ x. x.call) round)) (calls_in key share thread (map (λ x. x.call) round))) (sym h.0)
+    go (t.thread == thread) refl (round_calls key share thread round h.1)
+    ∙ sym (filter-append mine t.calls (calls_of_turns round))
   where
-    go : (b : Bool) → map (λ (x : Turn). x.call) (cond b (t ∷ filter (λ x. x.thread == thread) round) (filter (λ x. x.thread == thread) round))
-        ≡ cond b (t.call ∷ thread_calls thread round) (thread_calls thread round)
-    go true = refl
-    go false = refl
+    mine : Call → Bool
+    mine c = shard_of key share c.args == thread
+
+    same : (c : Call) → In c t.calls → mine c ≡ (t.thread == thread)
+    same c m = ap (λ n. n == thread) (each_in (λ (x : Call). shard_of key share x.args ≡ t.thread) t.calls h.0 c m)
+
+    go : (b : Bool) → (t.thread == thread) ≡ b → thread_calls thread round ≡ calls_in key share thread (calls_of_turns round)
+        → calls_of_turns (cond b (t ∷ filter (λ x. x.thread == thread) round) (filter (λ x. x.thread == thread) round))
+        ≡ filter mine t.calls ++ filter mine (calls_of_turns round)
+    go true e ih =
+        ap (λ l. t.calls ++ l) ih
+        ∙ ap (λ l. l ++ filter mine (calls_of_turns round)) (sym (filter-every mine t.calls (λ c m. same c m ∙ e)))
+    go false e ih = ih ∙ ap (λ l. l ++ filter mine (calls_of_turns round)) (sym (filter-none mine t.calls (λ c m. same c m ∙ e)))
 
 -- each thread's calls over all rounds are those of its shard
 rounds_calls : (key : ℕ) (share : ℕ → ℕ) (thread : ℕ) (rounds : List (List Turn)) → TurnsKeepShards key share rounds
@@ -33,20 +49,20 @@ rounds_calls : (key : ℕ) (share : ℕ → ℕ) (thread : ℕ) (rounds : List (
 rounds_calls key share thread [] h = refl
 rounds_calls key share thread (round ∷ rounds) h =
     ap (λ l. l ++ flat_map (thread_calls thread) rounds) (round_calls key share thread round h.0)
-    ∙ ap (λ l. calls_in key share thread (map (λ t. t.call) round) ++ l) (rounds_calls key share thread rounds h.1)
-    ∙ sym (filter-append (λ (c : Call). shard_of key share c.args == thread) (map (λ (t : Turn). t.call) round) (all_calls rounds))
+    ∙ ap (λ l. calls_in key share thread (calls_of_turns round) ++ l) (rounds_calls key share thread rounds h.1)
+    ∙ sym (filter-append (λ (c : Call). shard_of key share c.args == thread) (calls_of_turns round) (all_calls rounds))
 
 fit_append : (spec : Spec) (xs ys : List Call) → CallsFit spec xs → CallsFit spec ys → CallsFit spec (xs ++ ys)
 fit_append spec [] ys h k = k
 fit_append spec (x ∷ xs) ys h k = (h.0, fit_append spec xs ys h.1 k)
 
-turns_fit : (spec : Spec) (round : List Turn) → TurnsFit spec round → CallsFit spec (map (λ t. t.call) round)
+turns_fit : (spec : Spec) (round : List Turn) → TurnsFit spec round → CallsFit spec (calls_of_turns round)
 turns_fit spec [] h = tt
-turns_fit spec (t ∷ round) h = (h.0, turns_fit spec round h.1)
+turns_fit spec (t ∷ round) h = fit_append spec t.calls (calls_of_turns round) h.0 (turns_fit spec round h.1)
 
 calls_fit : (spec : Spec) (rounds : List (List Turn)) → RoundsFit spec rounds → CallsFit spec (all_calls rounds)
 calls_fit spec [] h = tt
-calls_fit spec (round ∷ rounds) h = fit_append spec (map (λ t. t.call) round) (all_calls rounds) (turns_fit spec round h.0) (calls_fit spec rounds h.1)
+calls_fit spec (round ∷ rounds) h = fit_append spec (calls_of_turns round) (all_calls rounds) (turns_fit spec round h.0) (calls_fit spec rounds h.1)
 
 -- each thread makes the calls of its shard
 module _ (spec : Spec) (key : ℕ) (share : ℕ → ℕ) (work : Work) (keep : TurnsKeepShards key share work.rounds) where

@@ -3,7 +3,7 @@
 ghost use Rattle.std.specs.Prelude.{◌≡◌, ◌<◌, ◌≤◌, [], length, IfOk};
 ghost use Rattle.std.specs.List.{zip};
 ghost use Rattle.rc_work.specs.Fitting.{HasThreads, RoundsFit};
-ghost use Rattle.rc_work.specs.Limits.{KeepsLimits};
+ghost use Rattle.rc_work.specs.Limits.{HasSingleTurns, KeepsLimits};
 ghost use Rattle.rc_generate.specs.Generated.{next_number, call_by, generated_turns, generated};
 ghost use Rattle.rc_generate.specs.Sample.{sample_graph};
 
@@ -66,7 +66,7 @@ fn generated_round(alloc: Global, seed: u32, calls: u32) -> Result<Round, Memory
         number = next_number(number);
         let thread = place % THREADS;
         let call = call_by(alloc, thread, number)?;
-        round.push(Turn { thread, call })?;
+        round.push(Turn::of_one(alloc, thread, call)?)?;
     }
     Ok(round)
 }
@@ -80,6 +80,7 @@ pub fn generate(alloc: Global, seed: u32, calls: u32) -> Result<Work, Memory>
     ensures fit { IfOk result (λ work. RoundsFit sample_graph work.rounds) }
     ensures threads { IfOk result HasThreads }
     ensures limits { IfOk result KeepsLimits }
+    ensures single { IfOk result HasSingleTurns }
 {
     let mut rounds = Rounds::new(alloc);
     rounds.push(generated_round(alloc, seed, calls)?)?;

@@ -6,17 +6,17 @@ use Rattle.std.proofs.lemmas.List.{take_more}
 use Rattle.std.proofs.lemmas.List.Elements.{All-map}
 use Rattle.rc_work.specs.declared.work.Turn.{Turn}
 use Rattle.rc_spec.specs.declared.call.Call.{Call}
-use Rattle.rc_runner.specs.Rounds.{HasGrown, HaveLearnt, HaveMade, MadeCalls, MadeRound, Stand}
+use Rattle.rc_runner.specs.Rounds.{HasGrown, HaveLearnt, HaveMade, MadeRound, MadeTurns, Stand}
 use Rattle.rc_runner.specs.TellingLaws.{same_length}
 use Rattle.rc_runner.specs.RoundLaws.{a_round_goes_on, numbered_grow, rounds_start, zip_both}
 
-module _ {A : Type 0} (number : A → ℕ) (stand : A → Stand) (calls : ℕ → List Call) where
-  -- callers of two parts, where each part has made its calls
+module _ {A : Type 0} (number : A → ℕ) (stand : A → Stand) (turns : ℕ → List (List Call)) where
+  -- callers of two parts, where each part has made its turns
   pub both_made : {E : Type 0} (r : Result Unit E) (all olds olds2 news news2 : List A) → all ≡ olds ++ olds2
-      → OnOk r (MadeCalls number stand calls olds news × MadeCalls number stand calls olds2 news2) → OnOk r (MadeCalls number stand calls all (news ++ news2))
+      → OnOk r (MadeTurns number stand turns olds news × MadeTurns number stand turns olds2 news2) → OnOk r (MadeTurns number stand turns all (news ++ news2))
   both_made (Ok x) all olds olds2 news news2 parts h =
-      subst (λ (l : List A). MadeCalls number stand calls l (news ++ news2)) (sym parts)
-      (zip_both (λ a b. HasGrown (calls (number a)) (stand a) (stand b)) olds news olds2 news2 h.0 h.1)
+      subst (λ (l : List A). MadeTurns number stand turns l (news ++ news2)) (sym parts)
+      (zip_both (λ a b. HasGrown (turns (number a)) (stand a) (stand b)) olds news olds2 news2 h.0 h.1)
   both_made (Err e) all olds olds2 news news2 parts h = tt
 
 module _ {A : Type 0} (number : A → ℕ) (stand : A → Stand) (first : List A) (numbers : map number first ≡ range_with_len 0 (length first)) where

@@ -4,20 +4,20 @@ use Rattle.std.specs.List.{AllByRecursion, slice_get}
 use Rattle.std.proofs.lemmas.Bool.{eq-eqb, ne_eqb, cases_lt}
 use Rattle.std.proofs.lemmas.List.{take-append-drop}
 use Rattle.rc_tuple.specs.RisingSet.{In}
-use Rattle.rc_tuple.specs.RisingSetLaws.{append_in_left, append_in_right, in_slice_get}
+use Rattle.rc_tuple.specs.RisingSetLaws.{append_in_left, append_in_right}
 use Rattle.rc_spec.specs.declared.spec.Spec.{Spec}
 use Rattle.rc_rel.specs.declared.entry.Entry.{Entry}
 use Rattle.rc_rel.specs.declared.entry.Placed.{Placed}
-use Rattle.rc_rel.specs.History.{own, own_placed, placed, placed_from, calls_of}
-use Rattle.rc_rel.specs.OwnLaws.{own_stands, placed_own}
+use Rattle.rc_rel.specs.History.{own, own_placed, placed, placed_from}
+use Rattle.rc_rel.specs.OwnLaws.{placed_own}
 use Rattle.rc_work.specs.declared.work.Turn.{Turn}
 use Rattle.rc_work.specs.declared.work.Work.{Work}
 use Rattle.rc_work.specs.Fitting.{HasThreads}
-use Rattle.rc_work.specs.Runs.{thread_calls, MakesRound, MakesRounds, Runs, HasSingleSteps}
+use Rattle.rc_work.specs.Runs.{thread_turns, turns_of, MakesRound, MakesRounds, Runs}
 use Rattle.rc_runner.specs.Rounds.{entries_of, Stand, MadeBy, HasMade, EachHasMade, HaveMade, IsClosed}
-use Rattle.rc_runner.specs.PlacedLaws.{cut_own, each_of}
+use Rattle.rc_runner.specs.PlacedLaws.{cut_own}
 
--- ---- threads that make no calls
+-- ---- threads that make no turns
 
 own_none : (n k : ℕ) (history : List Entry) → n ≤ k → ((e : Entry) → In e history → e.pass < n) → own history k ≡ []
 own_none n k [] l h = refl
@@ -28,12 +28,12 @@ own_none n k (e ∷ history) l h =
 abbrev AreBelow : ℕ → List Turn → Type 0
 AreBelow n round = AllByRecursion (λ t. t.thread < n) round
 
-calls_none : (n k : ℕ) (round : List Turn) → n ≤ k → AreBelow n round → thread_calls k round ≡ []
-calls_none n k [] l h = refl
-calls_none n k (t ∷ round) l h =
+turns_none : (n k : ℕ) (round : List Turn) → n ≤ k → AreBelow n round → thread_turns k round ≡ []
+turns_none n k [] l h = refl
+turns_none n k (t ∷ round) l h =
     let b = h.0 in
-    ap (λ v. map (λ (x : Turn). x.call) (cond v (t ∷ filter (λ (x : Turn). x.thread == k) round) (filter (λ (x : Turn). x.thread == k) round))) (ne_eqb t.thread k (λ q. omega arith))
-    ∙ calls_none n k round l h.1
+    ap (λ v. map (λ (x : Turn). x.calls) (cond v (t ∷ filter (λ (x : Turn). x.thread == k) round) (filter (λ (x : Turn). x.thread == k) round))) (ne_eqb t.thread k (λ q. omega arith))
+    ∙ turns_none n k round l h.1
 
 -- ---- the history is cut at the marks
 
@@ -70,18 +70,18 @@ rounds_made n i (round ∷ rounds) (c ∷ marks) history some turns passes made 
 )
   where
     parts : (k : ℕ) → k < n
-        → (calls_of (own (take (c - i) history) k) ≡ thread_calls k round) × MadeBy k rounds marks (placed_from (i + (c - i)) (drop (c - i) history) k)
+        → (turns_of (own (take (c - i) history) k) ≡ thread_turns k round) × MadeBy k rounds marks (placed_from (i + (c - i)) (drop (c - i) history) k)
     parts k l =
         let w = made k l in
         let cut = cut_own i c history k w.0 w.1 w.2 w.4 w.5 in (
-          ap calls_of (sym (placed_own i (take (c - i) history) k)) ∙ ap (λ (xs : List Placed). calls_of (entries_of xs)) (sym cut.0) ∙ w.3,
+          ap turns_of (sym (placed_own i (take (c - i) history) k)) ∙ ap (λ (xs : List Placed). turns_of (entries_of xs)) (sym cut.0) ∙ w.3,
           subst (MadeBy k rounds marks) cut.1 w.6,
         )
 
     here : MakesRound round (take (c - i) history)
     here k = elim (cases_lt k n) [
       | inl l ↦ (parts k l).0
-      | inr l ↦ ap calls_of (own_none n k (take (c - i) history) l (λ e m. passes e (in_taken (c - i) history e m))) ∙ sym (calls_none n k round l turns.0)
+      | inr l ↦ ap turns_of (own_none n k (take (c - i) history) l (λ e m. passes e (in_taken (c - i) history e m))) ∙ sym (turns_none n k round l turns.0)
     ]
 
     later : AreMadeBelow n (i + (c - i)) rounds marks (drop (c - i) history)
@@ -106,7 +106,7 @@ abbrev pub RoundsRun : Type 0
 RoundsRun = (spec : Spec) (work : Work) (history : List Entry) (stands : List Stand)
     → 1 ≤ work.threads → HasThreads work → length stands ≡ work.threads
     → HaveMade work.rounds stands → IsClosed spec stands history
-    → Runs spec work history × HasSingleSteps history
+    → Runs spec work history
 
 module _ (spec : Spec) (history : List Entry) (stands : List Stand) (closed : IsClosed spec stands history) where
   made_of : (rounds : List (List Turn)) (marks : List ℕ) → EachHasMade rounds marks 0 stands → (k : ℕ) → k < length stands
@@ -116,23 +116,13 @@ module _ (spec : Spec) (history : List Entry) (stands : List Stand) (closed : Is
       let z : 0 + k ≡ k = omega arith in
       subst (MadeBy k rounds marks) (closed.own k w.0 w.1) (subst (λ t. MadeBy t rounds marks w.0.own) z w.2.made)
 
-  single_of : (rounds : List (List Turn)) (marks : List ℕ) → EachHasMade rounds marks 0 stands → HasSingleSteps history
-  single_of rounds marks h e m =
-      let w = made_at rounds marks 0 stands e.pass h (closed.passes e m) in
-      let at = in_slice_get e history m in
-      let mine : In (placed at.0 e) w.0.own =
-      subst (λ (l : List Placed). In (placed at.0 e) l) (sym (closed.own e.pass w.0 w.1)) ((own_stands history e.pass (placed at.0 e)).1 (at.1, refl)) in
-      each_of (λ (x : Placed). length x.entry.steps ≡ 1) w.0.own w.2.single (placed at.0 e) mine
-
 pub rounds_run : RoundsRun
 rounds_run spec work history stands some turns count made closed =
-    let passes : (e : Entry) → In e history → e.pass < work.threads = (λ e m. subst (λ n. e.pass < n) count (closed.passes e m)) in (
-      record {
-        legal = closed.legal;
-        numbered = closed.numbered;
-        threads = passes;
-        rounds = rounds_made work.threads 0 work.rounds made.0 history some turns passes
-            (λ k l. made_of spec history stands closed work.rounds made.0 made.1 k (subst (λ n. k < n) (sym count) l));
-      },
-      single_of spec history stands closed work.rounds made.0 made.1,
-    )
+    let passes : (e : Entry) → In e history → e.pass < work.threads = (λ e m. subst (λ n. e.pass < n) count (closed.passes e m)) in
+    record {
+      legal = closed.legal;
+      numbered = closed.numbered;
+      threads = passes;
+      rounds = rounds_made work.threads 0 work.rounds made.0 history some turns passes
+          (λ k l. made_of spec history stands closed work.rounds made.0 made.1 k (subst (λ n. k < n) (sym count) l));
+    }

@@ -1,20 +1,16 @@
--- Laws of passes that make their calls round by round.
+-- Laws of passes that make their turns round by round.
 use Rattle.std.proofs.Common.{◌≡◌, ℕ, suc, ◌+◌, ◌<◌, ◌≤◌, ◌==◌, Bool, true, false, cond, max, List, [], ◌∷◌, ◌++◌, All, map, filter, length, take, get_or, if◌then◌else◌, sym, refl, ap, ◌∙◌, subst, arith}
 use Rattle.std.specs.List.{AllZip, range_with_len}
 use Rattle.std.proofs.lemmas.List.{append-nil, append_assoc, map-append, take_more}
 use Rattle.std.proofs.lemmas.List.Elements.{All-append, All-cons, All-head, All-nil, All-push, All-tail, All-weaker, filter-append}
 use Rattle.rc_spec.specs.declared.call.Call.{Call}
 use Rattle.rc_rel.specs.declared.entry.Placed.{Placed}
-use Rattle.rc_rel.specs.History.{calls_of}
-use Rattle.rc_rel.specs.OwnLaws.{calls_of-append}
 use Rattle.rc_work.specs.declared.work.Turn.{Turn}
-use Rattle.rc_work.specs.Runs.{thread_calls}
-use Rattle.rc_runner.specs.Rounds.{entries_of, AreBefore, AreFrom, AreSingle, Stand, MadeBy, HasMade, EachHasMade, HaveMade, HasCalled, HasGrown, EachHasGrown, HaveLearnt, MadeRound}
+use Rattle.rc_work.specs.Runs.{thread_turns, turns_of}
+use Rattle.rc_work.specs.RunsLaws.{turns_of-append}
+use Rattle.rc_runner.specs.Rounds.{entries_of, AreBefore, AreFrom, Stand, MadeBy, HasMade, EachHasMade, HaveMade, HasCalled, HasGrown, EachHasGrown, HaveLearnt, MadeRound}
 
-abbrev Single : Placed → Type 0
-Single x = length x.entry.steps ≡ 1
-
--- ---- the calls of a pass within a round
+-- ---- the turns of a pass within a round
 
 pub growth_starts : (s : Stand) → HasGrown [] s s
 growth_starts s = record {
@@ -24,51 +20,50 @@ growth_starts s = record {
   after = All-nil (λ (x : Placed). s.seen ≤ x.place);
   before = All-nil (λ (x : Placed). x.place < s.seen);
   seen = omega arith;
-  single = All-nil Single;
 }
 
 entries_of-append : (xs ys : List Placed) → entries_of (xs ++ ys) ≡ entries_of xs ++ entries_of ys
 entries_of-append xs ys = map-append (λ (x : Placed). x.entry) xs ys
 
--- one call more, whose entry has a place that is at least what the pass had seen
-pub growth_goes_on : (calls : List Call) (call : Call) (s t u : Stand) → HasGrown calls s t → HasCalled call t u → HasGrown (calls ++ call ∷ []) s u
-growth_goes_on calls call s t u g h =
+-- one turn more, whose entry has a place that is at least what the pass had seen
+pub growth_goes_on : (turns : List (List Call)) (calls : List Call) (s t u : Stand) → HasGrown turns s t → HasCalled calls t u
+    → HasGrown (turns ++ calls ∷ []) s u
+growth_goes_on turns calls s t u g h =
     let x : Placed = h.entry in
     let after : s.seen ≤ x.place = (let a = g.seen in let b = h.after in omega (arith, a, b)) in
     let seen : t.seen ≤ u.seen = (let a = h.after in let b = h.before in omega (arith, a, b)) in
     record {
       more = g.more ++ x ∷ [];
       own = h.own ∙ ap (λ l. l ++ x ∷ []) g.own ∙ append_assoc s.own g.more (x ∷ []);
-      made = ap calls_of (entries_of-append g.more (x ∷ [])) ∙ calls_of-append (entries_of g.more) (x.entry ∷ [])
-          ∙ ap (λ l. l ++ calls_of (x.entry ∷ [])) g.made ∙ ap (λ l. calls ++ l) h.made;
+      made = ap turns_of (entries_of-append g.more (x ∷ [])) ∙ turns_of-append (entries_of g.more) (x.entry ∷ [])
+          ∙ ap (λ l. l ++ turns_of (x.entry ∷ [])) g.made ∙ ap (λ l. turns ++ l) h.made;
       after = All-push (λ (y : Placed). s.seen ≤ y.place) g.more x g.after after;
       before = All-push (λ (y : Placed). y.place < u.seen) g.more x
           (All-weaker (λ (y : Placed). y.place < t.seen) (λ y. y.place < u.seen) (λ y l. omega (arith, l, seen)) g.more g.before) h.before;
       seen = let a = g.seen in omega (arith, a, seen);
-      single = All-push Single g.more x g.single h.single;
     }
 
--- the calls of a thread up to a turn, and with it
-turn_go : (b : Bool) (t : Turn) → map (λ (x : Turn). x.call) (cond b (t ∷ []) []) ≡ (if b then t.call ∷ [] else [])
+-- the turns of a thread up to a turn, and with it
+turn_go : (b : Bool) (t : Turn) → map (λ (x : Turn). x.calls) (cond b (t ∷ []) []) ≡ (if b then t.calls ∷ [] else [])
 turn_go true t = refl
 turn_go false t = refl
 
 one_turn_more : (thread i : ℕ) (round : List Turn) (d : Turn) → i < length round
-    → thread_calls thread (take (i + 1) round)
-    ≡ thread_calls thread (take i round) ++ (if (get_or round i d).thread == thread then (get_or round i d).call ∷ [] else [])
+    → thread_turns thread (take (i + 1) round)
+    ≡ thread_turns thread (take i round) ++ (if (get_or round i d).thread == thread then (get_or round i d).calls ∷ [] else [])
 one_turn_more thread i round d l =
     let is : Turn → Bool = λ t. t.thread == thread in
-    ap (thread_calls thread) (take_more round i d l) ∙ ap (map (λ (x : Turn). x.call)) (filter-append is (take i round) (get_or round i d ∷ []))
-    ∙ map-append (λ (x : Turn). x.call) (filter is (take i round)) (filter is (get_or round i d ∷ []))
-    ∙ ap (λ l. thread_calls thread (take i round) ++ l) (turn_go ((get_or round i d).thread == thread) (get_or round i d))
+    ap (thread_turns thread) (take_more round i d l) ∙ ap (map (λ (x : Turn). x.calls)) (filter-append is (take i round) (get_or round i d ∷ []))
+    ∙ map-append (λ (x : Turn). x.calls) (filter is (take i round)) (filter is (get_or round i d ∷ []))
+    ∙ ap (λ l. thread_turns thread (take i round) ++ l) (turn_go ((get_or round i d).thread == thread) (get_or round i d))
 
--- the calls of a thread with a turn, which is its own or another's
+-- the turns of a thread with a turn, which is its own or another's
 pub turn_go_on : (thread i : ℕ) (round : List Turn) (turn : Turn) (b : Bool) → i < length round → turn ≡ get_or round i turn → (turn.thread == thread) ≡ b
-    → thread_calls thread (take (i + 1) round) ≡ thread_calls thread (take i round) ++ (if b then turn.call ∷ [] else [])
+    → thread_turns thread (take (i + 1) round) ≡ thread_turns thread (take i round) ++ (if b then turn.calls ∷ [] else [])
 turn_go_on thread i round turn b l is e =
     one_turn_more thread i round turn l
-    ∙ ap (λ (t : Turn). thread_calls thread (take i round) ++ (if t.thread == thread then t.call ∷ [] else [])) (sym is)
-    ∙ ap (λ v. thread_calls thread (take i round) ++ (if v then turn.call ∷ [] else [])) e
+    ∙ ap (λ (t : Turn). thread_turns thread (take i round) ++ (if t.thread == thread then t.calls ∷ [] else [])) (sym is)
+    ∙ ap (λ v. thread_turns thread (take i round) ++ (if v then turn.calls ∷ [] else [])) e
 
 -- ---- how much of the history all have seen
 
@@ -95,7 +90,7 @@ most_seen-least (s ∷ stands) n h =
 
 made_more : (thread : ℕ) (rounds : List (List Turn)) (marks : List ℕ) (own : List Placed) (round : List Turn) (c b : ℕ) (more : List Placed)
     → MadeBy thread rounds marks own → All (λ m. m ≤ b) marks → AreFrom b more → AreBefore c more
-    → calls_of (entries_of more) ≡ thread_calls thread round → MadeBy thread (rounds ++ round ∷ []) (marks ++ c ∷ []) (own ++ more)
+    → turns_of (entries_of more) ≡ thread_turns thread round → MadeBy thread (rounds ++ round ∷ []) (marks ++ c ∷ []) (own ++ more)
 made_more thread [] [] own round c b more h marked after before calls =
     (more, [], ap (λ l. l ++ more) h ∙ sym (append-nil more), calls, before, All-nil (λ (x : Placed). c ≤ x.place), refl)
 made_more thread [] (d ∷ marks) own round c b more h marked after before calls = absurd h
@@ -112,14 +107,13 @@ made_more thread (r ∷ rounds) (d ∷ marks) own round c b more (front, back, e
     )
 
 has_made_more : (rounds : List (List Turn)) (marks : List ℕ) (thread : ℕ) (round : List Turn) (c : ℕ) (s t u : Stand) → HasMade rounds marks thread s
-    → HasGrown (thread_calls thread round) s t → u.own ≡ t.own → t.seen ≤ c → c ≤ u.seen → HasMade (rounds ++ round ∷ []) (marks ++ c ∷ []) thread u
+    → HasGrown (thread_turns thread round) s t → u.own ≡ t.own → t.seen ≤ c → c ≤ u.seen → HasMade (rounds ++ round ∷ []) (marks ++ c ∷ []) thread u
 has_made_more rounds marks thread round c s t u h g same below above = record {
   made = subst (MadeBy thread (rounds ++ round ∷ []) (marks ++ c ∷ [])) (sym (same ∙ g.own))
       (made_more thread rounds marks s.own round c s.seen g.more h.made h.seen g.after
       (All-weaker (λ (x : Placed). x.place < t.seen) (λ x. x.place < c) (λ x l. omega (arith, l, below)) g.more g.before) g.made);
   seen = All-push (λ m. m ≤ u.seen) marks c
       (All-weaker (λ m. m ≤ s.seen) (λ m. m ≤ u.seen) (λ m l. let k = g.seen in omega (arith, l, k, below, above)) marks h.seen) above;
-  single = subst AreSingle (sym (same ∙ g.own)) (All-append Single s.own g.more h.single g.single);
 }
 
 first_same : (u t : Stand) (us ts : List (List Placed)) → u.own ∷ us ≡ t.own ∷ ts → u.own ≡ t.own
@@ -154,14 +148,14 @@ none_made : (thread : ℕ) (stands : List Stand) → All (λ (s : Stand). s.own 
 none_made thread [] h = tt
 none_made thread (s ∷ stands) h =
     let none : s.own ≡ [] = All-head (λ (t : Stand). t.own ≡ []) s stands h in (
-      record { made = none; seen = All-nil (λ c. c ≤ s.seen); single = subst AreSingle (sym none) (All-nil Single) },
+      record { made = none; seen = All-nil (λ c. c ≤ s.seen) },
       none_made (suc thread) stands (All-tail (λ (t : Stand). t.own ≡ []) s stands h),
     )
 
 pub rounds_start : RoundsStart
 rounds_start stands h = ([], none_made 0 stands h)
 
--- Each pass makes its calls of one more round, and all learn what each has seen.
+-- Each pass makes its turns of one more round, and all learn what each has seen.
 abbrev pub ARoundGoesOn : Type 0
 ARoundGoesOn = (rounds : List (List Turn)) (round : List Turn) (ss ts us : List Stand)
     → HaveMade rounds ss → EachHasGrown round 0 ss ts → HaveLearnt ts us → HaveMade (rounds ++ round ∷ []) us
@@ -193,7 +187,7 @@ module _ {A : Type 0} (number : A → ℕ) (stand : A → Stand) (round : List T
   other_numbers : (n k : ℕ) (ns ks : List ℕ) → n ∷ ns ≡ k ∷ ks → ns ≡ ks
   other_numbers n k ns ks e = cc
 
-  -- callers that are numbered from k on make the calls of the threads from k on
+  -- callers that are numbered from k on make the turns of the threads from k on
   pub numbered_grow : (k : ℕ) (olds news : List A) → map number olds ≡ range_with_len k (length olds) → MadeRound number stand round olds news
       → EachHasGrown round k (map stand olds) (map stand news)
   numbered_grow k [] [] numbers made = tt
@@ -203,6 +197,6 @@ module _ {A : Type 0} (number : A → ℕ) (stand : A → Stand) (round : List T
       let first : number a ≡ k = first_number (number a) k (map number olds) (range_with_len (k + 1) (length olds)) numbers in
       let others : map number olds ≡ range_with_len (k + 1) (length olds) = other_numbers (number a) k (map number olds) (range_with_len (k + 1) (length olds)) numbers in
       let z : k + 1 ≡ suc k = omega arith in (
-        subst (λ j. HasGrown (thread_calls j round) (stand a) (stand b)) first made.0,
+        subst (λ j. HasGrown (thread_turns j round) (stand a) (stand b)) first made.0,
         subst (λ j. EachHasGrown round j (map stand olds) (map stand news)) z (numbered_grow (k + 1) olds news others made.1),
       )

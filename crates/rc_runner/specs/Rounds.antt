@@ -1,4 +1,4 @@
--- Passes that make their calls round by round. (PLDI 2012, serializable transactions: what threads make beside each other is one history.)
+-- Passes that make their turns round by round. (PLDI 2012, serializable transactions: what threads make beside each other is one history.)
 use Rattle.std.specs.Prelude.{◌≡◌, ℕ, suc, ◌<◌, ◌≤◌, List, [], ◌∷◌, ◌++◌, map, length, Some, All}
 use Rattle.std.specs.List.{AllZip, slice_get}
 use Rattle.rc_tuple.specs.RisingSet.{In}
@@ -6,9 +6,9 @@ use Rattle.rc_spec.specs.declared.spec.Spec.{Spec}
 use Rattle.rc_spec.specs.declared.call.Call.{Call}
 use Rattle.rc_rel.specs.declared.entry.Entry.{Entry}
 use Rattle.rc_rel.specs.declared.entry.Placed.{Placed}
-use Rattle.rc_rel.specs.History.{IsLegal, IsNumbered, calls_of, own_placed}
+use Rattle.rc_rel.specs.History.{IsLegal, IsNumbered, own_placed}
 use Rattle.rc_work.specs.declared.work.Turn.{Turn}
-use Rattle.rc_work.specs.Runs.{thread_calls}
+use Rattle.rc_work.specs.Runs.{thread_turns, turns_of}
 
 -- ---- entries with their places
 
@@ -21,10 +21,6 @@ AreBefore c xs = All (λ x. x.place < c) xs
 abbrev pub AreFrom : ℕ → List Placed → Type 0
 AreFrom c xs = All (λ x. c ≤ x.place) xs
 
--- each entry has one step
-abbrev pub AreSingle : List Placed → Type 0
-AreSingle xs = All (λ x. length x.entry.steps ≡ 1) xs
-
 -- ---- what a pass has made
 
 -- what a pass shows: its entries with their places, and how much of the history it has seen
@@ -32,7 +28,7 @@ pub record Stand : Type 0 where
   pub own : List Placed
   pub seen : ℕ
 
--- The entries are the thread's calls of these rounds, in order: those of each round before its mark, and those of the
+-- The entries are the thread's turns of these rounds, in order: those of each round before its mark, and those of the
 -- rounds after it from that mark on.
 abbrev pub MadeBy : ℕ → List (List Turn) → List ℕ → List Placed → Type 0
 MadeBy thread [] [] own = own ≡ []
@@ -40,14 +36,13 @@ MadeBy thread [] (c ∷ marks) own = ⊥
 MadeBy thread (round ∷ rounds) [] own = ⊥
 MadeBy thread (round ∷ rounds) (c ∷ marks) own =
     (front : List Placed) × (back : List Placed) × (own ≡ front ++ back)
-    × (calls_of (entries_of front) ≡ thread_calls thread round)
+    × (turns_of (entries_of front) ≡ thread_turns thread round)
     × AreBefore c front × AreFrom c back × MadeBy thread rounds marks back
 
 -- a thread's pass has made these rounds, and has seen up to each of their marks
 pub record HasMade (rounds : List (List Turn)) (marks : List ℕ) (thread : ℕ) (s : Stand) : Type 0 where
   pub made : MadeBy thread rounds marks s.own
   pub seen : All (λ c. c ≤ s.seen) marks
-  pub single : AreSingle s.own
 
 -- the passes, numbered from `thread` on, have made these rounds
 abbrev pub EachHasMade : List (List Turn) → List ℕ → ℕ → List Stand → Type 0
@@ -61,33 +56,31 @@ HaveMade rounds stands = (marks : List ℕ) × EachHasMade rounds marks 0 stands
 
 -- ---- one round more
 
--- A pass has made this call: it keeps one entry more, of this one step, at a place that is at least what it had seen, and
--- it has seen that place.
-pub record HasCalled (call : Call) (s t : Stand) : Type 0 where
+-- A pass has made these calls at once: it keeps one entry more, of these steps, at a place that is at least what it had
+-- seen, and it has seen that place.
+pub record HasCalled (calls : List Call) (s t : Stand) : Type 0 where
   pub entry : Placed
   pub own : t.own ≡ s.own ++ entry ∷ []
-  pub single : length entry.entry.steps ≡ 1
-  pub made : calls_of (entry.entry ∷ []) ≡ call ∷ []
+  pub made : turns_of (entry.entry ∷ []) ≡ calls ∷ []
   pub after : s.seen ≤ entry.place
   pub before : entry.place < t.seen
 
--- a pass has made these calls more, each at a place that is at least what it had seen, and has seen them
-pub record HasGrown (calls : List Call) (s t : Stand) : Type 0 where
+-- a pass has made these turns more, each at a place that is at least what it had seen, and has seen them
+pub record HasGrown (turns : List (List Call)) (s t : Stand) : Type 0 where
   pub more : List Placed
   pub own : t.own ≡ s.own ++ more
-  pub made : calls_of (entries_of more) ≡ calls
+  pub made : turns_of (entries_of more) ≡ turns
   pub after : AreFrom s.seen more
   pub before : AreBefore t.seen more
   pub seen : s.seen ≤ t.seen
-  pub single : AreSingle more
 
--- the passes, numbered from `thread` on, have each made their calls of the round
+-- the passes, numbered from `thread` on, have each made their turns of the round
 abbrev pub EachHasGrown : List Turn → ℕ → List Stand → List Stand → Type 0
 EachHasGrown round thread [] [] = Unit {0}
 EachHasGrown round thread [] (t ∷ ts) = ⊥
 EachHasGrown round thread (s ∷ ss) [] = ⊥
 EachHasGrown round thread (s ∷ ss) (t ∷ ts) =
-    HasGrown (thread_calls thread round) s t × EachHasGrown round (suc thread) ss ts
+    HasGrown (thread_turns thread round) s t × EachHasGrown round (suc thread) ss ts
 
 -- the passes have their entries as before, and each has seen at least what any had seen
 pub record HaveLearnt (ts us : List Stand) : Type 0 where
@@ -96,13 +89,13 @@ pub record HaveLearnt (ts us : List Stand) : Type 0 where
 
 -- ---- callers of any kind
 
--- each caller has made the calls of its thread
-abbrev pub MadeCalls : {A : Type 0} → (A → ℕ) → (A → Stand) → (ℕ → List Call) → List A → List A → Type 0
-MadeCalls number stand calls olds news = AllZip (λ a b. HasGrown (calls (number a)) (stand a) (stand b)) olds news
+-- each caller has made the turns of its thread
+abbrev pub MadeTurns : {A : Type 0} → (A → ℕ) → (A → Stand) → (ℕ → List (List Call)) → List A → List A → Type 0
+MadeTurns number stand turns olds news = AllZip (λ a b. HasGrown (turns (number a)) (stand a) (stand b)) olds news
 
 -- those of the round
 abbrev pub MadeRound : {A : Type 0} → (A → ℕ) → (A → Stand) → List Turn → List A → List A → Type 0
-MadeRound number stand round olds news = MadeCalls number stand (λ thread. thread_calls thread round) olds news
+MadeRound number stand round olds news = MadeTurns number stand (λ thread. thread_turns thread round) olds news
 
 -- a pass has its entries as before, and has seen at least what it had seen and what the other has
 pub record HasHeard (other s t : Stand) : Type 0 where

@@ -7,7 +7,7 @@ use Rattle.rc_store.specs.Closed.{ClosedSeen, Leaves}
 use Rattle.rc_store.specs.Store.{IsFree, StoreSeen}
 use Rattle.rc_runner.specs.Rounds.{Stand}
 use Rattle.rc_work.specs.declared.work.Work.{Work}
-use Rattle.rc_work.specs.Runs.{HasSingleSteps, Runs}
+use Rattle.rc_work.specs.Runs.{Runs}
 
 -- ---- passes
 
@@ -37,4 +37,3 @@ pub record HasRun (work : Work) (closed : ClosedSeen) : Type 0 where
   pub journal : closed.journal ≡ Some history
   pub leaves : Leaves closed.compiled.spec work.threads history closed.instance
   pub runs : Runs closed.compiled.spec work history
-  pub single : HasSingleSteps history

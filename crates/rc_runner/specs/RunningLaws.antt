@@ -1,8 +1,8 @@
--- Laws of passes that make the calls of a workload.
+-- Laws of passes that make the turns of a workload.
 use Rattle.std.proofs.Common.{◌≡◌, ℕ, zero, suc, ◌+◌, ◌<◌, ◌≤◌, ◌==◌, List, [], ◌∷◌, ◌++◌, All, Some, map, filter, length, min, take, get_or, sum_by, sym, refl, ap, ◌∙◌, subst, arith}
 use Rattle.std.specs.Borrow.{Bor}
 use Rattle.std.specs.Prelude.{IfOk, Result, Ok, Err}
-use Rattle.std.specs.List.{range_with_len, slice_get}
+use Rattle.std.specs.List.{AllByRecursion, range_with_len, slice_get}
 use Rattle.std.proofs.Math.Seq.{take-append_seam}
 use Rattle.std.proofs.lemmas.List.{length-append, length-map, length-take, map-id}
 use Rattle.std.proofs.lemmas.List.Elements.{All-cons, All-filter, All-from_recursion, All-head, All-map, All-nil, All-tail, All-weaker}
@@ -12,90 +12,97 @@ use Rattle.std.proofs.lemmas.Simd.{map-map}
 use Rattle.rc_spec.specs.declared.call.Call.{Call}
 use Rattle.rc_spec.specs.declared.call.Reply.{Reply}
 use Rattle.rc_spec.specs.declared.spec.Spec.{Spec}
+use Rattle.rc_rel.specs.declared.entry.Entry.{Entry}
 use Rattle.rc_rel.specs.declared.entry.Placed.{Placed}
-use Rattle.rc_rel.specs.History.{calls_of, placed, steps_of}
+use Rattle.rc_rel.specs.declared.entry.Step.{Step}
+use Rattle.rc_rel.specs.History.{placed, with_replies}
+use Rattle.rc_rel.specs.HistoryLaws.{calls-with_replies}
 use Rattle.rc_core.specs.declared.state.PassState.{PassState}
+use Rattle.rc_core.specs.Passes.{next_of}
 use Rattle.rc_plan.specs.Compiled.{SpecWithPlans}
 use Rattle.rc_row.specs.declared.keeping.Keeping.TheVariants.{Entries}
-use Rattle.rc_row.specs.Passes.{AreIdlePasses, IsPassOf, PassSeen, RowSeen, core_of, new_pass, new_passes, next_entry, spec_of}
+use Rattle.rc_row.specs.Passes.{AreIdlePasses, IsPassOf, PassSeen, RowSeen, core_of, new_pass, new_passes, spec_of}
+use Rattle.rc_store.specs.declared.receipt.GroupReceipt.{GroupReceipt}
 use Rattle.rc_store.specs.declared.receipt.Receipt.{Receipt}
 use Rattle.rc_store.specs.Closed.{ClosedSeen, HasClosed, Leaves, where_kept}
 use Rattle.rc_store.specs.FreeLaws.{new_are_free as all_free}
-use Rattle.rc_store.specs.Store.{HasMade, IsAsBefore, IsFree, StoreSeen}
+use Rattle.rc_store.specs.Store.{HasMade, HasMadeEntry, HasMadeGroup, IsFree, StoreSeen, one_step}
 use Rattle.rc_work.specs.declared.work.Turn.{Turn}
 use Rattle.rc_work.specs.declared.work.Work.{Work}
-use Rattle.rc_spec.specs.Calls.{Fits}
 use Rattle.rc_work.specs.Fitting.{HasThreads, TurnsFit}
-use Rattle.rc_work.specs.Runs.{Runs, thread_calls}
-use Rattle.rc_runner.specs.Rounds.{AreSingle, EachHasMade, HasCalled, HasGrown, HaveMade, IsClosed, MadeBy, Stand, entries_of}
+use Rattle.rc_work.specs.Limits.{count_calls}
+use Rattle.rc_work.specs.Runs.{Runs, thread_turns, turns_of}
+use Rattle.rc_runner.specs.Rounds.{EachHasMade, HasCalled, HasGrown, HaveMade, IsClosed, MadeBy, Stand, entries_of}
 use Rattle.rc_runner.specs.CloseLaws.{rounds_run}
-use Rattle.rc_runner.specs.Shares.{AreShared, MayMakeShare, Shares, SharesFit, calls_in, share_of}
+use Rattle.rc_runner.specs.Shares.{AreShared, HaveTurnSizes, RoundsHaveTurnSizes, MayMakeShare, Shares, SharesFit, TurnFits, share_of, turns_in}
 use Rattle.rc_runner.specs.Running.{HasRun, MayMake, number_of, numbers_of, stand_of, stands_of}
 
--- ---- a call
+-- ---- an entry
 
-module _ (store : StoreSeen) (call : Call) (reply : Reply) (old new : PassSeen) (receipt : Receipt) (m : HasMade store call reply old new receipt) where
-  pub called_so : HasCalled call (stand_of old) (stand_of new)
-  called_so = record {
-    entry = placed receipt.place (next_entry (core_of old) call reply);
-    own = m.entry.own;
-    single = refl;
+module _ (store : StoreSeen) (steps : List Step) (old new : PassSeen) (place nth : ℕ) (m : HasMadeEntry store steps old new place nth) where
+  entry_called : HasCalled (map (λ s. s.call) steps) (stand_of old) (stand_of new)
+  entry_called = record {
+    entry = placed place (next_of (core_of old) steps);
+    own = m.own;
     made = refl;
-    after = m.entry.seen;
-    before = subst (λ (u : PassState). receipt.place < u.seen) (sym m.entry.core) (omega arith);
+    after = m.seen;
+    before = subst (λ (u : PassState). place < u.seen) (sym m.core) (omega arith);
   }
 
+  entry_number : number_of new ≡ number_of old
+  entry_number = ap (λ (u : PassState). u.number) m.core ∙ ap (λ (u : PassState). u.number) m.was
+
+-- of a call
+module _ (store : StoreSeen) (call : Call) (reply : Reply) (old new : PassSeen) (receipt : Receipt) (m : HasMade store call reply old new receipt) where
+  pub called_so : HasCalled (call ∷ []) (stand_of old) (stand_of new)
+  called_so = entry_called store (one_step call reply) old new receipt.place receipt.nth m.entry
+
   pub called_number : number_of new ≡ number_of old
-  called_number = ap (λ (u : PassState). u.number) m.entry.core ∙ ap (λ (u : PassState). u.number) m.entry.was
+  called_number = entry_number store (one_step call reply) old new receipt.place receipt.nth m.entry
+
+-- and of a group
+module _ (store : StoreSeen) (calls : List Call) (replies : List Reply) (old new : PassSeen) (receipt : GroupReceipt)
+    (m : HasMadeGroup store calls replies old new receipt) where
+  pub group_called_so : HasCalled calls (stand_of old) (stand_of new)
+  group_called_so =
+      subst (λ (l : List Call). HasCalled l (stand_of old) (stand_of new)) (calls-with_replies calls replies m.count)
+      (entry_called store (with_replies calls replies) old new receipt.place receipt.nth m.entry)
+
+  pub group_called_number : number_of new ≡ number_of old
+  group_called_number = entry_number store (with_replies calls replies) old new receipt.place receipt.nth m.entry
 
 -- ---- how many entries a pass has
 
-few_thread_calls : (thread : ℕ) (round : List Turn) → length (thread_calls thread round) ≤ length round
-few_thread_calls thread round =
+few_thread_turns : (thread : ℕ) (round : List Turn) → length (thread_turns thread round) ≤ length round
+few_thread_turns thread round =
     let is : Turn → _ = λ t. t.thread == thread in
-    let mapped : length (thread_calls thread round) ≡ length (filter is round) = length-map (filter is round) (λ (t : Turn). t.call) in
+    let mapped : length (thread_turns thread round) ≡ length (filter is round) = length-map (filter is round) (λ (t : Turn). t.calls) in
     let counted = length-filter is round in
     let few = count_by-le-length is round in
     omega (arith, mapped, counted, few)
 
--- entries of one step each make as many calls as they are
-as_many_calls : (xs : List Placed) → AreSingle xs → length (calls_of (entries_of xs)) ≡ length xs
-as_many_calls [] single = refl
-as_many_calls (x ∷ xs) single =
-    let first : length x.entry.steps ≡ 1 = All-head (λ (y : Placed). length y.entry.steps ≡ 1) x xs single in
-    let rest : length (calls_of (entries_of xs)) ≡ length xs = as_many_calls xs (All-tail (λ (y : Placed). length y.entry.steps ≡ 1) x xs single) in
-    let all : length (calls_of (entries_of (x ∷ xs))) ≡ length (steps_of (entries_of (x ∷ xs))) = length-map (steps_of (entries_of (x ∷ xs))) (λ s. s.call) in
-    let less : length (calls_of (entries_of xs)) ≡ length (steps_of (entries_of xs)) = length-map (steps_of (entries_of xs)) (λ s. s.call) in
-    let both : length (steps_of (entries_of (x ∷ xs))) ≡ length x.entry.steps + length (steps_of (entries_of xs)) = length-append x.entry.steps (steps_of (entries_of xs)) in
-    omega (arith, first, rest, all, less, both)
+-- entries make as many turns as they are
+as_many_turns : (xs : List Placed) → length (turns_of (entries_of xs)) ≡ length xs
+as_many_turns xs =
+    length-map (entries_of xs) (λ (e : Entry). map (λ (s : Step). s.call) e.steps) ∙ length-map xs (λ (x : Placed). x.entry)
 
--- what a pass has grown by is as many as the calls
-grown_by : (calls : List Call) (s t : Stand) → HasGrown calls s t → length t.own ≡ length s.own + length calls
-grown_by calls s t g =
+-- what a pass has grown by is as many as the turns
+grown_by : (turns : List (List Call)) (s t : Stand) → HasGrown turns s t → length t.own ≡ length s.own + length turns
+grown_by turns s t g =
     let long : length t.own ≡ length s.own + length g.more = ap (λ (l : List Placed). length l) g.own ∙ length-append s.own g.more in
-    let many : length g.more ≡ length calls = sym (as_many_calls g.more g.single) ∙ ap (λ (l : List Call). length l) g.made in
+    let many : length g.more ≡ length turns = sym (as_many_turns g.more) ∙ ap (λ (l : List (List Call)). length l) g.made in
     omega (arith, long, many)
 
-All-left : {A : Type 0} (P : A → Type 0) (xs ys : List A) → All P (xs ++ ys) → All P xs
-All-left P [] ys h = All-nil P
-All-left P (x ∷ xs) ys h = All-cons P x xs (All-head P x (xs ++ ys) h) (All-left P xs ys (All-tail P x (xs ++ ys) h))
-
-All-right : {A : Type 0} (P : A → Type 0) (xs ys : List A) → All P (xs ++ ys) → All P ys
-All-right P [] ys h = h
-All-right P (x ∷ xs) ys h = All-right P xs ys (All-tail P x (xs ++ ys) h)
-
-made_few : (thread : ℕ) (rounds : List (List Turn)) (marks : List ℕ) (own : List Placed) → MadeBy thread rounds marks own → AreSingle own
+made_few : (thread : ℕ) (rounds : List (List Turn)) (marks : List ℕ) (own : List Placed) → MadeBy thread rounds marks own
     → length own ≤ sum_by length rounds
-made_few thread [] [] own made single = let none : length own ≡ 0 = ap (λ (l : List Placed). length l) made in omega (arith, none)
-made_few thread [] (c ∷ marks) own made single = absurd made
-made_few thread (round ∷ rounds) [] own made single = absurd made
-made_few thread (round ∷ rounds) (c ∷ marks) own (front, back, e, calls, before, from, later) single =
-    let one : Placed → Type 0 = λ x. length x.entry.steps ≡ 1 in
-    let both : AreSingle (front ++ back) = subst AreSingle e single in
+made_few thread [] [] own made = let none : length own ≡ 0 = ap (λ (l : List Placed). length l) made in omega (arith, none)
+made_few thread [] (c ∷ marks) own made = absurd made
+made_few thread (round ∷ rounds) [] own made = absurd made
+made_few thread (round ∷ rounds) (c ∷ marks) own (front, back, e, turns, before, from, later) =
     let long : length own ≡ length front + length back = ap (λ (l : List Placed). length l) e ∙ length-append front back in
-    let many : length front ≡ length (thread_calls thread round) = sym (as_many_calls front (All-left one front back both)) ∙ ap (λ (l : List Call). length l) calls in
-    let few : length (thread_calls thread round) ≤ length round = few_thread_calls thread round in
-    let rest : length back ≤ sum_by length rounds = made_few thread rounds marks back later (All-right one front back both) in
+    let many : length front ≡ length (thread_turns thread round) = sym (as_many_turns front) ∙ ap (λ (l : List (List Call)). length l) turns in
+    let few : length (thread_turns thread round) ≤ length round = few_thread_turns thread round in
+    let rest : length back ≤ sum_by length rounds = made_few thread rounds marks back later in
     let sum : sum_by length (round ∷ rounds) ≡ length round + sum_by length rounds = sum_by-cons length round rounds in
     omega (arith, long, many, few, rest, sum)
 
@@ -103,8 +110,24 @@ each_made_few : (thread : ℕ) (rounds : List (List Turn)) (marks : List ℕ) (s
     → All (λ (s : Stand). length s.own ≤ sum_by length rounds) stands
 each_made_few thread rounds marks [] made = All-nil (λ (s : Stand). length s.own ≤ sum_by length rounds)
 each_made_few thread rounds marks (s ∷ stands) made =
-    All-cons (λ (s : Stand). length s.own ≤ sum_by length rounds) s stands (made_few thread rounds marks s.own made.0.made made.0.single)
+    All-cons (λ (s : Stand). length s.own ≤ sum_by length rounds) s stands (made_few thread rounds marks s.own made.0.made)
     (each_made_few (suc thread) rounds marks stands made.1)
+
+-- a workload has no more turns than calls, of which each turn has one at least
+pub few_turns : (rounds : List (List Turn)) → RoundsHaveTurnSizes rounds → sum_by length rounds ≤ count_calls rounds
+few_turns [] h = omega arith
+few_turns (round ∷ rounds) h =
+    omega (
+      arith,
+      sum_by-cons length round rounds,
+      sum_by-cons (sum_by (λ (t : Turn). length t.calls)) round rounds,
+      in_round round h.0,
+      few_turns rounds h.1,
+    )
+  where
+    in_round : (turns : List Turn) → HaveTurnSizes turns → length turns ≤ sum_by (λ (t : Turn). length t.calls) turns
+    in_round [] k = omega arith
+    in_round (t ∷ turns) k = omega (arith, k.0.0, in_round turns k.1, sum_by-cons (λ (x : Turn). length x.calls) t turns)
 
 -- ---- what passes may make
 
@@ -125,16 +148,16 @@ module _ (store : StoreSeen) where
       may_next (sum_by length (take i rounds)) (length round) passes (omega (arith, within, same, small)) free
       (each_made_few 0 (take i rounds) made.0 (stands_of passes) made.1)
 
--- a pass that has made some of its calls may make one more
-pub may_one : (store : StoreSeen) (i : ℕ) (calls : List (Bor Call)) (first now : PassSeen)
-    → MayMake store (length calls) first → i < length calls → IsFree store now
-    → HasGrown (calls_in (take i calls)) (stand_of first) (stand_of now) → MayMake store 1 now
-may_one store i calls first now may l free grown =
-    let few : length (core_of now).own ≡ length (core_of first).own + length (calls_in (take i calls)) =
-    grown_by (calls_in (take i calls)) (stand_of first) (stand_of now) grown in
-    let mapped : length (calls_in (take i calls)) ≡ length (take i calls) = length-map (take i calls) (λ (c : Bor Call). c.now) in
-    let taken : length (take i calls) ≡ min i (length calls) = length-take i calls in
-    let left : length (core_of first).own + length calls ≤ store.limit = may.left in
+-- a pass that has made some of its turns may make one more
+pub may_one : (store : StoreSeen) (i : ℕ) (turns : List (Bor Turn)) (first now : PassSeen)
+    → MayMake store (length turns) first → i < length turns → IsFree store now
+    → HasGrown (turns_in (take i turns)) (stand_of first) (stand_of now) → MayMake store 1 now
+may_one store i turns first now may l free grown =
+    let few : length (core_of now).own ≡ length (core_of first).own + length (turns_in (take i turns)) =
+    grown_by (turns_in (take i turns)) (stand_of first) (stand_of now) grown in
+    let mapped : length (turns_in (take i turns)) ≡ length (take i turns) = length-map (take i turns) (λ (t : Bor Turn). t.now.calls) in
+    let taken : length (take i turns) ≡ min i (length turns) = length-take i turns in
+    let left : length (core_of first).own + length turns ≤ store.limit = may.left in
     record { free = free; left = omega (arith, few, mapped, taken, left, l) }
 
 -- one that may make all turns of a round may make its share
@@ -142,17 +165,24 @@ pub may_make_share : (store : StoreSeen) (round : List Turn) (shares : Shares) �
     → (passes : List PassSeen) → All (MayMake store (length round)) passes → All (MayMakeShare store shares) passes
 may_make_share store round shares shared =
     All-weaker (MayMake store (length round)) (MayMakeShare store shares) (λ p may.
-    let same : length (share_of shares (number_of p)) ≡ length (thread_calls (number_of p) round) = ap (λ (l : List Call). length l) (shared (number_of p)) in
-    let few : length (thread_calls (number_of p) round) ≤ length round = few_thread_calls (number_of p) round in
+    let same : length (share_of shares (number_of p)) ≡ length (thread_turns (number_of p) round) =
+    ap (λ (l : List (List Call)). length l) (shared (number_of p)) in
+    let few : length (thread_turns (number_of p) round) ≤ length round = few_thread_turns (number_of p) round in
     let left : length (core_of p).own + length round ≤ store.limit = may.left in
     record { free = may.free; left = omega (arith, same, few, left) })
 
--- each call of a share fits, where each turn's does
-pub shares_fit : (spec : Spec) (round : List Turn) (shares : Shares) → AreShared round shares → TurnsFit spec round → SharesFit spec shares
-shares_fit spec round shares shared fit thread =
-    subst (All (Fits spec)) (sym (shared thread))
-    (All-map (Fits spec) (λ (t : Turn). t.call) (filter (λ t. t.thread == thread) round)
-    (All-filter (λ t. t.thread == thread) (λ (t : Turn). Fits spec t.call) round (All-from_recursion (λ (t : Turn). Fits spec t.call) round fit)))
+turns_fit : (spec : Spec) (turns : List Turn) → TurnsFit spec turns → HaveTurnSizes turns → AllByRecursion (λ t. TurnFits spec t.calls) turns
+turns_fit spec [] fit sizes = tt
+turns_fit spec (t ∷ turns) fit sizes = (record { some = sizes.0.0; few = sizes.0.1; fit = fit.0 }, turns_fit spec turns fit.1 sizes.1)
+
+-- the turns of a share fit, where all turns of the round do
+pub shares_fit : (spec : Spec) (round : List Turn) (shares : Shares) → AreShared round shares → TurnsFit spec round → HaveTurnSizes round
+    → SharesFit spec shares
+shares_fit spec round shares shared fit sizes thread =
+    subst (All (TurnFits spec)) (sym (shared thread))
+    (All-map (TurnFits spec) (λ (t : Turn). t.calls) (filter (λ t. t.thread == thread) round)
+    (All-filter (λ t. t.thread == thread) (λ (t : Turn). TurnFits spec t.calls) round
+    (All-from_recursion (λ (t : Turn). TurnFits spec t.calls) round (turns_fit spec round fit sizes))))
 
 -- ---- the end
 
@@ -188,8 +218,7 @@ has_run store passes work closed h keeps count some turns made =
       history = h.history;
       journal = h.journal ∙ ap (λ k. where_kept k h.history) keeps;
       leaves = subst (λ (x : Spec × ℕ). Leaves x.0 x.1 h.history closed.instance) (λ i. (same i, count i)) h.leaves;
-      runs = subst (λ (spec : Spec). Runs spec work h.history) same run.0;
-      single = run.1;
+      runs = subst (λ (spec : Spec). Runs spec work h.history) same run;
     }
 
 -- ---- new passes

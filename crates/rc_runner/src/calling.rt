@@ -1,14 +1,14 @@
-//! The calls of a round: each thread's in order, those of different threads beside each other.
+//! The turns of a round: each thread's in order, those of different threads beside each other.
 
-ghost use Rattle.std.specs.Prelude.{◌≡◌, ◌+◌, ◌<◌, ◌≤◌, All, OnOk, length};
+ghost use Rattle.std.specs.Prelude.{◌≡◌, ◌∷◌, ◌+◌, ◌<◌, ◌≤◌, [], All, OnOk, length};
 ghost use Rattle.std.specs.Thread.{IsSend, IsSync};
 ghost use Rattle.rc_spec.specs.Calls.{Fits};
 ghost use Rattle.rc_row.specs.Passes.{core_of, spec_of};
-ghost use Rattle.rc_runner.specs.Rounds.{HasCalled, HasGrown, MadeCalls, MadeRound};
+ghost use Rattle.rc_runner.specs.Rounds.{HasCalled, HasGrown, MadeRound, MadeTurns};
 ghost use Rattle.rc_store.specs.Store.{IsFree};
 ghost use Rattle.rc_work.specs.Fitting.{TurnsFit};
 ghost use Rattle.rc_runner.specs.Running.{MayMake, number_of, numbers_of, stand_of};
-ghost use Rattle.rc_runner.specs.Shares.{MayMakeShare, SharesFit, TurnsAreOf, calls_in, share_of};
+ghost use Rattle.rc_runner.specs.Shares.{HaveTurnSizes, MayMakeShare, SharesFit, TurnFits, TurnsAreOf, share_of, turns_in};
 
 use crate::sharing::{Share, share_out};
 use rc_row::Pass;
@@ -32,7 +32,8 @@ fn make_call<R: Wait, G: Gate>(
     requires fits { Fits (spec_of store.now.row) call.now }
     ensures free { IsFree store.now pass.new }
     ensures number { number_of pass.new ≡ number_of pass.old }
-    ensures called { OnOk result (HasCalled call.now (stand_of pass.old) (stand_of pass.new)) }
+    ensures called { OnOk result
+        (HasCalled (call.now ∷ []) (stand_of pass.old) (stand_of pass.new)) }
 {
     match store.call(rt, pass, call, gate) {
         Ok(_) => Ok(()),
@@ -41,27 +42,70 @@ fn make_call<R: Wait, G: Gate>(
     }
 }
 
-/// Makes some calls of a pass, in order.
-fn make_calls<R: Wait, G: Gate>(
+/// Makes calls as one for a pass that may make one entry more.
+fn make_group<R: Wait, G: Gate>(
     rt: &R,
     store: &Store<Waking>,
     pass: &mut Pass,
-    calls: &[&Call],
+    calls: &[Call],
     gate: &G,
 ) -> Result<(), Memory>
-    requires may { MayMake store.now (length calls.now) pass.old }
-    requires fit { All (Fits (spec_of store.now.row)) (calls_in calls.now) }
+    requires may { MayMake store.now 1 pass.old }
+    requires fits { TurnFits (spec_of store.now.row) calls.now }
     ensures free { IsFree store.now pass.new }
     ensures number { number_of pass.new ≡ number_of pass.old }
-    ensures made { OnOk result (HasGrown (calls_in calls.now) (stand_of pass.old) (stand_of pass.new)) }
+    ensures called { OnOk result (HasCalled calls.now (stand_of pass.old) (stand_of pass.new)) }
 {
-    for call in calls {
-        make_call(rt, store, pass, call, gate)?;
+    match store.call_group(rt, pass, calls, gate) {
+        Ok(_) => Ok(()),
+        Err(CallFault::Memory) => Err(Memory),
+        Err(CallFault::Spent) => unreachable!(),
+    }
+}
+
+/// Makes a turn: its call, or the calls of its group as one.
+fn make_turn<R: Wait, G: Gate>(
+    rt: &R,
+    store: &Store<Waking>,
+    pass: &mut Pass,
+    turn: &Turn,
+    gate: &G,
+) -> Result<(), Memory>
+    requires may { MayMake store.now 1 pass.old }
+    requires fits { TurnFits (spec_of store.now.row) turn.now.calls }
+    ensures free { IsFree store.now pass.new }
+    ensures number { number_of pass.new ≡ number_of pass.old }
+    ensures called { OnOk result
+        (HasCalled turn.now.calls (stand_of pass.old) (stand_of pass.new)) }
+{
+    match turn.calls.list() {
+        [call] => make_call(rt, store, pass, call, gate),
+        calls => make_group(rt, store, pass, calls, gate),
+    }
+}
+
+/// Makes some turns of a pass, in order.
+fn make_turns<R: Wait, G: Gate>(
+    rt: &R,
+    store: &Store<Waking>,
+    pass: &mut Pass,
+    turns: &[&Turn],
+    gate: &G,
+) -> Result<(), Memory>
+    requires may { MayMake store.now (length turns.now) pass.old }
+    requires fit { All (TurnFits (spec_of store.now.row)) (turns_in turns.now) }
+    ensures free { IsFree store.now pass.new }
+    ensures number { number_of pass.new ≡ number_of pass.old }
+    ensures made { OnOk result
+        (HasGrown (turns_in turns.now) (stand_of pass.old) (stand_of pass.new)) }
+{
+    for turn in turns {
+        make_turn(rt, store, pass, turn, gate)?;
     }
     Ok(())
 }
 
-/// Makes the calls of a pass's own share.
+/// Makes the turns of a pass's own share.
 fn make_share<R: Wait, G: Gate>(
     rt: &R,
     store: &Store<Waking>,
@@ -77,7 +121,7 @@ fn make_share<R: Wait, G: Gate>(
         (stand_of pass.old) (stand_of pass.new)) }
 {
     match shares.get(pass.number() as usize) {
-        Some(calls) => make_calls(rt, store, pass, calls, gate),
+        Some(turns) => make_turns(rt, store, pass, turns, gate),
         None => Ok(()),
     }
 }
@@ -95,7 +139,7 @@ fn make_shares<R: Threads + Wait + Sync, G: Gate + Sync>(
     requires fit { SharesFit (spec_of store.now.row) shares.now }
     ensures free { All (IsFree store.now) passes.new }
     ensures numbers { numbers_of passes.new ≡ numbers_of passes.old }
-    ensures made { OnOk result (MadeCalls number_of stand_of (share_of shares.now)
+    ensures made { OnOk result (MadeTurns number_of stand_of (share_of shares.now)
         passes.old passes.new) }
 {
     let count = passes.len();
@@ -127,15 +171,15 @@ fn make_both<R: Threads + Wait + Sync, G: Gate + Sync>(
     ensures free_right { All (IsFree store.now) right.new }
     ensures numbers_left { numbers_of left.new ≡ numbers_of left.old }
     ensures numbers_right { numbers_of right.new ≡ numbers_of right.old }
-    ensures made { OnOk result (MadeCalls number_of stand_of (share_of shares.now) left.old left.new
-        × MadeCalls number_of stand_of (share_of shares.now) right.old right.new) }
+    ensures made { OnOk result (MadeTurns number_of stand_of (share_of shares.now) left.old left.new
+        × MadeTurns number_of stand_of (share_of shares.now) right.old right.new) }
 {
     let mut first = || -> Result<(), Memory>
         requires { IsSync R.row × IsSync G.row × All (MayMakeShare store.now shares.now) left.now
             × SharesFit (spec_of store.now.row) shares.now }
         ensures { All (IsFree store.entry.now) left.exit.now
             × (numbers_of left.exit.now ≡ numbers_of left.entry.now)
-            × OnOk result (MadeCalls number_of stand_of (share_of shares.entry.now)
+            × OnOk result (MadeTurns number_of stand_of (share_of shares.entry.now)
             left.entry.now left.exit.now) }
     { make_shares(rt, store, left, shares, gate) };
     let mut second = || -> Result<(), Memory>
@@ -143,7 +187,7 @@ fn make_both<R: Threads + Wait + Sync, G: Gate + Sync>(
             × SharesFit (spec_of store.now.row) shares.now }
         ensures { All (IsFree store.entry.now) right.exit.now
             × (numbers_of right.exit.now ≡ numbers_of right.entry.now)
-            × OnOk result (MadeCalls number_of stand_of (share_of shares.entry.now)
+            × OnOk result (MadeTurns number_of stand_of (share_of shares.entry.now)
             right.entry.now right.exit.now) }
     { make_shares(rt, store, right, shares, gate) };
     let (first, second) = join_mut(rt, &mut first, &mut second);
@@ -151,7 +195,7 @@ fn make_both<R: Threads + Wait + Sync, G: Gate + Sync>(
     second
 }
 
-/// Makes the calls of a round of so many threads, each thread's beside those of the others.
+/// Makes the turns of a round of so many threads, each thread's beside those of the others.
 pub(crate) fn make_round<R: Threads + Wait + Sync, G: Gate + Sync>(
     rt: &R,
     alloc: Global,
@@ -164,6 +208,7 @@ pub(crate) fn make_round<R: Threads + Wait + Sync, G: Gate + Sync>(
     requires may { All (MayMake store.now (length round.now)) passes.old }
     requires threads { TurnsAreOf threads round.now }
     requires fit { TurnsFit (spec_of store.now.row) round.now }
+    requires sizes { HaveTurnSizes round.now }
     ensures free { All (IsFree store.now) passes.new }
     ensures numbers { numbers_of passes.new ≡ numbers_of passes.old }
     ensures made { OnOk result (MadeRound number_of stand_of round.now passes.old passes.new) }

@@ -6,7 +6,7 @@ pub fn rounds_start()
     ensures { RoundsStart }
 {}
 
-/// Where the passes have made some rounds, each then makes its calls of one more, and all learn what each has seen,
+/// Where the passes have made some rounds, each then makes its turns of one more, and all learn what each has seen,
 /// they have made that round too.
 pub fn a_round_goes_on()
     ensures { ARoundGoesOn }

@@ -9,7 +9,7 @@ ghost use Rattle.rc_store.specs.Store.{IsFree};
 ghost use Rattle.rc_work.specs.Fitting.{HasThreads, RoundsFit};
 ghost use Rattle.rc_work.specs.Limits.{KeepsLimits};
 ghost use Rattle.rc_runner.specs.Running.{HasRun, numbers_of, stands_of};
-ghost use Rattle.rc_runner.specs.Shares.{RoundsAreOf};
+ghost use Rattle.rc_runner.specs.Shares.{RoundsHaveTurnSizes, RoundsAreOf};
 
 use crate::calling::make_round;
 use crate::telling::tell;
@@ -23,10 +23,10 @@ use std::alloc::Global;
 use std::sync::Wait;
 use std::thread::Threads;
 
-/// How many calls a pass may make: more than any workload has.
-const MOST_CALLS: u64 = 1 << 48;
+/// How many entries a pass may make: more than any workload has turns.
+const MOST_ENTRIES: u64 = 1 << 48;
 
-/// Makes the calls of some rounds of so many threads, one round after another. After each, all passes
+/// Makes the turns of some rounds of so many threads, one round after another. After each, all passes
 /// learn what any has seen, so that what they commit next stands behind it.
 fn run_rounds<R: Threads + Wait + Sync, G: Gate + Sync>(
     rt: &R,
@@ -42,6 +42,7 @@ fn run_rounds<R: Threads + Wait + Sync, G: Gate + Sync>(
     requires none { All (λ pass. (core_of pass).own ≡ []) passes.old }
     requires few { sum_by length rounds.now ≤ store.now.limit }
     requires fit { RoundsFit (spec_of store.now.row) rounds.now }
+    requires sizes { RoundsHaveTurnSizes rounds.now }
     requires threads { RoundsAreOf threads rounds.now }
     ensures free { All (IsFree store.now) passes.new }
     ensures numbers { numbers_of passes.new ≡ numbers_of passes.old }
@@ -65,10 +66,11 @@ fn close(store: Store<Waking>, passes: Vec<Pass>) -> Result<Closed, Memory>
     }
 }
 
-/// Makes all calls of a workload on a store of its own, and closes it: pass k makes the calls of thread k, in order; the
-/// threads of a round run beside each other, and each round after the one before. The journal is a run of the workload, and
-/// the instance is of the relation that it leaves. The gate is told of each point that a call reaches. The seed is that of the
-/// store's hash tables. Only want of memory refuses it. (PLDI 2012, serializable transactions.)
+/// Makes all turns of a workload on a store of its own, and closes it: pass k makes the turns of thread k, in order, the calls
+/// of each group as one entry; the threads of a round run beside each other, and each round after the one before. The journal
+/// is a run of the workload, and the instance is of the relation that it leaves. The gate is told of each point that a turn
+/// reaches. The seed is that of the store's hash tables. Only want of memory refuses it. (PLDI 2012, serializable
+/// transactions.)
 pub fn run_work<R: Threads + Wait + Sync, G: Gate + Sync>(
     rt: &R,
     alloc: Global,
@@ -88,7 +90,7 @@ pub fn run_work<R: Threads + Wait + Sync, G: Gate + Sync>(
         hash_seed,
         compiled,
         work.threads,
-        MOST_CALLS,
+        MOST_ENTRIES,
         Keeping::Entries,
         Waking,
     )?;

@@ -3,15 +3,14 @@
 ghost use Rattle.std.specs.Prelude.{◌≡◌, ◌<◌, [], All, IfOk, length};
 ghost use Rattle.rc_runner.specs.Shares.{AreShared};
 
-use rc_spec::Call;
 use rc_tuple::Memory;
 use rc_work::Turn;
 use std::alloc::Global;
 
-/// The calls of a thread in a round, in order.
-pub(crate) type Share<'a> = Vec<&'a Call>;
+/// The turns of a thread in a round, in order.
+pub(crate) type Share<'a> = Vec<&'a Turn>;
 
-/// A share of no calls for each thread.
+/// A share of no turns for each thread.
 fn empty_shares<'a>(alloc: Global, threads: u32) -> Result<Vec<Share<'a>>, Memory>
     ensures count { IfOk result (λ shares. length shares.items ≡ threads) }
     ensures empty { IfOk result (λ shares. AreShared [] shares.items) }
@@ -23,7 +22,7 @@ fn empty_shares<'a>(alloc: Global, threads: u32) -> Result<Vec<Share<'a>>, Memor
     Ok(shares)
 }
 
-/// Shares the turns of a round out among so many threads, each of which has its calls in order.
+/// Shares the turns of a round out among so many threads, each of which has its own in order.
 pub(crate) fn share_out(
     alloc: Global,
     threads: u32,
@@ -34,7 +33,7 @@ pub(crate) fn share_out(
 {
     let mut shares = empty_shares(alloc, threads)?;
     for turn in round {
-        shares[turn.thread as usize].push(&turn.call)?;
+        shares[turn.thread as usize].push(turn)?;
     }
     Ok(shares)
 }

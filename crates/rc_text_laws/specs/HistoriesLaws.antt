@@ -1,59 +1,173 @@
 -- One report has one history.
-use Rattle.std.proofs.Common.{◌≡◌, ℕ, suc, ◌+◌, ◌<◌, ◌^◌, Bool, true, false, cond, List, [], ◌∷◌, ◌++◌, length, map, refl, sym, ap, ◌∙◌, arith}
-use Rattle.std.specs.Prelude.{codes, ◌==◌}
-use Rattle.std.specs.List.{AllByRecursion, enumerate_from, range_with_len, flat_map}
+use Rattle.std.proofs.Common.{◌≡◌, ℕ, suc, ◌+◌, ◌<◌, ◌≤◌, ◌^◌, Bool, true, false, cond, List, [], ◌∷◌, ◌++◌, length, map, refl, sym, ap, ◌∙◌, subst, arith}
+use Rattle.std.specs.Prelude.{codes, nat_le, ◌==◌}
+use Rattle.std.specs.List.{AllByRecursion, enumerate_from, list_all, range_with_len, flat_map}
 use Rattle.std.specs.Fmt.{decimal}
-use Rattle.std.proofs.lemmas.Bool.{false≢true, eq-eqb}
-use Rattle.std.proofs.lemmas.List.{append-nil, append_cancel_left, append_cancel_right}
+use Rattle.std.proofs.lemmas.Bool.{false≢true, eq-eqb, leb-false}
+use Rattle.std.proofs.lemmas.List.{append_assoc, append_cancel_left, append_cancel_right}
 use Rattle.rc_tuple.specs.Tuple.{Pairs, cols_of}
 use Rattle.rc_spec.specs.Calls.{all_columns}
-use Rattle.rc_spec.specs.Names.{IsWellNamed}
+use Rattle.rc_spec.specs.Names.{IsWellNamed, is_name_byte}
+use Rattle.rc_spec.specs.declared.items.Op.{Op}
 use Rattle.rc_spec.specs.declared.spec.Spec.{Spec}
 use Rattle.rc_rel.specs.declared.entry.Step.{Step}
 use Rattle.rc_rel.specs.declared.entry.Entry.{Entry}
 use Rattle.rc_rel.specs.History.{own, IsNumbered}
-use Rattle.rc_work.specs.Printed.{spaced, row_text, step_words}
-use Rattle.rc_work.specs.Report.{entry_line, entry_lines, count_line, final_lines, report}
-use Rattle.rc_work.specs.ReportLaws.{length-entry_lines}
-use Rattle.rc_text_laws.specs.CutLaws.{AreTexts, decimal_one}
+use Rattle.rc_work.specs.Printed.{spaced, words_text, row_text, given, outs_of, pair_words, reply_words, values_and_reply, step_words_at, step_words}
+use Rattle.rc_work.specs.Report.{step_line, group_head, entry_lines, count_line, final_lines, report}
+use Rattle.rc_text_laws.specs.CutLaws.{AreTexts, cut, decimal_one}
 use Rattle.rc_text_laws.specs.LinesLaws.{AreShown, row_one, tail_of}
-use Rattle.rc_text_laws.specs.StepsLaws.{IsStepShown, step_one, ends_of}
+use Rattle.rc_text_laws.specs.StepsLaws.{IsStepShown, name_bytes, step_one, ends_of}
 
--- ---- an entry
+-- ---- the lines of an entry
 
--- an entry of one step, which is shown
+-- an entry of one step at least, each of which is shown
 pub record IsEntryShown (spec : Spec) (texts : List (List ℕ)) (entry : Entry) : Type 0 where
   pub small : entry.pass < 2 ^ 64
-  pub step : Step
-  pub one : entry.steps ≡ step ∷ []
-  pub shown : IsStepShown spec texts step
+  pub some : 1 ≤ length entry.steps
+  pub few : length entry.steps < 2 ^ 64
+  pub steps : AllByRecursion (IsStepShown spec texts) entry.steps
 
--- the words of an entry of one step
-pub one_step : (spec : Spec) (texts : List (List ℕ)) (e : Entry) (h : IsEntryShown spec texts e)
-    → flat_map (step_words spec texts) e.steps ≡ step_words spec texts h.step
-one_step spec texts e h =
-    ap (λ steps. flat_map (step_words spec texts) steps) h.one
-    ∙ append-nil (step_words spec texts h.step)
+-- behind the place and the thread
+behind_thread : (place thread other : ℕ) (words others : List (List ℕ)) → thread < 2 ^ 64 → other < 2 ^ 64
+    → words_text (decimal place ∷ decimal thread ∷ words) ≡ words_text (decimal place ∷ decimal other ∷ others)
+    → (thread ≡ other) × (spaced words ≡ spaced others)
+behind_thread place thread other words others small other_small line =
+    let threads = append_cancel_left (decimal place) (32 ∷ (decimal thread ++ spaced words))
+    (32 ∷ (decimal other ++ spaced others)) line in
+    decimal_one thread other (spaced words) (spaced others) small other_small (ends_of words) (ends_of others)
+    (tail_of 32 32 (decimal thread ++ spaced words) (decimal other ++ spaced others) threads)
 
--- a line at a known place determines the thread and the steps
-pub entry_one : (spec : Spec) (texts : List (List ℕ)) (place : ℕ) (e f : Entry) → IsWellNamed spec
+-- a line at a known place determines the thread and the step
+step_line_one : (spec : Spec) (texts : List (List ℕ)) (place thread other : ℕ) (s t : Step) → IsWellNamed spec → AreTexts texts
+    → thread < 2 ^ 64 → other < 2 ^ 64 → IsStepShown spec texts s → IsStepShown spec texts t
+    → step_line spec texts place thread s ≡ step_line spec texts place other t → (thread ≡ other) × (s ≡ t)
+step_line_one spec texts place thread other s t named good small other_small hs ht line =
+    let both = behind_thread place thread other (step_words spec texts s) (step_words spec texts t) small other_small line in
+    (both.0, step_one spec texts s t named good hs ht both.1)
+
+-- the first line of a group, the thread and how many steps it has
+group_head_one : (place thread other count others : ℕ) → thread < 2 ^ 64 → other < 2 ^ 64 → count < 2 ^ 64 → others < 2 ^ 64
+    → group_head place thread count ≡ group_head place other others → (thread ≡ other) × (count ≡ others)
+group_head_one place thread other count others small other_small few others_few line =
+    let both = behind_thread place thread other (codes "&" ∷ decimal count ∷ []) (codes "&" ∷ decimal others ∷ []) small other_small line in (
+      both.0,
+      (decimal_one count others [] [] few others_few tt tt
+          (append_cancel_left (32 ∷ (codes "&" ++ 32 ∷ [])) (decimal count ++ []) (decimal others ++ []) both.1)).0,
+    )
+
+head_byte : (x y : ℕ) (xs ys : List ℕ) → x ∷ xs ≡ y ∷ ys → x ≡ y
+head_byte x y xs ys e = cc
+
+-- no name is `&`
+name_not_sign : (name words : List ℕ) (others : List ℕ) → list_all is_name_byte name ≡ true → name ++ 32 ∷ words ≡ 38 ∷ others → ⊥
+name_not_sign name words others bytes e =
+    let both = cut is_name_byte name [] (32 ∷ words) (38 ∷ others) bytes refl refl refl e in
+    let no = head_byte 32 38 words others both.1 in omega (arith, no)
+
+-- a step behind its name has words
+values_begin : (spec : Spec) (texts : List (List ℕ)) (op : Op) (step : Step)
+    → (rest : List ℕ) × (spaced (values_and_reply spec texts op step) ≡ 32 ∷ rest)
+values_begin spec texts op step = go (pair_words spec texts (given op.kind op.pattern step.call.args step.call.ranges))
+  where
+    go : (values : List (List ℕ))
+        → (rest : List ℕ) × (spaced (values ++ codes "->" ∷ reply_words spec texts (outs_of op.kind) step.reply) ≡ 32 ∷ rest)
+    go [] = (_, refl)
+    go (w ∷ values) = (_, refl)
+
+-- the line of a step is no first line of a group
+step_no_head : (spec : Spec) (texts : List (List ℕ)) (place thread other count : ℕ) (s : Step) → IsWellNamed spec
+    → thread < 2 ^ 64 → other < 2 ^ 64 → IsStepShown spec texts s
+    → step_line spec texts place thread s ≡ group_head place other count → ⊥
+step_no_head spec texts place thread other count s named small other_small shown line =
+    let both = behind_thread place thread other (step_words spec texts s) (codes "&" ∷ decimal count ∷ []) small other_small line in
+    let words : step_words spec texts s ≡ shown.op.name ∷ values_and_reply spec texts shown.op s =
+    ap (λ o. step_words_at o spec texts s) shown.fits.known in
+    let rest = values_begin spec texts shown.op s in
+    let name = tail_of 32 32 (shown.op.name ++ spaced (values_and_reply spec texts shown.op s)) (38 ∷ 32 ∷ (decimal count ++ []))
+    (ap spaced (sym words) ∙ both.1) in
+    name_not_sign shown.op.name rest.0 (32 ∷ (decimal count ++ [])) (name_bytes spec shown.op s.call.op named shown.fits.known)
+    (ap (λ l. shown.op.name ++ l) (sym rest.1) ∙ name)
+
+-- as many lines of steps determine the steps, and what stands behind them
+step_lines_one : (spec : Spec) (texts : List (List ℕ)) (place thread other : ℕ) (steps others : List Step) (a b : List (List ℕ))
+    → IsWellNamed spec → AreTexts texts → thread < 2 ^ 64 → other < 2 ^ 64
+    → AllByRecursion (IsStepShown spec texts) steps → AllByRecursion (IsStepShown spec texts) others → length steps ≡ length others
+    → map (step_line spec texts place thread) steps ++ a ≡ map (step_line spec texts place other) others ++ b
+    → (steps ≡ others) × (a ≡ b)
+step_lines_one spec texts place thread other [] [] a b named good small other_small hs ht count e = (refl, e)
+step_lines_one spec texts place thread other [] (t ∷ others) a b named good small other_small hs ht count e = absurd (omega arith)
+step_lines_one spec texts place thread other (s ∷ steps) [] a b named good small other_small hs ht count e = absurd (omega arith)
+step_lines_one spec texts place thread other (s ∷ steps) (t ∷ others) a b named good small other_small hs ht count e =
+    let parts = both (step_line spec texts place thread s) (step_line spec texts place other t) _ _ e in
+    let here = step_line_one spec texts place thread other s t named good small other_small hs.0 ht.0 parts.0 in
+    let rest = step_lines_one spec texts place thread other steps others a b named good small other_small hs.1 ht.1 (omega arith) parts.1 in
+    (joined here.1 rest.0, rest.1)
+  where
+    both : (p q : List ℕ) (t u : List (List ℕ)) → p ∷ t ≡ q ∷ u → (p ≡ q) × (t ≡ u)
+    both p q t u e = (cc, cc)
+
+    joined : s ≡ t → steps ≡ others → s ∷ steps ≡ t ∷ others
+    joined e f = cc
+
+-- whether an entry is a group, and its lines
+abbrev entry_lines_by : Bool → Spec → List (List ℕ) → ℕ → Entry → List (List ℕ)
+entry_lines_by many spec texts place e =
+    cond many (group_head place e.pass (length e.steps) ∷ []) [] ++ map (step_line spec texts place e.pass) e.steps
+
+-- the lines of an entry at a known place determine its thread and steps, and what stands behind them
+pub entry_one : (spec : Spec) (texts : List (List ℕ)) (place : ℕ) (e f : Entry) (a b : List (List ℕ)) → IsWellNamed spec
     → AreTexts texts → IsEntryShown spec texts e → IsEntryShown spec texts f
-    → entry_line spec texts place e ≡ entry_line spec texts place f
-    → (e.pass ≡ f.pass) × (e.steps ≡ f.steps)
-entry_one spec texts place e f named good he hf line =
-    let we = spaced (flat_map (step_words spec texts) e.steps) in
-    let wf = spaced (flat_map (step_words spec texts) f.steps) in
-    let threads = append_cancel_left (decimal place) (32 ∷ (decimal e.pass ++ we))
-    (32 ∷ (decimal f.pass ++ wf)) line in
-    let both = decimal_one e.pass f.pass we wf he.small hf.small
-    (ends_of (flat_map (step_words spec texts) e.steps))
-    (ends_of (flat_map (step_words spec texts) f.steps))
-    (tail_of 32 32 (decimal e.pass ++ we) (decimal f.pass ++ wf) threads) in
-    let words : spaced (step_words spec texts he.step) ≡ spaced (step_words spec texts hf.step) =
-    ap spaced (sym (one_step spec texts e he)) ∙ both.1 ∙ ap spaced (one_step spec texts f hf) in
-    let step : he.step ≡ hf.step =
-    step_one spec texts he.step hf.step named good he.shown hf.shown words in
-    (both.0, he.one ∙ ap (λ s. s ∷ []) step ∙ sym hf.one)
+    → entry_lines spec texts place e ++ a ≡ entry_lines spec texts place f ++ b
+    → ((e.pass ≡ f.pass) × (e.steps ≡ f.steps)) × (a ≡ b)
+entry_one spec texts place e f a b named good he hf lines =
+    by_sizes (nat_le 2 (length e.steps)) (nat_le 2 (length f.steps)) refl refl lines
+  where
+    both : (p q : List ℕ) (t u : List (List ℕ)) → p ∷ t ≡ q ∷ u → (p ≡ q) × (t ≡ u)
+    both p q t u e = (cc, cc)
+
+    one_step : (steps : List Step) → length steps ≡ 1 → (s : Step) × (steps ≡ s ∷ [])
+    one_step [] n = absurd (omega arith)
+    one_step (s ∷ []) n = (s, refl)
+    one_step (s ∷ t ∷ steps) n = absurd (omega arith)
+
+    -- a step's line against the first line of a group
+    apart : (g h : Entry) (c d : List (List ℕ)) → IsEntryShown spec texts g → IsEntryShown spec texts h → length g.steps ≡ 1
+        → map (step_line spec texts place g.pass) g.steps ++ c
+        ≡ group_head place h.pass (length h.steps) ∷ (map (step_line spec texts place h.pass) h.steps ++ d) → ⊥
+    apart g h c d hg hh n l =
+        let one = one_step g.steps n in
+        let shown : AllByRecursion (IsStepShown spec texts) (one.0 ∷ []) = subst (AllByRecursion (IsStepShown spec texts)) one.1 hg.steps in
+        let line = ap (λ steps. map (step_line spec texts place g.pass) steps ++ c) (sym one.1) ∙ l in
+        step_no_head spec texts place g.pass h.pass (length h.steps) one.0 named hg.small hh.small shown.0
+        (both (step_line spec texts place g.pass one.0) (group_head place h.pass (length h.steps)) c _ line).0
+
+    one_of : (g : Entry) → IsEntryShown spec texts g → nat_le 2 (length g.steps) ≡ false → length g.steps ≡ 1
+    one_of g hg n = omega (arith, hg.some, leb-false 2 (length g.steps) n)
+
+    by_sizes : (m n : Bool) → nat_le 2 (length e.steps) ≡ m → nat_le 2 (length f.steps) ≡ n
+        → entry_lines_by m spec texts place e ++ a ≡ entry_lines_by n spec texts place f ++ b
+        → ((e.pass ≡ f.pass) × (e.steps ≡ f.steps)) × (a ≡ b)
+    by_sizes true true em en l =
+        let parts = both (group_head place e.pass (length e.steps)) (group_head place f.pass (length f.steps)) _ _ l in
+        let head = group_head_one place e.pass f.pass (length e.steps) (length f.steps) he.small hf.small he.few hf.few parts.0 in
+        let rest = step_lines_one spec texts place e.pass f.pass e.steps f.steps a b named good he.small hf.small he.steps hf.steps head.1 parts.1 in
+        ((head.0, rest.0), rest.1)
+    by_sizes true false em en l = absurd (apart f e b a hf he (one_of f hf en) (sym l))
+    by_sizes false true em en l = absurd (apart e f a b he hf (one_of e he em) l)
+    by_sizes false false em en l =
+        let count : length e.steps ≡ length f.steps = one_of e he em ∙ sym (one_of f hf en) in
+        let rest = step_lines_one spec texts place e.pass f.pass e.steps f.steps a b named good he.small hf.small he.steps hf.steps count l in
+        let first = one_step e.steps (one_of e he em) in
+        let second = one_step f.steps (one_of f hf en) in
+        let shown : AllByRecursion (IsStepShown spec texts) (first.0 ∷ []) = subst (AllByRecursion (IsStepShown spec texts)) first.1 he.steps in
+        let other_shown : AllByRecursion (IsStepShown spec texts) (second.0 ∷ []) = subst (AllByRecursion (IsStepShown spec texts)) second.1 hf.steps in
+        let lines : step_line spec texts place e.pass first.0 ∷ a ≡ step_line spec texts place f.pass second.0 ∷ b =
+        ap (λ steps. map (step_line spec texts place e.pass) steps ++ a) (sym first.1) ∙ l
+        ∙ ap (λ steps. map (step_line spec texts place f.pass) steps ++ b) second.1 in
+        let here = step_line_one spec texts place e.pass f.pass first.0 second.0 named good he.small hf.small shown.0 other_shown.0
+        (both (step_line spec texts place e.pass first.0) (step_line spec texts place f.pass second.0) a b lines).0 in
+        ((here.0, rest.0), rest.1)
 
 -- ---- histories
 
@@ -65,24 +179,25 @@ AreAlike (x ∷ entries) [] = ⊥
 AreAlike (x ∷ entries) (y ∷ others) =
     ((x.pass ≡ y.pass) × (x.steps ≡ y.steps)) × AreAlike entries others
 
-pub entries_alike : (spec : Spec) (texts : List (List ℕ)) (n : ℕ) (history other : List Entry)
+-- as many entries, and what stands behind their lines
+pub entries_alike : (spec : Spec) (texts : List (List ℕ)) (n : ℕ) (history other : List Entry) (a b : List (List ℕ))
     → IsWellNamed spec → AreTexts texts
     → AllByRecursion (IsEntryShown spec texts) history
     → AllByRecursion (IsEntryShown spec texts) other
-    → map (λ e. entry_line spec texts e.0 e.1) (enumerate_from n history)
-    ≡ map (λ e. entry_line spec texts e.0 e.1) (enumerate_from n other)
-    → AreAlike history other
-entries_alike spec texts n [] [] named good h k e = tt
-entries_alike spec texts n [] (y ∷ other) named good h k e = cc
-entries_alike spec texts n (x ∷ history) [] named good h k e = cc
-entries_alike spec texts n (x ∷ history) (y ∷ other) named good h k e =
-    let parts = both (entry_line spec texts n x) (entry_line spec texts n y) _ _ e in (
-      entry_one spec texts n x y named good h.0 k.0 parts.0,
-      entries_alike spec texts (n + 1) history other named good h.1 k.1 parts.1,
-    )
-  where
-    both : (p q : List ℕ) (t u : List (List ℕ)) → p ∷ t ≡ q ∷ u → (p ≡ q) × (t ≡ u)
-    both p q t u e = (cc, cc)
+    → length history ≡ length other
+    → flat_map (λ e. entry_lines spec texts e.0 e.1) (enumerate_from n history) ++ a
+    ≡ flat_map (λ e. entry_lines spec texts e.0 e.1) (enumerate_from n other) ++ b
+    → AreAlike history other × (a ≡ b)
+entries_alike spec texts n [] [] a b named good h k count e = (tt, e)
+entries_alike spec texts n [] (y ∷ other) a b named good h k count e = absurd (omega arith)
+entries_alike spec texts n (x ∷ history) [] a b named good h k count e = absurd (omega arith)
+entries_alike spec texts n (x ∷ history) (y ∷ other) a b named good h k count e =
+    let left = flat_map (λ (e : ℕ × Entry). entry_lines spec texts e.0 e.1) (enumerate_from (n + 1) history) in
+    let right = flat_map (λ (e : ℕ × Entry). entry_lines spec texts e.0 e.1) (enumerate_from (n + 1) other) in
+    let here = entry_one spec texts n x y (left ++ a) (right ++ b) named good h.0 k.0
+    (sym (append_assoc (entry_lines spec texts n x) left a) ∙ e ∙ append_assoc (entry_lines spec texts n y) right b) in
+    let rest = entries_alike spec texts (n + 1) history other a b named good h.1 k.1 (omega arith) here.1 in
+    ((here.0, rest.0), rest.1)
 
 own_lengths : (history other : List Entry) (pass : ℕ) → AreAlike history other
     → length (own history pass) ≡ length (own other pass)
@@ -171,22 +286,6 @@ rows_alike spec texts (t ∷ rows) (u ∷ others) good h k e =
 
 -- ---- the report
 
-split : (xs ys us vs : List (List ℕ)) → length xs ≡ length us → xs ++ ys ≡ us ++ vs
-    → (xs ≡ us) × (ys ≡ vs)
-split [] ys [] vs l e = (refl, e)
-split [] ys (u ∷ us) vs l e = absurd (omega arith)
-split (x ∷ xs) ys [] vs l e = absurd (omega arith)
-split (x ∷ xs) ys (u ∷ us) vs l e =
-    let parts = both x u (xs ++ ys) (us ++ vs) e in
-    let rest = split xs ys us vs (omega arith) parts.1 in
-    (joined parts.0 rest.0, rest.1)
-  where
-    both : (p q : List ℕ) (t u : List (List ℕ)) → p ∷ t ≡ q ∷ u → (p ≡ q) × (t ≡ u)
-    both p q t u e = (cc, cc)
-
-    joined : x ≡ u → xs ≡ us → x ∷ xs ≡ u ∷ us
-    joined e f = cc
-
 -- what a report can show: fewer than 2^64 entries, each shown, numbered by thread, and a relation over all
 -- columns
 pub record IsShownBy (spec : Spec) (texts : List (List ℕ)) (history : List Entry) (rows : List Pairs) : Type 0 where
@@ -213,15 +312,13 @@ one_report_one_history spec texts history other rows others named good h k e =
     (decimal (length other) ++ []) parts.0 in
     let same : length history ≡ length other =
     (decimal_one (length history) (length other) [] [] h.count k.count tt tt counts).0 in
-    let lines = split (entry_lines spec texts history) (final_lines spec texts rows)
-    (entry_lines spec texts other) (final_lines spec texts others)
-    (length-entry_lines spec texts history ∙ same ∙ sym (length-entry_lines spec texts other)) parts.1 in
+    let lines = entries_alike spec texts 0 history other (final_lines spec texts rows) (final_lines spec texts others) named good
+    h.entries k.entries same parts.1 in
     let final = both (count_line (codes "final") (length rows))
     (count_line (codes "final") (length others)) _ _ lines.1 in
     let printed = append_cancel_right (map (row_text spec texts) rows)
     (map (row_text spec texts) others) (codes "end" ∷ []) final.1 in (
-      numbered_one history other
-          (entries_alike spec texts 0 history other named good h.entries k.entries lines.0) h.numbered k.numbered,
+      numbered_one history other lines.0 h.numbered k.numbered,
       rows_alike spec texts rows others good h.tuples k.tuples printed,
     )
   where

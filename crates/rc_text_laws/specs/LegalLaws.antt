@@ -6,7 +6,7 @@ use Rattle.std.specs.List.{AllByRecursion, list_any, zip}
 use Rattle.std.specs.Ordering.{match_ordering}
 use Rattle.std.specs.declared.cmp.Ordering.{Ordering}
 use Rattle.std.specs.declared.cmp.Ordering.TheVariants.{Less, Equal, Greater}
-use Rattle.std.proofs.lemmas.List.{length-map}
+use Rattle.std.proofs.lemmas.List.{length-append, length-map}
 use Rattle.rc_tuple.specs.RisingSet.{In, put, gather}
 use Rattle.rc_tuple.specs.RisingSetLaws.{number_lists_order, in_gather, in_map, in_filter, each_in, in_each, slice_get_in}
 use Rattle.rc_tuple.specs.ColSetLaws.{in_range_below}
@@ -30,6 +30,7 @@ use Rattle.rc_spec.specs.declared.spec.Spec.{Spec}
 use Rattle.rc_rel.specs.declared.entry.Step.{Step}
 use Rattle.rc_rel.specs.declared.entry.Entry.{Entry}
 use Rattle.rc_rel.specs.History.{IsLegal, IsNumbered, AreLegalFrom, after_steps, steps_of, replay}
+use Rattle.rc_rel.specs.HistoryLaws.{after_steps-append}
 use Rattle.rc_work.specs.Printed.{bounds_given, kind_at}
 use Rattle.rc_work.specs.Report.{report}
 use Rattle.rc_text.specs.Lines.{printed_lines}
@@ -166,61 +167,96 @@ module _ (spec : Spec) (texts : List (List ℕ)) (ranged : IsInRange spec) where
 
 -- ---- histories
 
--- an entry of one step, whose call fits and has known values
-pub record IsCallShown (spec : Spec) (texts : List (List ℕ)) (entry : Entry) : Type 0 where
-  pub small : entry.pass < 2 ^ 64
-  pub step : Step
-  pub one : entry.steps ≡ step ∷ []
+-- a step whose call fits and has known values
+pub record IsCallShown (spec : Spec) (texts : List (List ℕ)) (step : Step) : Type 0 where
   pub op : Op
   pub fits : FitsAt spec step.call op
   pub args : AreShown spec texts step.call.args
   pub bounds : AreShown spec texts (bounds_given step.call.ranges)
 
+-- an entry of one such step at least
+pub record HasCallsShown (spec : Spec) (texts : List (List ℕ)) (entry : Entry) : Type 0 where
+  pub small : entry.pass < 2 ^ 64
+  pub some : 1 ≤ length entry.steps
+  pub calls : AllByRecursion (IsCallShown spec texts) entry.steps
+
 module _ (spec : Spec) (texts : List (List ℕ)) (ranged : IsInRange spec) where
-  legal_entries : (r : List Pairs) (history : List Entry)
-      → ((t : Pairs) → In t r → IsRowShown spec texts t) → length r + length history < 2 ^ 64
-      → AllByRecursion (IsCallShown spec texts) history → AreLegalFrom spec r (steps_of history)
-      → AllByRecursion (IsEntryShown spec texts) history
-      × ((t : Pairs) → In t (after_steps spec r (steps_of history)) → IsRowShown spec texts t)
-      × (length (after_steps spec r (steps_of history)) ≤ length r + length history)
-  legal_entries r [] each small h legal = (tt, each, omega arith)
-  legal_entries r (e ∷ history) each small h legal =
+  -- each tuple is shown
+  abbrev AreRowsShown : List Pairs → Type 0
+  AreRowsShown r = (t : Pairs) → In t r → IsRowShown spec texts t
+
+  -- what is shown of legal steps, and of the relation that they leave
+  record LegalShown (r : List Pairs) (steps behind : List Step) : Type 0 where
+    pub steps_shown : AllByRecursion (IsStepShown spec texts) steps
+    pub rows : AreRowsShown (after_steps spec r steps)
+    pub few : length (after_steps spec r steps) ≤ length r + length steps
+    pub legal : AreLegalFrom spec (after_steps spec r steps) behind
+
+  legal_steps : (r : List Pairs) (steps behind : List Step) → AreRowsShown r → length r + length steps < 2 ^ 64
+      → AllByRecursion (IsCallShown spec texts) steps → AreLegalFrom spec r (steps ++ behind) → LegalShown r steps behind
+  legal_steps r [] behind each small h legal = record { steps_shown = tt; rows = each; few = omega arith; legal = legal }
+  legal_steps r (step ∷ steps) behind each small h legal =
       let called = h.0 in
-      let step = called.step in
       let op = called.op in
-      let turns =
-      subst (λ steps. AreLegalFrom spec r (steps ++ steps_of history)) called.one legal in
       let known = plain-known spec r step.call op called.fits.known in
       let outs =
       (ranged.known_ops op (slice_get_in spec.ops step.call.op op called.fits.known)).outs in
       let reply : IsReplyOf spec texts op.kind step.reply =
-      subst (IsReplyOf spec texts op.kind) (sym (turns.0 ∙ ap (λ o. o.reply) known))
+      subst (IsReplyOf spec texts op.kind) (sym (legal.0 ∙ ap (λ o. o.reply) known))
       (reply_shown spec texts ranged spec.most_rows op.kind op.pattern step.call.args step.call.ranges r outs (omega arith) each) in
-      let each' : (t : Pairs) → In t (plain spec r step.call).relation → IsRowShown spec texts t =
+      let each' : AreRowsShown (plain spec r step.call).relation =
       subst (λ o. (t : Pairs) → In t o.relation → IsRowShown spec texts t) (sym known)
       (each_after (IsRowShown spec texts) spec.most_rows op.kind op.pattern spec.deps step.call.args step.call.ranges r (λ k. (tuple_columns spec step.call op called.fits k, called.args)) each) in
-      let rest = legal_entries (plain spec r step.call).relation history each'
-      (omega (arith, plain_grows spec r step.call)) h.1 turns.1 in
-      let shown_step : IsStepShown spec texts step =
-      record { op = op; fits = called.fits; args = called.args; bounds = called.bounds; reply = reply } in
+      let grows = plain_grows spec r step.call in
+      let rest = legal_steps (plain spec r step.call).relation steps behind each' (omega (arith, grows)) h.1 legal.1 in
+      record {
+        steps_shown = (
+          record { op = op; fits = called.fits; args = called.args; bounds = called.bounds; reply = reply },
+          rest.steps_shown,
+        );
+        rows = rest.rows;
+        few = omega (arith, rest.few, grows);
+        legal = rest.legal;
+      }
+
+  -- the relation behind an entry, and the entries behind it
+  behind_entry : (r : List Pairs) (e : Entry) (history : List Entry)
+      → after_steps spec r (steps_of (e ∷ history)) ≡ after_steps spec (after_steps spec r e.steps) (steps_of history)
+  behind_entry r e history = after_steps-append spec r e.steps (steps_of history)
+
+  legal_entries : (r : List Pairs) (history : List Entry)
+      → AreRowsShown r → length r + length (steps_of history) < 2 ^ 64
+      → AllByRecursion (HasCallsShown spec texts) history → AreLegalFrom spec r (steps_of history)
+      → AllByRecursion (IsEntryShown spec texts) history
+      × AreRowsShown (after_steps spec r (steps_of history))
+      × (length (after_steps spec r (steps_of history)) ≤ length r + length (steps_of history))
+  legal_entries r [] each small h legal = (tt, each, omega arith)
+  legal_entries r (e ∷ history) each small h legal =
+      let both : length (steps_of (e ∷ history)) ≡ length e.steps + length (steps_of history) =
+      length-append e.steps (steps_of history) in
+      let here = legal_steps r e.steps (steps_of history) each (omega (arith, small, both)) h.0.calls legal in
+      let rest = legal_entries (after_steps spec r e.steps) history here.rows (omega (arith, small, both, here.few)) h.1 here.legal in
       let shown : IsEntryShown spec texts e =
-      record { small = called.small; step = step; one = called.one; shown = shown_step } in (
+      record { small = h.0.small; some = h.0.some; few = omega (arith, small, both); steps = here.steps_shown } in (
         (shown, rest.0),
-        subst
-            (λ steps. (t : Pairs) → In t (after_steps spec r (steps ++ steps_of history)) → IsRowShown spec texts t)
-            (sym called.one) rest.1,
-        subst
-            (λ steps. length (after_steps spec r (steps ++ steps_of history)) ≤ length r + length (e ∷ history))
-            (sym called.one) (omega (arith, rest.2, plain_grows spec r step.call)),
+        subst AreRowsShown (sym (behind_entry r e history)) rest.1,
+        subst (λ (s : List Pairs). length s ≤ length r + length (steps_of (e ∷ history))) (sym (behind_entry r e history))
+            (omega (arith, rest.2, here.few, both)),
       )
 
--- what a run journals: a legal numbered history of calls that fit, each an entry of its own, with the ranks of some
--- texts
+-- what a run journals: a legal numbered history of calls that fit, some in each entry, with the ranks of some texts
 pub record IsJournal (spec : Spec) (texts : List (List ℕ)) (history : List Entry) : Type 0 where
-  pub count : length history < 2 ^ 64
-  pub calls : AllByRecursion (IsCallShown spec texts) history
+  pub count : length (steps_of history) < 2 ^ 64
+  pub calls : AllByRecursion (HasCallsShown spec texts) history
   pub numbered : IsNumbered history
   pub legal : IsLegal spec history
+
+-- there are at least as many steps as entries
+length-steps_of : (spec : Spec) (texts : List (List ℕ)) (history : List Entry) → AllByRecursion (HasCallsShown spec texts) history
+    → length history ≤ length (steps_of history)
+length-steps_of spec texts [] h = omega arith
+length-steps_of spec texts (e ∷ history) h =
+    omega (arith, h.0.some, length-steps_of spec texts history h.1, length-append e.steps (steps_of history))
 
 journal_shown : (spec : Spec) (texts : List (List ℕ)) (history : List Entry) → IsInRange spec
     → IsJournal spec texts history
@@ -228,7 +264,12 @@ journal_shown : (spec : Spec) (texts : List (List ℕ)) (history : List Entry) �
 journal_shown spec texts history ranged j =
     let all = legal_entries spec texts ranged [] history (λ t m. absurd m)
     (omega (arith, j.count)) j.calls j.legal in (
-      record { count = j.count; entries = all.0; numbered = j.numbered; tuples = in_each (IsRowShown spec texts) (replay spec history) all.1 },
+      record {
+        count = omega (arith, j.count, length-steps_of spec texts history j.calls);
+        entries = all.0;
+        numbered = j.numbered;
+        tuples = in_each (IsRowShown spec texts) (replay spec history) all.1;
+      },
       omega (arith, all.2, j.count),
     )
 

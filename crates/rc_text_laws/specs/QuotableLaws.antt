@@ -1,7 +1,7 @@
 -- What a workload that is read is made of: each number has 64 bits, and each text consists of bytes that may stand
 -- in quotes.
 use Rattle.std.proofs.Common.{◌≡◌, ℕ, ◌<◌, ◌≤◌, ◌^◌, Bool, true, false, cond, List, [], ◌∷◌, length, Option, Some, None, Result, Ok, Err, zero, suc, inl, inr, refl, sym, subst, arith}
-use Rattle.std.specs.Prelude.{All, IfSome, MatchResult, nat_lt, nat_le, codes, unwrap_or}
+use Rattle.std.specs.Prelude.{◌&&◌, All, IfSome, MatchResult, nat_lt, nat_le, codes, unwrap_or}
 use Rattle.std.specs.List.{AllByRecursion, list_all, cons_option}
 use Rattle.std.specs.Str.{bytes_eq}
 use Rattle.std.proofs.lemmas.Bool.{ltb-true}
@@ -20,16 +20,19 @@ use Rattle.rc_spec.specs.declared.spec.Spec.{Spec}
 use Rattle.rc_reader.specs.declared.refusal.LineRule.{LineRule}
 use Rattle.rc_values.specs.Ranks.{text_cmp, rank_of}
 use Rattle.rc_values.specs.RanksLaws.{rising_texts_of, rank_of-within}
+use Rattle.rc_work.specs.declared.also.Also.{Also}
+use Rattle.rc_work.specs.declared.also.Also.TheVariants.{Nothing, Groups}
 use Rattle.rc_work.specs.declared.work.Work.{Work}
-use Rattle.rc_work.specs.RawTurnsLaws.{each_push, each_onto_last}
-use Rattle.rc_work.specs.LineForms.{FormText, round_line, end_line, call_line, onto_words, all_read, words_read, alone, is_value, call_form, form_of}
-use Rattle.rc_work.specs.LineRules.{number_by, raw_value, raw_values, turn_of, with_line}
+use Rattle.rc_work.specs.UnfilledGroupsLaws.{HoldsOfCalls, holds_call}
+use Rattle.rc_work.specs.RawTurnsLaws.{each_push}
+use Rattle.rc_work.specs.LineForms.{FormText, round_line, end_line, call_line, group_line, onto_words, all_read, words_read, alone, is_value, call_form, group_form, or_call, thread_form, form_of}
+use Rattle.rc_work.specs.LineRules.{number_by, raw_value, raw_values, raw_call, thread_in, with_line}
 use Rattle.rc_work.specs.LineRulesLaws.{taken}
 use Rattle.rc_work.specs.WorkGrammar.{after_form_of, after_words, after_bytes, broken_at, threads_of, draft_of}
 use Rattle.rc_work.specs.Drafts.{IsDraft}
-use Rattle.rc_work.specs.DraftsLaws.{IsThreadCount, IsDraft-after_bytes, threads_of-count}
+use Rattle.rc_work.specs.DraftsLaws.{IsThreadCount, IsDraft-after_bytes, IsDraft-draft_of, threads_of-count}
 use Rattle.rc_work.specs.FirstBroken.{work_language, AreTaken, LinesMean, ContentMeans}
-use Rattle.rc_work.specs.Ranking.{texts_in_value, texts_in_turn, texts_in_round, texts_in, ranked_value, work_of, work_reading}
+use Rattle.rc_work.specs.Ranking.{texts_in_value, texts_in_call, texts_in_turn, texts_in_round, texts_in, ranked_value, work_of, work_reading}
 use Rattle.rc_work.specs.ReadingLaws.{are_whole, work_means}
 use Rattle.rc_text_laws.specs.CutLaws.{AreTexts}
 
@@ -85,9 +88,12 @@ SourceOf {A} {B} f = A
 abbrev TargetOf : {A B : Type 0} → (A → B) → Type 0
 TargetOf {A} {B} f = B
 
--- a value, a turn and a draft of a workload that is being read; rc_work names their types to no other crate
+-- a value, a call, a turn and a draft of a workload that is being read; rc_work names their types to no other crate
 abbrev pub WorkValue : Type 0
 WorkValue = SourceOf texts_in_value
+
+abbrev pub WorkCall : Type 0
+WorkCall = SourceOf texts_in_call
 
 abbrev pub WorkTurn : Type 0
 WorkTurn = SourceOf texts_in_turn
@@ -161,6 +167,7 @@ abbrev HasWritableValues : FormText → Type 0
 HasWritableValues round_line = Unit {0}
 HasWritableValues end_line = Unit {0}
 HasWritableValues (call_line thread op values) = AllByRecursion IsWritable values
+HasWritableValues (group_line thread size) = Unit {0}
 
 abbrev some_form : FormText → Option FormText
 some_form form = Some form
@@ -189,103 +196,136 @@ call_writable thread (quoted_text text ∷ values) form writable e = absurd cc
 call_writable thread (plain_text op ∷ values) form writable e =
     valued_writable (list_all is_value values) thread op values form writable.1 e
 
-first_writable : (round end call : Bool) (first : List ℕ) (words : List WordText) (form : FormText)
+-- a form that has no values
+abbrev HasNoValues : Option FormText → Type 0
+HasNoValues None = Unit {0}
+HasNoValues (Some form) = HasWritableValues form
+
+grouped_writable : (grouped : Bool) (thread size : List ℕ) → HasNoValues (cond grouped (Some (group_line thread size)) None)
+grouped_writable true thread size = tt
+grouped_writable false thread size = tt
+
+group_writable : (thread : List ℕ) (words : List WordText) → HasNoValues (group_form thread words)
+group_writable thread [] = tt
+group_writable thread (quoted_text text ∷ words) = tt
+group_writable thread (plain_text sign ∷ []) = tt
+group_writable thread (plain_text sign ∷ quoted_text text ∷ words) = tt
+group_writable thread (plain_text sign ∷ plain_text size ∷ []) =
+    grouped_writable (bytes_eq sign (codes "&") && is_number size) thread size
+group_writable thread (plain_text sign ∷ plain_text size ∷ word ∷ words) = tt
+
+or_writable : (found : Option FormText) (thread : List ℕ) (words : List WordText) (form : FormText)
+    → AllByRecursion IsWritable words
+    → HasNoValues found → or_call found thread words ≡ Some form → HasWritableValues form
+or_writable None thread words form writable none e = call_writable thread words form writable e
+or_writable (Some other) thread words form writable none e = subst HasWritableValues (same_form other form e) none
+
+thread_writable : (also : Also) (thread : List ℕ) (words : List WordText) (form : FormText)
+    → AllByRecursion IsWritable words
+    → thread_form also thread words ≡ Some form → HasWritableValues form
+thread_writable Nothing thread words form writable e = call_writable thread words form writable e
+thread_writable Groups thread words form writable e =
+    or_writable (group_form thread words) thread words form writable (group_writable thread words) e
+
+first_writable : (also : Also) (round end call : Bool) (first : List ℕ) (words : List WordText) (form : FormText)
     → AllByRecursion IsWritable words
     → cond round (alone round_line words)
-    (cond end (alone end_line words) (cond call (call_form first words) None))
+    (cond end (alone end_line words) (cond call (thread_form also first words) None))
     ≡ Some form
     → HasWritableValues form
-first_writable true end call first words form writable e = alone_writable round_line form words tt e
-first_writable false true call first words form writable e = alone_writable end_line form words tt e
-first_writable false false true first words form writable e =
-    call_writable first words form writable e
-first_writable false false false first words form writable e = absurd cc
+first_writable also true end call first words form writable e = alone_writable round_line form words tt e
+first_writable also false true call first words form writable e = alone_writable end_line form words tt e
+first_writable also false false true first words form writable e =
+    thread_writable also first words form writable e
+first_writable also false false false first words form writable e = absurd cc
 
-form_of-writable : (words : List WordText) (form : FormText) → AllByRecursion IsWritable words
-    → form_of words ≡ Some form
+form_of-writable : (also : Also) (words : List WordText) (form : FormText) → AllByRecursion IsWritable words
+    → form_of also words ≡ Some form
     → HasWritableValues form
 unfolding form_of
-form_of-writable [] form writable e = absurd cc
-form_of-writable (quoted_text text ∷ words) form writable e = absurd cc
-form_of-writable (plain_text first ∷ words) form writable e =
-    first_writable (bytes_eq first (codes "round")) (bytes_eq first (codes "end"))
+form_of-writable also [] form writable e = absurd cc
+form_of-writable also (quoted_text text ∷ words) form writable e = absurd cc
+form_of-writable also (plain_text first ∷ words) form writable e =
+    first_writable also (bytes_eq first (codes "round")) (bytes_eq first (codes "end"))
     (is_number first) first words form writable.1 e
 
 -- ---- a line, and the lines
 
--- the turn's values are read
-abbrev pub HasReadValues : WorkTurn → Type 0
-HasReadValues turn = All IsReadValue turn.values
+-- the call's values are read
+abbrev pub HasReadValues : WorkCall → Type 0
+HasReadValues call = All IsReadValue call.values
 
--- and each turn of the rounds
+-- so are those of each of the turn's calls
+abbrev pub TurnHasReadValues : WorkTurn → Type 0
+TurnHasReadValues turn = AllByRecursion HasReadValues turn.calls
+
+-- and of each turn of the rounds
 abbrev pub HaveReadValues : List (List WorkTurn) → Type 0
-HaveReadValues rounds = AllByRecursion (AllByRecursion HasReadValues) rounds
+HaveReadValues rounds = AllByRecursion (AllByRecursion TurnHasReadValues) rounds
 
-with_line-read : (spec : Spec) (draft : WorkDraft) (form : FormText) → HaveReadValues draft.rounds
+-- and of each call of the draft
+abbrev AreValuesRead : WorkDraft → Type 0
+AreValuesRead draft = HoldsOfCalls HasReadValues draft
+
+with_line-read : (spec : Spec) (draft : WorkDraft) (form : FormText) → AreValuesRead draft
     → HasWritableValues form
-    → HaveReadValues (with_line spec draft form).rounds
-with_line-read spec draft round_line are writable =
-    each_push (AllByRecursion HasReadValues) draft.rounds [] are tt
-with_line-read spec draft end_line are writable = are
+    → AreValuesRead (with_line spec draft form)
+with_line-read spec draft round_line are writable = record {
+  rounds = each_push (AllByRecursion TurnHasReadValues) draft.rounds [] are.rounds tt;
+  group = are.group;
+}
+with_line-read spec draft end_line are writable = record { rounds = are.rounds; group = are.group }
 with_line-read spec draft (call_line thread op values) are writable =
-    each_onto_last HasReadValues draft.rounds (turn_of spec draft thread op values) are
+    holds_call HasReadValues draft are (thread_in draft thread) (raw_call spec op values)
     (All-from_recursion IsReadValue (raw_values values) (raw_values-read values writable))
+with_line-read spec draft (group_line thread size) are writable = record { rounds = are.rounds; group = tt }
 
 form_read : (spec : Spec) (draft : WorkDraft) (found : Option FormText) (next : WorkDraft)
-    → HaveReadValues draft.rounds
+    → AreValuesRead draft
     → ((form : FormText) → found ≡ Some form → HasWritableValues form)
     → after_form_of spec draft found ≡ Ok next
-    → HaveReadValues next.rounds
+    → AreValuesRead next
 form_read spec draft None next are writable e = absurd cc
 form_read spec draft (Some form) next are writable e =
-    subst (λ (d : WorkDraft). HaveReadValues d.rounds) (taken spec draft form next e).value
+    subst AreValuesRead (taken spec draft form next e).value
     (with_line-read spec draft form are (writable form refl))
 
-words_are_read : (spec : Spec) (draft : WorkDraft) (found : Option (List WordText)) (next : WorkDraft)
-    → HaveReadValues draft.rounds
+words_are_read : (also : Also) (spec : Spec) (draft : WorkDraft) (found : Option (List WordText)) (next : WorkDraft)
+    → AreValuesRead draft
     → ((words : List WordText) → found ≡ Some words → AllByRecursion IsWritable words)
-    → after_words spec draft found ≡ Ok next
-    → HaveReadValues next.rounds
-words_are_read spec draft None next are writable e = absurd cc
-words_are_read spec draft (Some words) next are writable e =
-    form_read spec draft (form_of words) next are
-    (λ form. form_of-writable words form (writable words refl)) e
+    → after_words also spec draft found ≡ Ok next
+    → AreValuesRead next
+words_are_read also spec draft None next are writable e = absurd cc
+words_are_read also spec draft (Some words) next are writable e =
+    form_read spec draft (form_of also words) next are
+    (λ form. form_of-writable also words form (writable words refl)) e
 
-after_bytes-read : (spec : Spec) (draft : WorkDraft) (line : List ℕ) (next : WorkDraft)
-    → HaveReadValues draft.rounds
-    → after_bytes spec draft line ≡ Ok next → HaveReadValues next.rounds
+after_bytes-read : (also : Also) (spec : Spec) (draft : WorkDraft) (line : List ℕ) (next : WorkDraft)
+    → AreValuesRead draft
+    → after_bytes also spec draft line ≡ Ok next → AreValuesRead next
 unfolding after_bytes
-after_bytes-read spec draft line next are e =
-    words_are_read spec draft (words_read line) next are (words_read-writable line) e
+after_bytes-read also spec draft line next are e =
+    words_are_read also spec draft (words_read line) next are (words_read-writable line) e
 
 -- what holds of a draft whose lines are read
 pub record IsReadDraft (spec : Spec) (draft : WorkDraft) : Type 0 where
   pub is : IsDraft spec draft
-  pub values : HaveReadValues draft.rounds
+  pub values : HoldsOfCalls HasReadValues draft
 
-taken_read : (spec : Spec) (draft : WorkDraft) (lines : List ContentLine) (last : WorkDraft)
+taken_read : (also : Also) (spec : Spec) (draft : WorkDraft) (lines : List ContentLine) (last : WorkDraft)
     → IsReadDraft spec draft
-    → AreTaken spec draft lines last → IsReadDraft spec last
-taken_read spec draft lines last here taken =
-    taken_keeps (work_language spec) (IsReadDraft spec)
+    → AreTaken also spec draft lines last → IsReadDraft spec last
+taken_read also spec draft lines last here taken =
+    taken_keeps (work_language also spec) (IsReadDraft spec)
     (λ before bytes next is e. record {
-      is = IsDraft-after_bytes spec before bytes next is.is e;
-      values = after_bytes-read spec before bytes next is.values e;
+      is = IsDraft-after_bytes also spec before bytes next is.is e;
+      values = after_bytes-read also spec before bytes next is.values e;
     }) draft lines last taken here
 
 draft_of-read : (spec : Spec) (threads : ℕ) → IsThreadCount threads
     → IsReadDraft spec (draft_of threads)
-draft_of-read spec threads count = record {
-  is = record {
-    some_thread = count.some;
-    few_threads = count.few;
-    few_rounds = omega arith;
-    few_calls = omega arith;
-    threads = tt;
-    turns = tt;
-  };
-  values = tt;
-}
+draft_of-read spec threads count =
+    record { is = IsDraft-draft_of spec threads count; values = record { rounds = tt; group = tt } }
 
 -- ---- a workload
 
@@ -295,43 +335,50 @@ pub record IsOfDraft (spec : Spec) (work : Work) : Type 0 where
   pub read : IsReadDraft spec draft
   pub value : work_of spec draft ≡ work
 
-header_read : (spec : Spec) (past_end : ℕ) (line : ContentLine) (others : List ContentLine)
+header_read : (also : Also) (spec : Spec) (past_end : ℕ) (line : ContentLine) (others : List ContentLine)
     → (work : Work) (found : Result ℕ LineRule)
     → threads_of line.bytes ≡ found
-    → MatchResult found (λ threads. LinesMean past_end spec (draft_of threads) others (Ok work))
+    → MatchResult found (λ threads. LinesMean also past_end spec (draft_of threads) others (Ok work))
     (λ rule. broken_at rule line.number ≡ Ok work)
     → IsOfDraft spec work
-header_read spec past_end line others work (Err rule) e means = absurd cc
-header_read spec past_end line others work (Ok threads) e means =
-    let whole = are_whole past_end spec (draft_of threads) others work means in
+header_read also spec past_end line others work (Err rule) e means = absurd cc
+header_read also spec past_end line others work (Ok threads) e means =
+    let whole = are_whole also past_end spec (draft_of threads) others work means in
     record {
       draft = whole.last;
-      read = taken_read spec (draft_of threads) others whole.last
+      read = taken_read also spec (draft_of threads) others whole.last
           (draft_of-read spec threads (threads_of-count line.bytes threads e)) whole.taken;
       value = whole.value;
     }
 
-content_read : (spec : Spec) (past_end : ℕ) (lines : List ContentLine) (work : Work)
-    → ContentMeans past_end spec lines (Ok work)
+content_read : (also : Also) (spec : Spec) (past_end : ℕ) (lines : List ContentLine) (work : Work)
+    → ContentMeans also past_end spec lines (Ok work)
     → IsOfDraft spec work
-content_read spec past_end [] work means = absurd cc
-content_read spec past_end (line ∷ others) work means =
-    header_read spec past_end line others work (threads_of line.bytes) refl means
+content_read also spec past_end [] work means = absurd cc
+content_read also spec past_end (line ∷ others) work means =
+    header_read also spec past_end line others work (threads_of line.bytes) refl means
 
-pub work_of_draft : (spec : Spec) (place : TextPlace) (work : Work)
-    → work_reading spec place ≡ Ok work → IsOfDraft spec work
-work_of_draft spec place work e =
-    content_read spec (past_end_of place.text) (content_from place) work
-    ((work_means spec place (Ok work)).0 e)
+pub work_of_draft : (also : Also) (spec : Spec) (place : TextPlace) (work : Work)
+    → work_reading also spec place ≡ Ok work → IsOfDraft spec work
+work_of_draft also spec place work e =
+    content_read also spec (past_end_of place.text) (content_from place) work
+    ((work_means also spec place (Ok work)).0 e)
 
 -- ---- its texts
 
-turn_quotable : (turn : WorkTurn) (text : List ℕ) → HasReadValues turn
+call_quotable : (call : WorkCall) (text : List ℕ) → HasReadValues call
+    → In text (texts_in_call call)
+    → list_all is_quotable_byte text ≡ true
+call_quotable call text are m =
+    let found = in_flat_map texts_in_value text call.values m in
+    (each_in IsReadValue call.values (recursion_from_All IsReadValue call.values are) found.0 found.1).quotable text found.2
+
+turn_quotable : (turn : WorkTurn) (text : List ℕ) → TurnHasReadValues turn
     → In text (texts_in_turn turn)
     → list_all is_quotable_byte text ≡ true
 turn_quotable turn text are m =
-    let found = in_flat_map texts_in_value text turn.values m in
-    (each_in IsReadValue turn.values (recursion_from_All IsReadValue turn.values are) found.0 found.1).quotable text found.2
+    let found = in_flat_map texts_in_call text turn.calls m in
+    call_quotable found.0 text (each_in HasReadValues turn.calls are found.0 found.1) found.2
 
 texts_quotable : (rounds : List (List WorkTurn)) (text : List ℕ) → HaveReadValues rounds
     → In text (texts_in rounds)
@@ -340,22 +387,22 @@ texts_quotable rounds text are m =
     let round = in_flat_map texts_in_round text rounds m in
     let turn = in_flat_map texts_in_turn text round.0 round.2 in
     turn_quotable turn.0 text
-    (each_in HasReadValues round.0 (each_in (AllByRecursion HasReadValues) rounds are round.0 round.1) turn.0 turn.1) turn.2
+    (each_in TurnHasReadValues round.0 (each_in (AllByRecursion TurnHasReadValues) rounds are round.0 round.1) turn.0 turn.1) turn.2
 
 pub draft_texts : (spec : Spec) (draft : WorkDraft) → IsReadDraft spec draft
     → AreTexts (work_of spec draft).ranks
 draft_texts spec draft read = record {
   rising = rising_texts_of (texts_in draft.rounds);
-  quotable = λ text m. texts_quotable draft.rounds text read.values (in_gather text_cmp number_lists_order text (texts_in draft.rounds) m);
+  quotable = λ text m. texts_quotable draft.rounds text read.values.rounds (in_gather text_cmp number_lists_order text (texts_in draft.rounds) m);
 }
 
 -- the texts of a workload that is read are distinct, rising, and each can stand in quotes
 abbrev pub TextsAreQuotable : Type 0
 TextsAreQuotable =
-    (spec : Spec) (place : TextPlace) (work : Work) → work_reading spec place ≡ Ok work
+    (also : Also) (spec : Spec) (place : TextPlace) (work : Work) → work_reading also spec place ≡ Ok work
     → AreTexts work.ranks
 
 pub texts_are_quotable : TextsAreQuotable
-texts_are_quotable spec place work e =
-    let from = work_of_draft spec place work e in
+texts_are_quotable also spec place work e =
+    let from = work_of_draft also spec place work e in
     subst (λ (w : Work). AreTexts w.ranks) from.value (draft_texts spec from.draft from.read)

@@ -11,17 +11,19 @@ use Rattle.rc_spec.specs.InRange.{IsInRange}
 use Rattle.rc_spec.specs.Names.{IsWellNamed}
 use Rattle.rc_spec.specs.declared.spec.Spec.{Spec}
 use Rattle.rc_values.specs.Ranks.{text_cmp, texts_of}
+use Rattle.rc_work.specs.declared.also.Also.{Also}
 use Rattle.rc_work.specs.declared.work.Work.{Work}
 use Rattle.rc_work.specs.CallColumnsLaws.{written_columns_at-few}
 use Rattle.rc_work.specs.CallLaws.{IsOfWords-call_of}
-use Rattle.rc_work.specs.Drafts.{IsRawTurn}
-use Rattle.rc_work.specs.Fitting.{IsOfWords, RoundsFit}
+use Rattle.rc_work.specs.Drafts.{IsRawCall, IsRawTurn}
+use Rattle.rc_work.specs.Fitting.{AreOfWords, IsOfWords, RoundsFit}
 use Rattle.rc_work.specs.Limits.{KeepsLimits, KnowsTexts}
-use Rattle.rc_work.specs.Ranking.{texts_in_value, texts_in_turn, texts_in_round, texts_in, ranked_value, ranked_turn, ranked_round, ranked_rounds, work_of, work_reading}
+use Rattle.rc_work.specs.RawTurns.{count_raw}
+use Rattle.rc_work.specs.Ranking.{texts_in_value, texts_in_call, texts_in_turn, texts_in_round, texts_in, ranked_value, ranked_call, ranked_round, ranked_rounds, work_of, work_reading}
 use Rattle.rc_work.specs.RankingLaws.{KeepsLimits-work_with, RoundsFit-ranked_rounds, KnowsTexts-work_of}
 use Rattle.rc_text_laws.specs.CutLaws.{AreTexts}
 use Rattle.rc_text_laws.specs.LegalLaws.{length-gather-le}
-use Rattle.rc_text_laws.specs.QuotableLaws.{WorkValue, WorkTurn, WorkDraft, IsReadValue, HasReadValues, HaveReadValues, IsReadDraft, draft_texts, work_of_draft}
+use Rattle.rc_text_laws.specs.QuotableLaws.{WorkValue, WorkCall, WorkTurn, WorkDraft, IsReadValue, HasReadValues, TurnHasReadValues, HaveReadValues, IsReadDraft, draft_texts, work_of_draft}
 
 -- ---- how many texts there are
 
@@ -37,31 +39,44 @@ length-values (value ∷ values) are =
     )
 
 module _ (spec : Spec) (named : IsWellNamed spec) (ranged : IsInRange spec) where
-  length-turn : (turn : WorkTurn) → IsRawTurn spec turn → HasReadValues turn
-      → length (texts_in_turn turn) ≤ 64
-  length-turn turn is read =
+  length-call : (call : WorkCall) → IsRawCall spec call → HasReadValues call
+      → length (texts_in_call call) ≤ 64
+  length-call call is read =
       omega (
         arith,
-        length-values turn.values (recursion_from_All IsReadValue turn.values read),
+        length-values call.values (recursion_from_All IsReadValue call.values read),
         is.count,
-        written_columns_at-few spec turn.op named ranged,
+        written_columns_at-few spec call.op named ranged,
+      )
+
+  length-calls : (calls : List WorkCall) → AllByRecursion (IsRawCall spec) calls
+      → AllByRecursion HasReadValues calls
+      → length (flat_map texts_in_call calls) ≤ 64 * length calls
+  length-calls [] are read = omega arith
+  length-calls (call ∷ calls) are read =
+      omega (
+        arith,
+        length-append (texts_in_call call) (flat_map texts_in_call calls),
+        length-call call are.0 read.0,
+        length-calls calls are.1 read.1,
       )
 
   length-round : (round : List WorkTurn) → AllByRecursion (IsRawTurn spec) round
-      → AllByRecursion HasReadValues round
-      → length (texts_in_round round) ≤ 64 * length round
+      → AllByRecursion TurnHasReadValues round
+      → length (texts_in_round round) ≤ 64 * sum_by (λ (t : WorkTurn). length t.calls) round
   length-round [] are read = omega arith
   length-round (turn ∷ round) are read =
       omega (
         arith,
         length-append (texts_in_turn turn) (texts_in_round round),
-        length-turn turn are.0 read.0,
+        length-calls turn.calls are.0.calls read.0,
         length-round round are.1 read.1,
+        sum_by-cons (λ (t : WorkTurn). length t.calls) turn round,
       )
 
   length-texts_in : (rounds : List (List WorkTurn))
       → AllByRecursion (AllByRecursion (IsRawTurn spec)) rounds → HaveReadValues rounds
-      → length (texts_in rounds) ≤ 64 * sum_by length rounds
+      → length (texts_in rounds) ≤ 64 * count_raw rounds
   length-texts_in [] are read = omega arith
   length-texts_in (round ∷ rounds) are read =
       omega (
@@ -69,30 +84,37 @@ module _ (spec : Spec) (named : IsWellNamed spec) (ranged : IsInRange spec) wher
         length-append (texts_in_round round) (texts_in rounds),
         length-round round are.0 read.0,
         length-texts_in rounds are.1 read.1,
-        sum_by-cons length round rounds,
+        sum_by-cons (sum_by (λ (t : WorkTurn). length t.calls)) round rounds,
       )
 
   -- ---- calls fit
 
-  turn_words : (texts : List (List ℕ)) (turn : WorkTurn) → length texts < 2 ^ 64
-      → HasReadValues turn → IsOfWords (ranked_turn spec texts turn).call
-  turn_words texts turn few read =
-      IsOfWords-call_of spec turn.op (map (ranked_value texts) turn.values) named ranged
+  call_words : (texts : List (List ℕ)) (call : WorkCall) → length texts < 2 ^ 64
+      → HasReadValues call → IsOfWords (ranked_call spec texts call)
+  call_words texts call few read =
+      IsOfWords-call_of spec call.op (map (ranked_value texts) call.values) named ranged
       (λ n m.
-      let found = in_map (ranked_value texts) n turn.values m in
+      let found = in_map (ranked_value texts) n call.values m in
       subst (λ v. v < 2 ^ 64) (sym found.2)
-      ((each_in IsReadValue turn.values (recursion_from_All IsReadValue turn.values read) found.0 found.1).small texts few))
+      ((each_in IsReadValue call.values (recursion_from_All IsReadValue call.values read) found.0 found.1).small texts few))
+
+  calls_words : (texts : List (List ℕ)) (calls : List WorkCall) → length texts < 2 ^ 64
+      → AllByRecursion HasReadValues calls
+      → AllByRecursion IsOfWords (map (ranked_call spec texts) calls)
+  calls_words texts [] few read = tt
+  calls_words texts (call ∷ calls) few read =
+      (call_words texts call few read.0, calls_words texts calls few read.1)
 
   round_words : (texts : List (List ℕ)) (round : List WorkTurn) → length texts < 2 ^ 64
-      → AllByRecursion HasReadValues round
-      → AllByRecursion (λ turn. IsOfWords turn.call) (ranked_round spec texts round)
+      → AllByRecursion TurnHasReadValues round
+      → AllByRecursion (λ turn. AllByRecursion IsOfWords turn.calls) (ranked_round spec texts round)
   round_words texts [] few read = tt
   round_words texts (turn ∷ round) few read =
-      (turn_words texts turn few read.0, round_words texts round few read.1)
+      (calls_words texts turn.calls few read.0, round_words texts round few read.1)
 
   rounds_words : (texts : List (List ℕ)) (rounds : List (List WorkTurn)) → length texts < 2 ^ 64
       → HaveReadValues rounds
-      → AllByRecursion (AllByRecursion (λ turn. IsOfWords turn.call)) (ranked_rounds spec texts rounds)
+      → AreOfWords (ranked_rounds spec texts rounds)
   rounds_words texts [] few read = tt
   rounds_words texts (round ∷ rounds) few read =
       (round_words texts round few read.0, rounds_words texts rounds few read.1)
@@ -105,11 +127,11 @@ module _ (spec : Spec) (named : IsWellNamed spec) (ranged : IsInRange spec) wher
       omega (
         arith,
         length-gather-le text_cmp (texts_in draft.rounds),
-        length-texts_in draft.rounds read.is.turns read.values,
+        length-texts_in draft.rounds read.is.turns read.values.rounds,
         read.is.few_calls,
       ) in
       RoundsFit-ranked_rounds spec texts draft.rounds named read.is.turns
-      (rounds_words texts draft.rounds few read.values)
+      (rounds_words texts draft.rounds few read.values.rounds)
 
 -- what holds of a workload that is read behind a specification
 pub record IsReadWork (spec : Spec) (work : Work) : Type 0 where
@@ -120,11 +142,11 @@ pub record IsReadWork (spec : Spec) (work : Work) : Type 0 where
 
 -- a workload that is read keeps its limits, knows its texts, each of which can stand in quotes, and its calls
 -- fit
-pub is_read_work : (spec : Spec) (place : TextPlace) (work : Work) → IsWellNamed spec
-    → IsInRange spec → work_reading spec place ≡ Ok work
+pub is_read_work : (also : Also) (spec : Spec) (place : TextPlace) (work : Work) → IsWellNamed spec
+    → IsInRange spec → work_reading also spec place ≡ Ok work
     → IsReadWork spec work
-is_read_work spec place work named ranged e =
-    let from = work_of_draft spec place work e in
+is_read_work also spec place work named ranged e =
+    let from = work_of_draft also spec place work e in
     subst (IsReadWork spec) from.value (record {
       texts = draft_texts spec from.draft from.read;
       limits = KeepsLimits-work_with spec (texts_of (texts_in from.draft.rounds)) from.draft from.read.is;

@@ -1,4 +1,4 @@
--- What `run` prints for an input tells its run.
+-- What `run` or `group` prints for an input tells its run.
 use Rattle.std.proofs.Common.{◌≡◌, ℕ, ◌<◌, List, [], ◌∷◌, ◌++◌, length, Some, inl, inr, refl, sym, ap, ◌∙◌, subst, arith}
 use Rattle.std.specs.List.{flat_map, range_with_len}
 use Rattle.std.proofs.lemmas.List.{append_cancel_left}
@@ -15,7 +15,9 @@ use Rattle.rc_query.specs.PlannedLaws.{one_planned}
 use Rattle.rc_rel.specs.History.{replay}
 use Rattle.rc_rel.specs.declared.entry.Entry.{Entry}
 use Rattle.rc_work.specs.Report.{report}
+use Rattle.rc_work.specs.declared.also.Also.{Also}
 use Rattle.rc_work.specs.declared.work.Work.{Work}
+use Rattle.rc_work.specs.Runs.{Runs}
 use Rattle.rc_work.specs.WholeText.{place_after}
 use Rattle.rc_answer.specs.Answers.{IsReport, plans_and_report}
 use Rattle.rc_answer.specs.Plans.{ArePlanned, op_text, plans_text}
@@ -24,7 +26,7 @@ use Rattle.rc_answer.specs.declared.outcome.Ran.{Ran}
 use Rattle.rc_answer.specs.declared.status.Status.{Status}
 use Rattle.rc_text_laws.specs.SpecLaws.{reading_can_be_written}
 use Rattle.rc_text_laws.specs.Written.{CanBeWritten}
-use Rattle.rc_text_laws.specs.RunsLaws.{IsPrintedRun, reports_tell_runs}
+use Rattle.rc_text_laws.specs.RunsLaws.{reports_tell_runs}
 
 -- ---- one specification has one text of plans
 
@@ -51,13 +53,13 @@ one_plans_text spec plans others sealed planned kept =
 -- ---- the plans, and then the report
 
 -- of what was read, the plans and the report behind them have one history
-one_run : (input : List ℕ) (spec : Spec) (work : Work) (plans others : List (List Statement))
+one_run : (also : Also) (input : List ℕ) (spec : Spec) (work : Work) (plans others : List (List Statement))
     → (history other : List Entry)
-    → IsReadAs input spec work → ArePlanned spec plans → ArePlanned spec others
-    → IsPrintedRun spec work history → IsPrintedRun spec work other
+    → IsReadAs also input spec work → ArePlanned spec plans → ArePlanned spec others
+    → Runs spec work history → Runs spec work other
     → plans_and_report spec work plans history ≡ plans_and_report spec work others other
     → history ≡ other
-one_run input spec work plans others history other read planned kept run again e =
+one_run also input spec work plans others history other read planned kept run again e =
     let is : CanBeWritten spec =
     subst CanBeWritten read.of_spec (reading_can_be_written input read.reading read.read) in
     let sealed : IsSealed spec =
@@ -68,14 +70,14 @@ one_run input spec work plans others history other read planned kept run again e
     let reports : left ≡ right =
     append_cancel_left (plans_text spec plans) left right
     (e ∙ ap (λ text. text ++ right) (sym plans_are)) in
-    reports_tell_runs spec (place_after input read.reading) work history other is.well_named is.in_range
+    reports_tell_runs also spec (place_after input read.reading) work history other is.well_named is.in_range
     read.work_read run again reports
 
 -- Two runs of what an input is read as, of which the same text is printed, have the same journal and the same
 -- rows.
 abbrev pub PrintedTextsTellRuns : Type 0
 PrintedTextsTellRuns =
-    (input : List ℕ) (spec : Spec) (work : Work) (ran other : Ran) → IsReadAs input spec work
+    (also : Also) (input : List ℕ) (spec : Spec) (work : Work) (ran other : Ran) → IsReadAs also input spec work
     → IsRunOf spec work ran → IsRunOf spec work other
     → run_text work.ranks ran ≡ run_text work.ranks other
     → (ran.closed.journal ≡ other.closed.journal) × (ran.last ≡ other.last)
@@ -88,28 +90,26 @@ run_text-is spec work ran run i =
     ++ printed_lines (report (run.of_spec i) work.ranks (entries_in (run.journal i)) (run.last i))
 
 pub printed_texts_tell_runs : PrintedTextsTellRuns
-printed_texts_tell_runs input spec work ran other read run again e =
+printed_texts_tell_runs also input spec work ran other read run again e =
     let same : run.history ≡ again.history =
-    one_run input spec work ran.closed.compiled.plans other.closed.compiled.plans
+    one_run also input spec work ran.closed.compiled.plans other.closed.compiled.plans
     run.history again.history read run.planned again.planned
-    (record { run = run.runs; single = run.single })
-    (record { run = again.runs; single = again.single })
+    run.runs again.runs
     (sym (run_text-is spec work ran run) ∙ e ∙ run_text-is spec work other again) in (
       run.journal ∙ ap (λ history. Some history) same ∙ sym again.journal,
       run.last ∙ ap (replay spec) same ∙ sym again.last,
     )
 
--- A text that `run` may print for an input is that of one history.
+-- A text that `run` or `group` may print for an input is that of one history.
 abbrev pub PrintedTextsHaveOneHistory : Type 0
 PrintedTextsHaveOneHistory =
-    (input : List ℕ) (spec : Spec) (work : Work) (text : List ℕ) (status : Status)
-    → IsReadAs input spec work
+    (also : Also) (input : List ℕ) (spec : Spec) (work : Work) (text : List ℕ) (status : Status)
+    → IsReadAs also input spec work
     → (some other : IsReport spec work text status) → some.history ≡ other.history
 
 pub printed_texts_have_one_history : PrintedTextsHaveOneHistory
-printed_texts_have_one_history input spec work text status read some other =
-    one_run input spec work some.plans other.plans some.history other.history read
+printed_texts_have_one_history also input spec work text status read some other =
+    one_run also input spec work some.plans other.plans some.history other.history read
     some.planned other.planned
-    (record { run = some.runs; single = some.single })
-    (record { run = other.runs; single = other.single })
+    some.runs other.runs
     (sym some.printed ∙ other.printed)

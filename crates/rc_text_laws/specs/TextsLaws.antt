@@ -1,6 +1,6 @@
 -- The text of a report determines its lines: none of them holds a line feed.
-use Rattle.std.proofs.Common.{◌≡◌, ℕ, ◌+◌, ◌<◌, ◌≤◌, ◌^◌, Bool, true, false, not, leb, List, [], ◌∷◌, ◌++◌, length, map, Some, get_or, refl, sym, ap, ◌∙◌, subst, arith}
-use Rattle.std.specs.Prelude.{codes, ◌==◌, slice_get}
+use Rattle.std.proofs.Common.{◌≡◌, ℕ, ◌+◌, ◌<◌, ◌≤◌, ◌^◌, Bool, true, false, not, cond, leb, List, [], ◌∷◌, ◌++◌, length, map, Some, get_or, refl, sym, ap, ◌∙◌, subst, arith}
+use Rattle.std.specs.Prelude.{codes, nat_le, ◌==◌, slice_get}
 use Rattle.std.specs.Char.{is_ascii_digit}
 use Rattle.std.specs.Fmt.{decimal}
 use Rattle.std.specs.List.{AllByRecursion, enumerate_from, list_all, flat_map, zip}
@@ -24,9 +24,9 @@ use Rattle.rc_spec.specs.Names.{IsWellNamed, is_name_byte}
 use Rattle.rc_rel.specs.declared.entry.Step.{Step}
 use Rattle.rc_rel.specs.declared.entry.Entry.{Entry}
 use Rattle.rc_work.specs.Printed.{given, step_words_at, step_words}
-use Rattle.rc_work.specs.Report.{entry_line, entry_lines, final_lines, report}
+use Rattle.rc_work.specs.Report.{step_line, group_head, head_lines, entry_lines, journal_lines, final_lines, report}
 use Rattle.rc_text_laws.specs.StepsLaws.{IsStepShown, name_bytes, given_shown}
-use Rattle.rc_text_laws.specs.HistoriesLaws.{IsEntryShown, one_step, IsRowShown, IsShownBy, one_report_one_history}
+use Rattle.rc_text_laws.specs.HistoriesLaws.{IsEntryShown, IsRowShown, IsShownBy, one_report_one_history}
 use Rattle.rc_text_laws.specs.LinesLaws.{IsShown, AreShown, IsReplyOf, RowIsShown}
 
 tails : (x y : ℕ) (xs ys : List ℕ) → x ∷ xs ≡ y ∷ ys → xs ≡ ys
@@ -191,22 +191,42 @@ module _ (spec : Spec) (texts : List (List ℕ)) (good : AreTexts texts) where
             (refl, lacks_reply h.op.kind step.reply h.reply),
       )
 
+  lacks_step_line : (place thread : ℕ) (step : Step) → place < 2 ^ 64 → thread < 2 ^ 64 → IsWellNamed spec
+      → IsStepShown spec texts step → lacks_line_feed (step_line spec texts place thread step) ≡ true
+  lacks_step_line place thread step small thread_small named shown =
+      lacks_words (decimal place ∷ decimal thread ∷ step_words spec texts step)
+      (lacks_decimal place small, (lacks_decimal thread thread_small, lacks_step step named shown))
+
+  lacks_steps : (place thread : ℕ) (steps : List Step) → place < 2 ^ 64 → thread < 2 ^ 64 → IsWellNamed spec
+      → AllByRecursion (IsStepShown spec texts) steps → WordsLack (map (step_line spec texts place thread) steps)
+  lacks_steps place thread [] small thread_small named shown = tt
+  lacks_steps place thread (step ∷ steps) small thread_small named shown = (
+    lacks_step_line place thread step small thread_small named shown.0,
+    lacks_steps place thread steps small thread_small named shown.1,
+  )
+
+  lacks_head : (place : ℕ) (e : Entry) (many : Bool) → place < 2 ^ 64 → IsEntryShown spec texts e
+      → WordsLack (cond many (group_head place e.pass (length e.steps) ∷ []) [])
+  lacks_head place e true small h = (
+    lacks_words (decimal place ∷ decimal e.pass ∷ codes "&" ∷ decimal (length e.steps) ∷ [])
+        (lacks_decimal place small, (lacks_decimal e.pass h.small, (refl, (lacks_decimal (length e.steps) h.few, tt)))),
+    tt,
+  )
+  lacks_head place e false small h = tt
+
   lacks_entry : (place : ℕ) (e : Entry) → place < 2 ^ 64 → IsWellNamed spec
-      → IsEntryShown spec texts e → lacks_line_feed (entry_line spec texts place e) ≡ true
+      → IsEntryShown spec texts e → WordsLack (entry_lines spec texts place e)
   lacks_entry place e small named h =
-      lacks_words (decimal place ∷ decimal e.pass ∷ flat_map (step_words spec texts) e.steps) (
-        lacks_decimal place small,
-        (lacks_decimal e.pass h.small, subst WordsLack (sym (one_step spec texts e h)) (lacks_step h.step named h.shown)),
-      )
+      all_append (head_lines place e) (map (step_line spec texts place e.pass) e.steps)
+      (lacks_head place e (nat_le 2 (length e.steps)) small h) (lacks_steps place e.pass e.steps small h.small named h.steps)
 
   lacks_entries : (n : ℕ) (history : List Entry) → n + length history ≤ 2 ^ 64 → IsWellNamed spec
       → AllByRecursion (IsEntryShown spec texts) history
-      → WordsLack (map (λ e. entry_line spec texts e.0 e.1) (enumerate_from n history))
+      → WordsLack (flat_map (λ e. entry_lines spec texts e.0 e.1) (enumerate_from n history))
   lacks_entries n [] small named h = tt
-  lacks_entries n (e ∷ history) small named h = (
-    lacks_entry n e (omega arith) named h.0,
-    lacks_entries (n + 1) history (omega arith) named h.1,
-  )
+  lacks_entries n (e ∷ history) small named h =
+      all_append (entry_lines spec texts n e) (flat_map (λ x. entry_lines spec texts x.0 x.1) (enumerate_from (n + 1) history))
+      (lacks_entry n e (omega arith) named h.0) (lacks_entries (n + 1) history (omega arith) named h.1)
 
   lacks_final : (rows : List Pairs) → AllByRecursion (IsRowShown spec texts) rows
       → WordsLack (map (row_text spec texts) rows)
@@ -220,7 +240,7 @@ module _ (spec : Spec) (texts : List (List ℕ)) (good : AreTexts texts) where
   lacks_report history rows named small h = (
     lacks_words (codes "journal" ∷ decimal (length history) ∷ [])
         (refl, (lacks_decimal (length history) h.count, tt)),
-    all_append (entry_lines spec texts history) (final_lines spec texts rows)
+    all_append (journal_lines spec texts history) (final_lines spec texts rows)
         (lacks_entries 0 history (omega (arith, h.count)) named h.entries) (
           lacks_words (codes "final" ∷ decimal (length rows) ∷ [])
               (refl, (lacks_decimal (length rows) small, tt)),

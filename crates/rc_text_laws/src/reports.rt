@@ -7,8 +7,8 @@ ghost use Rattle.rc_text_laws.specs.RunsLaws.{OneReportOneRun, ReportsTellRuns};
 ghost use Rattle.rc_text_laws.specs.RunTextsLaws.{PrintedTextsHaveOneHistory, PrintedTextsTellRuns};
 ghost use Rattle.rc_text_laws.specs.TextsLaws.{OneTextOneHistory};
 
-/// The lines of a report tell everything: two histories that can be reported, numbered and with one step in each entry, over
-/// distinct texts that may stand in quotes, with the same lines, are the same, entry by entry, each with its thread, call and
+/// The lines of a report tell everything: two histories that can be reported, numbered and with a step or more in each entry,
+/// over distinct texts that may stand in quotes, with the same lines, are the same, entry by entry, each with its thread, call and
 /// reply, and so are the relations that they end with.
 pub fn one_report_one_history()
     ensures { OneReportOneHistory }
@@ -20,7 +20,7 @@ pub fn one_text_one_history()
     ensures { OneTextOneHistory }
 {}
 
-/// Two legal, numbered histories of calls that fit, with one call in each entry, with the same printed report, are the
+/// Two legal, numbered histories of calls that fit, with a call or more in each entry, with the same printed report, are the
 /// same. Nothing is presumed of the replies and of the final relation: the calls determine them.
 pub fn one_report_one_journal()
     ensures { OneReportOneJournal }

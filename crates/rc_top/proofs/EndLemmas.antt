@@ -8,6 +8,8 @@ use Rattle.rc_reader.specs.Grammar.{Broken, Reading, spec_of, spec_reading}
 use Rattle.rc_spec.specs.declared.spec.Spec.{Spec}
 use Rattle.rc_spec.specs.Acceptance.{IsAccepted}
 use Rattle.rc_spec.specs.AcceptanceLaws.{refused_not_accepted}
+use Rattle.rc_work.specs.declared.also.Also.{Also}
+use Rattle.rc_work.specs.declared.also.Also.TheVariants.{Nothing, Groups}
 use Rattle.rc_work.specs.declared.work.Work.{Work}
 use Rattle.std.specs.Prelude.{IsSome}
 use Rattle.rc_work.specs.LineRules.{op_number}
@@ -21,7 +23,7 @@ use Rattle.rc_top.specs.Asks.{LeavesAllBut}
 use Rattle.rc_top.specs.Ends.{Ends, EndsBig, status_of}
 use Rattle.rc_command.specs.declared.command.Command.TheVariants.{OfText}
 use Rattle.rc_command.specs.declared.command.TextCommand.{TextCommand}
-use Rattle.rc_command.specs.declared.command.TextCommand.TheVariants.{Check, Plan, Run, Dot, DotPlan}
+use Rattle.rc_command.specs.declared.command.TextCommand.TheVariants.{Check, Plan, Run, Group, Dot, DotPlan}
 use Rattle.rc_answer.specs.declared.status.Status.{Status}
 use Rattle.rc_answer.specs.declared.status.Status.TheVariants.{Done, Usage, Refused, SourceFailed, SinkFailed, OutOfMemory}
 use Rattle.rc_answer.specs.declared.status.Stop.{Stop}
@@ -93,16 +95,18 @@ written_alone : (OfAccepted : Spec → List ℕ → Status → Type 0) (reading 
 written_alone OfAccepted (Err broken) text status ends is = inr is.1
 written_alone OfAccepted (Ok spec) text status ends is = written_rules spec (OfAccepted spec) text status (ends spec) is
 
-written_run : (input : List ℕ) (reading : Result Reading Broken) (text : List ℕ) (status : Status) → AnswersRun input reading text status → IsWritten status
-written_run input (Err broken) text status is = inr is.1
-written_run input (Ok reading) text status is =
-    let work : Result Work Broken = work_reading reading.spec (place_after input reading) in
+written_run : (also : Also) (input : List ℕ) (reading : Result Reading Broken) (text : List ℕ) (status : Status) → AnswersRun also input reading text status
+    → IsWritten status
+written_run also input (Err broken) text status is = inr is.1
+written_run also input (Ok reading) text status is =
+    let work : Result Work Broken = work_reading also reading.spec (place_after input reading) in
     written_rules reading.spec (AnswersWork reading.spec work) text status (written_work reading.spec work text status) is
 
 written : (command : TextCommand) (input text : List ℕ) (status : Status) → Answers command input text status → IsWritten status
 written Check input text status is = written_alone (λ spec. IsAcceptedText) (spec_of input) text status (λ spec h. inl (accepted_done spec text status h)) is
 written Plan input text status is = written_alone IsPlansText (spec_of input) text status (λ spec h. inl (plans_done spec text status h)) is
-written Run input text status is = written_run input (spec_reading input) text status is
+written Run input text status is = written_run Nothing input (spec_reading input) text status is
+written Group input text status is = written_run Groups input (spec_reading input) text status is
 written Dot input text status is = written_alone IsDrawing (spec_of input) text status (λ spec h. inl (dot_done spec text status h)) is
 written (DotPlan op) input text status is =
     written_alone (IsPlanDrawingNamed op) (spec_of input) text status (λ spec h. drawn_written spec (op_number spec op) text status h) is
@@ -192,16 +196,18 @@ refused_plan : (op : List ℕ) (reading : Result Spec Broken) (text : List ℕ) 
 refused_plan op (Err broken) text good is = absurd good
 refused_plan op (Ok spec) text good is = refused_rules spec (IsPlanDrawingNamed op spec) text good.0 (refused_drawn spec (op_number spec op) text good.1) is
 
-refused_run : (input : List ℕ) (reading : Result Reading Broken) (text : List ℕ) → IsGoodReading input reading → AnswersRun input reading text Refused → ⊥
-refused_run input (Err broken) text good is = absurd good
-refused_run input (Ok reading) text good is =
-    let work : Result Work Broken = work_reading reading.spec (place_after input reading) in
+refused_run : (also : Also) (input : List ℕ) (reading : Result Reading Broken) (text : List ℕ) → IsGoodReading also input reading
+    → AnswersRun also input reading text Refused → ⊥
+refused_run also input (Err broken) text good is = absurd good
+refused_run also input (Ok reading) text good is =
+    let work : Result Work Broken = work_reading also reading.spec (place_after input reading) in
     refused_rules reading.spec (AnswersWork reading.spec work) text good.0 (refused_work work reading.spec text good.1) is
 
 refused_text : (command : TextCommand) (input text : List ℕ) → KeepsRules command input → Answers command input text Refused → ⊥
 refused_text Check input text good is = refused_alone (λ spec. IsAcceptedText) (spec_of input) text accepted_done good is
 refused_text Plan input text good is = refused_alone IsPlansText (spec_of input) text plans_done good is
-refused_text Run input text good is = refused_run input (spec_reading input) text good is
+refused_text Run input text good is = refused_run Nothing input (spec_reading input) text good is
+refused_text Group input text good is = refused_run Groups input (spec_reading input) text good is
 refused_text Dot input text good is = refused_alone IsDrawing (spec_of input) text dot_done good is
 refused_text (DotPlan op) input text good is = refused_plan op (spec_of input) text good is
 

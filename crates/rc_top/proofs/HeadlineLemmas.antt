@@ -5,13 +5,13 @@ use Rattle.rc_answer.specs.declared.outcome.Outcome.{Outcome}
 use Rattle.rc_answer.specs.declared.outcome.Ran.{Ran}
 use Rattle.rc_answer.specs.declared.status.Status.{Status}
 use Rattle.rc_answer.specs.declared.status.Status.TheVariants.{Done, Usage, Refused, SourceFailed, SinkFailed, OutOfMemory}
-use Rattle.rc_answer.specs.Answers.{Answers}
+use Rattle.rc_answer.specs.Answers.{Answers, MakesCalls, also_of}
 use Rattle.rc_answer.specs.Headline.{CheckHeadline, Headline}
 use Rattle.rc_answer.specs.HeadlineLaws.{check_headline, headline}
 use Rattle.rc_answer.specs.Ran.{HasRunText}
 use Rattle.rc_answer.specs.Writes.{WritesWhole}
 use Rattle.rc_command.specs.declared.command.TextCommand.{TextCommand}
-use Rattle.rc_command.specs.declared.command.TextCommand.TheVariants.{Check, Run}
+use Rattle.rc_command.specs.declared.command.TextCommand.TheVariants.{Check, Run, Group}
 use Rattle.rc_top.specs.Answer.{IsAnswer}
 use Rattle.rc_top.specs.Ends.{Ends}
 use Rattle.rc_top.proofs.EndLemmas.{IsWritten}
@@ -28,27 +28,31 @@ whole A old new SinkFailed (inr e) ends = absurd (let f : SinkFailed ≡ Refused
 whole A old new OutOfMemory (inl e) ends = absurd (let f : OutOfMemory ≡ Done = e in cc)
 whole A old new OutOfMemory (inr e) ends = absurd (let f : OutOfMemory ≡ Refused = e in cc)
 
-check_is_not_run : Check ≡ Run → ⊥
-check_is_not_run e = cc
-
 no_run : (o : Option Ran) → (IsSome o → ⊥) → o ≡ None
 no_run None h = refl
 no_run (Some r) h = absurd (h refl)
 
 module _ (command : TextCommand) (input : List ℕ) (old new : Option (List ℕ)) (outcome : Outcome)
     (short : length input ≤ 2 ^ 24) (written : IsWritten outcome.status)
-    (ends : Ends (IsAnswer command input) old new outcome.status) (has : IsSome outcome.ran ↔ (command ≡ Run) × (outcome.status ≡ Done)) where
+    (ends : Ends (IsAnswer command input) old new outcome.status) (has : IsSome outcome.ran ↔ MakesCalls command × (outcome.status ≡ Done)) where
   answers : WritesWhole (Answers command input) old new outcome.status
   answers =
       let (text, is, adds) = whole (IsAnswer command input) old new outcome.status written ends in
       (text, is.read short, adds)
 
-  pub run_headline : command ≡ Run → IfSome outcome.ran (HasRunText input old new) → Headline input old new outcome
+  pub run_headline : command ≡ Run → IfSome outcome.ran (HasRunText (also_of command) input old new) → Headline (also_of Run) input old new outcome
   run_headline is ran =
-      headline input old new outcome (λ some. (has.0 some).1, λ done. has.1 (is, done)) ran
+      headline (also_of Run) input old new outcome (λ some. (has.0 some).1, λ done. has.1 (subst MakesCalls (sym is) tt, done))
+      (subst (λ (k : TextCommand). IfSome outcome.ran (HasRunText (also_of k) input old new)) is ran)
+      (subst (λ (k : TextCommand). WritesWhole (Answers k input) old new outcome.status) is answers)
+
+  pub group_headline : command ≡ Group → IfSome outcome.ran (HasRunText (also_of command) input old new) → Headline (also_of Group) input old new outcome
+  group_headline is ran =
+      headline (also_of Group) input old new outcome (λ some. (has.0 some).1, λ done. has.1 (subst MakesCalls (sym is) tt, done))
+      (subst (λ (k : TextCommand). IfSome outcome.ran (HasRunText (also_of k) input old new)) is ran)
       (subst (λ (k : TextCommand). WritesWhole (Answers k input) old new outcome.status) is answers)
 
   pub checked_headline : command ≡ Check → CheckHeadline input old new outcome
   checked_headline is =
-      check_headline old new outcome (no_run outcome.ran (λ some. check_is_not_run (sym is ∙ (has.0 some).0))) input
+      check_headline old new outcome (no_run outcome.ran (λ some. subst MakesCalls is (has.0 some).0)) input
       (subst (λ (k : TextCommand). WritesWhole (Answers k input) old new outcome.status) is answers)

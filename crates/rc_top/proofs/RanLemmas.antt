@@ -9,16 +9,17 @@ use Rattle.rc_answer.specs.declared.status.Status.{Status}
 use Rattle.rc_answer.specs.declared.status.Status.TheVariants.{Done, Refused}
 use Rattle.rc_answer.specs.declared.status.Stop.{Stop}
 use Rattle.rc_answer.specs.declared.status.Stop.TheVariants.{Memory, Sink}
-use Rattle.rc_answer.specs.Answers.{IsSizeRefusal}
+use Rattle.rc_answer.specs.Answers.{IsSizeRefusal, MakesCalls, also_of}
 use Rattle.rc_answer.specs.Big.{HasSummaryText}
 use Rattle.rc_answer.specs.Ran.{HasRunText, IsOneHistory, ran_in, status_in}
 use Rattle.rc_answer.specs.RanLaws.{summed_is_one_history, written_is_one_history}
 use Rattle.rc_answer.specs.Writes.{Writes}
+use Rattle.rc_work.specs.declared.also.Also.{Also}
+use Rattle.rc_work.specs.declared.also.Also.TheVariants.{Nothing}
 use Rattle.rc_command.specs.declared.command.Command.{Command}
 use Rattle.rc_command.specs.declared.command.Command.TheVariants.{Big, OfText}
 use Rattle.rc_command.specs.declared.command.TextCommand.{TextCommand}
-use Rattle.rc_command.specs.declared.command.TextCommand.TheVariants.{Check, Plan, Run, Dot, DotPlan}
-use Rattle.rc_top.specs.Asks.{MakesRun}
+use Rattle.rc_top.specs.Asks.{MakesRun, also_asked}
 use Rattle.rc_top.specs.Ends.{status_of}
 
 -- what holds of each run that there may be
@@ -26,26 +27,26 @@ each_some : {A : Type 0} (P Q : A → Type 0) (o : Option A) → ((x : A) → P 
 each_some P Q None f h = tt
 each_some P Q (Some x) f h = f x h
 
-module _ (bytes : List ℕ) (old new : Option (List ℕ)) (r : Result Outcome Stop) (written : IfOk r (λ o. IfSome o.ran (HasRunText bytes old new))) where
-  ran_of_bytes : IfSome (ran_in r) (HasRunText bytes old new)
+module _ (also : Also) (bytes : List ℕ) (old new : Option (List ℕ)) (r : Result Outcome Stop) (written : IfOk r (λ o. IfSome o.ran (HasRunText also bytes old new))) where
+  ran_of_bytes : IfSome (ran_in r) (HasRunText also bytes old new)
   ran_of_bytes = go r written
     where
-      go : (r : Result Outcome Stop) → IfOk r (λ o. IfSome o.ran (HasRunText bytes old new)) → IfSome (ran_in r) (HasRunText bytes old new)
+      go : (r : Result Outcome Stop) → IfOk r (λ o. IfSome o.ran (HasRunText also bytes old new)) → IfSome (ran_in r) (HasRunText also bytes old new)
       go (Ok o) h = h
       go (Err e) h = tt
 
   -- it is of one history
-  pub history_left : IfSome (ran_in r) IsOneHistory
-  history_left = each_some (HasRunText bytes old new) IsOneHistory (ran_in r) (written_is_one_history bytes old new) ran_of_bytes
+  pub history_left : IfSome (ran_in r) (IsOneHistory also)
+  history_left = each_some (HasRunText also bytes old new) (IsOneHistory also) (ran_in r) (written_is_one_history also bytes old new) ran_of_bytes
 
   -- and, where the source told its bytes, of these
-  pub run_left : (input : List ℕ) (told left : Option (List ℕ)) → told ≡ Some input → Takes told bytes left → IsEmpty left → IfSome (ran_in r) (HasRunText input old new)
+  pub run_left : (input : List ℕ) (told left : Option (List ℕ)) → told ≡ Some input → Takes told bytes left → IsEmpty left → IfSome (ran_in r) (HasRunText also input old new)
   run_left input told left is_told taken empty =
-      subst (λ (b : List ℕ). IfSome (ran_in r) (HasRunText b old new)) (takes_all input bytes left (sym is_told ∙ taken) empty).0 ran_of_bytes
+      subst (λ (b : List ℕ). IfSome (ran_in r) (HasRunText also b old new)) (takes_all input bytes left (sym is_told ∙ taken) empty).0 ran_of_bytes
 
 -- a run is left exactly where the command is done that makes one
-pub left_exactly : (command : TextCommand) (r : Result Outcome Stop) → IfOk r (λ o. IsSome o.ran ↔ (command ≡ Run) × (o.status ≡ Done))
-    → IsSome (ran_in r) ↔ (command ≡ Run) × (status_of (status_in r) ≡ Done)
+pub left_exactly : (command : TextCommand) (r : Result Outcome Stop) → IfOk r (λ o. IsSome o.ran ↔ MakesCalls command × (o.status ≡ Done))
+    → IsSome (ran_in r) ↔ MakesCalls command × (status_of (status_in r) ≡ Done)
 left_exactly command (Ok o) h = h
 left_exactly command (Err Memory) h = (λ s. cc, λ e. cc)
 left_exactly command (Err Sink) h = (λ s. cc, λ e. cc)
@@ -60,19 +61,21 @@ size_not_done old new (Err Memory) h e = cc
 size_not_done old new (Err Sink) h e = cc
 
 -- so it is for the words that name the command
-pub left_by_words : {X D : Type 0} (named : Option Command) (command : TextCommand) → named ≡ Some (OfText command) → X ↔ (command ≡ Run) × D → X ↔ MakesRun named × D
-left_by_words {X} {D} named command is h = subst (λ (c : Option Command). X ↔ MakesRun c × D) (sym is) (go command h)
-  where
-    go : {X D : Type 0} (command : TextCommand) → X ↔ (command ≡ Run) × D → X ↔ MakesRun (Some (OfText command)) × D
-    go Check h = (λ x. let e : Check ≡ Run = (h.0 x).0 in cc, λ e. absurd e.0)
-    go Plan h = (λ x. let e : Plan ≡ Run = (h.0 x).0 in cc, λ e. absurd e.0)
-    go Run h = (λ x. (tt, (h.0 x).1), λ e. h.1 (refl, e.1))
-    go Dot h = (λ x. let e : Dot ≡ Run = (h.0 x).0 in cc, λ e. absurd e.0)
-    go (DotPlan op) h = (λ x. let e : DotPlan op ≡ Run = (h.0 x).0 in cc, λ e. absurd e.0)
+pub left_by_words : {X D : Type 0} (named : Option Command) (command : TextCommand) → named ≡ Some (OfText command) → X ↔ MakesCalls command × D
+    → X ↔ MakesRun named × D
+left_by_words {X} {D} named command is h = subst (λ (c : Option Command). X ↔ MakesRun c × D) (sym is) h
+
+pub history_by_words : (named : Option Command) (command : TextCommand) (ran : Option Ran) → named ≡ Some (OfText command)
+    → IfSome ran (IsOneHistory (also_of command)) → IfSome ran (IsOneHistory (also_asked named))
+history_by_words named command ran is h = subst (λ (c : Option Command). IfSome ran (IsOneHistory (also_asked c))) (sym is) h
 
 -- and where a generated workload was run
 pub left_by_seed : {X D : Type 0} (named : Option Command) (seed calls : ℕ) → named ≡ Some (Big seed calls) → X ↔ D → X ↔ MakesRun named × D
 left_by_seed {X} {D} named seed calls is h = subst (λ (c : Option Command). X ↔ MakesRun c × D) (sym is) (λ x. (tt, h.0 x), λ e. h.1 e.1)
+
+pub history_by_seed : (named : Option Command) (seed calls : ℕ) (ran : Option Ran) → named ≡ Some (Big seed calls) → IfSome ran (IsOneHistory Nothing)
+    → IfSome ran (IsOneHistory (also_asked named))
+history_by_seed named seed calls ran is h = subst (λ (c : Option Command). IfSome ran (IsOneHistory (also_asked c))) (sym is) h
 
 -- a generated workload leaves its run exactly where it is done
 module _ (r : Result Outcome Stop) where
@@ -92,5 +95,5 @@ module _ (r : Result Outcome Stop) where
         go (Ok o) h = h
         go (Err e) h = tt
 
-    pub big_history_left : IfSome (ran_in r) IsOneHistory
-    big_history_left = each_some (HasSummaryText seed calls old new) IsOneHistory (ran_in r) (summed_is_one_history seed calls old new) summary_left
+    pub big_history_left : IfSome (ran_in r) (IsOneHistory Nothing)
+    big_history_left = each_some (HasSummaryText seed calls old new) (IsOneHistory Nothing) (ran_in r) (summed_is_one_history seed calls old new) summary_left

@@ -4,26 +4,28 @@ use Rattle.rc_text.specs.Lines.{printed_lines}
 use Rattle.rc_spec.specs.declared.spec.Spec.{Spec}
 use Rattle.rc_spec.specs.Acceptance.{IsAccepted}
 use Rattle.rc_reader.specs.Grammar.{Broken, Reading, spec_reading, spec_of}
+use Rattle.rc_work.specs.declared.also.Also.{Also}
+use Rattle.rc_work.specs.declared.also.Also.TheVariants.{Nothing, Groups}
 use Rattle.rc_work.specs.declared.work.Work.{Work}
 use Rattle.rc_work.specs.LineRules.{op_number}
 use Rattle.rc_work.specs.Ranking.{work_reading}
 use Rattle.rc_answer.specs.Answers.{Answers, IsSizeRefusal}
 use Rattle.rc_work.specs.WholeText.{place_after}
 use Rattle.rc_command.specs.declared.command.TextCommand.{TextCommand}
-use Rattle.rc_command.specs.declared.command.TextCommand.TheVariants.{Check, Plan, Run, Dot, DotPlan}
+use Rattle.rc_command.specs.declared.command.TextCommand.TheVariants.{Check, Plan, Run, Group, Dot, DotPlan}
 use Rattle.rc_answer.specs.declared.status.Status.{Status}
 
 abbrev pub usage_text : List ℕ
-usage_text = printed_lines (codes "usage: relc check, plan, run, dot [OP] or big SEED N" ∷ [])
+usage_text = printed_lines (codes "usage: relc check, plan, run, dot [OP], group or big SEED N" ∷ [])
 
 -- a workload was read
 abbrev pub IsGoodWork : Result Work Broken → Type 0
 IsGoodWork (Err broken) = ⊥
 IsGoodWork (Ok work) = Unit {0}
 
-abbrev pub IsGoodReading : List ℕ → Result Reading Broken → Type 0
-IsGoodReading input (Err broken) = ⊥
-IsGoodReading input (Ok reading) = IsAccepted reading.spec × IsGoodWork (work_reading reading.spec (place_after input reading))
+abbrev pub IsGoodReading : Also → List ℕ → Result Reading Broken → Type 0
+IsGoodReading also input (Err broken) = ⊥
+IsGoodReading also input (Ok reading) = IsAccepted reading.spec × IsGoodWork (work_reading also reading.spec (place_after input reading))
 
 abbrev pub IsGoodSpec : Result Spec Broken → Type 0
 IsGoodSpec (Err broken) = ⊥
@@ -38,7 +40,8 @@ IsGoodSpecWith op (Ok spec) = IsAccepted spec × IsSome (op_number spec op)
 abbrev pub KeepsRules : TextCommand → List ℕ → Type 0
 KeepsRules Check input = IsGoodSpec (spec_of input)
 KeepsRules Plan input = IsGoodSpec (spec_of input)
-KeepsRules Run input = IsGoodReading input (spec_reading input)
+KeepsRules Run input = IsGoodReading Nothing input (spec_reading input)
+KeepsRules Group input = IsGoodReading Groups input (spec_reading input)
 KeepsRules Dot input = IsGoodSpec (spec_of input)
 KeepsRules (DotPlan op) input = IsGoodSpecWith op (spec_of input)
 

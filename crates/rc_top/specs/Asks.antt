@@ -2,7 +2,9 @@
 use Rattle.std.specs.Prelude.{◌≡◌, ℕ, ◌≤◌, List, drop, Option, Some, None}
 use Rattle.rc_command.specs.declared.command.Command.{Command}
 use Rattle.rc_command.specs.declared.command.Command.TheVariants.{OfText, Big}
-use Rattle.rc_command.specs.declared.command.TextCommand.TheVariants.{Check, Plan, Run, Dot, DotPlan}
+use Rattle.rc_work.specs.declared.also.Also.{Also}
+use Rattle.rc_work.specs.declared.also.Also.TheVariants.{Nothing}
+use Rattle.rc_answer.specs.Answers.{MakesCalls, also_of}
 use Rattle.rc_answer.specs.declared.status.Status.{Status}
 use Rattle.rc_answer.specs.declared.status.Status.TheVariants.{Done, Usage, Refused, SourceFailed, SinkFailed, OutOfMemory}
 
@@ -15,12 +17,14 @@ ReadsNothing (Some (Big seed calls)) = Unit {0}
 -- the command makes calls on a store
 abbrev pub MakesRun : Option Command → Type 0
 MakesRun None = ⊥
-MakesRun (Some (OfText Check)) = ⊥
-MakesRun (Some (OfText Plan)) = ⊥
-MakesRun (Some (OfText Run)) = Unit {0}
-MakesRun (Some (OfText Dot)) = ⊥
-MakesRun (Some (OfText (DotPlan op))) = ⊥
+MakesRun (Some (OfText command)) = MakesCalls command
 MakesRun (Some (Big seed calls)) = Unit {0}
+
+-- and groups may stand among them or not
+abbrev pub also_asked : Option Command → Also
+also_asked None = Nothing
+also_asked (Some (OfText command)) = also_of command
+also_asked (Some (Big seed calls)) = Nothing
 
 -- the status of a text that was read to its end, or as far as texts are read
 abbrev pub HasRead : Status → Type 0

@@ -3,8 +3,9 @@
 ghost use Rattle.std.specs.Prelude.{◌≡◌, ◌≤◌, ◌^◌, ◌+◌, ◌⊎◌, ◌↔◌, ℕ, List, Some, None, IfSome, IsSome, drop, length, map, string_bytes};
 ghost use Rattle.rc_io.specs.Counts.{Rose};
 ghost use Rattle.rc_top.specs.Answer.{IsAnswer, KeepsRules};
-ghost use Rattle.rc_top.specs.Asks.{HasRead, LeavesAllBut, MakesRun, ReadsNothing};
+ghost use Rattle.rc_top.specs.Asks.{HasRead, LeavesAllBut, MakesRun, ReadsNothing, also_asked};
 ghost use Rattle.rc_top.specs.Ends.{Ends, EndsBig, EndsUsage, status_of};
+ghost use Rattle.rc_answer.specs.Answers.{MakesCalls, also_of};
 ghost use Rattle.rc_answer.specs.Big.{HasSummaryText};
 ghost use Rattle.rc_answer.specs.Headline.{CheckHeadline, Headline};
 ghost use Rattle.rc_answer.specs.Ran.{HasRunText, IsOneHistory, ran_in, status_in};
@@ -12,6 +13,7 @@ ghost use Rattle.rc_command.specs.Command.{command_of};
 ghost use Rattle.rc_command.specs.declared.command.Command.TheVariants.{Big, OfText};
 ghost use Rattle.rc_command.specs.declared.command.TextCommand.{TextCommand};
 ghost use Rattle.rc_command.specs.declared.command.TextCommand.TheVariants as commands;
+ghost use Rattle.rc_work.specs.declared.also.Also.TheVariants.{Groups, Nothing};
 
 use rc_answer::{Outcome, Status, Stop, answer, answer_big, refuse_size};
 use rc_command::{Command, TextCommand, command_in};
@@ -24,14 +26,15 @@ use std::alloc::Global;
 use std::sync::Wait;
 use std::thread::Threads;
 
-/// Does what the words ask. `words[0]` is the program's name. The commands `check`, `plan`, `run` and `dot` read the
+/// Does what the words ask. `words[0]` is the program's name. The commands `check`, `plan`, `run`, `group` and `dot` read the
 /// source to its end, or until 2^24 + 1 bytes are taken, and never more; `big SEED N` and other words take nothing from
 /// it.
 ///
 /// Over the bytes that the source tells to be left at entry, `check` writes `accepted` where the specification keeps
 /// all rules, `plan` the planned plan of each of its operations and then `end`, `dot` its drawing, `dot OP` the drawing
 /// with the planned plan of the operation of this name, and `run` the same plans as `plan` and then the report of a
-/// journal that is a run of the workload and of the rows of its replay. Where a rule is broken, each writes the refusal
+/// journal that is a run of the workload and of the rows of its replay. `group` is `run` on a workload in which calls may
+/// stand in groups, each of which is one entry of the journal. Where a rule is broken, each writes the refusal
 /// of the first, where no operation has the name `refused operation`, and of more than 2^24 bytes `refused size`. `big`
 /// writes the summary of the workload that the seed generates, which is that of one thread that makes the calls in
 /// order. Other words write the usage line.
@@ -40,7 +43,7 @@ use std::thread::Threads;
 /// written, `SinkFailed` with a prefix of such a text, and `OutOfMemory` with nothing or a prefix, where no read or write
 /// was counted as failed.
 ///
-/// `run` and `big` make the calls of each round by threads that run beside each other, on one shared store, and `ran` has
+/// `run`, `group` and `big` make the calls of each round by threads that run beside each other, on one shared store, and `ran` has
 /// what they left: whatever was read, the journal is one legal history, every state of which satisfies the dependencies,
 /// and the rows are those that it leaves; it is a run of the workload that the told bytes have, or of the generated one,
 /// and what was written are the plans and the report, or the summary, of these very values. The gate is told of each
@@ -63,12 +66,16 @@ pub fn relc<R: Threads + Wait + Sync, S: Source, K: Sink, G: Gate + Sync>(
     ensures untouched { ReadsNothing (command_of (map string_bytes words.now))
         → source.new ≡ source.old }
 
-    // THE HEADLINE (rc_answer/specs/Headline.antt): the words say `run`, or `check`, the source tells its bytes, and all of
-    // them were read and answered.
+    // THE HEADLINE (rc_answer/specs/Headline.antt): the words say `run`, `group` or `check`, the source tells its bytes, and
+    // all of them were read and answered.
     ensures headline { command_of (map string_bytes words.now) ≡ Some (OfText commands.Run)
         → (input : List ℕ) → S.left source.old ≡ Some input → length input ≤ 2 ^ 24
         → (result.status ≡ Status.Done) ⊎ (result.status ≡ Status.Refused)
-        → Headline input (K.held sink.old) (K.held sink.new) result }
+        → Headline Nothing input (K.held sink.old) (K.held sink.new) result }
+    ensures group_headline { command_of (map string_bytes words.now) ≡ Some (OfText commands.Group)
+        → (input : List ℕ) → S.left source.old ≡ Some input → length input ≤ 2 ^ 24
+        → (result.status ≡ Status.Done) ⊎ (result.status ≡ Status.Refused)
+        → Headline Groups input (K.held sink.old) (K.held sink.new) result }
     ensures check_headline { command_of (map string_bytes words.now) ≡ Some (OfText commands.Check)
         → (input : List ℕ) → S.left source.old ≡ Some input → length input ≤ 2 ^ 24
         → (result.status ≡ Status.Done) ⊎ (result.status ≡ Status.Refused)
@@ -94,10 +101,13 @@ pub fn relc<R: Threads + Wait + Sync, S: Source, K: Sink, G: Gate + Sync>(
     // What a run left, and of what its text is.
     ensures has_ran { IsSome result.ran ↔
         MakesRun (command_of (map string_bytes words.now)) × (result.status ≡ Status.Done) }
-    ensures history { IfSome result.ran IsOneHistory }
-    ensures report { command_of (map string_bytes words.now) ≡ Some (OfText commands.Run)
+    ensures history { IfSome result.ran
+        (IsOneHistory (also_asked (command_of (map string_bytes words.now)))) }
+    ensures report { (command : TextCommand)
+        → command_of (map string_bytes words.now) ≡ Some (OfText command)
         → (input : List ℕ) → S.left source.old ≡ Some input
-        → IfSome result.ran (HasRunText input (K.held sink.old) (K.held sink.new)) }
+        → IfSome result.ran
+        (HasRunText (also_of command) input (K.held sink.old) (K.held sink.new)) }
     ensures summary { (seed calls : ℕ)
         → command_of (map string_bytes words.now) ≡ Some (Big seed calls)
         → IfSome result.ran (HasSummaryText seed calls (K.held sink.old) (K.held sink.new)) }
@@ -144,7 +154,7 @@ fn usage<K: Sink>(sink: &mut K) -> Status
 {
     match write_all(
         sink,
-        b"usage: relc check, plan, run, dot [OP] or big SEED N\n",
+        b"usage: relc check, plan, run, dot [OP], group or big SEED N\n",
     ) {
         Ok(()) => Status::Usage,
         Err(WriteFault::Sink) => Status::SinkFailed,
@@ -185,7 +195,7 @@ fn big<R: Threads + Wait + Sync, K: Sink, G: Gate + Sync>(
     requires { calls ≤ 20000 }
     ensures big { EndsBig seed calls (K.held sink.old) (K.held sink.new) result.status }
     ensures has_ran { IsSome result.ran ↔ (result.status ≡ Status.Done) }
-    ensures history { IfSome result.ran IsOneHistory }
+    ensures history { IfSome result.ran (IsOneHistory Nothing) }
     ensures summary { IfSome result.ran
         (HasSummaryText seed calls (K.held sink.old) (K.held sink.new)) }
     ensures sink_failed { result.status ≡ Status.SinkFailed
@@ -213,10 +223,10 @@ fn answer_text<R: Threads + Wait + Sync, S: Source, K: Sink, G: Gate + Sync>(
     ensures left { (input : List ℕ) → S.left source.old ≡ Some input → HasRead result.status
         → S.left source.new ≡ Some (drop (2 ^ 24 + 1) input) }
     ensures not_usage { result.status ≡ Status.Usage → ⊥ }
-    ensures has_ran { IsSome result.ran ↔ (command ≡ commands.Run) × (result.status ≡ Status.Done) }
-    ensures history { IfSome result.ran IsOneHistory }
-    ensures report { (input : List ℕ) → S.left source.old ≡ Some input
-        → IfSome result.ran (HasRunText input (K.held sink.old) (K.held sink.new)) }
+    ensures has_ran { IsSome result.ran ↔ MakesCalls command × (result.status ≡ Status.Done) }
+    ensures history { IfSome result.ran (IsOneHistory (also_of command)) }
+    ensures report { (input : List ℕ) → S.left source.old ≡ Some input → IfSome result.ran
+        (HasRunText (also_of command) input (K.held sink.old) (K.held sink.new)) }
     ensures source_failed { result.status ≡ Status.SourceFailed
         → Rose (S.faults source.old) (S.faults source.new) }
     ensures nothing_written { result.status ≡ Status.SourceFailed → K.held sink.new ≡ K.held sink.old }

@@ -12,26 +12,26 @@ use Rattle.rc_reader.specs.Answers.{Refuses, refusal_at}
 use Rattle.rc_reader.specs.declared.refusal.LineFault.{LineFault}
 use Rattle.rc_reader.specs.declared.refusal.LineFault.TheVariants as faults
 use Rattle.rc_reader.specs.declared.refusal.LineRule.TheVariants.{S8}
-use Rattle.rc_work.specs.declared.raw.Draft.{Draft}
-use Rattle.rc_work.specs.declared.raw.RawTurn.{RawTurn}
+use Rattle.rc_work.specs.declared.also.Also.{Also}
+use Rattle.rc_work.specs.declared.draft.Draft.{Draft}
 use Rattle.rc_work.specs.Answers.{ReadsLine, fails_line}
-use Rattle.rc_work.specs.WorkGrammar.{broken_at, drafts, reading_from, headed, reading_behind, reading_all}
+use Rattle.rc_work.specs.WorkGrammar.{broken_at, draft_of, drafts, reading_from, headed, reading_behind, reading_all}
 
-module _ (spec : Spec) where
+module _ (also : Also) (spec : Spec) where
   -- lines that are read break no rule
-  taken : (draft : Draft) (lines : List ContentLine) (next : Draft) → AreRead (ReadsLine spec) draft lines next
-      → language.AreTaken (drafts spec) draft lines next
+  taken : (draft : Draft) (lines : List ContentLine) (next : Draft) → AreRead (ReadsLine also spec) draft lines next
+      → language.AreTaken (drafts also spec) draft lines next
   taken draft [] next e = e
   taken draft (line ∷ lines) next (between, is, read) = (between, is.gives, refl, taken between lines next read)
 
   -- none of them ends the reading
   all_read : (draft : Draft) (lines : List ContentLine) (answer : Option Line) (next : Draft) (others : List ContentLine)
-      → Reads (ReadsLine spec) (fails_line spec) draft lines (Ok answer) next others → AreRead (ReadsLine spec) draft lines next
+      → Reads (ReadsLine also spec) (fails_line also spec) draft lines (Ok answer) next others → AreRead (ReadsLine also spec) draft lines next
   all_read draft lines None next others read = read
   all_read draft lines (Some last) next others read = absurd (false≢true (sym read.ends.goes_on))
 
   reached : (draft : Draft) (lines : List ContentLine) (before : Draft) (line : ContentLine) (others : List ContentLine)
-      → Comes (ReadsLine spec) draft lines before line others → language.Reaches (drafts spec) draft lines before line others
+      → Comes (ReadsLine also spec) draft lines before line others → language.Reaches (drafts also spec) draft lines before line others
   reached draft lines before line others comes = record {
     front = comes.front;
     whole = comes.whole;
@@ -41,29 +41,29 @@ module _ (spec : Spec) where
   module _ (past_end : ℕ) (draft : Draft) (lines : List ContentLine) where
     -- `end` is one of the lines
     pub whole : (answer : Option Line) (next : Draft) (others : List ContentLine)
-        → Reads (ReadsLine spec) (fails_line spec) draft lines (Ok answer) next others → next.ended ≡ true
-        → reading_from past_end spec draft lines ≡ Ok next
+        → Reads (ReadsLine also spec) (fails_line also spec) draft lines (Ok answer) next others → next.ended ≡ true
+        → reading_from also past_end spec draft lines ≡ Ok next
     unfolding reading_from
     whole answer next others read ended =
-        laws.reading-means (drafts spec) past_end draft lines (Ok next)
+        laws.reading-means (drafts also spec) past_end draft lines (Ok next)
         (inr (record { next = next; taken = taken draft lines next (all_read draft lines answer next others read); out = rw ended refl }))
 
     -- it is none of them
     pub unended : (answer : Option Line) (next : Draft) (others : List ContentLine)
-        → Reads (ReadsLine spec) (fails_line spec) draft lines (Ok answer) next others → next.ended ≡ false
-        → reading_from past_end spec draft lines ≡ broken_at S8 past_end
+        → Reads (ReadsLine also spec) (fails_line also spec) draft lines (Ok answer) next others → next.ended ≡ false
+        → reading_from also past_end spec draft lines ≡ broken_at S8 past_end
     unfolding reading_from
     unended answer next others read not_yet =
-        laws.reading-means (drafts spec) past_end draft lines (broken_at S8 past_end)
+        laws.reading-means (drafts also spec) past_end draft lines (broken_at S8 past_end)
         (inr (record { next = next; taken = taken draft lines next (all_read draft lines answer next others read); out = rw not_yet refl }))
 
     broken : (fault : LineFault) (number : ℕ)
-        → Stops (ReadsLine spec) (fails_line spec) draft lines (record { fault = fault; line = number })
-        → Refuses (refusal_at fault number) (reading_from past_end spec draft lines)
+        → Stops (ReadsLine also spec) (fails_line also spec) draft lines (record { fault = fault; line = number })
+        → Refuses (refusal_at fault number) (reading_from also past_end spec draft lines)
     unfolding reading_from
     broken faults.Memory number stops = tt
     broken (faults.Broken rule) number stops =
-        laws.reading-means (drafts spec) past_end draft lines (Err (record { rule = rule; line = number }))
+        laws.reading-means (drafts also spec) past_end draft lines (Err (record { rule = rule; line = number }))
         (inl (record {
           before = stops.before;
           line = stops.line;
@@ -74,18 +74,14 @@ module _ (spec : Spec) where
         }))
 
     -- a line is refused
-    pub refused : (unread : Unread LineFault) → Stops (ReadsLine spec) (fails_line spec) draft lines unread
-        → Refuses (refusal_at unread.fault unread.line) (reading_from past_end spec draft lines)
+    pub refused : (unread : Unread LineFault) → Stops (ReadsLine also spec) (fails_line also spec) draft lines unread
+        → Refuses (refusal_at unread.fault unread.line) (reading_from also past_end spec draft lines)
     refused unread stops = broken unread.fault unread.line stops
 
   -- behind the header, what the lines give from its draft is what all lines give
-  pub behind_header : (old new : TextPlace) (threads : ℕ) (rounds : List (List RawTurn)) → rounds ≡ []
+  pub behind_header : (old new : TextPlace) (threads : ℕ) (draft : Draft) → draft ≡ draft_of threads
       → headed (past_end_of old.text) (content_from old) ≡ Ok (record { threads = threads; others = content_from new })
-      → reading_all (past_end_of old.text) spec (content_from old)
-      ≡ reading_from (past_end_of old.text) spec (record { threads = threads; ended = false; rounds = rounds }) (content_from new)
-  behind_header old new threads rounds none header =
-      ap (reading_behind (past_end_of old.text) spec) header
-      ∙ ap
-      (λ (rs : List (List RawTurn)).
-      reading_from (past_end_of old.text) spec (record { threads = threads; ended = false; rounds = rs }) (content_from new))
-      (sym none)
+      → reading_all also (past_end_of old.text) spec (content_from old) ≡ reading_from also (past_end_of old.text) spec draft (content_from new)
+  behind_header old new threads draft is header =
+      ap (reading_behind also (past_end_of old.text) spec) header
+      ∙ ap (λ (d : Draft). reading_from also (past_end_of old.text) spec d (content_from new)) (sym is)

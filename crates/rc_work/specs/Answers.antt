@@ -2,12 +2,14 @@
 use Rattle.std.specs.Prelude.{◌≡◌, ℕ, Bool, false, List, Result, Ok, Err}
 use Rattle.rc_reader.specs.Answers.{FailsLine}
 use Rattle.rc_reader.specs.declared.refusal.LineRule.{LineRule}
-use Rattle.rc_reader.specs.declared.refusal.LineRule.TheVariants.{S1, S2, S3, S4, S5, S6, S7, S8, W1, W2, W3}
+use Rattle.rc_reader.specs.declared.refusal.LineRule.TheVariants.{S1, S2, S3, S4, S5, S6, S7, S8, W1, W2, W3, W5}
 use Rattle.rc_reader.specs.declared.refusal.ReadRefusal.{ReadRefusal}
 use Rattle.rc_reader.specs.declared.refusal.ReadRefusal.TheVariants as refusals
 use Rattle.rc_reader.specs.declared.refusal.LineFault.{LineFault}
 use Rattle.rc_spec.specs.declared.spec.Spec.{Spec}
-use Rattle.rc_work.specs.declared.raw.Draft.{Draft}
+use Rattle.rc_work.specs.declared.also.Also.{Also}
+use Rattle.rc_work.specs.declared.also.Also.TheVariants.{Nothing, Groups}
+use Rattle.rc_work.specs.declared.draft.Draft.{Draft}
 use Rattle.rc_work.specs.WorkGrammar.{after_bytes}
 
 -- the header gave a number of threads
@@ -21,29 +23,31 @@ TakesLine (Ok done) new gives = gives ≡ Ok new
 TakesLine (Err fault) new gives = FailsLine fault gives
 
 -- a line is read from a draft to the next, and never ends the reading
-pub record ReadsLine (spec : Spec) (draft : Draft) (bytes : List ℕ) (ended : Bool) (next : Draft) : Type 0 where
+pub record ReadsLine (also : Also) (spec : Spec) (draft : Draft) (bytes : List ℕ) (ended : Bool) (next : Draft) : Type 0 where
   pub goes_on : ended ≡ false
-  pub gives : after_bytes spec draft bytes ≡ Ok next
+  pub gives : after_bytes also spec draft bytes ≡ Ok next
 
 -- a line is refused behind a draft
-abbrev pub fails_line : Spec → Draft → List ℕ → LineFault → Type 0
-fails_line spec draft bytes fault = FailsLine fault (after_bytes spec draft bytes)
+abbrev pub fails_line : Also → Spec → Draft → List ℕ → LineFault → Type 0
+fails_line also spec draft bytes fault = FailsLine fault (after_bytes also spec draft bytes)
 
--- a rule that lines of a workload may break
-abbrev pub IsWorkRule : LineRule → Type 0
-IsWorkRule S1 = Unit {0}
-IsWorkRule S2 = Unit {0}
-IsWorkRule S3 = ⊥
-IsWorkRule S4 = ⊥
-IsWorkRule S5 = Unit {0}
-IsWorkRule S6 = Unit {0}
-IsWorkRule S7 = Unit {0}
-IsWorkRule S8 = Unit {0}
-IsWorkRule W1 = Unit {0}
-IsWorkRule W2 = Unit {0}
-IsWorkRule W3 = Unit {0}
+-- a rule that lines of a workload may break: W5 where groups are read
+abbrev pub IsWorkRule : Also → LineRule → Type 0
+IsWorkRule also S1 = Unit {0}
+IsWorkRule also S2 = Unit {0}
+IsWorkRule also S3 = ⊥
+IsWorkRule also S4 = ⊥
+IsWorkRule also S5 = Unit {0}
+IsWorkRule also S6 = Unit {0}
+IsWorkRule also S7 = Unit {0}
+IsWorkRule also S8 = Unit {0}
+IsWorkRule also W1 = Unit {0}
+IsWorkRule also W2 = Unit {0}
+IsWorkRule also W3 = Unit {0}
+IsWorkRule Nothing W5 = ⊥
+IsWorkRule Groups W5 = Unit {0}
 
 -- a refusal of a workload: want of memory, or one of its rules
-abbrev pub IsWorkRefusal : ReadRefusal → Type 0
-IsWorkRefusal refusals.Memory = Unit {0}
-IsWorkRefusal (refusals.Line rule line) = IsWorkRule rule
+abbrev pub IsWorkRefusal : Also → ReadRefusal → Type 0
+IsWorkRefusal also refusals.Memory = Unit {0}
+IsWorkRefusal also (refusals.Line rule line) = IsWorkRule also rule

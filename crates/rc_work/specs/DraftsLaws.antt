@@ -1,10 +1,10 @@
 -- What is read keeps the limits, and its turns are right.
-use Rattle.std.proofs.Common.{◌≡◌, ℕ, ◌<◌, ◌≤◌, Bool, true, false, cond, leb, List, [], ◌∷◌, length, codes, Option, Some, None, Result, Ok, Err, refl, subst, arith}
-use Rattle.std.specs.Prelude.{sum_by, ◌&&◌}
+use Rattle.std.proofs.Common.{◌≡◌, ℕ, ◌+◌, ◌<◌, ◌≤◌, Bool, true, false, cond, leb, List, [], ◌∷◌, ◌++◌, length, codes, Option, Some, None, Result, Ok, Err, refl, ap, subst, arith}
+use Rattle.std.specs.Prelude.{IfSome, ◌&&◌, ◌==◌}
+use Rattle.std.specs.List.{AllByRecursion}
 use Rattle.std.specs.Str.{bytes_eq}
 use Rattle.std.proofs.lemmas.Bool.{and_parts, leb-false, leb-true, eqb-false}
 use Rattle.std.proofs.lemmas.List.{length-append}
-use Rattle.std.proofs.lemmas.List.Sums.{sum_by-append}
 use Rattle.rc_text.specs.LanguageLaws.{read_keeps}
 use Rattle.rc_text.specs.Lines.{ContentLine}
 use Rattle.rc_text.specs.Words.{WordText, plain_text, quoted_text}
@@ -15,14 +15,73 @@ use Rattle.rc_spec.specs.declared.spec.Spec.{Spec}
 use Rattle.rc_reader.specs.Grammar.{Broken}
 use Rattle.rc_reader.specs.declared.refusal.LineRule.{LineRule}
 use Rattle.rc_reader.specs.declared.refusal.LineRule.TheVariants.{S1, S5, S8}
+use Rattle.rc_work.specs.declared.also.Also.{Also}
+use Rattle.rc_work.specs.declared.raw.RawCall.{RawCall}
 use Rattle.rc_work.specs.declared.raw.RawTurn.{RawTurn}
-use Rattle.rc_work.specs.declared.raw.Draft.{Draft}
-use Rattle.rc_work.specs.RawTurnsLaws.{length-onto_last, sum_by-onto_last, each_push, each_onto_last}
-use Rattle.rc_work.specs.LineForms.{FormText, round_line, end_line, call_line, words_read, form_of}
-use Rattle.rc_work.specs.LineRules.{turn_of, with_line}
-use Rattle.rc_work.specs.LineRulesLaws.{IsWorkLineTaken, taken, turn_of-thread, IsRawTurn-turn_of}
+use Rattle.rc_work.specs.declared.draft.UnfilledGroup.{UnfilledGroup}
+use Rattle.rc_work.specs.declared.draft.Draft.{Draft}
+use Rattle.rc_work.specs.RawTurns.{count_raw}
+use Rattle.rc_work.specs.RawTurnsLaws.{length-onto_last, count_raw-onto_last, count_raw-push_round, each_push, each_onto_last}
+use Rattle.rc_work.specs.UnfilledGroups.{count_in_group, count_in, with_turn, with_next, with_call_by}
+use Rattle.rc_work.specs.LineForms.{FormText, round_line, end_line, call_line, group_line, words_read, form_of}
+use Rattle.rc_work.specs.LineRules.{thread_in, raw_call, with_line}
+use Rattle.rc_work.specs.LineRulesLaws.{IsWorkLineTaken, taken, call_line-thread, group_line-thread, group_line-size, IsRawCall-raw_call}
 use Rattle.rc_work.specs.WorkGrammar.{after_form_of, after_words, after_bytes, broken_at, drafts, reading_from, threads_by, threads_at, threads_of_words, threads_of_read, threads_of, Headed, headed_by, headed, draft_of, reading_behind, reading_all}
-use Rattle.rc_work.specs.Drafts.{IsRawTurn, IsDraft}
+use Rattle.rc_work.specs.Drafts.{IsRawCall, IsRawTurn, IsUnfilledGroup, IsDraft}
+
+-- ---- a call more
+
+-- the turn stands behind the others of its round
+IsDraft-with_turn : (spec : Spec) (draft : Draft) (turn : RawTurn) → IsDraft spec draft → 0 < length draft.rounds
+    → count_raw draft.rounds + length turn.calls ≤ 20000 → turn.thread < draft.threads → IsRawTurn spec turn
+    → IsDraft spec (with_turn draft turn)
+IsDraft-with_turn spec draft turn is begun few thread right = record {
+  some_thread = is.some_thread;
+  few_threads = is.few_threads;
+  few_rounds = omega (arith, is.few_rounds, length-onto_last draft.rounds turn);
+  few_calls = omega (arith, few, count_raw-onto_last draft.rounds turn begun);
+  threads = each_onto_last (λ (t : RawTurn). t.thread < draft.threads) draft.rounds turn is.threads thread;
+  turns = each_onto_last (IsRawTurn spec) draft.rounds turn is.turns right;
+  group = tt;
+}
+
+filled_or_unfilled : (spec : Spec) (draft : Draft) (group : UnfilledGroup) (filled : Bool) → (length group.turn.calls == group.size) ≡ filled → IsDraft spec draft
+    → 0 < length draft.rounds → count_raw draft.rounds + length group.turn.calls ≤ 20000 → group.turn.thread < draft.threads
+    → 1 ≤ length group.turn.calls → length group.turn.calls ≤ group.size → group.size ≤ 16 → AllByRecursion (IsRawCall spec) group.turn.calls
+    → IsDraft spec (cond filled (with_turn draft group.turn) (record draft { group = Some group }))
+filled_or_unfilled spec draft group true e is begun few thread some within most right =
+    IsDraft-with_turn spec draft group.turn is begun few thread (record { some = some; few = omega arith; calls = right })
+filled_or_unfilled spec draft group false e is begun few thread some within most right = record {
+  some_thread = is.some_thread;
+  few_threads = is.few_threads;
+  few_rounds = is.few_rounds;
+  few_calls = few;
+  threads = is.threads;
+  turns = is.turns;
+  group = record {
+    thread = thread;
+    few = most;
+    unfilled = omega (arith, within, eqb-false (length group.turn.calls) group.size e);
+    calls = right;
+  };
+}
+
+pub IsDraft-with_call : (spec : Spec) (draft : Draft) (found : Option UnfilledGroup) (thread : ℕ) (call : RawCall) → draft.group ≡ found → IsDraft spec draft
+    → 0 < length draft.rounds → count_in draft < 20000 → thread < draft.threads → IsRawCall spec call → IsDraft spec (with_call_by found draft thread call)
+IsDraft-with_call spec draft None thread call e is begun few below right =
+    let none : count_in_group draft.group ≡ 0 = ap count_in_group e in
+    IsDraft-with_turn spec draft (record { thread = thread; calls = call ∷ [] }) is begun (omega (arith, few, none)) below (record {
+      some = omega arith;
+      few = omega arith;
+      calls = (right, tt);
+    })
+IsDraft-with_call spec draft (Some group) thread call e is begun few below right =
+    let unfilled_group : IsUnfilledGroup spec draft.threads group = subst (λ found. IfSome found (IsUnfilledGroup spec draft.threads)) e is.group in
+    let calls : count_in_group draft.group ≡ length group.turn.calls = ap count_in_group e in
+    let more : length (group.turn.calls ++ call ∷ []) ≡ length group.turn.calls + 1 = length-append group.turn.calls (call ∷ []) in
+    filled_or_unfilled spec draft (with_next group call) (length (group.turn.calls ++ call ∷ []) == group.size) refl is begun
+    (omega (arith, few, calls, more)) unfilled_group.thread (omega (arith, more)) (omega (arith, more, unfilled_group.unfilled)) unfilled_group.few
+    (each_push (IsRawCall spec) group.turn.calls call unfilled_group.calls right)
 
 -- ---- a line
 
@@ -31,9 +90,10 @@ IsDraft-with_line spec draft round_line next is line = record {
   some_thread = is.some_thread;
   few_threads = is.few_threads;
   few_rounds = omega (arith, leb-false 64 (length draft.rounds) line.limit, length-append draft.rounds ([] ∷ []));
-  few_calls = omega (arith, is.few_calls, sum_by-append length draft.rounds ([] ∷ []));
+  few_calls = omega (arith, is.few_calls, count_raw-push_round draft.rounds);
   threads = each_push _ draft.rounds [] is.threads tt;
   turns = each_push _ draft.rounds [] is.turns tt;
+  group = is.group;
 }
 IsDraft-with_line spec draft end_line next is line = record {
   some_thread = is.some_thread;
@@ -42,17 +102,28 @@ IsDraft-with_line spec draft end_line next is line = record {
   few_calls = is.few_calls;
   threads = is.threads;
   turns = is.turns;
+  group = is.group;
 }
 IsDraft-with_line spec draft (call_line thread op values) next is line =
-    let turn = turn_of spec draft thread op values in
     let some : 0 < length draft.rounds = omega (arith, eqb-false (length draft.rounds) 0 line.order) in
+    IsDraft-with_call spec draft draft.group (thread_in draft thread) (raw_call spec op values) refl is some
+    (leb-false 20000 (count_in draft) line.limit) (call_line-thread spec draft thread op values next line)
+    (IsRawCall-raw_call spec draft thread op values next line)
+IsDraft-with_line spec draft (group_line thread size) next is line =
+    let within = group_line-size spec draft thread size next line in
     record {
       some_thread = is.some_thread;
       few_threads = is.few_threads;
-      few_rounds = omega (arith, is.few_rounds, length-onto_last draft.rounds turn);
-      few_calls = omega (arith, leb-false 20000 (sum_by length draft.rounds) line.limit, sum_by-onto_last draft.rounds turn some);
-      threads = each_onto_last (λ (t : RawTurn). t.thread < draft.threads) draft.rounds turn is.threads (turn_of-thread spec draft thread op values next line);
-      turns = each_onto_last (IsRawTurn spec) draft.rounds turn is.turns (IsRawTurn-turn_of spec draft thread op values next line);
+      few_rounds = is.few_rounds;
+      few_calls = omega (arith, is.few_calls);
+      threads = is.threads;
+      turns = is.turns;
+      group = record {
+        thread = group_line-thread spec draft thread size next line;
+        few = within.few;
+        unfilled = omega (arith, within.some);
+        calls = tt;
+      };
     }
 
 form_keeps : (spec : Spec) (draft : Draft) (found : Option FormText) (next : Draft) → IsDraft spec draft → after_form_of spec draft found ≡ Ok next → IsDraft spec next
@@ -61,13 +132,15 @@ form_keeps spec draft (Some form) next is e =
     let line = taken spec draft form next e in
     subst (IsDraft spec) line.value (IsDraft-with_line spec draft form next is line)
 
-words_keep : (spec : Spec) (draft : Draft) (found : Option (List WordText)) (next : Draft) → IsDraft spec draft → after_words spec draft found ≡ Ok next → IsDraft spec next
-words_keep spec draft None next is e = absurd cc
-words_keep spec draft (Some words) next is e = form_keeps spec draft (form_of words) next is e
+words_keep : (also : Also) (spec : Spec) (draft : Draft) (found : Option (List WordText)) (next : Draft) → IsDraft spec draft
+    → after_words also spec draft found ≡ Ok next → IsDraft spec next
+words_keep also spec draft None next is e = absurd cc
+words_keep also spec draft (Some words) next is e = form_keeps spec draft (form_of also words) next is e
 
-pub IsDraft-after_bytes : (spec : Spec) (draft : Draft) (bytes : List ℕ) (next : Draft) → IsDraft spec draft → after_bytes spec draft bytes ≡ Ok next → IsDraft spec next
+pub IsDraft-after_bytes : (also : Also) (spec : Spec) (draft : Draft) (bytes : List ℕ) (next : Draft) → IsDraft spec draft
+    → after_bytes also spec draft bytes ≡ Ok next → IsDraft spec next
 unfolding after_bytes
-IsDraft-after_bytes spec draft bytes next is e = words_keep spec draft (words_read bytes) next is e
+IsDraft-after_bytes also spec draft bytes next is e = words_keep also spec draft (words_read bytes) next is e
 
 -- ---- the lines
 
@@ -81,12 +154,20 @@ ended_draft : (ended : Bool) (past_end : ℕ) (draft last : Draft) → cond ende
 ended_draft true past_end draft last e = same_draft draft last e
 ended_draft false past_end draft last e = absurd cc
 
-pub IsDraft-reading_from : (past_end : ℕ) (spec : Spec) (draft : Draft) (lines : List ContentLine) (last : Draft) → IsDraft spec draft → reading_from past_end spec draft lines ≡ Ok last → IsDraft spec last
+-- what each line keeps holds of what is read
+pub kept_by_lines : (P : Draft → Type 0) (also : Also) (spec : Spec)
+    → ((draft : Draft) (bytes : List ℕ) (next : Draft) → P draft → after_bytes also spec draft bytes ≡ Ok next → P next)
+    → (past_end : ℕ) (draft : Draft) (lines : List ContentLine) (last : Draft) → P draft
+    → reading_from also past_end spec draft lines ≡ Ok last → P last
 unfolding reading_from
-IsDraft-reading_from past_end spec draft lines last is e =
-    read_keeps (drafts spec) (IsDraft spec) (IsDraft spec)
-    (λ before bytes next h given. IsDraft-after_bytes spec before bytes next h given) (λ next line others h. h)
-    (λ at next found h out. subst (IsDraft spec) (ended_draft next.ended at next found out) h) past_end draft lines last is e
+kept_by_lines P also spec keeps past_end draft lines last is e =
+    read_keeps (drafts also spec) P P (λ before bytes next h given. keeps before bytes next h given) (λ next line others h. h)
+    (λ at next found h out. subst P (ended_draft next.ended at next found out) h) past_end draft lines last is e
+
+pub IsDraft-reading_from : (also : Also) (past_end : ℕ) (spec : Spec) (draft : Draft) (lines : List ContentLine) (last : Draft) → IsDraft spec draft
+    → reading_from also past_end spec draft lines ≡ Ok last → IsDraft spec last
+IsDraft-reading_from also past_end spec draft lines last is e =
+    kept_by_lines (IsDraft spec) also spec (IsDraft-after_bytes also spec) past_end draft lines last is e
 
 -- ---- the header
 
@@ -151,7 +232,7 @@ headed-count : (past_end : ℕ) (lines : List ContentLine) (head : Headed) → h
 headed-count past_end [] head e = absurd cc
 headed-count past_end (line ∷ others) head e = headed_by-count line.bytes (threads_of line.bytes) line others head refl e
 
-IsDraft-draft_of : (spec : Spec) (threads : ℕ) → IsThreadCount threads → IsDraft spec (draft_of threads)
+pub IsDraft-draft_of : (spec : Spec) (threads : ℕ) → IsThreadCount threads → IsDraft spec (draft_of threads)
 IsDraft-draft_of spec threads count = record {
   some_thread = count.some;
   few_threads = count.few;
@@ -159,13 +240,23 @@ IsDraft-draft_of spec threads count = record {
   few_calls = omega arith;
   threads = tt;
   turns = tt;
+  group = tt;
 }
 
-behind_keeps : (past_end : ℕ) (spec : Spec) (lines : List ContentLine) (found : Result Headed Broken) (last : Draft) → headed past_end lines ≡ found → reading_behind past_end spec found ≡ Ok last → IsDraft spec last
-behind_keeps past_end spec lines (Err broken) last is e = absurd cc
-behind_keeps past_end spec lines (Ok head) last is e =
-    IsDraft-reading_from past_end spec (draft_of head.threads) head.others last (IsDraft-draft_of spec head.threads (headed-count past_end lines head is)) e
+-- what each line keeps, from that of the header on
+module _ (P : Draft → Type 0) (also : Also) (spec : Spec) (begins : (threads : ℕ) → IsThreadCount threads → P (draft_of threads))
+    (keeps : (draft : Draft) (bytes : List ℕ) (next : Draft) → P draft → after_bytes also spec draft bytes ≡ Ok next → P next) where
+  behind_keeps : (past_end : ℕ) (lines : List ContentLine) (found : Result Headed Broken) (last : Draft) → headed past_end lines ≡ found
+      → reading_behind also past_end spec found ≡ Ok last → P last
+  behind_keeps past_end lines (Err broken) last is e = absurd cc
+  behind_keeps past_end lines (Ok head) last is e =
+      kept_by_lines P also spec keeps past_end (draft_of head.threads) head.others last (begins head.threads (headed-count past_end lines head is)) e
+
+  pub kept_by_all : (past_end : ℕ) (lines : List ContentLine) (last : Draft) → reading_all also past_end spec lines ≡ Ok last → P last
+  kept_by_all past_end lines last e = behind_keeps past_end lines (headed past_end lines) last refl e
 
 -- what is read keeps the limits, and its turns are right
-pub IsDraft-reading_all : (past_end : ℕ) (spec : Spec) (lines : List ContentLine) (last : Draft) → reading_all past_end spec lines ≡ Ok last → IsDraft spec last
-IsDraft-reading_all past_end spec lines last e = behind_keeps past_end spec lines (headed past_end lines) last refl e
+pub IsDraft-reading_all : (also : Also) (past_end : ℕ) (spec : Spec) (lines : List ContentLine) (last : Draft)
+    → reading_all also past_end spec lines ≡ Ok last → IsDraft spec last
+IsDraft-reading_all also past_end spec lines last e =
+    kept_by_all (IsDraft spec) also spec (IsDraft-draft_of spec) (IsDraft-after_bytes also spec) past_end lines last e

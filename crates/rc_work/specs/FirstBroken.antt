@@ -7,30 +7,31 @@ use Rattle.rc_spec.specs.declared.spec.Spec.{Spec}
 use Rattle.rc_reader.specs.Grammar.{Broken}
 use Rattle.rc_reader.specs.declared.refusal.LineRule.{LineRule}
 use Rattle.rc_reader.specs.declared.refusal.LineRule.TheVariants.{S1}
-use Rattle.rc_work.specs.declared.raw.Draft.{Draft}
+use Rattle.rc_work.specs.declared.also.Also.{Also}
+use Rattle.rc_work.specs.declared.draft.Draft.{Draft}
 use Rattle.rc_work.specs.declared.work.Work.{Work}
 use Rattle.rc_work.specs.WorkGrammar.{broken_at, threads_of, draft_language, draft_of}
 use Rattle.rc_work.specs.Ranking.{work_of}
 
 -- the language of the lines behind the header, of which the draft's workload is read
-abbrev pub work_language : Spec → Language Draft Draft Work LineRule
-work_language spec = draft_language spec (work_of spec)
+abbrev pub work_language : Also → Spec → Language Draft Draft Work LineRule
+work_language also spec = draft_language also spec (work_of spec)
 
 -- lines that break no rule, from this draft to the next
-abbrev pub AreTaken : Spec → Draft → List ContentLine → Draft → Type 0
-AreTaken spec draft lines next = language.AreTaken (work_language spec) draft lines next
+abbrev pub AreTaken : Also → Spec → Draft → List ContentLine → Draft → Type 0
+AreTaken also spec draft lines next = language.AreTaken (work_language also spec) draft lines next
 
 -- what the lines behind the header mean
-abbrev pub LinesMean : ℕ → Spec → Draft → List ContentLine → Result Work Broken → Type 0
-LinesMean past_end spec draft lines gives = language.LinesMean (work_language spec) past_end draft lines gives
+abbrev pub LinesMean : Also → ℕ → Spec → Draft → List ContentLine → Result Work Broken → Type 0
+LinesMean also past_end spec draft lines gives = language.LinesMean (work_language also spec) past_end draft lines gives
 
 -- what all lines mean: the first is the header
-abbrev pub ContentMeans : ℕ → Spec → List ContentLine → Result Work Broken → Type 0
-ContentMeans past_end spec [] gives = broken_at S1 past_end ≡ gives
-ContentMeans past_end spec (line ∷ others) gives =
-    MatchResult (threads_of line.bytes) (λ threads. LinesMean past_end spec (draft_of threads) others gives)
+abbrev pub ContentMeans : Also → ℕ → Spec → List ContentLine → Result Work Broken → Type 0
+ContentMeans also past_end spec [] gives = broken_at S1 past_end ≡ gives
+ContentMeans also past_end spec (line ∷ others) gives =
+    MatchResult (threads_of line.bytes) (λ threads. LinesMean also past_end spec (draft_of threads) others gives)
     (λ rule. broken_at rule line.number ≡ gives)
 
 -- what the content lines from a place on mean, behind a specification
-abbrev pub WorkMeans : Spec → TextPlace → Result Work Broken → Type 0
-WorkMeans spec place gives = ContentMeans (past_end_of place.text) spec (content_from place) gives
+abbrev pub WorkMeans : Also → Spec → TextPlace → Result Work Broken → Type 0
+WorkMeans also spec place gives = ContentMeans also (past_end_of place.text) spec (content_from place) gives

@@ -14,12 +14,16 @@ pub record IsOfWords (call : Call) : Type 0 where
   pub tuple : IsTuple call.args
   pub bounds : AreBounded call.ranges
 
--- each turn's call fits
+-- each call of each turn fits
 abbrev pub TurnsFit : Spec → List Turn → Type 0
-TurnsFit spec turns = AllByRecursion (λ t. Fits spec t.call) turns
+TurnsFit spec turns = AllByRecursion (λ t. AllByRecursion (Fits spec) t.calls) turns
 
 abbrev pub RoundsFit : Spec → List (List Turn) → Type 0
 RoundsFit spec rounds = AllByRecursion (TurnsFit spec) rounds
+
+-- each call of some rounds is of such numbers
+abbrev pub AreOfWords : List (List Turn) → Type 0
+AreOfWords rounds = AllByRecursion (AllByRecursion (λ t. AllByRecursion IsOfWords t.calls)) rounds
 
 -- each turn's thread is one of the workload's
 abbrev pub HasThreads : Work → Type 0

@@ -7,6 +7,8 @@ pub mod Runs
 pub mod RunsLaws
 pub mod RawTurns
 pub mod RawTurnsLaws
+pub mod UnfilledGroups
+pub mod UnfilledGroupsLaws
 pub mod CallColumns
 pub mod CallColumnsLaws
 pub mod CallLaws
@@ -17,6 +19,7 @@ pub mod LineRulesLaws
 pub mod WorkGrammar
 pub mod Drafts
 pub mod DraftsLaws
+pub mod GroupsLaws
 pub mod Ranking
 pub mod FirstBroken
 pub mod ReadingLaws

@@ -5,6 +5,7 @@ use Rattle.rc_text.specs.Bytes.{is_blank}
 use Rattle.rc_text.specs.Lines.{lines_of, is_content, bytes_of_line}
 use Rattle.rc_text.specs.Words.{plain_text}
 use Rattle.rc_reader.specs.Grammar.{Broken}
+use Rattle.rc_work.specs.declared.also.Also.{Also}
 use Rattle.rc_work.specs.LineForms.{words_read}
 use Rattle.rc_work.specs.WholeText.{Whole, text_reading}
 
@@ -26,14 +27,16 @@ pub record IsLastLetter (text : List ℕ) (at : ℕ) : Type 0 where
   pub place : at ≡ sum_by length before + length (blanks ++ codes "en")
 
 -- the text gives a refusal
-abbrev pub IsRefused : List ℕ → Type 0
-IsRefused text = (broken : Broken) × (text_reading text ≡ Err broken)
+abbrev pub IsRefused : Also → List ℕ → Type 0
+IsRefused also text = (broken : Broken) × (text_reading also text ≡ Err broken)
 
 -- Where a text gives a specification and a workload, each prefix that ends before the `d` of its last content line is
 -- refused.
 abbrev pub CutTextsAreRefused : Type 0
-CutTextsAreRefused = (text : List ℕ) (whole : Whole) (at n : ℕ) → text_reading text ≡ Ok whole → IsLastLetter text at → n ≤ at → IsRefused (take n text)
+CutTextsAreRefused =
+    (also : Also) (text : List ℕ) (whole : Whole) (at n : ℕ) → text_reading also text ≡ Ok whole → IsLastLetter text at → n ≤ at
+    → IsRefused also (take n text)
 
 -- Such a text has that `d`.
 abbrev pub LastLetterIsThere : Type 0
-LastLetterIsThere = (text : List ℕ) (whole : Whole) → text_reading text ≡ Ok whole → (at : ℕ) × IsLastLetter text at
+LastLetterIsThere = (also : Also) (text : List ℕ) (whole : Whole) → text_reading also text ≡ Ok whole → (at : ℕ) × IsLastLetter text at

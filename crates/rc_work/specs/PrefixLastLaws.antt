@@ -4,7 +4,8 @@ use Rattle.std.specs.Prelude.{sum_by}
 use Rattle.rc_text.specs.Lines.{lines_of, past_end_of, without_last, bytes_of_line, is_content, ContentLine, content_among, start_of, content_from}
 use Rattle.rc_spec.specs.declared.spec.Spec.{Spec}
 use Rattle.rc_reader.specs.Grammar.{spec_reading}
-use Rattle.rc_work.specs.declared.raw.Draft.{Draft}
+use Rattle.rc_work.specs.declared.also.Also.{Also}
+use Rattle.rc_work.specs.declared.draft.Draft.{Draft}
 use Rattle.rc_reader.specs.declared.refusal.LineRule.{LineRule}
 use Rattle.rc_reader.specs.declared.refusal.LineRule.TheVariants.{S8}
 use Rattle.std.specs.List.{list_all}
@@ -35,31 +36,32 @@ none_by : (p : ℕ) (draft last : Draft) (ended : Bool) → ended ≡ false → 
 none_by p draft last true not_yet e = cc
 none_by p draft last false not_yet e = cc
 
-none_ends : (p : ℕ) (s : Spec) (draft last : Draft) → draft.ended ≡ false → reading_from p s draft [] ≡ Ok last → ⊥
-unfolding reading_from
-none_ends p s draft last not_yet e = none_by p draft last draft.ended not_yet e
+module _ (also : Also) where
+  none_ends : (p : ℕ) (s : Spec) (draft last : Draft) → draft.ended ≡ false → reading_from also p s draft [] ≡ Ok last → ⊥
+  unfolding reading_from
+  none_ends p s draft last not_yet e = none_by p draft last draft.ended not_yet e
 
-ends_from : (p : ℕ) (s : Spec) (draft last : Draft) (lines : List ContentLine) → draft.ended ≡ false → reading_from p s draft lines ≡ Ok last → EndsInEnd lines
-ends_from p s draft last [] not_yet e = absurd (none_ends p s draft last not_yet e)
-ends_from p s draft last (line ∷ rest) not_yet e =
-    let first = first_taken p s draft last line rest e in
-    elim first.0.ended as (λ v. first.0.ended ≡ v → EndsInEnd (line ∷ rest)) [
-      | true ↦ λ ended. record {
-        front = [];
-        line = line;
-        whole = ap (λ (xs : List ContentLine). line ∷ xs) (none_behind p s first.0 last rest ended first.2);
-        is_end = end_is s draft first.0 line.bytes first.1 ended;
-      }
-      | false ↦ λ unended. more (line ∷ []) rest (ends_from p s first.0 last rest unended first.2)
-    ] refl
+  ends_from : (p : ℕ) (s : Spec) (draft last : Draft) (lines : List ContentLine) → draft.ended ≡ false → reading_from also p s draft lines ≡ Ok last → EndsInEnd lines
+  ends_from p s draft last [] not_yet e = absurd (none_ends p s draft last not_yet e)
+  ends_from p s draft last (line ∷ rest) not_yet e =
+      let first = first_taken also p s draft last line rest e in
+      elim first.0.ended as (λ v. first.0.ended ≡ v → EndsInEnd (line ∷ rest)) [
+        | true ↦ λ ended. record {
+          front = [];
+          line = line;
+          whole = ap (λ (xs : List ContentLine). line ∷ xs) (none_behind also p s first.0 last rest ended first.2);
+          is_end = end_is also s draft first.0 line.bytes first.1 ended;
+        }
+        | false ↦ λ unended. more (line ∷ []) rest (ends_from p s first.0 last rest unended first.2)
+      ] refl
 
-ends_head : (p : ℕ) (s : Spec) (last : Draft) (line : ContentLine) (rest : List ContentLine) (threads : Result ℕ LineRule) → reading_behind p s (headed_by threads line rest) ≡ Ok last → EndsInEnd (line ∷ rest)
-ends_head p s last line rest (Err rule) e = absurd cc
-ends_head p s last line rest (Ok threads) e = more (line ∷ []) rest (ends_from p s (draft_of threads) last rest refl e)
+  ends_head : (p : ℕ) (s : Spec) (last : Draft) (line : ContentLine) (rest : List ContentLine) (threads : Result ℕ LineRule) → reading_behind also p s (headed_by threads line rest) ≡ Ok last → EndsInEnd (line ∷ rest)
+  ends_head p s last line rest (Err rule) e = absurd cc
+  ends_head p s last line rest (Ok threads) e = more (line ∷ []) rest (ends_from p s (draft_of threads) last rest refl e)
 
-ends_all : (p : ℕ) (s : Spec) (last : Draft) (lines : List ContentLine) → reading_all p s lines ≡ Ok last → EndsInEnd lines
-ends_all p s last [] e = absurd cc
-ends_all p s last (line ∷ rest) e = ends_head p s last line rest (threads_of line.bytes) e
+  ends_all : (p : ℕ) (s : Spec) (last : Draft) (lines : List ContentLine) → reading_all also p s lines ≡ Ok last → EndsInEnd lines
+  ends_all p s last [] e = absurd cc
+  ends_all p s last (line ∷ rest) e = ends_head p s last line rest (threads_of line.bytes) e
 
 -- ---- the line in the text
 
@@ -162,8 +164,8 @@ last_of text lines e ends =
     letter_of text ends.line last (end_line last.last ends.line.bytes last.bytes ends.is_end)
 
 pub last_letter_is_there : LastLetterIsThere
-last_letter_is_there text whole e =
-    let given : IsGiven text = given_spec text (spec_reading text) whole refl e in
+last_letter_is_there also text whole e =
+    let given : IsGiven also text = given_spec also text (spec_reading text) whole refl e in
     let stands = stands_all (past_end_of text) given.reading (content_from (start_of text)) given.spec_is in
-    let others : EndsInEnd given.reading.others = ends_all (past_end_of text) given.reading.spec given.draft given.reading.others given.work_is in
+    let others : EndsInEnd given.reading.others = ends_all also (past_end_of text) given.reading.spec given.draft given.reading.others given.work_is in
     last_of text (stands.0 ++ given.reading.last ∷ given.reading.others) stands.1 (more stands.0 (given.reading.last ∷ given.reading.others) (more (given.reading.last ∷ []) given.reading.others others))

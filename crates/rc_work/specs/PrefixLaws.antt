@@ -15,7 +15,8 @@ use Rattle.rc_reader.specs.declared.refusal.LineRule.TheVariants.{S1, S8}
 use Rattle.rc_reader.specs.Grammar as spec
 use Rattle.rc_reader.specs.Grammar.{After, Broken, Reading, header_version, spec_reading}
 use Rattle.rc_reader.specs.declared.version.Version.{Version}
-use Rattle.rc_work.specs.declared.raw.Draft.{Draft}
+use Rattle.rc_work.specs.declared.also.Also.{Also}
+use Rattle.rc_work.specs.declared.draft.Draft.{Draft}
 use Rattle.rc_work.specs.WorkGrammar as work
 use Rattle.rc_work.specs.WorkGrammar.{broken_at, after_bytes, threads_of, draft_of}
 use Rattle.rc_work.specs.Ranking.{work_by}
@@ -88,87 +89,89 @@ spec_all_cut p q reading (first ∷ front) line rest extra ending e = behind_cut
 
 -- ---- the workload
 
--- what a line gives, and what is given where the lines run out
-abbrev reading_after : Spec → Result Draft LineRule → ContentLine → List ContentLine → (Draft → Result Draft Broken) → Result Draft Broken
-reading_after s after line rest go = language.reading_after (work.drafts s) after line rest go
-
+-- what is given where the lines run out
 abbrev at_end : ℕ → Draft → Result Draft Broken
 at_end past_end draft = cond draft.ended (Ok draft) (broken_at S8 past_end)
 
 abbrev Fails : {X : Type 0} → Result X Broken → Type 0
 Fails gives = (broken : Broken) × (gives ≡ Err broken)
 
-abbrev pub FirstTaken : Spec → Draft → ContentLine → (Draft → Result Draft Broken) → Draft → Type 0
-FirstTaken s draft line go last = (next : Draft) × (after_bytes s draft line.bytes ≡ Ok next) × (go next ≡ Ok last)
+module _ (also : Also) where
+  -- what a line gives
+  abbrev reading_after : Spec → Result Draft LineRule → ContentLine → List ContentLine → (Draft → Result Draft Broken) → Result Draft Broken
+  reading_after s after line rest go = language.reading_after (work.drafts also s) after line rest go
 
-first_by : (s : Spec) (draft last : Draft) (line : ContentLine) (rest : List ContentLine) (go : Draft → Result Draft Broken) (after : Result Draft LineRule) → after_bytes s draft line.bytes ≡ after → reading_after s after line rest go ≡ Ok last → FirstTaken s draft line go last
-first_by s draft last line rest go (Err rule) is e = absurd cc
-first_by s draft last line rest go (Ok next) is e = (next, is, e)
+  abbrev pub FirstTaken : Spec → Draft → ContentLine → (Draft → Result Draft Broken) → Draft → Type 0
+  FirstTaken s draft line go last = (next : Draft) × (after_bytes also s draft line.bytes ≡ Ok next) × (go next ≡ Ok last)
 
-pub first_taken : (p : ℕ) (s : Spec) (draft last : Draft) (line : ContentLine) (rest : List ContentLine) → work.reading_from p s draft (line ∷ rest) ≡ Ok last → FirstTaken s draft line (λ next. work.reading_from p s next rest) last
-unfolding work.reading_from
-first_taken p s draft last line rest e = first_by s draft last line rest (λ next. work.reading_from p s next rest) (after_bytes s draft line.bytes) refl e
+  first_by : (s : Spec) (draft last : Draft) (line : ContentLine) (rest : List ContentLine) (go : Draft → Result Draft Broken) (after : Result Draft LineRule) → after_bytes also s draft line.bytes ≡ after → reading_after s after line rest go ≡ Ok last → FirstTaken s draft line go last
+  first_by s draft last line rest go (Err rule) is e = absurd cc
+  first_by s draft last line rest go (Ok next) is e = (next, is, e)
 
-runs_out : (q : ℕ) (draft : Draft) → draft.ended ≡ false → Fails (at_end q draft)
-runs_out q draft not_yet = rw not_yet (record { rule = S8; line = q }, refl)
+  pub first_taken : (p : ℕ) (s : Spec) (draft last : Draft) (line : ContentLine) (rest : List ContentLine) → work.reading_from also p s draft (line ∷ rest) ≡ Ok last → FirstTaken s draft line (λ next. work.reading_from also p s next rest) last
+  unfolding work.reading_from
+  first_taken p s draft last line rest e = first_by s draft last line rest (λ next. work.reading_from also p s next rest) (after_bytes also s draft line.bytes) refl e
 
--- where a line that begins with `e` was taken, none is behind it
-pub none_behind : (p : ℕ) (s : Spec) (draft last : Draft) (rest : List ContentLine) → draft.ended ≡ true → work.reading_from p s draft rest ≡ Ok last → rest ≡ []
-none_behind p s draft last [] ended e = refl
-none_behind p s draft last (line ∷ rest) ended e =
-    let first = first_taken p s draft last line rest e in
-    absurd (let not_yet = unended s draft first.0 line.bytes first.1 in cc)
+  runs_out : (q : ℕ) (draft : Draft) → draft.ended ≡ false → Fails (at_end q draft)
+  runs_out q draft not_yet = rw not_yet (record { rule = S8; line = q }, refl)
 
-part_ends : (p : ℕ) (s : Spec) (draft next last : Draft) (line part : ContentLine) (rest : List ContentLine) → IsPart line rest part → work.reading_from p s draft (line ∷ rest) ≡ Ok last → after_bytes s draft part.bytes ≡ Ok next → next.ended ≡ true → ⊥
-part_ends p s draft next last line part rest is e taken ended =
-    let first = first_taken p s draft last line rest e in
-    let end = end_is s draft next part.bytes taken ended in
-    let begins = end_begins part.bytes end in
-    let line_ended : first.0.ended ≡ true = e_ends s draft first.0 line.bytes (is.begins begins) first.1 in
-    end_has_d part.bytes end (is.lacks begins (none_behind p s first.0 last rest line_ended first.2))
+  -- where a line that begins with `e` was taken, none is behind it
+  pub none_behind : (p : ℕ) (s : Spec) (draft last : Draft) (rest : List ContentLine) → draft.ended ≡ true → work.reading_from also p s draft rest ≡ Ok last → rest ≡ []
+  none_behind p s draft last [] ended e = refl
+  none_behind p s draft last (line ∷ rest) ended e =
+      let first = first_taken p s draft last line rest e in
+      absurd (let not_yet = unended also s draft first.0 line.bytes first.1 in cc)
 
-part_fails : (q : ℕ) (draft : Draft) → (draft.ended ≡ true → ⊥) → Fails (at_end q draft)
-part_fails q draft not_yet =
-    elim draft.ended as (λ v. draft.ended ≡ v → Fails (cond v (Ok draft) (broken_at S8 q))) [
-      | true ↦ λ ended. absurd (not_yet ended)
-      | false ↦ λ _. (record { rule = S8; line = q }, refl)
-    ] refl
+  part_ends : (p : ℕ) (s : Spec) (draft next last : Draft) (line part : ContentLine) (rest : List ContentLine) → IsPart line rest part → work.reading_from also p s draft (line ∷ rest) ≡ Ok last → after_bytes also s draft part.bytes ≡ Ok next → next.ended ≡ true → ⊥
+  part_ends p s draft next last line part rest is e taken ended =
+      let first = first_taken p s draft last line rest e in
+      let end = end_is also s draft next part.bytes taken ended in
+      let begins = end_begins part.bytes end in
+      let line_ended : first.0.ended ≡ true = e_ends also s draft first.0 line.bytes (is.begins begins) first.1 in
+      end_has_d part.bytes end (is.lacks begins (none_behind p s first.0 last rest line_ended first.2))
 
-part_step : (q : ℕ) (s : Spec) (draft : Draft) (part : ContentLine) (after : Result Draft LineRule) → after_bytes s draft part.bytes ≡ after → ((next : Draft) → after_bytes s draft part.bytes ≡ Ok next → next.ended ≡ true → ⊥) → Fails (reading_after s after part [] (λ next. work.reading_from q s next []))
-unfolding work.reading_from
-part_step q s draft part (Err rule) is not_yet = (record { rule = rule; line = part.number }, refl)
-part_step q s draft part (Ok next) is not_yet = part_fails q next (not_yet next is)
+  part_fails : (q : ℕ) (draft : Draft) → (draft.ended ≡ true → ⊥) → Fails (at_end q draft)
+  part_fails q draft not_yet =
+      elim draft.ended as (λ v. draft.ended ≡ v → Fails (cond v (Ok draft) (broken_at S8 q))) [
+        | true ↦ λ ended. absurd (not_yet ended)
+        | false ↦ λ _. (record { rule = S8; line = q }, refl)
+      ] refl
 
-work_step : (s : Spec) (last : Draft) (first : ContentLine) (rest left : List ContentLine) (go left_go : Draft → Result Draft Broken) → ((next : Draft) → go next ≡ Ok last → Fails (left_go next)) → (after : Result Draft LineRule) → reading_after s after first rest go ≡ Ok last → Fails (reading_after s after first left left_go)
-work_step s last first rest left go left_go ih (Err rule) e = absurd cc
-work_step s last first rest left go left_go ih (Ok next) e = ih next e
+  part_step : (q : ℕ) (s : Spec) (draft : Draft) (part : ContentLine) (after : Result Draft LineRule) → after_bytes also s draft part.bytes ≡ after → ((next : Draft) → after_bytes also s draft part.bytes ≡ Ok next → next.ended ≡ true → ⊥) → Fails (reading_after s after part [] (λ next. work.reading_from also q s next []))
+  unfolding work.reading_from
+  part_step q s draft part (Err rule) is not_yet = (record { rule = rule; line = part.number }, refl)
+  part_step q s draft part (Ok next) is not_yet = part_fails q next (not_yet next is)
 
-work_cut : (p q : ℕ) (s : Spec) (draft last : Draft) (front : List ContentLine) (line : ContentLine) (rest extra : List ContentLine) → IsEnding line rest extra → work.reading_from p s draft (front ++ line ∷ rest) ≡ Ok last → Fails (work.reading_from q s draft (front ++ extra))
-unfolding work.reading_from
-work_cut p q s draft last [] line rest [] ending e =
-    let first = first_taken p s draft last line rest e in
-    runs_out q draft (unended s draft first.0 line.bytes first.1)
-work_cut p q s draft last [] line rest (part ∷ []) ending e =
-    part_step q s draft part (after_bytes s draft part.bytes) refl (λ next taken ended. part_ends p s draft next last line part rest ending e taken ended)
-work_cut p q s draft last [] line rest (part ∷ other ∷ others) ending e = absurd ending
-work_cut p q s draft last (first ∷ front) line rest extra ending e =
-    work_step s last first (front ++ line ∷ rest) (front ++ extra) (λ next. work.reading_from p s next (front ++ line ∷ rest)) (λ next. work.reading_from q s next (front ++ extra)) (λ next. work_cut p q s next last front line rest extra ending) (after_bytes s draft first.bytes) e
+  work_step : (s : Spec) (last : Draft) (first : ContentLine) (rest left : List ContentLine) (go left_go : Draft → Result Draft Broken) → ((next : Draft) → go next ≡ Ok last → Fails (left_go next)) → (after : Result Draft LineRule) → reading_after s after first rest go ≡ Ok last → Fails (reading_after s after first left left_go)
+  work_step s last first rest left go left_go ih (Err rule) e = absurd cc
+  work_step s last first rest left go left_go ih (Ok next) e = ih next e
 
-head_alone : (q : ℕ) (s : Spec) (part : ContentLine) (threads : Result ℕ LineRule) → Fails (work.reading_behind q s (work.headed_by threads part []))
-unfolding work.reading_from
-head_alone q s part (Err rule) = (record { rule = rule; line = part.number }, refl)
-head_alone q s part (Ok threads) = (record { rule = S8; line = q }, refl)
+  work_cut : (p q : ℕ) (s : Spec) (draft last : Draft) (front : List ContentLine) (line : ContentLine) (rest extra : List ContentLine) → IsEnding line rest extra → work.reading_from also p s draft (front ++ line ∷ rest) ≡ Ok last → Fails (work.reading_from also q s draft (front ++ extra))
+  unfolding work.reading_from
+  work_cut p q s draft last [] line rest [] ending e =
+      let first = first_taken p s draft last line rest e in
+      runs_out q draft (unended also s draft first.0 line.bytes first.1)
+  work_cut p q s draft last [] line rest (part ∷ []) ending e =
+      part_step q s draft part (after_bytes also s draft part.bytes) refl (λ next taken ended. part_ends p s draft next last line part rest ending e taken ended)
+  work_cut p q s draft last [] line rest (part ∷ other ∷ others) ending e = absurd ending
+  work_cut p q s draft last (first ∷ front) line rest extra ending e =
+      work_step s last first (front ++ line ∷ rest) (front ++ extra) (λ next. work.reading_from also p s next (front ++ line ∷ rest)) (λ next. work.reading_from also q s next (front ++ extra)) (λ next. work_cut p q s next last front line rest extra ending) (after_bytes also s draft first.bytes) e
 
-head_cut : (p q : ℕ) (s : Spec) (last : Draft) (first : ContentLine) (front : List ContentLine) (line : ContentLine) (rest extra : List ContentLine) → IsEnding line rest extra → (threads : Result ℕ LineRule) → work.reading_behind p s (work.headed_by threads first (front ++ line ∷ rest)) ≡ Ok last
-    → Fails (work.reading_behind q s (work.headed_by threads first (front ++ extra)))
-head_cut p q s last first front line rest extra ending (Err rule) e = absurd cc
-head_cut p q s last first front line rest extra ending (Ok threads) e = work_cut p q s (draft_of threads) last front line rest extra ending e
+  head_alone : (q : ℕ) (s : Spec) (part : ContentLine) (threads : Result ℕ LineRule) → Fails (work.reading_behind also q s (work.headed_by threads part []))
+  unfolding work.reading_from
+  head_alone q s part (Err rule) = (record { rule = rule; line = part.number }, refl)
+  head_alone q s part (Ok threads) = (record { rule = S8; line = q }, refl)
 
-work_all_cut : (p q : ℕ) (s : Spec) (last : Draft) (front : List ContentLine) (line : ContentLine) (rest extra : List ContentLine) → IsEnding line rest extra → work.reading_all p s (front ++ line ∷ rest) ≡ Ok last → Fails (work.reading_all q s (front ++ extra))
-work_all_cut p q s last [] line rest [] ending e = (record { rule = S1; line = q }, refl)
-work_all_cut p q s last [] line rest (part ∷ []) ending e = head_alone q s part (threads_of part.bytes)
-work_all_cut p q s last [] line rest (part ∷ other ∷ others) ending e = absurd ending
-work_all_cut p q s last (first ∷ front) line rest extra ending e = head_cut p q s last first front line rest extra ending (threads_of first.bytes) e
+  head_cut : (p q : ℕ) (s : Spec) (last : Draft) (first : ContentLine) (front : List ContentLine) (line : ContentLine) (rest extra : List ContentLine) → IsEnding line rest extra → (threads : Result ℕ LineRule) → work.reading_behind also p s (work.headed_by threads first (front ++ line ∷ rest)) ≡ Ok last
+      → Fails (work.reading_behind also q s (work.headed_by threads first (front ++ extra)))
+  head_cut p q s last first front line rest extra ending (Err rule) e = absurd cc
+  head_cut p q s last first front line rest extra ending (Ok threads) e = work_cut p q s (draft_of threads) last front line rest extra ending e
+
+  work_all_cut : (p q : ℕ) (s : Spec) (last : Draft) (front : List ContentLine) (line : ContentLine) (rest extra : List ContentLine) → IsEnding line rest extra → work.reading_all also p s (front ++ line ∷ rest) ≡ Ok last → Fails (work.reading_all also q s (front ++ extra))
+  work_all_cut p q s last [] line rest [] ending e = (record { rule = S1; line = q }, refl)
+  work_all_cut p q s last [] line rest (part ∷ []) ending e = head_alone q s part (threads_of part.bytes)
+  work_all_cut p q s last [] line rest (part ∷ other ∷ others) ending e = absurd ending
+  work_all_cut p q s last (first ∷ front) line rest extra ending e = head_cut p q s last first front line rest extra ending (threads_of first.bytes) e
 
 -- ---- the lines behind the specification
 
@@ -291,48 +294,48 @@ text_cut text at n is within =
     let made = cut_content 0 1 n is.before start is.tail is.others (start-lacks is.blanks is.are_blank) (last-content is.blanks is.tail is.are_blank) (omega (arith, within, is.place)) in
     rw (lines_of-take n text, is.lines) made
 
-pub record IsGiven (text : List ℕ) : Type 0 where
+pub record IsGiven (also : Also) (text : List ℕ) : Type 0 where
   pub reading : Reading
   pub draft : Draft
   pub spec_is : spec_reading text ≡ Ok reading
-  pub work_is : work.reading_all (past_end_of text) reading.spec reading.others ≡ Ok draft
+  pub work_is : work.reading_all also (past_end_of text) reading.spec reading.others ≡ Ok draft
 
-given_work : (text : List ℕ) (reading : Reading) (gives : Result Draft Broken) (whole : Whole) → spec_reading text ≡ Ok reading → work.reading_all (past_end_of text) reading.spec reading.others ≡ gives → whole_by reading.spec (work_by reading.spec gives) ≡ Ok whole → IsGiven text
-given_work text reading (Err broken) whole read is e = absurd cc
-given_work text reading (Ok draft) whole read is e = record { reading = reading; draft = draft; spec_is = read; work_is = is }
+given_work : (also : Also) (text : List ℕ) (reading : Reading) (gives : Result Draft Broken) (whole : Whole) → spec_reading text ≡ Ok reading → work.reading_all also (past_end_of text) reading.spec reading.others ≡ gives → whole_by reading.spec (work_by reading.spec gives) ≡ Ok whole → IsGiven also text
+given_work also text reading (Err broken) whole read is e = absurd cc
+given_work also text reading (Ok draft) whole read is e = record { reading = reading; draft = draft; spec_is = read; work_is = is }
 
-pub given_spec : (text : List ℕ) (gives : Result Reading Broken) (whole : Whole) → spec_reading text ≡ gives → text_reading_by text gives ≡ Ok whole → IsGiven text
-given_spec text (Err broken) whole read e = absurd cc
-given_spec text (Ok reading) whole read e =
-    given_work text reading (work.reading_all (past_end_of text) reading.spec reading.others) whole read refl
-    (ap (λ (lines : List ContentLine). whole_by reading.spec (work_by reading.spec (work.reading_all (past_end_of text) reading.spec lines))) (sym (others_are text reading read)) ∙ e)
+pub given_spec : (also : Also) (text : List ℕ) (gives : Result Reading Broken) (whole : Whole) → spec_reading text ≡ gives → text_reading_by also text gives ≡ Ok whole → IsGiven also text
+given_spec also text (Err broken) whole read e = absurd cc
+given_spec also text (Ok reading) whole read e =
+    given_work also text reading (work.reading_all also (past_end_of text) reading.spec reading.others) whole read refl
+    (ap (λ (lines : List ContentLine). whole_by reading.spec (work_by reading.spec (work.reading_all also (past_end_of text) reading.spec lines))) (sym (others_are text reading read)) ∙ e)
 
-work_fails : (text : List ℕ) (reading : Reading) → spec_reading text ≡ Ok reading → Fails (work.reading_all (past_end_of text) reading.spec reading.others) → IsRefused text
-work_fails text reading read fails = (
+work_fails : (also : Also) (text : List ℕ) (reading : Reading) → spec_reading text ≡ Ok reading → Fails (work.reading_all also (past_end_of text) reading.spec reading.others) → IsRefused also text
+work_fails also text reading read fails = (
   fails.0,
-  ap (text_reading_by text) read
-      ∙ ap (λ (lines : List ContentLine). whole_by reading.spec (work_by reading.spec (work.reading_all (past_end_of text) reading.spec lines))) (others_are text reading read)
+  ap (text_reading_by also text) read
+      ∙ ap (λ (lines : List ContentLine). whole_by reading.spec (work_by reading.spec (work.reading_all also (past_end_of text) reading.spec lines))) (others_are text reading read)
       ∙ ap (λ (r : Result Draft Broken). whole_by reading.spec (work_by reading.spec r)) fails.1,
 )
 
-nothing_fails : (q : ℕ) (s : Spec) (lines : List ContentLine) → lines ≡ [] → Fails (work.reading_all q s lines)
-nothing_fails q s lines none = rw none (record { rule = S1; line = q }, refl)
+nothing_fails : (also : Also) (q : ℕ) (s : Spec) (lines : List ContentLine) → lines ≡ [] → Fails (work.reading_all also q s lines)
+nothing_fails also q s lines none = rw none (record { rule = S1; line = q }, refl)
 
-refused_by : (text : List ℕ) (p : ℕ) (reading : Reading) (draft : Draft) (line : ContentLine) (rest extra : List ContentLine) → IsEnding line rest extra → work.reading_all p reading.spec reading.others ≡ Ok draft → (gives : Result Reading Broken) → spec_reading text ≡ gives → IsSpecCut reading line rest extra gives → IsRefused text
-refused_by text p reading draft line rest extra ending made (Err broken) read is = (broken, ap (text_reading_by text) read)
-refused_by text p reading draft line rest extra ending made (Ok left) read (inl none) = work_fails text left read (nothing_fails (past_end_of text) left.spec left.others none)
-refused_by text p reading draft line rest extra ending made (Ok left) read (inr same) =
-    work_fails text left read
+refused_by : (also : Also) (text : List ℕ) (p : ℕ) (reading : Reading) (draft : Draft) (line : ContentLine) (rest extra : List ContentLine) → IsEnding line rest extra → work.reading_all also p reading.spec reading.others ≡ Ok draft → (gives : Result Reading Broken) → spec_reading text ≡ gives → IsSpecCut reading line rest extra gives → IsRefused also text
+refused_by also text p reading draft line rest extra ending made (Err broken) read is = (broken, ap (text_reading_by also text) read)
+refused_by also text p reading draft line rest extra ending made (Ok left) read (inl none) = work_fails also text left read (nothing_fails also (past_end_of text) left.spec left.others none)
+refused_by also text p reading draft line rest extra ending made (Ok left) read (inr same) =
+    work_fails also text left read
     (rw (same.spec, same.left_is)
-    (work_all_cut p (past_end_of text) reading.spec draft same.front line rest extra ending
-    (ap (work.reading_all p reading.spec) (sym same.whole) ∙ made)))
+    (work_all_cut also p (past_end_of text) reading.spec draft same.front line rest extra ending
+    (ap (work.reading_all also p reading.spec) (sym same.whole) ∙ made)))
 
 pub cut_texts_are_refused : CutTextsAreRefused
-cut_texts_are_refused text whole at n e is within =
-    let given : IsGiven text = given_spec text (spec_reading text) whole refl e in
+cut_texts_are_refused also text whole at n e is within =
+    let given : IsGiven also text = given_spec also text (spec_reading text) whole refl e in
     let is_cut = text_cut text at n is within in
     let spec_is : spec.reading_all (past_end_of text) (is_cut.front ++ is_cut.line ∷ is_cut.rest) ≡ Ok given.reading = ap (spec.reading_all (past_end_of text)) (sym is_cut.whole_is) ∙ given.spec_is in
     let left : IsSpecCut given.reading is_cut.line is_cut.rest is_cut.extra (spec_reading (take n text)) =
     subst (λ (lines : List ContentLine). IsSpecCut given.reading is_cut.line is_cut.rest is_cut.extra (spec.reading_all (past_end_of (take n text)) lines)) (sym is_cut.left_is)
     (spec_all_cut (past_end_of text) (past_end_of (take n text)) given.reading is_cut.front is_cut.line is_cut.rest is_cut.extra is_cut.ending spec_is) in
-    refused_by (take n text) (past_end_of text) given.reading given.draft is_cut.line is_cut.rest is_cut.extra is_cut.ending given.work_is (spec_reading (take n text)) refl left
+    refused_by also (take n text) (past_end_of text) given.reading given.draft is_cut.line is_cut.rest is_cut.extra is_cut.ending given.work_is (spec_reading (take n text)) refl left

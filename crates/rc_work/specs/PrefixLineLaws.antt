@@ -1,5 +1,6 @@
 -- Lines of a workload that are taken: none behind `end`, and what begins with `e` is `end`.
-use Rattle.std.proofs.Common.{◌≡◌, ℕ, Bool, true, false, not, cond, eqb, List, [], ◌∷◌, ◌++◌, drop, Option, Some, None, Result, Ok, Err, codes, refl, ap, sym, ◌∙◌, subst, one-add}
+use Rattle.std.proofs.Common.{◌≡◌, ℕ, Bool, true, false, not, cond, eqb, List, [], ◌∷◌, ◌++◌, drop, Option, Some, None, Ok, Err, codes, refl, ap, sym, ◌∙◌, subst, one-add}
+use Rattle.std.specs.Prelude.{◌&&◌}
 use Rattle.std.proofs.Math.Bool.{and-false}
 use Rattle.std.specs.Str.{bytes_eq}
 use Rattle.std.specs.List.{list_all, before_first, position_or_len}
@@ -12,62 +13,49 @@ use Rattle.rc_text.specs.NextWordLaws.{found_comes}
 use Rattle.rc_text.specs.Numbers.{is_number}
 use Rattle.rc_text.specs.declared.words.WordFault.TheVariants.{BadByte}
 use Rattle.rc_spec.specs.declared.spec.Spec.{Spec}
-use Rattle.rc_reader.specs.declared.refusal.LineRule.{LineRule}
-use Rattle.rc_reader.specs.declared.refusal.LineRule.TheVariants.{S5, S6, S7, S8, W1, W2, W3}
-use Rattle.rc_work.specs.declared.raw.Draft.{Draft}
-use Rattle.rc_work.specs.LineForms.{FormText, round_line, end_line, call_line, onto_words, all_read, words_read, alone, is_value, call_form, form_by, form_of}
-use Rattle.rc_work.specs.LineRules.{breaks_range, breaks_limit, breaks_order, breaks_operation, breaks_count, breaks_kinds, with_line, after_form}
+use Rattle.rc_work.specs.declared.also.Also.{Also}
+use Rattle.rc_work.specs.declared.also.Also.TheVariants.{Nothing, Groups}
+use Rattle.rc_work.specs.declared.raw.RawCall.{RawCall}
+use Rattle.rc_work.specs.declared.draft.UnfilledGroup.{UnfilledGroup}
+use Rattle.rc_work.specs.declared.draft.Draft.{Draft}
+use Rattle.rc_work.specs.UnfilledGroups.{with_next, with_turn, with_call_by}
+use Rattle.rc_work.specs.LineForms.{FormText, round_line, end_line, call_line, group_line, onto_words, all_read, words_read, alone, is_value, call_form, group_form, or_call, thread_form, form_by, form_of}
+use Rattle.rc_work.specs.LineRules.{thread_in, raw_call, with_line, after_form}
 use Rattle.rc_work.specs.LineRulesLaws.{taken}
 use Rattle.rc_work.specs.WorkGrammar.{after_form_of, after_words, after_bytes}
 use Rattle.rc_work.specs.PrefixCutLaws.{starts_e, begins_e, lacks_d}
 
 -- ---- behind `end`
 
-abbrev ok : {X : Type 0} → X → Result X LineRule
-ok x = Ok x
-
-unrefused : {X : Type 0} (b : Bool) (rule : LineRule) (gives : Result X LineRule) (next : X) → cond b (Err rule) gives ≡ Ok next → (b ≡ false) × (gives ≡ Ok next)
-unrefused true rule gives next e = absurd cc
-unrefused false rule gives next e = (refl, e)
-
-form_unended : (spec : Spec) (draft : Draft) (form : FormText) (next : Draft) → after_form spec draft form ≡ Ok next → draft.ended ≡ false
-form_unended spec draft form next e =
-    let kinds_test = cond (breaks_kinds spec form) (Err W3) (ok (with_line spec draft form)) in
-    let count_test = cond (breaks_count spec form) (Err W2) kinds_test in
-    let operation_test = cond (breaks_operation spec form) (Err W1) count_test in
-    let end_test = cond draft.ended (Err S8) operation_test in
-    let order_test = cond (breaks_order draft form) (Err S7) end_test in
-    let limit_test = cond (breaks_limit draft form) (Err S6) order_test in
-    let range = unrefused (breaks_range draft form) S5 limit_test next e in
-    let limit = unrefused (breaks_limit draft form) S6 order_test next range.1 in
-    let order = unrefused (breaks_order draft form) S7 end_test next limit.1 in
-    (unrefused draft.ended S8 operation_test next order.1).0
-
 -- a line that is taken has words and a form
-pub record IsTakenLine (spec : Spec) (draft : Draft) (bytes : List ℕ) (next : Draft) : Type 0 where
+pub record IsTakenLine (also : Also) (spec : Spec) (draft : Draft) (bytes : List ℕ) (next : Draft) : Type 0 where
   pub words : List WordText
   pub form : FormText
   pub read : words_read bytes ≡ Some words
-  pub formed : form_of words ≡ Some form
+  pub formed : form_of also words ≡ Some form
   pub after : after_form spec draft form ≡ Ok next
 
-taken_form : (spec : Spec) (draft next : Draft) (bytes : List ℕ) (words : List WordText) (found : Option FormText) → words_read bytes ≡ Some words → form_of words ≡ found → after_form_of spec draft found ≡ Ok next → IsTakenLine spec draft bytes next
-taken_form spec draft next bytes words None read formed e = absurd cc
-taken_form spec draft next bytes words (Some form) read formed e = record { words = words; form = form; read = read; formed = formed; after = e }
+taken_form : (also : Also) (spec : Spec) (draft next : Draft) (bytes : List ℕ) (words : List WordText) (found : Option FormText)
+    → words_read bytes ≡ Some words → form_of also words ≡ found → after_form_of spec draft found ≡ Ok next → IsTakenLine also spec draft bytes next
+taken_form also spec draft next bytes words None read formed e = absurd cc
+taken_form also spec draft next bytes words (Some form) read formed e =
+    record { words = words; form = form; read = read; formed = formed; after = e }
 
-taken_words : (spec : Spec) (draft next : Draft) (bytes : List ℕ) (found : Option (List WordText)) → words_read bytes ≡ found → after_words spec draft found ≡ Ok next → IsTakenLine spec draft bytes next
-taken_words spec draft next bytes None read e = absurd cc
-taken_words spec draft next bytes (Some words) read e = taken_form spec draft next bytes words (form_of words) read refl e
+taken_words : (also : Also) (spec : Spec) (draft next : Draft) (bytes : List ℕ) (found : Option (List WordText))
+    → words_read bytes ≡ found → after_words also spec draft found ≡ Ok next → IsTakenLine also spec draft bytes next
+taken_words also spec draft next bytes None read e = absurd cc
+taken_words also spec draft next bytes (Some words) read e = taken_form also spec draft next bytes words (form_of also words) read refl e
 
-taken_line : (spec : Spec) (draft next : Draft) (bytes : List ℕ) → after_bytes spec draft bytes ≡ Ok next → IsTakenLine spec draft bytes next
+taken_line : (also : Also) (spec : Spec) (draft next : Draft) (bytes : List ℕ) → after_bytes also spec draft bytes ≡ Ok next
+    → IsTakenLine also spec draft bytes next
 unfolding after_bytes
-taken_line spec draft next bytes e = taken_words spec draft next bytes (words_read bytes) refl e
+taken_line also spec draft next bytes e = taken_words also spec draft next bytes (words_read bytes) refl e
 
 -- no line is taken behind `end`
-pub unended : (spec : Spec) (draft next : Draft) (bytes : List ℕ) → after_bytes spec draft bytes ≡ Ok next → draft.ended ≡ false
-unended spec draft next bytes e =
-    let is = taken_line spec draft next bytes e in
-    form_unended spec draft is.form next is.after
+pub unended : (also : Also) (spec : Spec) (draft next : Draft) (bytes : List ℕ) → after_bytes also spec draft bytes ≡ Ok next → draft.ended ≡ false
+unended also spec draft next bytes e =
+    let is = taken_line also spec draft next bytes e in
+    (taken spec draft is.form next is.after).ended
 
 -- ---- a line that begins with `e`
 
@@ -121,32 +109,45 @@ alone_end (word ∷ words) = tt
 e_no_number : (word : List ℕ) → is_number (101 ∷ word) ≡ false
 e_no_number word = and-false _
 
-e_form : (word : List ℕ) (words : List WordText) → EndOnly (form_by (101 ∷ word) words)
-e_form word words =
-    elim (bytes_eq (101 ∷ word) (codes "end")) as (λ v. EndOnly (cond v (alone end_line words) (cond (is_number (101 ∷ word)) (call_form (101 ∷ word) words) None))) [
+e_form : (also : Also) (word : List ℕ) (words : List WordText) → EndOnly (form_by also (101 ∷ word) words)
+e_form also word words =
+    elim (bytes_eq (101 ∷ word) (codes "end")) as (λ v. EndOnly (cond v (alone end_line words) (cond (is_number (101 ∷ word)) (thread_form also (101 ∷ word) words) None))) [
       | true ↦ alone_end words
       | false ↦ rw (e_no_number word) tt
     ]
 
-e_form_of : (words : List WordText) (word : List ℕ) (others : List WordText) → words ≡ plain_text (101 ∷ word) ∷ others → EndOnly (form_of words)
+e_form_of : (also : Also) (words : List WordText) (word : List ℕ) (others : List WordText) → words ≡ plain_text (101 ∷ word) ∷ others
+    → EndOnly (form_of also words)
 unfolding form_of
-e_form_of words word others e = rw e (e_form word others)
+e_form_of also words word others e = rw e (e_form also word others)
 
 -- a line that begins with `e` and is taken is `end`
-pub e_ends : (spec : Spec) (draft next : Draft) (bytes : List ℕ) → begins_e bytes ≡ true → after_bytes spec draft bytes ≡ Ok next → next.ended ≡ true
-e_ends spec draft next bytes begins e =
-    let is = taken_line spec draft next bytes e in
+pub e_ends : (also : Also) (spec : Spec) (draft next : Draft) (bytes : List ℕ) → begins_e bytes ≡ true
+    → after_bytes also spec draft bytes ≡ Ok next → next.ended ≡ true
+e_ends also spec draft next bytes begins e =
+    let is = taken_line also spec draft next bytes e in
     let starts : StartsE (Some is.words) = subst StartsE is.read (e_read bytes begins) in
-    let form : is.form ≡ end_line = subst EndOnly is.formed (e_form_of is.words starts.0 starts.1 starts.2) in
+    let form : is.form ≡ end_line = subst EndOnly is.formed (e_form_of also is.words starts.0 starts.1 starts.2) in
     let value : with_line spec draft end_line ≡ next = subst (λ (f : FormText). with_line spec draft f ≡ next) form (taken spec draft is.form next is.after).value in
     ap (λ (d : Draft). d.ended) (sym value)
 
 -- ---- the line `end`
 
+group_ends : (draft : Draft) (group : UnfilledGroup) (filled : Bool) → (cond filled (with_turn draft group.turn) (record draft { group = Some group })).ended ≡ draft.ended
+group_ends draft group true = refl
+group_ends draft group false = refl
+
+-- a call ends nothing
+call_ends : (draft : Draft) (found : Option UnfilledGroup) (thread : ℕ) (call : RawCall) → (with_call_by found draft thread call).ended ≡ draft.ended
+call_ends draft None thread call = refl
+call_ends draft (Some group) thread call = group_ends draft (with_next group call) _
+
 form_ends : (spec : Spec) (draft next : Draft) (form : FormText) → with_line spec draft form ≡ next → draft.ended ≡ false → next.ended ≡ true → form ≡ end_line
 form_ends spec draft next round_line value not_yet ended = let same = ap (λ (d : Draft). d.ended) value in absurd cc
 form_ends spec draft next end_line value not_yet ended = refl
-form_ends spec draft next (call_line thread op values) value not_yet ended = let same = ap (λ (d : Draft). d.ended) value in absurd cc
+form_ends spec draft next (call_line thread op values) value not_yet ended =
+    let same = sym (call_ends draft draft.group (thread_in draft thread) (raw_call spec op values)) ∙ ap (λ (d : Draft). d.ended) value in absurd cc
+form_ends spec draft next (group_line thread size) value not_yet ended = let same = ap (λ (d : Draft). d.ended) value in absurd cc
 
 alone_only : (words : List WordText) → alone end_line words ≡ Some end_line → words ≡ []
 alone_only [] e = refl
@@ -165,26 +166,47 @@ not_call thread (plain_text op ∷ values) e =
       | false ↦ λ same. cc
     ] e
 
-end_words : (first : List ℕ) (words : List WordText) → form_by first words ≡ Some end_line → plain_text first ∷ words ≡ plain_text (codes "end") ∷ []
-end_words first words e =
-    elim (bytes_eq first (codes "round")) as (λ v. cond v (alone round_line words) (cond (bytes_eq first (codes "end")) (alone end_line words) (cond (is_number first) (call_form first words) None)) ≡ Some end_line → plain_text first ∷ words ≡ plain_text (codes "end") ∷ []) [
+not_group : (thread : List ℕ) (words : List WordText) → group_form thread words ≡ Some end_line → ⊥
+not_group thread [] e = cc
+not_group thread (quoted_text text ∷ words) e = cc
+not_group thread (plain_text sign ∷ []) e = cc
+not_group thread (plain_text sign ∷ quoted_text text ∷ words) e = cc
+not_group thread (plain_text sign ∷ plain_text size ∷ []) e =
+    elim (bytes_eq sign (codes "&") && is_number size) as (λ v. cond v (Some (group_line thread size)) None ≡ Some end_line → ⊥) [
+      | true ↦ λ same. cc
+      | false ↦ λ same. cc
+    ] e
+not_group thread (plain_text sign ∷ plain_text size ∷ word ∷ words) e = cc
+
+not_either : (found : Option FormText) (thread : List ℕ) (words : List WordText) → (found ≡ Some end_line → ⊥) → or_call found thread words ≡ Some end_line → ⊥
+not_either None thread words not e = not_call thread words e
+not_either (Some form) thread words not e = not e
+
+not_thread : (also : Also) (thread : List ℕ) (words : List WordText) → thread_form also thread words ≡ Some end_line → ⊥
+not_thread Nothing thread words e = not_call thread words e
+not_thread Groups thread words e = not_either (group_form thread words) thread words (not_group thread words) e
+
+end_words : (also : Also) (first : List ℕ) (words : List WordText) → form_by also first words ≡ Some end_line
+    → plain_text first ∷ words ≡ plain_text (codes "end") ∷ []
+end_words also first words e =
+    elim (bytes_eq first (codes "round")) as (λ v. cond v (alone round_line words) (cond (bytes_eq first (codes "end")) (alone end_line words) (cond (is_number first) (thread_form also first words) None)) ≡ Some end_line → plain_text first ∷ words ≡ plain_text (codes "end") ∷ []) [
       | true ↦ λ same. absurd (not_round words same)
-      | false ↦ elim (bytes_eq first (codes "end")) as (λ v. bytes_eq first (codes "end") ≡ v → cond v (alone end_line words) (cond (is_number first) (call_form first words) None) ≡ Some end_line → plain_text first ∷ words ≡ plain_text (codes "end") ∷ []) [
+      | false ↦ elim (bytes_eq first (codes "end")) as (λ v. bytes_eq first (codes "end") ≡ v → cond v (alone end_line words) (cond (is_number first) (thread_form also first words) None) ≡ Some end_line → plain_text first ∷ words ≡ plain_text (codes "end") ∷ []) [
         | true ↦ λ is same.
             ap (λ (w : List ℕ). plain_text w ∷ words) ((bytes_eq-Decides first (codes "end")).0 is)
             ∙ ap (λ (ws : List WordText). plain_text (codes "end") ∷ ws) (alone_only words same)
-        | false ↦ λ _. elim (is_number first) as (λ v. cond v (call_form first words) None ≡ Some end_line → plain_text first ∷ words ≡ plain_text (codes "end") ∷ []) [
-          | true ↦ λ same. absurd (not_call first words same)
+        | false ↦ λ _. elim (is_number first) as (λ v. cond v (thread_form also first words) None ≡ Some end_line → plain_text first ∷ words ≡ plain_text (codes "end") ∷ []) [
+          | true ↦ λ same. absurd (not_thread also first words same)
           | false ↦ λ same. absurd cc
         ]
       ] refl
     ] e
 
-end_words_of : (words : List WordText) → form_of words ≡ Some end_line → words ≡ plain_text (codes "end") ∷ []
+end_words_of : (also : Also) (words : List WordText) → form_of also words ≡ Some end_line → words ≡ plain_text (codes "end") ∷ []
 unfolding form_of
-end_words_of [] e = absurd cc
-end_words_of (plain_text first ∷ words) e = end_words first words e
-end_words_of (quoted_text text ∷ words) e = absurd cc
+end_words_of also [] e = absurd cc
+end_words_of also (plain_text first ∷ words) e = end_words also first words e
+end_words_of also (quoted_text text ∷ words) e = absurd cc
 
 abbrev some_words : List WordText → Option (List WordText)
 some_words words = Some words
@@ -212,11 +234,11 @@ found_end bytes (Ok (Some (word, after))) is e =
 found_end bytes (Err fault) is e = absurd cc
 
 -- the line that ends a workload is `end`
-pub end_is : (spec : Spec) (draft next : Draft) (bytes : List ℕ) → after_bytes spec draft bytes ≡ Ok next → next.ended ≡ true → IsEnd bytes
-end_is spec draft next bytes e ended =
-    let is = taken_line spec draft next bytes e in
-    let form : is.form ≡ end_line = form_ends spec draft next is.form (taken spec draft is.form next is.after).value (unended spec draft next bytes e) ended in
-    let words : is.words ≡ plain_text (codes "end") ∷ [] = end_words_of is.words (is.formed ∙ ap (λ (f : FormText). Some f) form) in
+pub end_is : (also : Also) (spec : Spec) (draft next : Draft) (bytes : List ℕ) → after_bytes also spec draft bytes ≡ Ok next → next.ended ≡ true → IsEnd bytes
+end_is also spec draft next bytes e ended =
+    let is = taken_line also spec draft next bytes e in
+    let form : is.form ≡ end_line = form_ends spec draft next is.form (taken spec draft is.form next is.after).value (unended also spec draft next bytes e) ended in
+    let words : is.words ≡ plain_text (codes "end") ∷ [] = end_words_of also is.words (is.formed ∙ ap (λ (f : FormText). Some f) form) in
     let only : words_read bytes ≡ Some (plain_text (codes "end") ∷ []) = is.read ∙ ap (λ (ws : List WordText). Some ws) words in
     let read : all_read (found_then (next_word_of bytes) words_of) ≡ Some (plain_text (codes "end") ∷ []) = ap all_read (sym (words_of-step bytes)) ∙ only in
     let found = found_end bytes (next_word_of bytes) refl read in

@@ -2,13 +2,16 @@
 use Rattle.std.specs.Prelude.{ℕ, List, [], ◌∷◌, map, unwrap_or, Result, Ok, Err}
 use Rattle.std.specs.List.{flat_map}
 use Rattle.rc_text.specs.Lines.{TextPlace, content_from, past_end_of}
+use Rattle.rc_spec.specs.declared.call.Call.{Call}
 use Rattle.rc_spec.specs.declared.spec.Spec.{Spec}
 use Rattle.rc_values.specs.Ranks.{texts_of, rank_of}
 use Rattle.rc_reader.specs.Grammar.{Broken}
 use Rattle.rc_work.specs.declared.raw.RawValue.{RawValue}
 use Rattle.rc_work.specs.declared.raw.RawValue.TheVariants as raw
+use Rattle.rc_work.specs.declared.also.Also.{Also}
+use Rattle.rc_work.specs.declared.raw.RawCall.{RawCall}
 use Rattle.rc_work.specs.declared.raw.RawTurn.{RawTurn}
-use Rattle.rc_work.specs.declared.raw.Draft.{Draft}
+use Rattle.rc_work.specs.declared.draft.Draft.{Draft}
 use Rattle.rc_work.specs.declared.work.Turn.{Turn}
 use Rattle.rc_work.specs.declared.work.Work.{Work}
 use Rattle.rc_work.specs.CallColumns.{call_of}
@@ -18,8 +21,11 @@ abbrev pub texts_in_value : RawValue → List (List ℕ)
 texts_in_value (raw.Number number) = []
 texts_in_value (raw.Text text) = text ∷ []
 
+abbrev pub texts_in_call : RawCall → List (List ℕ)
+texts_in_call call = flat_map texts_in_value call.values
+
 abbrev pub texts_in_turn : RawTurn → List (List ℕ)
-texts_in_turn turn = flat_map texts_in_value turn.values
+texts_in_turn turn = flat_map texts_in_call turn.calls
 
 abbrev pub texts_in_round : List RawTurn → List (List ℕ)
 texts_in_round round = flat_map texts_in_turn round
@@ -33,11 +39,11 @@ abbrev pub ranked_value : List (List ℕ) → RawValue → ℕ
 ranked_value texts (raw.Number number) = number
 ranked_value texts (raw.Text text) = unwrap_or (rank_of texts text) 0
 
+abbrev pub ranked_call : Spec → List (List ℕ) → RawCall → Call
+ranked_call spec texts call = call_of spec call.op (map (ranked_value texts) call.values)
+
 abbrev pub ranked_turn : Spec → List (List ℕ) → RawTurn → Turn
-ranked_turn spec texts turn = record {
-  thread = turn.thread;
-  call = call_of spec turn.op (map (ranked_value texts) turn.values);
-}
+ranked_turn spec texts turn = record { thread = turn.thread; calls = map (ranked_call spec texts) turn.calls }
 
 abbrev pub ranked_round : Spec → List (List ℕ) → List RawTurn → List Turn
 ranked_round spec texts round = map (ranked_turn spec texts) round
@@ -58,5 +64,5 @@ work_by spec (Err broken) = Err broken
 
 -- The workload that the content lines from a place on give, behind a specification; or the first broken line rule with
 -- its line.
-abbrev pub work_reading : Spec → TextPlace → Result Work Broken
-work_reading spec place = work_by spec (reading_all (past_end_of place.text) spec (content_from place))
+abbrev pub work_reading : Also → Spec → TextPlace → Result Work Broken
+work_reading also spec place = work_by spec (reading_all also (past_end_of place.text) spec (content_from place))

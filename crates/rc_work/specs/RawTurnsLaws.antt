@@ -1,23 +1,43 @@
 -- Laws of rounds with one more turn.
-use Rattle.std.proofs.Common.{◌≡◌, suc, ◌+◌, ◌<◌, List, [], ◌∷◌, ◌++◌, length, refl, ap, arith}
+use Rattle.std.proofs.Common.{◌≡◌, ℕ, suc, ◌+◌, ◌<◌, List, [], ◌∷◌, ◌++◌, length, refl, ap, arith}
 use Rattle.std.specs.Prelude.{sum_by}
 use Rattle.std.specs.List.{AllByRecursion}
-use Rattle.std.proofs.lemmas.List.{length-append}
-use Rattle.std.proofs.lemmas.List.Sums.{sum_by-cons}
+use Rattle.std.proofs.lemmas.List.Sums.{sum_by-append, sum_by-cons}
 use Rattle.rc_work.specs.declared.raw.RawTurn.{RawTurn}
-use Rattle.rc_work.specs.RawTurns.{onto_last}
+use Rattle.rc_work.specs.RawTurns.{count_raw, onto_last}
 
 pub length-onto_last : (rounds : List (List RawTurn)) (turn : RawTurn) → length (onto_last rounds turn) ≡ length rounds
 length-onto_last [] turn = refl
 length-onto_last (round ∷ []) turn = refl
 length-onto_last (round ∷ next ∷ rounds) turn = ap suc (length-onto_last (next ∷ rounds) turn)
 
--- there is one more turn
-pub sum_by-onto_last : (rounds : List (List RawTurn)) (turn : RawTurn) → 0 < length rounds → sum_by length (onto_last rounds turn) ≡ sum_by length rounds + 1
-sum_by-onto_last [] turn some = absurd (omega arith)
-sum_by-onto_last (round ∷ []) turn some = omega (arith, sum_by-cons length (round ++ turn ∷ []) [], sum_by-cons length round [], length-append round (turn ∷ []))
-sum_by-onto_last (round ∷ next ∷ rounds) turn some =
-    omega (arith, sum_by-cons length round (onto_last (next ∷ rounds) turn), sum_by-cons length round (next ∷ rounds), sum_by-onto_last (next ∷ rounds) turn (omega arith))
+-- there are the calls of one more turn
+pub count_raw-onto_last : (rounds : List (List RawTurn)) (turn : RawTurn) → 0 < length rounds
+    → count_raw (onto_last rounds turn) ≡ count_raw rounds + length turn.calls
+count_raw-onto_last [] turn some = absurd (omega arith)
+count_raw-onto_last (round ∷ []) turn some =
+    let calls : RawTurn → ℕ = λ t. length t.calls in
+    omega (
+      arith,
+      sum_by-cons (sum_by calls) (round ++ turn ∷ []) [],
+      sum_by-cons (sum_by calls) round [],
+      sum_by-append calls round (turn ∷ []),
+      sum_by-cons calls turn [],
+    )
+count_raw-onto_last (round ∷ next ∷ rounds) turn some =
+    let calls : RawTurn → ℕ = λ t. length t.calls in
+    omega (
+      arith,
+      sum_by-cons (sum_by calls) round (onto_last (next ∷ rounds) turn),
+      sum_by-cons (sum_by calls) round (next ∷ rounds),
+      count_raw-onto_last (next ∷ rounds) turn (omega arith),
+    )
+
+-- a round that begins has no calls
+pub count_raw-push_round : (rounds : List (List RawTurn)) → count_raw (rounds ++ [] ∷ []) ≡ count_raw rounds
+count_raw-push_round rounds =
+    let calls : RawTurn → ℕ = λ t. length t.calls in
+    omega (arith, sum_by-append (sum_by calls) rounds ([] ∷ []), sum_by-cons (sum_by calls) [] [])
 
 -- what holds of each element and of one more
 pub each_push : {X : Type 0} (P : X → Type 0) (xs : List X) (x : X) → AllByRecursion P xs → P x → AllByRecursion P (xs ++ x ∷ [])

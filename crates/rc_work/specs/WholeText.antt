@@ -3,6 +3,7 @@ use Rattle.std.specs.Prelude.{ℕ, ◌+◌, List, Result, Ok, Err}
 use Rattle.rc_text.specs.Lines.{TextPlace}
 use Rattle.rc_spec.specs.declared.spec.Spec.{Spec}
 use Rattle.rc_reader.specs.Grammar.{Broken, Reading, spec_reading}
+use Rattle.rc_work.specs.declared.also.Also.{Also}
 use Rattle.rc_work.specs.declared.work.Work.{Work}
 use Rattle.rc_work.specs.Ranking.{work_reading}
 
@@ -19,10 +20,10 @@ abbrev pub whole_by : Spec → Result Work Broken → Result Whole Broken
 whole_by spec (Err broken) = Err broken
 whole_by spec (Ok work) = Ok (record { spec = spec; work = work })
 
-abbrev pub text_reading_by : List ℕ → Result Reading Broken → Result Whole Broken
-text_reading_by text (Err broken) = Err broken
-text_reading_by text (Ok reading) = whole_by reading.spec (work_reading reading.spec (place_after text reading))
+abbrev pub text_reading_by : Also → List ℕ → Result Reading Broken → Result Whole Broken
+text_reading_by also text (Err broken) = Err broken
+text_reading_by also text (Ok reading) = whole_by reading.spec (work_reading also reading.spec (place_after text reading))
 
 -- what a text gives: a specification with the workload behind it, or the first broken line rule with its line
-abbrev pub text_reading : List ℕ → Result Whole Broken
-text_reading text = text_reading_by text (spec_reading text)
+abbrev pub text_reading : Also → List ℕ → Result Whole Broken
+text_reading also text = text_reading_by also text (spec_reading text)

@@ -12,7 +12,8 @@ use Rattle.rc_spec.specs.declared.spec.Spec.{Spec}
 use Rattle.rc_reader.specs.Grammar.{Broken}
 use Rattle.rc_reader.specs.declared.refusal.LineRule.{LineRule}
 use Rattle.rc_reader.specs.declared.refusal.LineRule.TheVariants.{S1, S2, S5, S8}
-use Rattle.rc_work.specs.declared.raw.Draft.{Draft}
+use Rattle.rc_work.specs.declared.also.Also.{Also}
+use Rattle.rc_work.specs.declared.draft.Draft.{Draft}
 use Rattle.rc_work.specs.LineForms.{FormText, words_read, form_of}
 use Rattle.rc_work.specs.LineRules.{after_form}
 
@@ -20,22 +21,22 @@ abbrev pub after_form_of : Spec → Draft → Option FormText → Result Draft L
 after_form_of spec draft None = Err S2
 after_form_of spec draft (Some form) = after_form spec draft form
 
-abbrev pub after_words : Spec → Draft → Option (List WordText) → Result Draft LineRule
-after_words spec draft None = Err S2
-after_words spec draft (Some words) = after_form_of spec draft (form_of words)
+abbrev pub after_words : Also → Spec → Draft → Option (List WordText) → Result Draft LineRule
+after_words also spec draft None = Err S2
+after_words also spec draft (Some words) = after_form_of spec draft (form_of also words)
 
--- S2 to W3 for a line behind the header, after the lines that gave this draft
-unfoldable pub after_bytes : Spec → Draft → List ℕ → Result Draft LineRule
-after_bytes spec draft bytes = after_words spec draft (words_read bytes)
+-- S2 to W5 for a line behind the header, after the lines that gave this draft
+unfoldable pub after_bytes : Also → Spec → Draft → List ℕ → Result Draft LineRule
+after_bytes also spec draft bytes = after_words also spec draft (words_read bytes)
 
 abbrev pub broken_at : {X : Type 0} → LineRule → ℕ → Result X Broken
 broken_at rule line = Err (record { rule = rule; line = line })
 
 -- The language of the lines behind the header, of which none ends the reading: a line behind `end` breaks a rule. S8: they
 -- run out and `end` does not stand before, and then the line is one past the last.
-abbrev pub draft_language : {Read : Type 0} → Spec → (Draft → Read) → Language Draft Draft Read LineRule
-draft_language spec value = record {
-  next = after_bytes spec;
+abbrev pub draft_language : {Read : Type 0} → Also → Spec → (Draft → Read) → Language Draft Draft Read LineRule
+draft_language also spec value = record {
+  next = after_bytes also spec;
   ended = λ next. false;
   state = λ next. next;
   done = λ draft last others. value draft;
@@ -43,12 +44,12 @@ draft_language spec value = record {
 }
 
 -- it reads the draft itself
-abbrev pub drafts : Spec → Language Draft Draft Draft LineRule
-drafts spec = draft_language spec (λ (read : Draft). read)
+abbrev pub drafts : Also → Spec → Language Draft Draft Draft LineRule
+drafts also spec = draft_language also spec (λ (read : Draft). read)
 
 -- the lines behind the header, tested in order
-unfoldable pub reading_from : ℕ → Spec → Draft → List ContentLine → Result Draft Broken
-reading_from past_end spec draft lines = language.reading_from (drafts spec) past_end draft lines
+unfoldable pub reading_from : Also → ℕ → Spec → Draft → List ContentLine → Result Draft Broken
+reading_from also past_end spec draft lines = language.reading_from (drafts also spec) past_end draft lines
 
 -- S1 for a count of threads that is no digits, and S5 for one that is not 1 to 8
 abbrev pub threads_by : Result ℕ NumFault → Result ℕ LineRule
@@ -89,12 +90,12 @@ headed past_end (line ∷ others) = headed_by (threads_of line.bytes) line other
 
 -- what is read when the header is
 abbrev pub draft_of : ℕ → Draft
-draft_of threads = record { threads = threads; ended = false; rounds = [] }
+draft_of threads = record { threads = threads; ended = false; rounds = []; group = None }
 
-abbrev pub reading_behind : ℕ → Spec → Result Headed Broken → Result Draft Broken
-reading_behind past_end spec (Err broken) = Err broken
-reading_behind past_end spec (Ok head) = reading_from past_end spec (draft_of head.threads) head.others
+abbrev pub reading_behind : Also → ℕ → Spec → Result Headed Broken → Result Draft Broken
+reading_behind also past_end spec (Err broken) = Err broken
+reading_behind also past_end spec (Ok head) = reading_from also past_end spec (draft_of head.threads) head.others
 
 -- what the content lines behind a specification give
-abbrev pub reading_all : ℕ → Spec → List ContentLine → Result Draft Broken
-reading_all past_end spec lines = reading_behind past_end spec (headed past_end lines)
+abbrev pub reading_all : Also → ℕ → Spec → List ContentLine → Result Draft Broken
+reading_all also past_end spec lines = reading_behind also past_end spec (headed past_end lines)

@@ -1,8 +1,10 @@
 //! Workloads: what a text says of them, their runs, and the report of a run.
 #![tactic(auto)]
 
+mod also;
 mod calls;
 mod columns;
+mod draft;
 mod forms;
 mod laws;
 mod prefix_laws;
@@ -16,12 +18,16 @@ mod rules;
 mod words;
 mod work;
 
+pub use also::Also;
 pub use calls::refill_call;
 pub use columns::written_columns_at;
-pub use laws::{runs_make_calls, texts_print_as_written};
+pub use laws::{
+    entries_are_turns, runs_make_calls, runs_make_turns, single_turns_are_single_steps,
+    texts_print_as_written, turns_without_groups_are_single,
+};
 pub use prefix_laws::{cut_texts_are_refused, last_letter_is_there};
 pub use printing::{print_step, print_tuple};
 pub use reading::read_work;
 pub use reading_laws::first_broken_work_line;
 pub use report::Report;
-pub use work::{Round, Rounds, Turn, Work};
+pub use work::{Calls, Round, Rounds, Turn, Work};

@@ -4,27 +4,38 @@ ghost use Rattle.std.specs.Prelude.{◌≡◌, ◌++◌, map, IfOk, OnOk};
 ghost use Rattle.std.specs.List.{AllByRecursion};
 ghost use Rattle.rc_spec.specs.InRange.{IsInRange};
 ghost use Rattle.rc_spec.specs.Names.{IsWellNamed};
-ghost use Rattle.rc_work.specs.Drafts.{IsRawTurn};
-ghost use Rattle.rc_work.specs.Fitting.{IsOfWords};
-ghost use Rattle.rc_work.specs.Ranking.{texts_in_turn, texts_in_round, texts_in, ranked_value, ranked_turn, ranked_round, ranked_rounds, work_of};
+ghost use Rattle.rc_work.specs.Drafts.{IsRawCall, IsRawTurn};
+ghost use Rattle.rc_work.specs.Fitting.{AreOfWords, IsOfWords};
+ghost use Rattle.rc_work.specs.Ranking.{texts_in_call, texts_in_turn, texts_in_round, texts_in, ranked_value, ranked_call, ranked_turn, ranked_round, ranked_rounds, work_of};
 
 use crate::calls::refill_call;
-use crate::raw::{Draft, RawRound, RawTurn, RawValue};
-use crate::work::{Round, Rounds, Turn, Work};
+use crate::draft::Draft;
+use crate::raw::{RawCall, RawRound, RawTurn, RawValue};
+use crate::work::{Calls, Round, Rounds, Turn, Work};
 use rc_spec::{Call, Ranges, Spec};
 use rc_tuple::{Memory, Tuple};
 use rc_values::{Name64, Ranks};
 use std::alloc::Global;
 
-/// Appends the texts of a turn's values.
-fn push_turn_texts(texts: &mut Vec<Name64>, turn: &RawTurn) -> Result<(), Memory>
-    ensures { OnOk result (texts.new.items ≡ texts.old.items ++ texts_in_turn turn.now) }
+/// Appends the texts of a call's values.
+fn push_call_texts(texts: &mut Vec<Name64>, call: &RawCall) -> Result<(), Memory>
+    ensures { OnOk result (texts.new.items ≡ texts.old.items ++ texts_in_call call.now) }
 {
-    for value in turn.values.list() {
+    for value in call.values.list() {
         if let RawValue::Text(text) = value {
             let text = Name64::new(*texts.allocator(), text.bytes())?;
             texts.push(text)?;
         }
+    }
+    Ok(())
+}
+
+/// Appends the texts of a turn's values.
+fn push_turn_texts(texts: &mut Vec<Name64>, turn: &RawTurn) -> Result<(), Memory>
+    ensures { OnOk result (texts.new.items ≡ texts.old.items ++ texts_in_turn turn.now) }
+{
+    for call in turn.calls.list() {
+        push_call_texts(texts, call)?;
     }
     Ok(())
 }
@@ -71,28 +82,60 @@ fn ranked_values(alloc: Global, ranks: &Ranks, values: &[RawValue]) -> Result<Ve
     Ok(vals)
 }
 
-/// The turn with its call.
+/// The call with numbers for its texts.
+fn ranked_call(alloc: Global, spec: &Spec, ranks: &Ranks, call: &RawCall) -> Result<Call, Memory>
+    requires range { IsInRange spec.now }
+    requires named { IsWellNamed spec.now }
+    requires call { IsRawCall spec.now call.now }
+    ensures call { IfOk result (λ ranked. ranked ≡ ranked_call spec.now ranks.now call.now) }
+    ensures words { IfOk result IsOfWords }
+{
+    let vals = ranked_values(alloc, ranks, call.values.list())?;
+    let mut ranked = Call {
+        op: call.op,
+        args: Tuple::empty(alloc),
+        ranges: Ranges::new(alloc),
+    };
+    refill_call(&mut ranked, spec, call.op, call.cols.list(), &vals)?;
+    Ok(ranked)
+}
+
+/// The calls of a turn, with memory for no more.
+fn ranked_calls(
+    alloc: Global,
+    spec: &Spec,
+    ranks: &Ranks,
+    calls: &[RawCall],
+) -> Result<Calls, Memory>
+    requires range { IsInRange spec.now }
+    requires named { IsWellNamed spec.now }
+    requires calls { AllByRecursion (IsRawCall spec.now) calls.now }
+    ensures calls { IfOk result
+        (λ ranked. ranked ≡ map (ranked_call spec.now ranks.now) calls.now) }
+    ensures words { IfOk result (AllByRecursion IsOfWords) }
+{
+    let mut ranked = Vec::with_capacity(alloc, calls.len())?;
+    for call in calls {
+        ranked.push(ranked_call(alloc, spec, ranks, call)?)?;
+    }
+    Ok(Calls::from_vec(ranked))
+}
+
+/// The turn with its calls.
 fn ranked_turn(alloc: Global, spec: &Spec, ranks: &Ranks, turn: &RawTurn) -> Result<Turn, Memory>
     requires range { IsInRange spec.now }
     requires named { IsWellNamed spec.now }
     requires turn { IsRawTurn spec.now turn.now }
     ensures turn { IfOk result (λ ranked. ranked ≡ ranked_turn spec.now ranks.now turn.now) }
-    ensures words { IfOk result (λ ranked. IsOfWords ranked.call) }
+    ensures words { IfOk result (λ ranked. AllByRecursion IsOfWords ranked.calls) }
 {
-    let vals = ranked_values(alloc, ranks, turn.values.list())?;
-    let mut call = Call {
-        op: turn.op,
-        args: Tuple::empty(alloc),
-        ranges: Ranges::new(alloc),
-    };
-    refill_call(&mut call, spec, turn.op, turn.cols.list(), &vals)?;
     Ok(Turn {
         thread: turn.thread,
-        call,
+        calls: ranked_calls(alloc, spec, ranks, turn.calls.list())?,
     })
 }
 
-/// The round with its calls.
+/// The round with its turns.
 fn ranked_round(
     alloc: Global,
     spec: &Spec,
@@ -103,7 +146,7 @@ fn ranked_round(
     requires named { IsWellNamed spec.now }
     requires turns { AllByRecursion (IsRawTurn spec.now) round.now }
     ensures turns { IfOk result (λ ranked. ranked ≡ ranked_round spec.now ranks.now round.now) }
-    ensures words { IfOk result (λ ranked. AllByRecursion (λ turn. IsOfWords turn.call) ranked) }
+    ensures words { IfOk result (AllByRecursion (λ turn. AllByRecursion IsOfWords turn.calls)) }
 {
     let mut ranked = Round::new(alloc);
     for turn in round {
@@ -112,7 +155,7 @@ fn ranked_round(
     Ok(ranked)
 }
 
-/// The rounds with their calls.
+/// The rounds with their turns.
 fn ranked_rounds(
     alloc: Global,
     spec: &Spec,
@@ -123,7 +166,7 @@ fn ranked_rounds(
     requires named { IsWellNamed spec.now }
     requires turns { AllByRecursion (AllByRecursion (IsRawTurn spec.now)) rounds.now }
     ensures rounds { IfOk result (λ ranked. ranked ≡ ranked_rounds spec.now ranks.now rounds.now) }
-    ensures words { IfOk result (λ ranked. AllByRecursion (AllByRecursion (λ turn. IsOfWords turn.call)) ranked) }
+    ensures words { IfOk result AreOfWords }
 {
     let mut ranked = Rounds::new(alloc);
     for round in rounds {
@@ -138,7 +181,7 @@ pub(crate) fn work_of(alloc: Global, spec: &Spec, draft: &Draft) -> Result<Work,
     requires named { IsWellNamed spec.now }
     requires turns { AllByRecursion (AllByRecursion (IsRawTurn spec.now)) draft.now.rounds }
     ensures work { IfOk result (λ work. work ≡ work_of spec.now draft.now) }
-    ensures words { IfOk result (λ work. AllByRecursion (AllByRecursion (λ turn. IsOfWords turn.call)) work.rounds) }
+    ensures words { IfOk result (λ work. AreOfWords work.rounds) }
 {
     let rounds = draft.rounds.list();
     let ranks = Ranks::build(texts_in(alloc, rounds)?)?;

@@ -1,7 +1,7 @@
 //! Turns as they stand in the text, before its texts have ranks.
 
-ghost use Rattle.std.specs.Prelude.{◌≡◌, ◌<◌, [], ◌∷◌, ◌++◌, length, sum_by, OnOk};
-ghost use Rattle.rc_work.specs.RawTurns.{onto_last};
+ghost use Rattle.std.specs.Prelude.{◌≡◌, ◌<◌, ◌≤◌, ◌+◌, [], ◌∷◌, ◌++◌, length, IfOk, OnOk};
+ghost use Rattle.rc_work.specs.RawTurns.{count_raw, onto_last};
 
 use rc_tuple::{Cols, Memory, SmallList};
 use rc_values::Name64;
@@ -18,14 +18,37 @@ pub(crate) enum RawValue {
 /// The values of a call, in written order.
 pub(crate) type RawValues = SmallList<RawValue>;
 
-/// A call that a thread is to make, with the number of its operation.
+/// A call, with the number of its operation.
 #[derive(Debug, Drop)]
-pub(crate) struct RawTurn {
-    pub(crate) thread: u32,
+pub(crate) struct RawCall {
     pub(crate) op: u8,
     /// The columns of its values.
     pub(crate) cols: Cols,
     pub(crate) values: RawValues,
+}
+
+/// The calls of a turn, in written order.
+pub(crate) type RawCalls = SmallList<RawCall>;
+
+/// The calls that a thread is to make at once.
+#[derive(Debug, Drop)]
+pub(crate) struct RawTurn {
+    pub(crate) thread: u32,
+    pub(crate) calls: RawCalls,
+}
+
+impl RawTurn {
+    /// The turn of one call, with memory for no more.
+    pub(crate) fn of_one(alloc: Global, thread: u32, call: RawCall) -> Result<RawTurn, Memory>
+        ensures { IfOk result (λ turn. turn ≡ record { thread = thread; calls = call ∷ [] }) }
+    {
+        let mut calls = Vec::with_capacity(alloc, 1)?;
+        calls.push(call)?;
+        Ok(RawTurn {
+            thread,
+            calls: RawCalls::from_vec(calls),
+        })
+    }
 }
 
 /// The turns of a round, in written order.
@@ -39,14 +62,15 @@ pub(crate) struct RawRounds {
 }
 
 impl Model for RawRounds {
-    ghost use Rattle.std.specs.Prelude.{◌≡◌, List, length, sum_by};
+    ghost use Rattle.std.specs.Prelude.{◌≡◌, List};
     ghost use Rattle.rc_work.specs.declared.raw.RawTurn.{RawTurn};
+    ghost use Rattle.rc_work.specs.RawTurns.{count_raw};
 
     ghost Value = { List (List RawTurn) };
 
     ghost view = { λ r. r.rounds.items };
 
-    ghost invariant = { λ r. r.calls ≡ sum_by length r.rounds.items };
+    ghost invariant = { λ r. r.calls ≡ count_raw r.rounds.items };
 }
 
 impl RawRounds {
@@ -69,7 +93,7 @@ impl RawRounds {
 
     /// How many calls stand in the rounds.
     pub(crate) fn calls(&self) -> usize
-        ensures { result ≡ sum_by length self.now }
+        ensures { result ≡ count_raw self.now }
     {
         self.calls
     }
@@ -86,22 +110,13 @@ impl RawRounds {
     /// Adds a turn to the last round.
     pub(crate) fn push_turn(&mut self, turn: RawTurn) -> Result<(), Memory>
         requires begun { 0 < length self.old }
-        requires few { sum_by length self.old < 20000 }
+        requires few { count_raw self.old + length turn.calls ≤ 20000 }
         ensures { OnOk result (self.new ≡ onto_last self.old turn) }
     {
+        let calls = turn.calls.list().len();
         let last = self.rounds.len() - 1;
         self.rounds[last].push(turn)?;
-        self.calls += 1;
+        self.calls += calls;
         Ok(())
     }
-}
-
-/// A workload of which some lines are read.
-#[derive(Debug, Drop)]
-pub(crate) struct Draft {
-    /// How many threads there are.
-    pub(crate) threads: u32,
-    /// The line `end` was read.
-    pub(crate) ended: bool,
-    pub(crate) rounds: RawRounds,
 }

@@ -10,12 +10,14 @@ ghost use Rattle.rc_work.specs.LineForms.{word_texts};
 ghost use Rattle.rc_work.specs.WorkGrammar.{after_bytes, threads_by, threads_of_words, threads_of, headed, reading_all};
 ghost use Rattle.rc_work.specs.Ranking.{work_reading};
 ghost use Rattle.rc_work.specs.Fitting.{HasThreads, RoundsFit};
-ghost use Rattle.rc_work.specs.Limits.{KeepsLimits, KnowsTexts};
+ghost use Rattle.rc_work.specs.Limits.{HasSingleTurns, KeepsLimits, KnowsTexts};
 ghost use Rattle.rc_work.specs.Answers.{GivesThreads, TakesLine, IsWorkRefusal};
+ghost use Rattle.rc_work.specs.declared.also.Also.TheVariants.{Nothing};
 
+use crate::also::Also;
+use crate::draft::Draft;
 use crate::forms::form_of;
 use crate::ranking::work_of;
-use crate::raw::{Draft, RawRounds};
 use crate::rules::take_form;
 use crate::words::line_words;
 use crate::work::Work;
@@ -80,14 +82,20 @@ fn read_header(alloc: Global, lines: &mut Lines<'_>) -> Result<u32, ReadRefusal>
 
 /// Reads a line behind the header into the draft. After a refusal the draft is of no use.
 #[tactic(auto, unfolding(crate::specs::WorkGrammar::after_bytes))]
-fn read_line(alloc: Global, spec: &Spec, draft: &mut Draft, bytes: &[u8]) -> Result<(), LineFault>
+fn read_line(
+    alloc: Global,
+    also: Also,
+    spec: &Spec,
+    draft: &mut Draft,
+    bytes: &[u8],
+) -> Result<(), LineFault>
     requires { IsInRange spec.now }
-    ensures { TakesLine result draft.new (after_bytes spec.now draft.old bytes.now) }
+    ensures { TakesLine result draft.new (after_bytes also spec.now draft.old bytes.now) }
 {
     let Some(words) = line_words(alloc, bytes)? else {
         return Err(LineFault::Broken(LineRule::S2));
     };
-    let Some(form) = form_of(&words) else {
+    let Some(form) = form_of(also, &words) else {
         return Err(LineFault::Broken(LineRule::S2));
     };
     take_form(alloc, spec, draft, form)
@@ -97,6 +105,7 @@ fn read_line(alloc: Global, spec: &Spec, draft: &mut Draft, bytes: &[u8]) -> Res
 #[derive(Clone, Copy, Debug)]
 struct DraftLines<'a> {
     alloc: Global,
+    also: Also,
     spec: &'a Spec,
 }
 
@@ -108,30 +117,34 @@ impl<'a> Language for DraftLines<'a> {
 
     type Fault = LineFault;
 
-    ghost reads = { λ language draft bytes ended next. ReadsLine language.spec.now draft bytes ended next };
+    ghost reads = { λ language draft bytes ended next.
+        ReadsLine language.also language.spec.now draft bytes ended next };
 
-    ghost fails = { λ language draft bytes fault. fails_line language.spec.now draft bytes fault };
+    ghost fails = { λ language draft bytes fault.
+        fails_line language.also language.spec.now draft bytes fault };
 
     ghost can = { λ language draft. IsInRange language.spec.now };
 
     fn read_line(&self, draft: &mut Draft, bytes: &[u8]) -> Result<bool, LineFault> {
-        read_line(self.alloc, self.spec, draft, bytes)?;
+        read_line(self.alloc, self.also, self.spec, draft, bytes)?;
         Ok(false)
     }
 }
 
 /// Reads the lines of a workload.
-fn read_draft(alloc: Global, spec: &Spec, lines: &mut Lines<'_>) -> Result<Draft, ReadRefusal>
+fn read_draft(
+    alloc: Global,
+    also: Also,
+    spec: &Spec,
+    lines: &mut Lines<'_>,
+) -> Result<Draft, ReadRefusal>
     requires { IsInRange spec.now }
-    ensures { ReadsAs result (reading_all (past_end_of lines.old.text) spec.now (content_from lines.old)) }
+    ensures { ReadsAs result
+        (reading_all also (past_end_of lines.old.text) spec.now (content_from lines.old)) }
 {
     let threads = read_header(alloc, lines)?;
-    let mut draft = Draft {
-        threads,
-        ended: false,
-        rounds: RawRounds::new(alloc),
-    };
-    if let Err(unread) = read_lines(&DraftLines { alloc, spec }, &mut draft, lines) {
+    let mut draft = Draft::new(alloc, threads);
+    if let Err(unread) = read_lines(&DraftLines { alloc, also, spec }, &mut draft, lines) {
         return Err(unread.fault.at(unread.line));
     }
     if draft.ended {
@@ -146,21 +159,30 @@ fn read_draft(alloc: Global, spec: &Spec, lines: &mut Lines<'_>) -> Result<Draft
 
 /// Reads the workload behind a specification, in a text of at most 2^24 bytes, from where the rest of the
 /// text begins to its end. The value of a text column is the rank of its text among the texts of the whole
-/// workload. A refusal is for the first broken rule and its line, one of S1, S2, S5 to S8 and W1 to W3, or
-/// is want of memory.
-pub fn read_work(alloc: Global, bytes: &[u8], rest: Rest, spec: &Spec) -> Result<Work, ReadRefusal>
+/// workload. A refusal is for the first broken rule and its line, one of S1, S2, S5 to S8, W1 to W3 and,
+/// where groups are read, W5, or is want of memory. A line of a call takes what the call takes, and the list of
+/// its turn: room for one call as it stands in the text, and for one in the workload. A group takes one such list
+/// for all its calls.
+pub fn read_work(
+    alloc: Global,
+    bytes: &[u8],
+    rest: Rest,
+    spec: &Spec,
+    also: Also,
+) -> Result<Work, ReadRefusal>
     requires short { length bytes.now ≤ 2 ^ 24 }
     requires start { IsLineStart (rest_place bytes.now rest) }
     requires in_range { IsInRange spec.now }
     requires well_named { IsWellNamed spec.now }
-    ensures exact { ReadsAs result (work_reading spec.now (rest_place bytes.now rest)) }
+    ensures exact { ReadsAs result (work_reading also spec.now (rest_place bytes.now rest)) }
     ensures limits { IfOk result KeepsLimits }
     ensures threads { IfOk result HasThreads }
     ensures fit { IfOk result (λ work. RoundsFit spec.now work.rounds) }
     ensures known_texts { IfOk result (λ work. KnowsTexts spec.now work) }
-    ensures rule { IfErr result IsWorkRefusal }
+    ensures single { IfOk result (λ work. also ≡ Nothing → HasSingleTurns work) }
+    ensures rule { IfErr result (IsWorkRefusal also) }
 {
     let mut lines = Lines::new(bytes, rest.at, rest.line);
-    let draft = read_draft(alloc, spec, &mut lines)?;
+    let draft = read_draft(alloc, also, spec, &mut lines)?;
     Ok(work_of(alloc, spec, &draft)?)
 }

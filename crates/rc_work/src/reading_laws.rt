@@ -4,6 +4,7 @@ ghost use Rattle.std.specs.Prelude.{◌≡◌, ◌↔◌, Result};
 ghost use Rattle.rc_text.specs.Lines.{TextPlace};
 ghost use Rattle.rc_spec.specs.declared.spec.Spec.{Spec};
 ghost use Rattle.rc_reader.specs.Grammar.{Broken};
+ghost use Rattle.rc_work.specs.declared.also.Also.{Also};
 ghost use Rattle.rc_work.specs.declared.work.Work.{Work};
 ghost use Rattle.rc_work.specs.Ranking.{work_reading};
 ghost use Rattle.rc_work.specs.FirstBroken.{WorkMeans};
@@ -11,5 +12,6 @@ ghost use Rattle.rc_work.specs.FirstBroken.{WorkMeans};
 /// A workload is read where the header stands first, each line behind it breaks no rule, and `end` is one of them;
 /// else the refusal is of the first line that breaks a rule, or the lines run out. Nothing else is what lines give.
 pub fn first_broken_work_line()
-    ensures { (spec : Spec) (place : TextPlace) (gives : Result Work Broken) → (work_reading spec place ≡ gives) ↔ WorkMeans spec place gives }
+    ensures { (also : Also) (spec : Spec) (place : TextPlace) (gives : Result Work Broken)
+        → (work_reading also spec place ≡ gives) ↔ WorkMeans also spec place gives }
 {}

@@ -1,11 +1,11 @@
-ghost use Rattle.std.specs.Prelude.{◌≡◌, ◌++◌, IfOk, OnOk, length, slice_get};
-ghost use Rattle.std.specs.List.{flat_map};
+ghost use Rattle.std.specs.Prelude.{◌≡◌, ◌++◌, ◌∷◌, [], IfOk, OnOk, length, map, slice_get};
 ghost use Rattle.std.specs.Option.{option_map};
+ghost use Rattle.rc_text.specs.Lines.{printed_lines};
 ghost use Rattle.rc_rel.specs.History.{AllFit, StepsFit};
-ghost use Rattle.rc_work.specs.Printed.{spaced, row_text, step_words};
-ghost use Rattle.rc_work.specs.Report.{report, entry_line, final_lines, count_line};
+ghost use Rattle.rc_spec.specs.Calls.{Fits};
+ghost use Rattle.rc_work.specs.Report.{parts, step_line, group_head, head_lines, entry_lines, final_parts, count_line};
 
-use crate::printing::{print_tuple, push_spaced_u64, push_step};
+use crate::printing::{print_tuple, push_spaced, push_spaced_u64, push_step};
 use rc_rel::{Entry, Step};
 use rc_spec::Spec;
 use rc_text::{push_bytes, push_u64};
@@ -25,19 +25,22 @@ pub struct Report<'a> {
 }
 
 impl<'a> Report<'a> {
-    /// How many lines the report has.
-    pub fn line_count(&self) -> u64
-        ensures { result ≡ length (report self.now.spec.now self.now.ranks.now self.now.entries.now self.now.rows.now) }
+    /// How many parts the report has: the lines of an entry are one, and so is each other line.
+    pub fn part_count(&self) -> u64
+        ensures { result ≡ length (parts self.now.spec.now self.now.ranks.now self.now.entries.now
+            self.now.rows.now) }
     {
         (self.entries.len() + self.rows.len() + 3) as u64
     }
 
-    /// The line with this number, counted from 0, without its line feed; `None` exactly where the report
-    /// has no such line.
-    #[tactic(auto, unfolding(crate::specs::Report::report))]
-    pub fn line(&self, alloc: Global, number: u64) -> Result<Option<Vec<u8>>, Memory>
+    /// The text of the part with this number, counted from 0: its lines, each with its line feed. `None` exactly where the
+    /// report has no such part.
+    #[tactic(auto, unfolding(crate::specs::Report::parts))]
+    pub fn part(&self, alloc: Global, number: u64) -> Result<Option<Vec<u8>>, Memory>
         requires { AllFit self.now.spec.now self.now.entries.now }
-        ensures { IfOk result (λ line. option_map (λ bytes. bytes.items) line ≡ slice_get (report self.now.spec.now self.now.ranks.now self.now.entries.now self.now.rows.now) number) }
+        ensures { IfOk result (λ part. option_map (λ bytes. bytes.items) part
+            ≡ option_map printed_lines (slice_get (parts self.now.spec.now self.now.ranks.now
+            self.now.entries.now self.now.rows.now) number)) }
     {
         let number = number as usize;
         if number == 0 {
@@ -45,59 +48,116 @@ impl<'a> Report<'a> {
         }
         let place = number - 1;
         if place < self.entries.len() {
-            return Ok(Some(self.entry_line(alloc, place, &self.entries[place])?));
+            return Ok(Some(self.entry_text(alloc, place, &self.entries[place])?));
         }
-        self.line_after(alloc, place - self.entries.len())
+        self.part_after(alloc, place - self.entries.len())
     }
 
-    /// The line with this number, counted from the one with the number of tuples.
-    fn line_after(&self, alloc: Global, number: usize) -> Result<Option<Vec<u8>>, Memory>
-        ensures { IfOk result (λ line. option_map (λ bytes. bytes.items) line ≡ slice_get (final_lines self.now.spec.now self.now.ranks.now self.now.rows.now) number) }
+    /// The text of the part with this number, counted from the one with the number of tuples.
+    fn part_after(&self, alloc: Global, number: usize) -> Result<Option<Vec<u8>>, Memory>
+        ensures { IfOk result (λ part. option_map (λ bytes. bytes.items) part
+            ≡ option_map printed_lines (slice_get (final_parts self.now.spec.now self.now.ranks.now
+            self.now.rows.now) number)) }
     {
         if number == 0 {
             return Ok(Some(counted(alloc, b"final", self.rows.len() as u64)?));
         }
         let place = number - 1;
         if place < self.rows.len() {
-            return Ok(Some(print_tuple(alloc, self.spec, self.ranks, &self.rows[place])?));
+            let line = print_tuple(alloc, self.spec, self.ranks, &self.rows[place])?;
+            return Ok(Some(with_feed(line)?));
         }
         if place == self.rows.len() {
-            return Ok(Some(word(alloc, b"end")?));
+            return Ok(Some(with_feed(word(alloc, b"end")?)?));
         }
         Ok(None)
     }
 
-    /// The line of an entry with its place.
-    fn entry_line(&self, alloc: Global, place: usize, entry: &Entry) -> Result<Vec<u8>, Memory>
+    /// The lines of an entry with its place.
+    fn entry_text(&self, alloc: Global, place: usize, entry: &Entry) -> Result<Vec<u8>, Memory>
         requires { StepsFit self.now.spec.now entry.now.steps }
-        ensures { IfOk result (λ line. line.items ≡ entry_line self.now.spec.now self.now.ranks.now place entry.now) }
+        ensures { IfOk result (λ text. text.items
+            ≡ printed_lines (entry_lines self.now.spec.now self.now.ranks.now place entry.now)) }
     {
-        let mut line = Vec::new(alloc);
-        push_u64(&mut line, place as u64)?;
-        push_spaced_u64(&mut line, entry.pass as u64)?;
-        self.push_steps(&mut line, entry.steps.list())?;
-        Ok(line)
+        let mut text = Vec::new(alloc);
+        push_head(&mut text, place, entry)?;
+        self.push_steps(&mut text, place, entry.pass, entry.steps.list())?;
+        Ok(text)
     }
 
-    /// Appends the steps, each after a space.
-    fn push_steps(&self, line: &mut Vec<u8>, steps: &[Step]) -> Result<(), Memory>
+    /// Appends a line for each step of an entry with this place and of this thread.
+    fn push_steps(
+        &self,
+        text: &mut Vec<u8>,
+        place: usize,
+        thread: u32,
+        steps: &[Step],
+    ) -> Result<(), Memory>
         requires { StepsFit self.now.spec.now steps.now }
-        ensures { OnOk result (line.new.items ≡ line.old.items ++ spaced (flat_map (step_words self.now.spec.now self.now.ranks.now) steps.now)) }
+        ensures { OnOk result (text.new.items ≡ text.old.items
+            ++ printed_lines (map (step_line self.now.spec.now self.now.ranks.now place thread)
+            steps.now)) }
     {
         for step in steps {
-            push_step(line, self.spec, self.ranks, step)?;
+            self.push_step_line(text, place, thread, step)?;
         }
+        Ok(())
+    }
+
+    /// Appends the line of a step.
+    fn push_step_line(
+        &self,
+        text: &mut Vec<u8>,
+        place: usize,
+        thread: u32,
+        step: &Step,
+    ) -> Result<(), Memory>
+        requires { Fits self.now.spec.now step.now.call }
+        ensures { OnOk result (text.new.items ≡ text.old.items
+            ++ printed_lines (step_line self.now.spec.now self.now.ranks.now place thread step.now
+            ∷ [])) }
+    {
+        push_u64(text, place as u64)?;
+        push_spaced_u64(text, u64::from(thread))?;
+        push_step(text, self.spec, self.ranks, step)?;
+        text.push(b'\n')?;
         Ok(())
     }
 }
 
-/// A word with a count.
+/// Appends the line that says how many steps an entry with this place has, where they are two or more.
+fn push_head(text: &mut Vec<u8>, place: usize, entry: &Entry) -> Result<(), Memory>
+    ensures { OnOk result (text.new.items
+        ≡ text.old.items ++ printed_lines (head_lines place entry.now)) }
+{
+    let count = entry.steps.list().len();
+    if count < 2 {
+        return Ok(());
+    }
+    push_u64(text, place as u64)?;
+    push_spaced_u64(text, u64::from(entry.pass))?;
+    push_spaced(text, b"&")?;
+    push_spaced_u64(text, count as u64)?;
+    text.push(b'\n')?;
+    Ok(())
+}
+
+/// The line with its line feed.
+fn with_feed(line: Vec<u8>) -> Result<Vec<u8>, Memory>
+    ensures { IfOk result (λ text. text.items ≡ printed_lines (line.items ∷ [])) }
+{
+    let mut text = line;
+    text.push(b'\n')?;
+    Ok(text)
+}
+
+/// The line of a word with a count.
 fn counted(alloc: Global, name: &[u8], count: u64) -> Result<Vec<u8>, Memory>
-    ensures { IfOk result (λ line. line.items ≡ count_line name.now count) }
+    ensures { IfOk result (λ text. text.items ≡ printed_lines (count_line name.now count ∷ [])) }
 {
     let mut line = word(alloc, name)?;
     push_spaced_u64(&mut line, count)?;
-    Ok(line)
+    with_feed(line)
 }
 
 fn word(alloc: Global, name: &[u8]) -> Result<Vec<u8>, Memory>

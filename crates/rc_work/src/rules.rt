@@ -6,15 +6,16 @@ ghost use Rattle.std.specs.List.{list_any};
 ghost use Rattle.rc_text.specs.Words.{text_of};
 ghost use Rattle.rc_spec.specs.InRange.{IsInRange};
 ghost use Rattle.rc_spec.specs.declared.spec.Spec.{Spec};
-ghost use Rattle.rc_work.specs.LineForms.{word_texts, form_text, round_line, end_line, call_line};
-ghost use Rattle.rc_work.specs.LineRules.{thread_of, raw_value, raw_values, is_too_large, is_wrong_kind, has_wrong_kind, after_form};
+ghost use Rattle.rc_work.specs.LineForms.{word_texts, form_text, round_line, end_line, call_line, group_line};
+ghost use Rattle.rc_work.specs.LineRules.{thread_of, group_size, raw_value, raw_values, is_too_large, is_wrong_kind, has_wrong_kind, after_form};
 ghost use Rattle.rc_work.specs.Answers.{TakesLine};
 ghost use Rattle.rc_work.specs.CallColumns.{written_columns_at};
 
 use crate::columns::written_columns_at;
+use crate::draft::{Draft, UnfilledGroup};
 use crate::forms::Form;
 use crate::printing::kind_at;
-use crate::raw::{Draft, RawTurn, RawValue, RawValues};
+use crate::raw::{RawCall, RawCalls, RawTurn, RawValue, RawValues};
 use rc_reader::{LineFault, LineRule, number_among};
 use rc_spec::{ColKind, Spec};
 use rc_text::{Word, read_u64};
@@ -25,8 +26,10 @@ use std::alloc::Global;
 /// The most rounds of a workload.
 const MAX_ROUNDS: usize = 64;
 
-/// The most calls of a workload.
-const MAX_CALLS: usize = 20_000;
+/// The fewest and the most calls of a group.
+const MIN_GROUP: u64 = 2;
+
+const MAX_GROUP: u64 = 16;
 
 /// The thread that a word names, if it is below the number of threads.
 fn thread_of(threads: u32, word: &[u8]) -> Option<u32>
@@ -34,6 +37,16 @@ fn thread_of(threads: u32, word: &[u8]) -> Option<u32>
 {
     match read_u64(word) {
         Ok(number) if number < u64::from(threads) => Some(number as u32),
+        _ => None,
+    }
+}
+
+/// The number of calls that a word gives a group, if it is 2 to 16.
+fn group_size(word: &[u8]) -> Option<u32>
+    ensures { result ≡ group_size word.now }
+{
+    match read_u64(word) {
+        Ok(number) if MIN_GROUP <= number && number <= MAX_GROUP => Some(number as u32),
         _ => None,
     }
 }
@@ -153,6 +166,9 @@ fn add_round(draft: &mut Draft) -> Result<(), LineFault>
     if draft.ended {
         return Err(LineFault::Broken(LineRule::S8));
     }
+    if draft.group.is_some() {
+        return Err(LineFault::Broken(LineRule::W5));
+    }
     draft.rounds.push_round()?;
     Ok(())
 }
@@ -163,7 +179,34 @@ fn add_end(draft: &mut Draft) -> Result<(), LineFault>
     if draft.ended {
         return Err(LineFault::Broken(LineRule::S8));
     }
+    if draft.group.is_some() {
+        return Err(LineFault::Broken(LineRule::W5));
+    }
     draft.ended = true;
+    Ok(())
+}
+
+fn add_group(alloc: Global, draft: &mut Draft, thread: &[u8], size: &[u8]) -> Result<(), LineFault>
+    ensures { (spec : Spec) → TakesLine result draft.new
+        (after_form spec draft.old (group_line thread.now size.now)) }
+{
+    let Some(thread) = thread_of(draft.threads, thread) else {
+        return Err(LineFault::Broken(LineRule::S5));
+    };
+    let Some(size) = group_size(size) else {
+        return Err(LineFault::Broken(LineRule::S5));
+    };
+    if draft.ended {
+        return Err(LineFault::Broken(LineRule::S8));
+    }
+    if draft.group.is_some() {
+        return Err(LineFault::Broken(LineRule::W5));
+    }
+    let calls = RawCalls::new(alloc);
+    draft.group = Some(UnfilledGroup {
+        size,
+        turn: RawTurn { thread, calls },
+    });
     Ok(())
 }
 
@@ -186,7 +229,7 @@ fn add_call(
     let Some(values) = call_values(alloc, words, cols.list().len())? else {
         return Err(LineFault::Broken(LineRule::S5));
     };
-    if draft.rounds.calls() >= MAX_CALLS {
+    if draft.is_full() {
         return Err(LineFault::Broken(LineRule::S6));
     }
     if draft.rounds.list().is_empty() {
@@ -204,12 +247,11 @@ fn add_call(
     if has_wrong_kind(spec, cols.list(), values.list()) {
         return Err(LineFault::Broken(LineRule::W3));
     }
-    draft.rounds.push_turn(RawTurn {
-        thread,
-        op: op as u8,
-        cols,
-        values,
-    })?;
+    if draft.is_others(thread) {
+        return Err(LineFault::Broken(LineRule::W5));
+    }
+    let op = op as u8;
+    draft.push_call(alloc, thread, RawCall { op, cols, values })?;
     Ok(())
 }
 
@@ -227,5 +269,6 @@ pub(crate) fn take_form(
         Form::Round => add_round(draft),
         Form::End => add_end(draft),
         Form::Call { thread, op, values } => add_call(alloc, spec, draft, thread, op, values),
+        Form::Group { thread, size } => add_group(alloc, draft, thread, size),
     }
 }

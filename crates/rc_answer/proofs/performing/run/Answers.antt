@@ -1,12 +1,12 @@
 use Rattle.std.proofs.Common.{◌≡◌, Err, Ok, refl, sym, subst}
 use Rattle.rc_reader.specs.Answers.{IsRead, ReadsAs, rest_place}
+use Rattle.rc_reader.specs.Grammar.{spec_reading}
 use Rattle.rc_spec.specs.declared.spec.Spec.{Spec}
 use Rattle.rc_spec.specs.Acceptance.{IsAccepted}
 use Rattle.rc_work.specs.Ranking.{work_reading}
-use Rattle.rc_answer.specs.Answers.{Answers, IsReport}
+use Rattle.rc_answer.specs.Answers.{AnswersRun, IsReport}
 use Rattle.rc_answer.specs.Ran.{done_in, status_in}
 use Rattle.rc_answer.specs.Writes.{Writes}
-use Rattle.rc_command.specs.declared.command.TextCommand.TheVariants.{Run}
 use Rattle.rc_answer.proofs.AnswerLemmas.{refusal_answers, report_answers, writes_wider}
 use Rattle.rc_answer.proofs.RanLemmas.{done_has_ran, done_ran, done_status, read_as}
 use Rattle.rc_answer.proofs.performing.run.Goals as goal
@@ -19,11 +19,11 @@ returns-clause-written g c =
     let found = c.in-Ok.ensures.exact in
     let is : IsRead text spec c.in-Ok.read.1 found.0 = subst (λ (s : Spec). IsRead text s c.in-Ok.read.1 found.0) (sym same) found.2 in
     let accepted : IsAccepted spec = subst (λ (s : Spec). IsAccepted s) (sym same) (c.in-Ok-accept.ensures.accepted refl) in
-    let read : work_reading spec (rest_place text c.in-Ok.read.1) ≡ Ok c.in-Ok-read_work.work =
-    subst (λ (s : Spec). work_reading s (rest_place text c.in-Ok.read.1) ≡ Ok c.in-Ok-read_work.work) c.spec.ensures.value c.in-Ok-read_work.ensures.exact in
-    subst (Writes (Answers Run text) (g.K.Sink.held c.args.sink.now) (g.K.Sink.held c.perform.new.sink)) (done_status c.perform.result c.with_run.result c.with_run.ensures)
-    (writes_wider (IsReport spec c.in-Ok-read_work.work) (Answers Run text) (g.K.Sink.held c.args.sink.now) (g.K.Sink.held c.perform.new.sink) (done_in c.perform.result)
-    (report_answers text found.0 spec c.in-Ok.read.1 found.1 is accepted c.in-Ok-read_work.work read) c.perform.ensures.written)
+    let read : work_reading c.args.also spec (rest_place text c.in-Ok.read.1) ≡ Ok c.in-Ok-read_work.work =
+    subst (λ (s : Spec). work_reading c.args.also s (rest_place text c.in-Ok.read.1) ≡ Ok c.in-Ok-read_work.work) c.spec.ensures.value c.in-Ok-read_work.ensures.exact in
+    subst (Writes (AnswersRun c.args.also text (spec_reading text)) (g.K.Sink.held c.args.sink.now) (g.K.Sink.held c.perform.new.sink)) (done_status c.perform.result c.with_run.result c.with_run.ensures)
+    (writes_wider (IsReport spec c.in-Ok-read_work.work) (AnswersRun c.args.also text (spec_reading text)) (g.K.Sink.held c.args.sink.now) (g.K.Sink.held c.perform.new.sink) (done_in c.perform.result)
+    (report_answers c.args.also text found.0 spec c.in-Ok.read.1 found.1 is accepted c.in-Ok-read_work.work read) c.perform.ensures.written)
 
 pub returns-clause-has_ran : goal.returns-clause-has_ran
 returns-clause-has_ran g c = done_has_ran c.perform.result c.with_run.result c.with_run.ensures
@@ -36,10 +36,10 @@ returns-clause-ran g c =
     let found = c.in-Ok.ensures.exact in
     let is : IsRead text spec c.in-Ok.read.1 found.0 = subst (λ (s : Spec). IsRead text s c.in-Ok.read.1 found.0) (sym same) found.2 in
     let accepted : IsAccepted spec = subst (λ (s : Spec). IsAccepted s) (sym same) (c.in-Ok-accept.ensures.accepted refl) in
-    let read : work_reading spec (rest_place text c.in-Ok.read.1) ≡ Ok c.in-Ok-read_work.work =
-    subst (λ (s : Spec). work_reading s (rest_place text c.in-Ok.read.1) ≡ Ok c.in-Ok-read_work.work) c.spec.ensures.value c.in-Ok-read_work.ensures.exact in
-    done_ran text spec c.in-Ok-read_work.work (g.K.Sink.held c.args.sink.now) (g.K.Sink.held c.perform.new.sink)
-    (read_as text found.0 spec c.in-Ok.read.1 c.in-Ok-read_work.work found.1 is accepted read)
+    let read : work_reading c.args.also spec (rest_place text c.in-Ok.read.1) ≡ Ok c.in-Ok-read_work.work =
+    subst (λ (s : Spec). work_reading c.args.also s (rest_place text c.in-Ok.read.1) ≡ Ok c.in-Ok-read_work.work) c.spec.ensures.value c.in-Ok-read_work.ensures.exact in
+    done_ran c.args.also text spec c.in-Ok-read_work.work (g.K.Sink.held c.args.sink.now) (g.K.Sink.held c.perform.new.sink)
+    (read_as c.args.also text found.0 spec c.in-Ok.read.1 c.in-Ok-read_work.work found.1 is accepted read)
     c.perform.result c.with_run.result c.with_run.ensures c.perform.ensures.run c.perform.ensures.store c.perform.ensures.text
 
 pub returns-in-Err-read_work-clause-written : goal.returns-in-Err-read_work-clause-written
@@ -50,7 +50,7 @@ returns-in-Err-read_work-clause-written g c =
     let found = c.in-Ok.ensures.exact in
     let is : IsRead text spec c.in-Ok.read.1 found.0 = subst (λ (s : Spec). IsRead text s c.in-Ok.read.1 found.0) (sym same) found.2 in
     let accepted : IsAccepted spec = subst (λ (s : Spec). IsAccepted s) (sym same) (c.in-Ok-accept.ensures.accepted refl) in
-    refusal_answers text found.0 spec c.in-Ok.read.1 found.1 is accepted c.in-Err-read_work.refusal
+    refusal_answers c.args.also text found.0 spec c.in-Ok.read.1 found.1 is accepted c.in-Err-read_work.refusal
     (g.K.Sink.held c.args.sink.now) (g.K.Sink.held c.refuse_run-in-Err-read_work.new.sink) (status_in c.refuse_run-in-Err-read_work.result)
-    (subst (λ (s : Spec). ReadsAs (Err c.in-Err-read_work.refusal) (work_reading s (rest_place text c.in-Ok.read.1))) c.spec.ensures.value c.in-Err-read_work.ensures.exact)
+    (subst (λ (s : Spec). ReadsAs (Err c.in-Err-read_work.refusal) (work_reading c.args.also s (rest_place text c.in-Ok.read.1))) c.spec.ensures.value c.in-Err-read_work.ensures.exact)
     c.refuse_run-in-Err-read_work.ensures.written

@@ -10,6 +10,8 @@ returns c =
     let top = λ (a : App). a.top in
     let with_check = c.in_ok-subcommand.ensures.shape (search rules) ∙ ap₂ with_subcommand top_is (ap top c.new-check.ensures.app) in
     let with_plan = c.in_ok-subcommand-2.ensures.shape (search rules) ∙ ap₂ with_subcommand with_check (ap top c.new-plan.ensures.app) in
-    let with_run : app_of c.in_ok-program.program ≡ program_alone = c.in_ok-program.ensures.shape (search rules) ∙ ap₂ with_subcommand with_plan (ap top c.new-run.ensures.app) in
+    let with_run = c.in_ok-subcommand-3.ensures.shape (search rules) ∙ ap₂ with_subcommand with_plan (ap top c.new-run.ensures.app) in
+    let with_group : app_of c.in_ok-program.program ≡ program_alone =
+    c.in_ok-program.ensures.shape (search rules) ∙ ap₂ with_subcommand with_run (ap top c.new-group.ensures.app) in
     IfOk-weaker c.add_big.result _ _
-    (λ r h. h ∙ ap (λ (a : App). with_subcommand a big_app.top) (c.in_ok-program-2.ensures ∙ ap (λ (a : App). with_subcommand a dot_app.top) with_run)) c.add_big.ensures
+    (λ r h. h ∙ ap (λ (a : App). with_subcommand a big_app.top) (c.in_ok-program-2.ensures ∙ ap (λ (a : App). with_subcommand a dot_app.top) with_group)) c.add_big.ensures

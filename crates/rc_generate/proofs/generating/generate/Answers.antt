@@ -2,10 +2,10 @@ use Rattle.std.proofs.Common.{◌≡◌, ap, ◌∙◌, subst}
 use Rattle.rc_values.specs.Ranks.{texts_of}
 use Rattle.rc_work.specs.declared.work.Work.{Work}
 use Rattle.rc_work.specs.Fitting.{RoundsFit, HasThreads}
-use Rattle.rc_work.specs.Limits.{KeepsLimits}
+use Rattle.rc_work.specs.Limits.{HasSingleTurns, KeepsLimits}
 use Rattle.rc_generate.specs.Sample.{sample_graph}
 use Rattle.rc_generate.specs.Generated.{generated}
-use Rattle.rc_generate.specs.GeneratedLaws.{generated_fits, generated_has_threads, generated_keeps_limits}
+use Rattle.rc_generate.specs.GeneratedLaws.{generated_fits, generated_has_single_turns, generated_has_threads, generated_keeps_limits}
 use Rattle.rc_generate.proofs.GeneratingLemmas.{generated_from}
 use Rattle.rc_generate.proofs.generating.generate.Goals as goal
 
@@ -21,3 +21,6 @@ returns-clause-threads c = subst HasThreads (same_work c) (generated_has_threads
 
 pub returns-clause-limits : goal.returns-clause-limits
 returns-clause-limits c = subst KeepsLimits (same_work c) (generated_keeps_limits c.args.seed c.args.calls c.requires.few)
+
+pub returns-clause-single : goal.returns-clause-single
+returns-clause-single c = subst HasSingleTurns (same_work c) (generated_has_single_turns c.args.seed c.args.calls)

@@ -2,7 +2,7 @@ use Rattle.std.proofs.Common.{ℕ, List, subst, sym}
 use Rattle.std.specs.Prelude.{OnOk}
 use Rattle.rc_spec.specs.declared.call.Call.{Call}
 use Rattle.rc_row.specs.Passes.{spec_of}
-use Rattle.rc_runner.specs.Rounds.{MadeCalls}
+use Rattle.rc_runner.specs.Rounds.{MadeTurns}
 use Rattle.rc_runner.specs.Running.{number_of, stand_of}
 use Rattle.rc_runner.specs.RunningLaws.{may_make_share, shares_fit}
 use Rattle.rc_runner.specs.Shares.{AreShared}
@@ -16,10 +16,10 @@ make_shares-requires-clause-may g c κs within =
 pub make_shares-requires-clause-fit : goal.make_shares-requires-clause-fit
 make_shares-requires-clause-fit g c κs within =
     shares_fit (spec_of c.args.store.now.row) c.args.round.now c.deref.result.now
-    (subst (AreShared c.args.round.now) (sym c.deref.ensures.value) c.in_ok-shares.ensures) c.requires.fit
+    (subst (AreShared c.args.round.now) (sym c.deref.ensures.value) c.in_ok-shares.ensures) c.requires.fit c.requires.sizes
 
 pub returns-clause-made : goal.returns-clause-made
 returns-clause-made g c =
     let shared : AreShared c.args.round.now c.deref.result.now = subst (AreShared c.args.round.now) (sym c.deref.ensures.value) c.in_ok-shares.ensures in
-    subst (λ (calls : ℕ → List Call). OnOk c.make_shares.result (MadeCalls number_of stand_of calls c.args.passes.now c.make_shares.new.passes))
+    subst (λ (turns : ℕ → List (List Call)). OnOk c.make_shares.result (MadeTurns number_of stand_of turns c.args.passes.now c.make_shares.new.passes))
     (λ i thread. shared thread i) c.make_shares.ensures.made

@@ -1,6 +1,6 @@
 use Rattle.std.proofs.Common.{All, subst, sym}
 use Rattle.std.specs.Prelude.{OnOk}
-use Rattle.rc_spec.specs.Calls.{Fits}
+use Rattle.rc_runner.specs.Shares.{TurnFits}
 use Rattle.rc_row.specs.Passes.{spec_of}
 use Rattle.rc_runner.specs.Rounds.{HasGrown}
 use Rattle.rc_runner.specs.RoundLaws.{growth_starts}
@@ -8,25 +8,25 @@ use Rattle.rc_runner.specs.Running.{number_of, stand_of}
 use Rattle.rc_runner.specs.SharesLaws.{share_found, share_past}
 use Rattle.rc_runner.proofs.calling.make_share.Goals as goal
 
-pub make_calls-requires-clause-fit : goal.make_calls-requires-clause-fit
-make_calls-requires-clause-fit g c =
+pub make_turns-requires-clause-fit : goal.make_turns-requires-clause-fit
+make_turns-requires-clause-fit g c =
     let found = c.in-Some.ensures.lookup in
     let same =
-    share_found c.args.shares.now c.number.result (number_of c.args.pass.now) c.in-Some.calls.now c.deref.result.now c.deref.ensures.value
+    share_found c.args.shares.now c.number.result (number_of c.args.pass.now) c.in-Some.turns.now c.deref.result.now c.deref.ensures.value
     found.3.0 found.1 c.number.ensures in
-    subst (All (Fits (spec_of c.args.store.now.row))) (sym same) (c.requires.fit (number_of c.args.pass.now))
+    subst (All (TurnFits (spec_of c.args.store.now.row))) (sym same) (c.requires.fit (number_of c.args.pass.now))
 
 pub returns-in-Some-clause-made : goal.returns-in-Some-clause-made
 returns-in-Some-clause-made g c =
     let found = c.in-Some.ensures.lookup in
     let same =
-    share_found c.args.shares.now c.number.result (number_of c.args.pass.now) c.in-Some.calls.now c.deref.result.now c.deref.ensures.value
+    share_found c.args.shares.now c.number.result (number_of c.args.pass.now) c.in-Some.turns.now c.deref.result.now c.deref.ensures.value
     found.3.0 found.1 c.number.ensures in
-    subst (λ calls. OnOk c.make_calls.result (HasGrown calls (stand_of c.args.pass.now) (stand_of c.make_calls.new.pass))) same
-    c.make_calls.ensures.made
+    subst (λ turns. OnOk c.make_turns.result (HasGrown turns (stand_of c.args.pass.now) (stand_of c.make_turns.new.pass))) same
+    c.make_turns.ensures.made
 
 pub returns-in-None-clause-made : goal.returns-in-None-clause-made
 returns-in-None-clause-made g c =
-    subst (λ calls. HasGrown calls (stand_of c.args.pass.now) (stand_of c.args.pass.now))
+    subst (λ turns. HasGrown turns (stand_of c.args.pass.now) (stand_of c.args.pass.now))
     (share_past c.args.shares.now c.number.result (number_of c.args.pass.now) c.in-None.ensures.lookup.3 c.number.ensures)
     (growth_starts (stand_of c.args.pass.now))

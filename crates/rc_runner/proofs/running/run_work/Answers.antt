@@ -1,8 +1,8 @@
-use Rattle.std.proofs.Common.{◌≡◌, ◌∙◌, ap, drop, length, subst, sym, arith}
+use Rattle.std.proofs.Common.{◌≡◌, ◌∙◌, ap, drop, length, subst, sum_by, sym, arith}
 use Rattle.std.specs.List.{range_with_len}
 use Rattle.rc_runner.specs.Rounds.{HaveMade}
 use Rattle.rc_runner.specs.Running.{stands_of}
-use Rattle.rc_runner.specs.RunningLaws.{all_of_them, idle_at_end, new_are_free, new_count, new_have_none, new_numbers, run_at_end}
+use Rattle.rc_runner.specs.RunningLaws.{all_of_them, few_turns, idle_at_end, new_are_free, new_count, new_have_none, new_numbers, run_at_end}
 use Rattle.rc_runner.proofs.running.run_work.Goals as goal
 
 pub run_rounds-requires-clause-free : goal.run_rounds-requires-clause-free
@@ -40,3 +40,8 @@ returns-clause-run g c =
     c.args.work.now c.close.result c.in_ok-store.ensures.row.1 c.in_ok-store.ensures.row.0
     c.requires.limits.some_thread c.requires.threads
     (subst (λ rounds. HaveMade rounds (stands_of last)) c.list.ensures c.in_ok-run_rounds.ensures.made) c.close.ensures
+
+pub run_rounds-requires-clause-few : goal.run_rounds-requires-clause-few
+run_rounds-requires-clause-few g c κs within =
+    let few = few_turns c.args.work.now.rounds c.requires.limits.turns in
+    omega (arith, few, c.requires.limits.few_calls, ap (λ rounds. sum_by length rounds) c.list.ensures, c.in_ok-store.ensures.limit)

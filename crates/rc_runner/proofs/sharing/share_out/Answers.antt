@@ -1,6 +1,6 @@
 use Rattle.std.proofs.Common.{ap, length-set, ◌∙◌}
-use Rattle.rc_runner.specs.Shares.{calls_in}
-use Rattle.rc_runner.specs.SharesLaws.{calls_in-more, shared_more}
+use Rattle.rc_runner.specs.Shares.{turns_in}
+use Rattle.rc_runner.specs.SharesLaws.{shared_more, turns_in-more}
 use Rattle.rc_runner.proofs.sharing.share_out.Goals as goal
 
 pub loop-turn-preserved : goal.loop-turn-preserved
@@ -9,5 +9,5 @@ loop-turn-preserved c = record {
   shared =
       shared_more c.args.round.now c.loop-turn.turn-index c.args.threads c.turn-item.result c.loop-turn.shares.items c.index_mut.result.now
       c.push.new.self c.requires c.loop-turn.invariant.count c.loop-turn-test.true c.turn-item.is c.index_mut.ensures.value
-      (ap calls_in c.in_ok-push.ensures.items ∙ calls_in-more c.index_mut.result.now.items _) c.loop-turn.invariant.shared;
+      (ap turns_in c.in_ok-push.ensures.items ∙ turns_in-more c.index_mut.result.now.items _) c.loop-turn.invariant.shared;
 }

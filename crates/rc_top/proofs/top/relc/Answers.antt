@@ -1,12 +1,15 @@
 use Rattle.std.proofs.Common.{◌≡◌, Some, None, ap, sym, ◌∙◌, subst}
+use Rattle.std.specs.Prelude.{IfSome}
 use Rattle.rc_answer.specs.declared.outcome.Outcome.{Outcome}
+use Rattle.rc_answer.specs.Answers.{also_of}
+use Rattle.rc_answer.specs.Ran.{HasRunText}
 use Rattle.rc_command.specs.declared.command.Command.TheVariants.{Big, OfText}
 use Rattle.rc_command.specs.declared.command.TextCommand.{TextCommand}
-use Rattle.rc_command.specs.declared.command.TextCommand.TheVariants.{Check, Run}
+use Rattle.rc_command.specs.declared.command.TextCommand.TheVariants.{Check, Run, Group}
 use Rattle.rc_top.specs.Answer.{KeepsRules}
 use Rattle.rc_top.specs.Asks.{HasRead}
 use Rattle.rc_top.proofs.EndLemmas.{answered, one_command}
-use Rattle.rc_top.proofs.HeadlineLemmas.{checked_headline, run_headline}
+use Rattle.rc_top.proofs.HeadlineLemmas.{checked_headline, group_headline, run_headline}
 use Rattle.rc_top.proofs.top.relc.Goals as goal
 
 pub returns-in-Ok-Some-OfText-clause-headline : goal.returns-in-Ok-Some-OfText-clause-headline
@@ -14,6 +17,14 @@ returns-in-Ok-Some-OfText-clause-headline g c = λ named input told short writte
     run_headline c.in-Ok-Some-OfText.command input (g.K.Sink.held c.args.sink.now) (g.K.Sink.held c.answer_text.new.sink) c.answer_text.result
     short written (c.answer_text.ensures.answers input told) c.answer_text.ensures.has_ran
     (one_command c.in-Ok-Some-OfText.command Run
+    (sym (ap Some c.in-Ok-Some-OfText.field-0-0-is) ∙ sym c.in-Ok-Some-OfText.field-0-is ∙ c.in-Ok-Some-OfText.ensures.value ∙ named))
+    (c.answer_text.ensures.report input told)
+
+pub returns-in-Ok-Some-OfText-clause-group_headline : goal.returns-in-Ok-Some-OfText-clause-group_headline
+returns-in-Ok-Some-OfText-clause-group_headline g c = λ named input told short written.
+    group_headline c.in-Ok-Some-OfText.command input (g.K.Sink.held c.args.sink.now) (g.K.Sink.held c.answer_text.new.sink) c.answer_text.result
+    short written (c.answer_text.ensures.answers input told) c.answer_text.ensures.has_ran
+    (one_command c.in-Ok-Some-OfText.command Group
     (sym (ap Some c.in-Ok-Some-OfText.field-0-0-is) ∙ sym c.in-Ok-Some-OfText.field-0-is ∙ c.in-Ok-Some-OfText.ensures.value ∙ named))
     (c.answer_text.ensures.report input told)
 
@@ -30,6 +41,17 @@ returns-in-Ok-Some-OfText-clause-complete g c = λ command named input told shor
     answered c.in-Ok-Some-OfText.command input (g.K.Sink.held c.args.sink.now) (g.K.Sink.held c.answer_text.new.sink) c.answer_text.result.status short
     (subst (λ (k : TextCommand). KeepsRules k input) (sym same) good) (c.answer_text.ensures.answers input told) c.answer_text.ensures.not_usage
     (λ e. no_source (c.answer_text.ensures.source_failed e)) (λ e. no_sink (c.answer_text.ensures.sink_failed e))
+
+pub returns-in-Ok-Some-OfText-clause-report : goal.returns-in-Ok-Some-OfText-clause-report
+returns-in-Ok-Some-OfText-clause-report g c = λ command named input told.
+    let same : c.in-Ok-Some-OfText.command ≡ command = one_command c.in-Ok-Some-OfText.command command (sym (ap Some c.in-Ok-Some-OfText.field-0-0-is) ∙ sym c.in-Ok-Some-OfText.field-0-is ∙ c.in-Ok-Some-OfText.ensures.value ∙ named) in
+    subst (λ (k : TextCommand). IfSome c.answer_text.result.ran (HasRunText (also_of k) input (g.K.Sink.held c.args.sink.now) (g.K.Sink.held c.answer_text.new.sink))) same
+    (c.answer_text.ensures.report input told)
+
+pub returns-in-Ok-Some-Big-clause-report : goal.returns-in-Ok-Some-Big-clause-report
+returns-in-Ok-Some-Big-clause-report g c = λ command named input told.
+    let e : Some (Big c.in-Ok-Some-Big.seed c.in-Ok-Some-Big.calls) ≡ Some (OfText command) = sym (ap Some c.in-Ok-Some-Big.field-0-0-is) ∙ sym c.in-Ok-Some-Big.field-0-is ∙ c.in-Ok-Some-Big.ensures.value ∙ named in
+    absurd cc
 
 pub returns-in-Ok-Some-Big-clause-left : goal.returns-in-Ok-Some-Big-clause-left
 returns-in-Ok-Some-Big-clause-left g c = λ command named input told read.
@@ -50,6 +72,12 @@ returns-in-Ok-Some-Big-clause-headline g c = λ named input told short written.
     sym (ap Some c.in-Ok-Some-Big.field-0-0-is) ∙ sym c.in-Ok-Some-Big.field-0-is ∙ c.in-Ok-Some-Big.ensures.value ∙ named in
     absurd cc
 
+pub returns-in-Ok-Some-Big-clause-group_headline : goal.returns-in-Ok-Some-Big-clause-group_headline
+returns-in-Ok-Some-Big-clause-group_headline g c = λ named input told short written.
+    let e : Some (Big c.in-Ok-Some-Big.seed c.in-Ok-Some-Big.calls) ≡ Some (OfText Group) =
+    sym (ap Some c.in-Ok-Some-Big.field-0-0-is) ∙ sym c.in-Ok-Some-Big.field-0-is ∙ c.in-Ok-Some-Big.ensures.value ∙ named in
+    absurd cc
+
 pub returns-in-Ok-Some-Big-clause-check_headline : goal.returns-in-Ok-Some-Big-clause-check_headline
 returns-in-Ok-Some-Big-clause-check_headline g c = λ named input told short written.
     let e : Some (Big c.in-Ok-Some-Big.seed c.in-Ok-Some-Big.calls) ≡ Some (OfText Check) =
@@ -59,6 +87,11 @@ returns-in-Ok-Some-Big-clause-check_headline g c = λ named input told short wri
 pub returns-in-Ok-None-clause-headline : goal.returns-in-Ok-None-clause-headline
 returns-in-Ok-None-clause-headline g c = λ named input told short written.
     let e : None ≡ Some (OfText Run) = sym c.in-Ok-None.field-0-is ∙ c.in-Ok-None.ensures.value ∙ named in
+    absurd cc
+
+pub returns-in-Ok-None-clause-group_headline : goal.returns-in-Ok-None-clause-group_headline
+returns-in-Ok-None-clause-group_headline g c = λ named input told short written.
+    let e : None ≡ Some (OfText Group) = sym c.in-Ok-None.field-0-is ∙ c.in-Ok-None.ensures.value ∙ named in
     absurd cc
 
 pub returns-in-Ok-None-clause-check_headline : goal.returns-in-Ok-None-clause-check_headline

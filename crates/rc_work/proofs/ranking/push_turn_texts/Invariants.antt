@@ -1,7 +1,7 @@
 use Rattle.std.proofs.Common.{◌≡◌, ◌++◌, take}
 use Rattle.std.specs.List.{flat_map}
-use Rattle.rc_work.specs.Ranking.{texts_in_value}
+use Rattle.rc_work.specs.Ranking.{texts_in_call}
 use Rattle.rc_work.proofs.ranking.push_turn_texts.Given as goal
 
-abbrev pub invariant-loop-value : goal.invariant-loop-value
-invariant-loop-value l = l.texts.items ≡ l.fn.texts.items ++ flat_map texts_in_value (take l.value-index l.value-items)
+abbrev pub invariant-loop-call : goal.invariant-loop-call
+invariant-loop-call l = l.texts.items ≡ l.fn.texts.items ++ flat_map texts_in_call (take l.call-index l.call-items)

@@ -8,6 +8,6 @@ use Rattle.rc_work.proofs.ranking.ranked_round.Given as goal
 abbrev pub invariant-loop-turn : goal.invariant-loop-turn
 invariant-loop-turn l = record {
   so_far : l.ranked ≡ ranked_round l.spec l.ranks (take l.turn-index l.round);
-  words : AllByRecursion (λ turn. IsOfWords turn.call) l.ranked;
+  words : AllByRecursion (λ turn. AllByRecursion IsOfWords turn.calls) l.ranked;
   left : AllByRecursion (IsRawTurn l.spec) (drop l.turn-index l.round);
 }
