@@ -43,7 +43,7 @@ fn push_word(alloc: Global, words: &mut Vec<String>, word: &str) -> Result<(), M
 
 // ---- the gate
 
-/// Counts the points that it is told, and the commits among them. One that holds has the first call of the pass 0 wait before its
+/// Counts the points that it is told, and the commits among them. One that holds has the first turn of the pass 0 wait before its
 /// commit until the pass 1 has answered one, which begins once the other is held.
 #[derive(Drop)]
 struct Watch {
@@ -118,6 +118,10 @@ impl Watch {
 enum Workload {
     /// Of two calls of one round the first is held until the second is answered: it stands later.
     Held,
+    /// Of a group and a call of one round the group is held until the call is answered: all of it stands later.
+    HeldGroup,
+    /// A query of the round in which a group takes an edge out and puts it in again finds the edge.
+    BesideGroup,
     /// Calls of eight threads in all rounds are one history.
     Many,
     /// A generated workload has one summary.
@@ -130,8 +134,17 @@ impl Workload {
     fn words(self) -> &'static [&'static str] {
         match self {
             Workload::Held | Workload::Many => &["run"],
+            Workload::HeldGroup | Workload::BesideGroup => &["group"],
             Workload::Generated => &["big", "7", "4000"],
             Workload::HeldGenerated => &["big", "7", "4"],
+        }
+    }
+
+    /// Whether the gate holds its first turn.
+    fn is_held(self) -> bool {
+        match self {
+            Workload::Held | Workload::HeldGroup | Workload::HeldGenerated => true,
+            Workload::BesideGroup | Workload::Many | Workload::Generated => false,
         }
     }
 
@@ -141,6 +154,21 @@ impl Workload {
             Workload::Held => {
                 push_bytes(text, GRAPH)?;
                 push_bytes(text, b"work 2\nround\n0 ins 1 2 10\n1 ins 2 5 1\nend\n")
+            }
+            Workload::HeldGroup => {
+                push_bytes(text, GRAPH)?;
+                push_bytes(
+                    text,
+                    b"work 2\nround\n0 & 2\n0 ins 1 2 10\n0 ins 1 3 11\n1 ins 2 5 1\nend\n",
+                )
+            }
+            Workload::BesideGroup => {
+                push_bytes(text, GRAPH)?;
+                push_bytes(
+                    text,
+                    b"work 2\nround\n0 ins 1 2 10\nround\n0 & 2\n0 del 1 2\n0 ins 1 2 11\n",
+                )?;
+                push_bytes(text, b"1 find 1 2\nend\n")
             }
             Workload::Many => {
                 push_bytes(text, GRAPH)?;
@@ -158,6 +186,43 @@ const HELD: &[u8] = b"journal 2
 final 2
 (1 2 10)
 (2 5 1)
+end
+";
+
+/// The report of a group and a call of one round, of which the group is held.
+const HELD_GROUP: &[u8] = b"journal 2
+0 1 ins 2 5 1 -> inserted
+1 0 & 2
+1 0 ins 1 2 10 -> inserted
+1 0 ins 1 3 11 -> inserted
+final 3
+(1 2 10)
+(1 3 11)
+(2 5 1)
+end
+";
+
+/// The report of a query that stands before the group of its round.
+const BEFORE_GROUP: &[u8] = b"journal 3
+0 0 ins 1 2 10 -> inserted
+1 1 find 1 2 -> 1 rows (10)
+2 0 & 2
+2 0 del 1 2 -> removed (1 2 10)
+2 0 ins 1 2 11 -> inserted
+final 1
+(1 2 11)
+end
+";
+
+/// And of one that stands behind it.
+const BEHIND_GROUP: &[u8] = b"journal 3
+0 0 ins 1 2 10 -> inserted
+1 0 & 2
+1 0 del 1 2 -> removed (1 2 10)
+1 0 ins 1 2 11 -> inserted
+2 1 find 1 2 -> 1 rows (11)
+final 1
+(1 2 11)
 end
 ";
 
@@ -219,6 +284,8 @@ end
 fn workloads_go_well(rt: HostRuntime) -> Result<(), Fail> {
     for workload in [
         Workload::Held,
+        Workload::HeldGroup,
+        Workload::BesideGroup,
         Workload::Many,
         Workload::Generated,
         Workload::HeldGenerated,
@@ -234,7 +301,7 @@ fn goes_well<R: Threads + Wait + Sync>(
     alloc: Global,
     workload: Workload,
 ) -> Result<bool, Fail> {
-    let gate = Watch::new(workload == Workload::Held || workload == Workload::HeldGenerated);
+    let gate = Watch::new(workload.is_held());
     let mut sink = MemSink::new(alloc, ROOM, ROOM, Vec::new(alloc))?;
     Ok(goes_well_into(rt, alloc, workload, &mut sink, &gate)?)
 }
@@ -279,6 +346,10 @@ fn is_as_it_should(
     }
     match workload {
         Workload::Held => Ok(gate.came_in_time() && bytes.ends_with(HELD)),
+        Workload::HeldGroup => Ok(gate.came_in_time() && bytes.ends_with(HELD_GROUP)),
+        Workload::BesideGroup => {
+            Ok(gate.saw(3) && (bytes.ends_with(BEFORE_GROUP) || bytes.ends_with(BEHIND_GROUP)))
+        }
         Workload::Many => Ok(gate.saw(CALLS) && is_run(alloc, outcome)?),
         Workload::Generated => Ok(gate.saw(4000) && bytes == SUMMARY),
         Workload::HeldGenerated => Ok(gate.came_in_time()),
