@@ -1,5 +1,5 @@
 -- Calls that have no fault of their own.
-use Rattle.std.proofs.Common.{◌≡◌, ℕ, zero, suc, ◌+◌, ◌<◌, ◌≤◌, Bool, true, false, List, [], ◌∷◌, ◌++◌, length, map, take, Option, Some, None, if◌then◌else◌, ltb, eqb, leb, ◌&&◌, ltb-true, leb-true, eqb-true, get_or, set, refl, sym, ap, ◌∙◌, subst, arith}
+use Rattle.std.proofs.Common.{◌≡◌, ℕ, zero, suc, ◌+◌, ◌<◌, ◌≤◌, Bool, true, false, List, [], ◌∷◌, ◌++◌, length, map, take, Option, Some, None, if◌then◌else◌, ltb, eqb, leb, ltb-true, leb-true, eqb-true, get_or, set, refl, sym, ap, ◌∙◌, subst, arith}
 use Rattle.std.specs.Option.{option_or}
 use Rattle.std.specs.List.{AllByRecursion}
 use Rattle.std.proofs.lemmas.Bool.{and_parts}
@@ -17,7 +17,7 @@ use Rattle.rc_embed.specs.Session.{SessionSeen}
 use Rattle.rc_embed.specs.declared.session.State.{State}
 use Rattle.rc_embed.specs.declared.session.State.TheVariants as states
 
-none_both : (a b : Option CallFault) → option_or a b ≡ None → (a ≡ None) × (b ≡ None)
+pub none_both : (a b : Option CallFault) → option_or a b ≡ None → (a ≡ None) × (b ≡ None)
 none_both None b is = (refl, is)
 none_both (Some fault) b is = absurd cc
 
@@ -42,7 +42,7 @@ taken_at spec op count is =
     let tests = both_tests (ltb op (length spec.ops)) (eqb count (length (written_columns_at spec op))) is in
     (ltb-true op (length spec.ops) tests.0, eqb-true count (length (written_columns_at spec op)) tests.1)
 
-is_some_group : (test : Bool) (fault : Option CallFault) → (if test then fault else Some Count) ≡ None → (test ≡ true) × (fault ≡ None)
+pub is_some_group : (test : Bool) (fault : Option CallFault) → (if test then fault else Some Count) ≡ None → (test ≡ true) × (fault ≡ None)
 is_some_group true fault is = (refl, is)
 is_some_group false fault is = absurd cc
 
@@ -94,7 +94,7 @@ all_more P (y ∷ xs) x all one = (all.0, all_more P xs x all.1 one)
 
 -- ---- a fault of their own is their cause
 
-abbrev IsOwn : CallFault → Type 0
+abbrev pub IsOwn : CallFault → Type 0
 IsOwn Memory = ⊥
 IsOwn (Busy stripe found) = ⊥
 IsOwn Spent = Unit {0}
@@ -103,11 +103,11 @@ IsOwn Values = Unit {0}
 IsOwn Prepared = Unit {0}
 IsOwn Count = Unit {0}
 
-abbrev IsOwnIf : Option CallFault → Type 0
+abbrev pub IsOwnIf : Option CallFault → Type 0
 IsOwnIf None = Unit {0}
 IsOwnIf (Some fault) = IsOwn fault
 
-own_or : (a b : Option CallFault) → IsOwnIf a → IsOwnIf b → IsOwnIf (option_or a b)
+pub own_or : (a b : Option CallFault) → IsOwnIf a → IsOwnIf b → IsOwnIf (option_or a b)
 own_or None b one other = other
 own_or (Some fault) b one other = one
 
@@ -122,11 +122,11 @@ own_first spec (call ∷ calls) =
     own_or (fault_at spec call.op call.count) (first_fault spec calls)
     (own_at (ltb call.op (length spec.ops)) (eqb call.count (length (written_columns_at spec call.op)))) (own_first spec calls)
 
-own_spent : (spent : Bool) → IsOwnIf (if spent then Some Spent else None)
+pub own_spent : (spent : Bool) → IsOwnIf (if spent then Some Spent else None)
 own_spent true = tt
 own_spent false = tt
 
-own_group : (group : Bool) (fault : Option CallFault) → IsOwnIf fault → IsOwnIf (if group then fault else Some Count)
+pub own_group : (group : Bool) (fault : Option CallFault) → IsOwnIf fault → IsOwnIf (if group then fault else Some Count)
 own_group true fault own = own
 own_group false fault own = tt
 
@@ -137,6 +137,7 @@ own_in store (states.Idle pass) calls =
     (own_spent (eqb (length (core_of pass).own) store.limit)))
 own_in store (states.Prepared running) calls = tt
 own_in store (states.PreparedGroup running) calls = tt
+own_in store (states.Open group) calls = tt
 own_in store states.Moving calls = tt
 
 cause_by : (old new : SessionSeen) (calls : List AskedCall) (fault : CallFault) → IsOwn fault → fault_of old calls ≡ Some fault

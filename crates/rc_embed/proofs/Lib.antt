@@ -1,5 +1,6 @@
 pub mod AskedLemmas
 pub mod CopyLemmas
+pub mod DeclaringLemmas
 pub mod FaultLemmas
 pub mod FrameLemmas
 pub mod RowsLemmas

@@ -1,28 +1,30 @@
 -- A session that is the same is unchanged; and what is told of calls that were made.
-use Rattle.std.proofs.Common.{◌≡◌, ◌≤◌, List, [], ◌∷◌, length, Option, Some, None, refl, sym, ap, ◌∙◌, subst, arith}
+use Rattle.std.proofs.Common.{◌≡◌, ℕ, ◌≤◌, List, [], ◌∷◌, length, Option, Some, None, refl, sym, ap, ◌∙◌, subst, arith}
 use Rattle.std.specs.List.{slice_get}
 use Rattle.std.proofs.lemmas.List.{length-map}
 use Rattle.rc_spec.specs.declared.call.Call.{Call as ACall}
 use Rattle.rc_spec.specs.declared.call.Reply.{Reply}
 use Rattle.rc_journal.specs.PartEntries.{PartEntries}
 use Rattle.rc_rel.specs.declared.entry.Step.{Step}
-use Rattle.rc_rel.specs.History.{with_replies}
+use Rattle.rc_rel.specs.HistoryLaws.{with_replies-parts}
+use Rattle.rc_multi.specs.Group.{with_step}
 use Rattle.rc_row.specs.declared.keeping.Keeping.{Keeping}
 use Rattle.rc_row.specs.declared.keeping.Keeping.TheVariants.{Counts}
-use Rattle.rc_row.specs.Passes.{IsMoreRoom, PassSeen, spec_of}
+use Rattle.rc_row.specs.Passes.{IsMoreRoom, PassSeen, compiled_of, spec_of}
 use Rattle.rc_store.specs.declared.receipt.GroupReceipt.{GroupReceipt}
 use Rattle.rc_store.specs.declared.receipt.Receipt.{Receipt}
 use Rattle.rc_store.specs.Running.{HasBegun, HasBegunGroup, RunningGroupSeen, RunningSeen, calls_of, replies_of as replies_with}
-use Rattle.rc_store.specs.Store.{AreRepliesFor, HasMade, HasMadeGroup, IsAsBefore, IsReplyFor, StoreSeen}
+use Rattle.rc_store.specs.Store.{AreRepliesFor, HasMade, HasMadeEntry, HasMadeGroup, HoldsExactly, IsAsBefore, IsReplyFor, StoreSeen}
 use Rattle.rc_work.specs.CallColumns.{call_of}
 use Rattle.rc_embed.specs.declared.session.Last.TheVariants.{Call, Group}
 use Rattle.rc_embed.specs.declared.session.Position.{Position}
 use Rattle.rc_embed.specs.declared.session.State.{State}
-use Rattle.rc_embed.specs.declared.session.State.TheVariants.{Idle, Prepared, PreparedGroup, Moving}
+use Rattle.rc_embed.specs.declared.session.State.TheVariants.{Idle, Prepared, PreparedGroup, Open, Moving}
 use Rattle.rc_embed.specs.Asked.{AskedCall}
-use Rattle.rc_embed.specs.EntriesLaws.{told_last}
+use Rattle.rc_embed.specs.EntriesLaws.{prepared_uncommitted, told_last}
+use Rattle.rc_embed.specs.OpenGroups.{HasCalledOpen, call_in}
 use Rattle.rc_embed.specs.Session.{HasCalled, HasCommitted, HasPrepared, IsStateAsBefore, IsStateOf, IsUnchanged, SessionSeen}
-use Rattle.rc_embed.specs.Session.{alone, receipt_of, replies_given, replies_in, replies_of, reply_of}
+use Rattle.rc_embed.specs.Session.{alone, receipt_of, replies_given, replies_in, replies_of, reply_of, uncommitted_in}
 
 same_room : (kept : Option PartEntries) → IsMoreRoom kept kept
 same_room None = tt
@@ -35,6 +37,7 @@ same_state : (store : StoreSeen) (state : State) → IsStateOf store state → I
 same_state store (Idle pass) of = same_pass pass
 same_state store (Prepared running) of = refl
 same_state store (PreparedGroup running) of = refl
+same_state store (Open group) of = refl
 same_state store Moving of = absurd of
 
 pub same_session : (session : SessionSeen) → IsStateOf session.store session.state → IsUnchanged session session
@@ -44,6 +47,7 @@ abbrev pass_or : PassSeen → State → PassSeen
 pass_or d (Idle pass) = pass
 pass_or d (Prepared running) = d
 pass_or d (PreparedGroup running) = d
+pass_or d (Open group) = d
 pass_or d Moving = d
 
 -- an idle session has one pass
@@ -102,7 +106,7 @@ begun_alone store call pass running begun = record {
   runs = begun.runs;
 }
 
--- and what is told of it once it is committed
+-- what is told of what was prepared, once it is committed
 pub told_committed : (store : StoreSeen) (running : RunningSeen) (new : PassSeen) (receipt : Receipt) → store.row.keeping ≡ Counts
     → HasMade store running.call running.reply running.begun new receipt → replies_given (Call receipt.reply) ≡ replies_with (alone running).steps
 told_committed store running new receipt counts made = told_alone store.row.keeping running.reply receipt.reply counts made.given
@@ -111,6 +115,35 @@ pub told_group_committed : (store : StoreSeen) (running : RunningGroupSeen) (new
     → HasMadeGroup store (calls_of running.steps) (replies_with running.steps) running.begun new receipt → replies_given (Group receipt.replies) ≡ replies_with running.steps
 told_group_committed store running new receipt counts made =
     ap (λ (o : Option (List Reply)). replies_given (Group o)) (subst (λ (k : Keeping). AreRepliesFor k (replies_with running.steps) receipt.replies) counts made.given)
+
+-- ---- calls that are committed
+
+-- what the receipt says of prepared calls
+pub record AreCommitted (store : StoreSeen) (running : RunningGroupSeen) (new : PassSeen) (place nth : ℕ) : Type 0 where
+  pub entry : HasMadeEntry store running.steps running.begun new place nth
+  pub exact : HoldsExactly (compiled_of store.row) entry.at_commit running.steps
+
+abbrev IsExactEntry : StoreSeen → PassSeen → PassSeen → ℕ → ℕ → List Step → Type 0
+IsExactEntry store old new place nth steps =
+    (entry : HasMadeEntry store steps old new place nth) × HoldsExactly (compiled_of store.row) entry.at_commit steps
+
+pub prepared_committed : (store : StoreSeen) (running : RunningGroupSeen) (new : PassSeen) (receipt : GroupReceipt)
+    → HasMadeGroup store (calls_of running.steps) (replies_with running.steps) running.begun new receipt
+    → AreCommitted store running new receipt.place receipt.nth
+prepared_committed store running new receipt made =
+    let both : IsExactEntry store running.begun new receipt.place receipt.nth running.steps =
+    subst (IsExactEntry store running.begun new receipt.place receipt.nth) (with_replies-parts running.steps) (made.entry, made.exact) in
+    record { entry = both.0; exact = both.1 }
+
+-- what is told comes with the receipt of a store that keeps no entries
+pub given_so : (store : StoreSeen) (told : List Reply) → store.row.keeping ≡ Counts → AreRepliesFor store.row.keeping told (Some told)
+given_so store told counts = subst (λ (k : Keeping). AreRepliesFor k told (Some told)) (sym counts) refl
+
+-- and is what an open group's calls were answered
+pub told_open : (store : StoreSeen) (steps : List Step) (given : Option (List Reply)) → store.row.keeping ≡ Counts
+    → AreRepliesFor store.row.keeping (replies_with steps) given → replies_given (Group given) ≡ replies_with steps
+told_open store steps given counts is =
+    ap (λ (o : Option (List Reply)). replies_given (Group o)) (subst (λ (k : Keeping). AreRepliesFor k (replies_with steps) given) counts is)
 
 -- ---- how many replies there are
 
@@ -126,24 +159,38 @@ called_count old new asked at h =
 pub prepared_count : (old new : SessionSeen) (asked : List AskedCall) → HasPrepared old asked new
     → length (replies_of new) ≡ length asked
 prepared_count old new asked h =
-    ap (λ (o : Option RunningGroupSeen). length (replies_in o new.last)) h.is
+    ap (λ (o : Option RunningGroupSeen). length (replies_in o new.last)) (prepared_uncommitted new.state h.running h.is)
     ∙ length-map h.running.steps (λ (s : Step). s.reply)
     ∙ sym (length-map h.running.steps (λ (s : Step). s.call))
     ∙ ap (λ (l : List ACall). length l) h.begun.asked
     ∙ length-map asked (λ (call : AskedCall). call_of (spec_of old.store.row) call.op call.values)
 
-some_first : (calls : List ACall) (replies : List Reply) → 1 ≤ length (with_replies calls replies)
-    → (reply : Reply) × (slice_get replies 0 ≡ Some reply)
-some_first [] replies some = absurd (omega (arith, some))
-some_first (call ∷ calls) [] some = absurd (omega (arith, some))
-some_first (call ∷ calls) (reply ∷ replies) some = (reply, refl)
+some_first : (steps : List Step) → 1 ≤ length steps → (reply : Reply) × (slice_get (replies_with steps) 0 ≡ Some reply)
+some_first [] some = absurd (omega (arith, some))
+some_first (s ∷ steps) some = (s.reply, refl)
 
--- of prepared calls that were committed the first reply is picked
+-- of calls that were committed the first reply is picked
 pub committed_first : (old new : SessionSeen) (at : Position) → HasCommitted old new at → (reply : Reply) × (reply_of new ≡ Some reply)
 committed_first old new at h =
-    let first = some_first (calls_of h.running.steps) new.last h.made.entry.allowed.some in (
+    let first = some_first h.running.steps h.entry.allowed.some in (
       first.0,
-      ap (λ (l : List Reply). slice_get l new.picked) (told_last new h.after h.is)
-          ∙ ap (slice_get new.last) h.picked
+      ap (λ (l : List Reply). slice_get l new.picked) (told_last new h.after h.is ∙ h.told)
+          ∙ ap (slice_get (replies_with h.running.steps)) h.picked
           ∙ first.1,
     )
+
+-- ---- calls of an open group
+
+last_of : (steps : List Step) (call : ACall) (reply : Reply) → slice_get (replies_with (with_step steps call reply)) (length steps) ≡ Some reply
+last_of [] call reply = refl
+last_of (s ∷ steps) call reply = last_of steps call reply
+
+-- the reply to the call that it has made last is picked
+pub called_last : (old new : SessionSeen) (asked : AskedCall) → HasCalledOpen old asked new → (reply : Reply) × (reply_of new ≡ Some reply)
+called_last old new asked h = (
+  h.called.reply,
+  ap (λ (state : State). slice_get (replies_in (uncommitted_in state) new.last) new.picked) h.is
+      ∙ ap (λ (steps : List Step). slice_get (replies_with steps) new.picked) h.called.steps
+      ∙ ap (slice_get (replies_with (with_step h.before.steps (call_in old asked) h.called.reply))) h.picked
+      ∙ last_of h.before.steps (call_in old asked) h.called.reply,
+)

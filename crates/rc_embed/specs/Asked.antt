@@ -5,15 +5,19 @@ use Rattle.rc_spec.specs.declared.call.Call.{Call}
 use Rattle.rc_spec.specs.declared.spec.Spec.{Spec}
 use Rattle.rc_work.specs.CallColumns.{call_of, written_columns_at}
 
--- a call that is asked for: the operation's number, how many values there are, and they
+-- a call that is asked for, or what is declared of an operation: its number, how many values there are, and they
 pub record AskedCall : Type 0 where
   pub op : ℕ
   pub count : ℕ
   pub values : List ℕ
 
+-- that with these values
+abbrev pub asked_with : ℕ → List ℕ → AskedCall
+asked_with op values = record { op = op; count = length values; values = values }
+
 -- a call that is asked for alone
 abbrev pub one_call : ℕ → List ℕ → List AskedCall
-one_call op values = record { op = op; count = length values; values = values } ∷ []
+one_call op values = asked_with op values ∷ []
 
 -- the calls that they are by a specification
 abbrev pub calls_by : Spec → List AskedCall → List Call

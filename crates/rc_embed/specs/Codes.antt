@@ -25,11 +25,11 @@ operation = 4
 abbrev pub value_count : ℕ
 value_count = 5
 
--- a call is prepared
+-- a call is prepared, or a group is open
 abbrev pub prepared : ℕ
 prepared = 6
 
--- no call is prepared
+-- there is nothing to commit or to cancel
 abbrev pub not_prepared : ℕ
 not_prepared = 7
 
@@ -64,3 +64,11 @@ unseen = 14
 -- no call, or more than there may be in a group
 abbrev pub count : ℕ
 count = 15
+
+-- no group is open
+abbrev pub not_open : ℕ
+not_open = 16
+
+-- what an open group declared doesn't suffice for the call
+abbrev pub uncovered : ℕ
+uncovered = 17

@@ -8,14 +8,15 @@ use Rattle.rc_rel.specs.declared.entry.Placed.{Placed}
 use Rattle.rc_rel.specs.History.{placed, with_replies}
 use Rattle.rc_row.specs.Passes.{PassSeen, core_of}
 use Rattle.rc_embed.specs.declared.session.State.{State}
-use Rattle.rc_embed.specs.declared.session.State.TheVariants.{Idle, Prepared, PreparedGroup, Moving}
+use Rattle.rc_embed.specs.declared.session.State.TheVariants.{Idle, Prepared, PreparedGroup, Open, Moving}
 use Rattle.rc_embed.specs.Session.{SessionSeen}
 
--- The entries of a session's pass, with their places; while calls are prepared, those before them.
+-- The entries of a session's pass, with their places; while something is prepared or open, those before it.
 abbrev pub entries_of : State → List Placed
 entries_of (Idle pass) = (core_of pass).own
 entries_of (Prepared running) = (core_of running.begun).own
 entries_of (PreparedGroup running) = (core_of running.begun).own
+entries_of (Open group) = (core_of group.begun).own
 entries_of Moving = []
 
 -- the number of its pass
@@ -23,6 +24,7 @@ abbrev pub number_in : State → Option ℕ
 number_in (Idle pass) = Some (core_of pass).number
 number_in (Prepared running) = Some (core_of running.begun).number
 number_in (PreparedGroup running) = Some (core_of running.begun).number
+number_in (Open group) = Some (core_of group.begun).number
 number_in Moving = None
 
 -- among the entries, at this place, is one of these calls, with these replies, one each

@@ -1,47 +1,51 @@
 -- The calls that a session was told of stand among its entries, and these stay.
 use Rattle.std.proofs.Common.{◌≡◌, ◌⊎◌, ℕ, zero, suc, List, [], ◌∷◌, ◌++◌, length, take, drop, Option, Some, None, refl, sym, ap, ◌∙◌, inl, inr, subst}
+use Rattle.std.proofs.lemmas.List.{length-map}
 use Rattle.rc_tuple.specs.RisingSet.{In}
 use Rattle.rc_tuple.specs.RisingSetLaws.{append_in_left, append_in_right}
 use Rattle.rc_spec.specs.declared.call.Call.{Call}
 use Rattle.rc_spec.specs.declared.call.Reply.{Reply}
 use Rattle.rc_rel.specs.declared.entry.Entry.{Entry}
 use Rattle.rc_rel.specs.declared.entry.Placed.{Placed}
+use Rattle.rc_rel.specs.declared.entry.Step.{Step}
 use Rattle.rc_rel.specs.History.{placed, with_replies}
+use Rattle.rc_rel.specs.HistoryLaws.{with_replies-parts}
 use Rattle.rc_core.specs.declared.state.PassState.{PassState}
 use Rattle.rc_core.specs.Passes.{next_of}
 use Rattle.rc_row.specs.Passes.{PassSeen, core_of}
-use Rattle.rc_store.specs.declared.receipt.GroupReceipt.{GroupReceipt}
-use Rattle.rc_store.specs.Running.{RunningGroupSeen, calls_of}
-use Rattle.rc_store.specs.Store.{HasMadeGroup, IsAsBefore, StoreSeen}
+use Rattle.rc_store.specs.Running.{RunningGroupSeen, calls_of, replies_of as replies_with}
+use Rattle.rc_store.specs.Store.{HasMadeEntry, IsAsBefore, StoreSeen}
 use Rattle.rc_embed.specs.declared.session.Position.{Position}
 use Rattle.rc_embed.specs.declared.session.State.{State}
-use Rattle.rc_embed.specs.declared.session.State.TheVariants.{Idle, Prepared, PreparedGroup, Moving}
+use Rattle.rc_embed.specs.declared.session.State.TheVariants.{Idle, Prepared, PreparedGroup, Open, Moving}
 use Rattle.rc_embed.specs.Asked.{AskedCall}
 use Rattle.rc_embed.specs.Closing.{HasTakenBack}
 use Rattle.rc_embed.specs.Entries.{HasEntry, KeepsPass, StandsAt, entries_of, number_in}
 use Rattle.rc_embed.specs.Opened.{HasDealt, OpenSeen}
 use Rattle.rc_embed.specs.Session.{HasCalled, HasCancelled, HasCommitted, HasLooked, HasPrepared}
-use Rattle.rc_embed.specs.Session.{IsStateAsBefore, IsUnchanged, SessionSeen, calls_in, prepared_in, replies_in, replies_of, with_picked}
+use Rattle.rc_embed.specs.Session.{IsStateAsBefore, IsUnchanged, SessionSeen, calls_in, prepared_in, uncommitted_in}
+use Rattle.rc_embed.specs.Session.{replies_in, replies_of, with_picked}
 
 -- ---- where calls stand
 
 -- an idle session tells the replies of what it made last
 pub told_last : (session : SessionSeen) (pass : PassSeen) → session.state ≡ Idle pass → replies_of session ≡ session.last
-told_last session pass is = ap (λ (state : State). replies_in (prepared_in state) session.last) is
+told_last session pass is = ap (λ (state : State). replies_in (uncommitted_in state) session.last) is
 
--- the entry of calls with a receipt is the last of its pass
-made_stands : (store : StoreSeen) (calls : List Call) (made told : List Reply) (old new : PassSeen) (receipt : GroupReceipt)
-    → HasMadeGroup store calls made old new receipt → made ≡ told → StandsAt (core_of new).own receipt.place calls told
-made_stands store calls made told old new receipt has same =
-    let entry : Entry = next_of (core_of old) (with_replies calls made) in
-    let w : Placed = placed receipt.place entry in
+-- the entry of steps that a pass has made is its last one
+made_stands : (store : StoreSeen) (steps : List Step) (old new : PassSeen) (place nth : ℕ) (calls : List Call) (told : List Reply)
+    → HasMadeEntry store steps old new place nth → length told ≡ length calls → steps ≡ with_replies calls told
+    → StandsAt (core_of new).own place calls told
+made_stands store steps old new place nth calls told has count same =
+    let entry : Entry = next_of (core_of old) steps in
+    let w : Placed = placed place entry in
     record {
       entry = entry;
       among =
-          subst (λ (l : List Placed). In w l) (sym has.entry.own)
+          subst (λ (l : List Placed). In w l) (sym has.own)
           (append_in_right w (core_of old).own (w ∷ []) (inl refl));
-      count = subst (λ (replies : List Reply). length replies ≡ length calls) same has.count;
-      steps_are = ap (with_replies calls) same;
+      count = count;
+      steps_are = same;
     }
 
 -- Calls that a session has made as one stand at their position among the session's entries, with the replies that the
@@ -53,34 +57,40 @@ CallsStand = (old new : SessionSeen) (asked : List AskedCall) (at : Position)
 
 pub calls_stand : CallsStand
 calls_stand old new asked at h =
+    let told = told_last new h.after h.is in
     subst (λ (state : State). StandsAt (entries_of state) at.place (calls_in old asked) (replies_of new)) (sym h.is)
-    (made_stands old.store (calls_in old asked) new.last (replies_of new) h.before h.after _ h.made
-    (sym (told_last new h.after h.is)))
+    (made_stands old.store (with_replies (calls_in old asked) new.last) h.before h.after at.place at.nth (calls_in old asked)
+    (replies_of new) h.made.entry (ap (λ (replies : List Reply). length replies) told ∙ h.made.count)
+    (ap (with_replies (calls_in old asked)) (sym told)))
 
--- And so do prepared calls, once they are committed.
+-- And so do prepared calls, and those of an open group, once they are committed.
 abbrev pub CommitsStand : Type 0
 CommitsStand = (old new : SessionSeen) (at : Position) (h : HasCommitted old new at)
     → StandsAt (entries_of new.state) at.place (calls_of h.running.steps) (replies_of new)
 
 pub commits_stand : CommitsStand
 commits_stand old new at h =
-    subst (λ (state : State). StandsAt (entries_of state) at.place (calls_of h.running.steps) (replies_of new)) (sym h.is)
-    (made_stands old.store (calls_of h.running.steps) new.last (replies_of new) h.running.begun h.after _ h.made
-    (sym (told_last new h.after h.is)))
+    let steps = h.running.steps in
+    let told : replies_of new ≡ replies_with steps = told_last new h.after h.is ∙ h.told in
+    subst (λ (state : State). StandsAt (entries_of state) at.place (calls_of steps) (replies_of new)) (sym h.is)
+    (made_stands old.store steps h.running.begun h.after at.place at.nth (calls_of steps) (replies_of new) h.entry
+    (ap (λ (replies : List Reply). length replies) told ∙ length-map steps (λ (s : Step). s.reply)
+    ∙ sym (length-map steps (λ (s : Step). s.call)))
+    (sym (with_replies-parts steps) ∙ ap (with_replies (calls_of steps)) (sym told)))
 
 -- ---- a session keeps its pass, and the entries of that
 
 -- an entry stays where its pass makes another,
-made_keeps : (store : StoreSeen) (calls : List Call) (replies : List Reply) (old new : PassSeen) (receipt : GroupReceipt)
-    → HasMadeGroup store calls replies old new receipt → (w : Placed) → In w (core_of old).own → In w (core_of new).own
-made_keeps store calls replies old new receipt has w m =
-    subst (λ (l : List Placed). In w l) (sym has.entry.own)
-    (append_in_left w (core_of old).own (placed receipt.place (next_of (core_of old) (with_replies calls replies)) ∷ []) m)
+made_keeps : (store : StoreSeen) (steps : List Step) (old new : PassSeen) (place nth : ℕ)
+    → HasMadeEntry store steps old new place nth → (w : Placed) → In w (core_of old).own → In w (core_of new).own
+made_keeps store steps old new place nth has w m =
+    subst (λ (l : List Placed). In w l) (sym has.own)
+    (append_in_left w (core_of old).own (placed place (next_of (core_of old) steps) ∷ []) m)
 
-made_number : (store : StoreSeen) (calls : List Call) (replies : List Reply) (old new : PassSeen) (receipt : GroupReceipt)
-    → HasMadeGroup store calls replies old new receipt → Some (core_of new).number ≡ Some (core_of old).number
-made_number store calls replies old new receipt has =
-    ap (λ (core : PassState). Some core.number) has.entry.core ∙ ap (λ (core : PassState). Some core.number) has.entry.was
+made_number : (store : StoreSeen) (steps : List Step) (old new : PassSeen) (place nth : ℕ)
+    → HasMadeEntry store steps old new place nth → Some (core_of new).number ≡ Some (core_of old).number
+made_number store steps old new place nth has =
+    ap (λ (core : PassState). Some core.number) has.core ∙ ap (λ (core : PassState). Some core.number) has.was
 
 -- and where nothing of it changes
 before_keeps : (old new : PassSeen) → IsAsBefore old new → (w : Placed) → In w (core_of old).own → In w (core_of new).own
@@ -90,24 +100,35 @@ before_keeps old new h w m =
 before_number : (old new : PassSeen) → IsAsBefore old new → Some (core_of new).number ≡ Some (core_of old).number
 before_number old new h = ap (λ (core : PassState). Some core.number) h.core
 
--- what is prepared has the pass with which it was begun
+-- what is prepared isn't committed yet
+pub prepared_uncommitted : (state : State) (running : RunningGroupSeen) → prepared_in state ≡ Some running
+    → uncommitted_in state ≡ Some running
+prepared_uncommitted (Idle pass) running is = is
+prepared_uncommitted (Prepared call) running is = is
+prepared_uncommitted (PreparedGroup group) running is = is
+prepared_uncommitted (Open group) running is = absurd cc
+prepared_uncommitted Moving running is = is
+
+-- what isn't committed yet has the pass with which it was begun
 abbrev begun_or : PassSeen → Option RunningGroupSeen → PassSeen
 begun_or d None = d
 begun_or d (Some running) = running.begun
 
-prepared_keeps : (state : State) (running : RunningGroupSeen) → prepared_in state ≡ Some running
+same_begun : (begun : PassSeen) (running : RunningGroupSeen) → begun ≡ running.begun
+    → (Some (core_of begun).number ≡ Some (core_of running.begun).number) × ((core_of begun).own ≡ (core_of running.begun).own)
+same_begun begun running same =
+    (ap (λ (pass : PassSeen). Some (core_of pass).number) same, ap (λ (pass : PassSeen). (core_of pass).own) same)
+
+uncommitted_keeps : (state : State) (running : RunningGroupSeen) → uncommitted_in state ≡ Some running
     → (number_in state ≡ Some (core_of running.begun).number) × (entries_of state ≡ (core_of running.begun).own)
-prepared_keeps (Idle pass) running is = absurd cc
-prepared_keeps (Prepared call) running is =
-    let same : call.begun ≡ running.begun = ap (begun_or call.begun) is in
-    (ap (λ (pass : PassSeen). Some (core_of pass).number) same, ap (λ (pass : PassSeen). (core_of pass).own) same)
-prepared_keeps (PreparedGroup group) running is =
-    let same : group.begun ≡ running.begun = ap (begun_or group.begun) is in
-    (ap (λ (pass : PassSeen). Some (core_of pass).number) same, ap (λ (pass : PassSeen). (core_of pass).own) same)
-prepared_keeps Moving running is = absurd cc
+uncommitted_keeps (Idle pass) running is = absurd cc
+uncommitted_keeps (Prepared call) running is = same_begun call.begun running (ap (begun_or call.begun) is)
+uncommitted_keeps (PreparedGroup group) running is = same_begun group.begun running (ap (begun_or group.begun) is)
+uncommitted_keeps (Open group) running is = same_begun group.begun running (ap (begun_or group.begun) is)
+uncommitted_keeps Moving running is = absurd cc
 
 -- from an idle one to another
-from_to : (before after : PassSeen) (old new : SessionSeen) → old.state ≡ Idle before → new.state ≡ Idle after
+pub from_to : (before after : PassSeen) (old new : SessionSeen) → old.state ≡ Idle before → new.state ≡ Idle after
     → Some (core_of after).number ≡ Some (core_of before).number
     → ((w : Placed) → In w (core_of before).own → In w (core_of after).own) → KeepsPass old new
 from_to before after old new was is same keeps = record {
@@ -117,13 +138,13 @@ from_to before after old new was is same keeps = record {
       (keeps w (subst (λ (state : State). In w (entries_of state)) was m));
 }
 
--- and from one that has prepared calls
-from_prepared : (running : RunningGroupSeen) (after : PassSeen) (old new : SessionSeen)
-    → prepared_in old.state ≡ Some running → new.state ≡ Idle after
+-- and from one that has calls which aren't committed yet
+from_uncommitted : (running : RunningGroupSeen) (after : PassSeen) (old new : SessionSeen)
+    → uncommitted_in old.state ≡ Some running → new.state ≡ Idle after
     → Some (core_of after).number ≡ Some (core_of running.begun).number
     → ((w : Placed) → In w (core_of running.begun).own → In w (core_of after).own) → KeepsPass old new
-from_prepared running after old new was is same keeps =
-    let of = prepared_keeps old.state running was in
+from_uncommitted running after old new was is same keeps =
+    let of = uncommitted_keeps old.state running was in
     record {
       number = ap number_in is ∙ same ∙ sym of.0;
       entries = λ w m.
@@ -139,8 +160,8 @@ CallsKeepPasses = (old new : SessionSeen) (asked : List AskedCall) (at : Positio
 pub calls_keep : CallsKeepPasses
 calls_keep old new asked at h =
     from_to h.before h.after old new h.was h.is
-    (made_number old.store (calls_in old asked) new.last h.before h.after _ h.made)
-    (made_keeps old.store (calls_in old asked) new.last h.before h.after _ h.made)
+    (made_number old.store (with_replies (calls_in old asked) new.last) h.before h.after at.place at.nth h.made.entry)
+    (made_keeps old.store (with_replies (calls_in old asked) new.last) h.before h.after at.place at.nth h.made.entry)
 
 -- while it prepares calls,
 abbrev pub PreparingKeepsPasses : Type 0
@@ -149,7 +170,7 @@ PreparingKeepsPasses = (old new : SessionSeen) (asked : List AskedCall)
 
 pub preparing_keeps : PreparingKeepsPasses
 preparing_keeps old new asked h =
-    let of = prepared_keeps new.state h.running h.is in
+    let of = uncommitted_keeps new.state h.running (prepared_uncommitted new.state h.running h.is) in
     record {
       number = of.0 ∙ ap (λ (pass : PassSeen). Some (core_of pass).number) h.begun.begun ∙ sym (ap number_in h.was);
       entries = λ w m.
@@ -164,9 +185,9 @@ CommitsKeepPasses = (old new : SessionSeen) (at : Position) → HasCommitted old
 
 pub commits_keep : CommitsKeepPasses
 commits_keep old new at h =
-    from_prepared h.running h.after old new h.was h.is
-    (made_number old.store (calls_of h.running.steps) new.last h.running.begun h.after _ h.made)
-    (made_keeps old.store (calls_of h.running.steps) new.last h.running.begun h.after _ h.made)
+    from_uncommitted h.running h.after old new h.was h.is
+    (made_number old.store h.running.steps h.running.begun h.after at.place at.nth h.entry)
+    (made_keeps old.store h.running.steps h.running.begun h.after at.place at.nth h.entry)
 
 -- or cancels them,
 abbrev pub CancelsKeepPasses : Type 0
@@ -174,7 +195,7 @@ CancelsKeepPasses = (old new : SessionSeen) → HasCancelled old new → KeepsPa
 
 pub cancels_keep : CancelsKeepPasses
 cancels_keep old new h =
-    from_prepared h.running h.after old new h.was h.is
+    from_uncommitted h.running h.after old new h.was h.is
     (before_number h.running.begun h.after h.before)
     (before_keeps h.running.begun h.after h.before)
 
@@ -204,12 +225,17 @@ state_keeps : (old new : State) → IsStateAsBefore old new
 state_keeps (Idle old) (Idle new) h = (before_number old new h, before_keeps old new h)
 state_keeps (Idle old) (Prepared running) h = absurd h
 state_keeps (Idle old) (PreparedGroup running) h = absurd h
+state_keeps (Idle old) (Open group) h = absurd h
 state_keeps (Idle old) Moving h = absurd h
 state_keeps (Prepared running) new h = (
   ap number_in h,
   λ w m. subst (λ (state : State). In w (entries_of state)) (sym h) m,
 )
 state_keeps (PreparedGroup old) new h = (
+  ap number_in h,
+  λ w m. subst (λ (state : State). In w (entries_of state)) (sym h) m,
+)
+state_keeps (Open old) new h = (
   ap number_in h,
   λ w m. subst (λ (state : State). In w (entries_of state)) (sym h) m,
 )

@@ -1,5 +1,5 @@
 -- Frames, by which callers in other languages ask and are told.
-use Rattle.std.specs.Prelude.{◌≡◌, ◌⊎◌, ℕ, ◌<◌, ◌≤◌, ◌==◌, List, [], ◌∷◌, ◌++◌, length, map, take, drop, if◌then◌else◌}
+use Rattle.std.specs.Prelude.{◌≡◌, ◌⊎◌, ℕ, ◌<◌, ◌≤◌, ◌==◌, List, [], ◌∷◌, ◌++◌, length, map, drop, if◌then◌else◌}
 use Rattle.std.specs.Prelude.{Option, Some, None, IfSome}
 use Rattle.std.specs.List.{slice_get}
 use Rattle.rc_spec.specs.declared.call.Reply.{Reply}
@@ -17,7 +17,8 @@ use Rattle.rc_embed.specs.Asking.{asked_by}
 use Rattle.rc_embed.specs.Refused.{HasCallCause, fault_of}
 use Rattle.rc_embed.specs.Replies.{AreCopied, rows_told}
 use Rattle.rc_embed.specs.Session.{HasCalled, HasCancelled, HasCommitted, HasLearned, HasPrepared}
-use Rattle.rc_embed.specs.Session.{IsIdle, IsUnchanged, IsUnseenBy, SessionSeen, replies_of, reply_of, with_picked}
+use Rattle.rc_embed.specs.Session.{HasNoCall, IsIdle, IsUnchanged, IsUnseenBy, SessionSeen}
+use Rattle.rc_embed.specs.Session.{replies_of, reply_of, with_picked}
 
 -- the code of a fault
 abbrev pub call_code : CallFault → ℕ
@@ -152,28 +153,28 @@ pub record HasTold (session : SessionSeen) (at : Position) (before after : Frame
   pub picked : reply_of session ≡ Some reply
   pub same : after ≡ with_reply reply (with_place at before)
 
--- The prepared calls are made, at the place that the frame tells, with the reply to the first of
--- them; or none are prepared.
+-- The uncommitted calls are made, at the place that the frame tells, with the reply to the first of
+-- them; or there are none.
 pub record AnswersCommit (old : SessionSeen) (before : Frame)
     (new : SessionSeen) (after : Frame) (code : ℕ) : Type 0 where
   pub store : new.store ≡ old.store
   pub made : code ≡ codes.done → (at : Position) × HasCommitted old new at × HasTold new at before after
   pub refused : (code ≡ codes.done → ⊥)
-      → (code ≡ codes.not_prepared) × IsIdle old.state × (new ≡ old) × (after ≡ before)
+      → (code ≡ codes.not_prepared) × HasNoCall old.state × (new ≡ old) × (after ≡ before)
 
 -- the reply to the call is picked, by its number, counted from 0; or there is none
 pub record AnswersPick (old : SessionSeen) (frame : Frame) (new : SessionSeen) (code : ℕ) : Type 0 where
   pub picked : frame.row < length (replies_of old) → (code ≡ codes.done) × (new ≡ with_picked frame.row old)
   pub none : length (replies_of old) ≤ frame.row → (code ≡ codes.no_row) × (new ≡ old)
 
--- The prepared calls are not made; or none are prepared.
+-- The uncommitted calls are not made; or nothing is prepared, and no group open.
 pub record AnswersCancel (old new : SessionSeen) (code : ℕ) : Type 0 where
   pub store : new.store ≡ old.store
   pub cancelled : code ≡ codes.done → HasCancelled old new
   pub refused : (code ≡ codes.done → ⊥)
       → (code ≡ codes.not_prepared) × IsIdle old.state × (new ≡ old)
 
--- a session learns nothing: a call is prepared, or the history isn't as long as what was told
+-- a session learns nothing: something is prepared or open, or the history isn't as long as what was told
 abbrev pub IsUntaught : SessionSeen → Frame → SessionSeen → ℕ → Type 0
 IsUntaught old before new code =
     ((code ≡ codes.prepared) × (IsIdle old.state → ⊥) × (new ≡ old))

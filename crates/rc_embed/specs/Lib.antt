@@ -2,11 +2,16 @@ pub mod Asked
 pub mod Asking
 pub mod Closing
 pub mod Codes
+pub mod Declaring
+pub mod DeclaringLaws
 pub mod Entries
 pub mod EntriesLaws
 pub mod Frames
 pub mod OfText
 pub mod OpenFrames
+pub mod OpenGroupFrames
+pub mod OpenGroupLaws
+pub mod OpenGroups
 pub mod Opened
 pub mod OpenedInside
 pub mod OpenedLaws

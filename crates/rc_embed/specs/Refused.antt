@@ -58,6 +58,7 @@ abbrev pub fault_in : StoreSeen → State → List AskedCall → Option CallFaul
 fault_in store (states.Idle pass) calls = fault_by store pass calls
 fault_in store (states.Prepared running) calls = Some Prepared
 fault_in store (states.PreparedGroup running) calls = Some Prepared
+fault_in store (states.Open group) calls = Some Prepared
 fault_in store states.Moving calls = Some Prepared
 
 -- The fault that calls have which are asked for as one, whatever the store has; none where they may

@@ -2,18 +2,24 @@
 -- transactions over striped locks.)
 use Rattle.std.specs.Prelude.{◌≡◌, ℕ, ◌<◌, ◌≤◌, List, [], ◌∷◌, Option, Some, None}
 use Rattle.std.specs.List.{slice_get}
+use Rattle.rc_tuple.specs.RisingSet.{In}
 use Rattle.rc_spec.specs.declared.call.Call.{Call}
 use Rattle.rc_spec.specs.declared.call.Reply.{Reply}
-use Rattle.rc_row.specs.Passes.{HasLookedAt, PassSeen, core_of, spec_of}
+use Rattle.rc_rel.specs.declared.entry.Step.{Step}
+use Rattle.rc_core.specs.declared.state.Hold.{Hold}
+use Rattle.rc_core.specs.declared.state.PassState.{PassState}
+use Rattle.rc_row.specs.Passes.{HasLookedAt, PassSeen, compiled_of, core_of, spec_of}
+use Rattle.rc_store.specs.OpenGroups.{IsOpenOn, OpenGroupSeen}
 use Rattle.rc_store.specs.Running.{HasBegunGroup, IsGroupRunningOn, IsRunningOn, RunningGroupSeen}
-use Rattle.rc_store.specs.Running.{RunningSeen, calls_of, replies_of as replies_with}
-use Rattle.rc_store.specs.Store.{HasMadeGroup, IsAsBefore, IsFree, StoreSeen, one_step}
+use Rattle.rc_store.specs.Running.{RunningSeen, replies_of as replies_with}
+use Rattle.rc_store.specs.Store.{AreRepliesFor, HasMadeEntry, HasMadeGroup, HoldsExactly, IsAsBefore}
+use Rattle.rc_store.specs.Store.{IsFree, StoreSeen, one_step}
 use Rattle.rc_store.specs.declared.receipt.GroupReceipt.{GroupReceipt}
 use Rattle.rc_embed.specs.declared.session.Last.{Last}
 use Rattle.rc_embed.specs.declared.session.Last.TheVariants as lasts
 use Rattle.rc_embed.specs.declared.session.Position.{Position}
 use Rattle.rc_embed.specs.declared.session.State.{State}
-use Rattle.rc_embed.specs.declared.session.State.TheVariants.{Idle, Prepared, PreparedGroup, Moving}
+use Rattle.rc_embed.specs.declared.session.State.TheVariants.{Idle, Prepared, PreparedGroup, Open, Moving}
 use Rattle.rc_embed.specs.Asked.{AskedCall, calls_by}
 
 -- A session: its store, what it does, the replies of the call, or of the calls of the group, that it
@@ -39,20 +45,34 @@ alone running = record {
   steps = one_step running.call running.reply;
 }
 
+-- what an open group has made
+abbrev pub made_of : OpenGroupSeen → RunningGroupSeen
+made_of group = record { begun = group.begun; pass = group.pass; steps = group.steps }
+
 -- the calls that are prepared as one, if any, with their replies
 abbrev pub prepared_in : State → Option RunningGroupSeen
 prepared_in (Idle pass) = None
 prepared_in (Prepared running) = Some (alone running)
 prepared_in (PreparedGroup running) = Some running
+prepared_in (Open group) = None
 prepared_in Moving = None
 
--- the replies that are told: those of the prepared calls, where there are some, and else the last
+-- The calls that are to be committed or cancelled, with their replies: those that are prepared, or those that a
+-- group has made which is open.
+abbrev pub uncommitted_in : State → Option RunningGroupSeen
+uncommitted_in (Idle pass) = None
+uncommitted_in (Prepared running) = Some (alone running)
+uncommitted_in (PreparedGroup running) = Some running
+uncommitted_in (Open group) = Some (made_of group)
+uncommitted_in Moving = None
+
+-- the replies that are told: those of the uncommitted calls, where something is prepared or open, and else the last
 abbrev pub replies_in : Option RunningGroupSeen → List Reply → List Reply
 replies_in None last = last
 replies_in (Some running) last = replies_with running.steps
 
 abbrev pub replies_of : SessionSeen → List Reply
-replies_of session = replies_in (prepared_in session.state) session.last
+replies_of session = replies_in (uncommitted_in session.state) session.last
 
 -- the one of them that is picked
 abbrev pub reply_of : SessionSeen → Option Reply
@@ -62,18 +82,36 @@ reply_of session = slice_get (replies_of session) session.picked
 abbrev pub with_picked : ℕ → SessionSeen → SessionSeen
 with_picked call session = record session { picked = call }
 
--- no call is prepared
+-- no call is prepared, and no group is open
 abbrev pub IsIdle : State → Type 0
 IsIdle (Idle pass) = Unit {0}
 IsIdle (Prepared running) = ⊥
 IsIdle (PreparedGroup running) = ⊥
+IsIdle (Open group) = ⊥
 IsIdle Moving = ⊥
 
--- its pass is free, or it has a call or a group that runs on the store
+-- a group is open
+abbrev pub IsOpen : State → Type 0
+IsOpen (Idle pass) = ⊥
+IsOpen (Prepared running) = ⊥
+IsOpen (PreparedGroup running) = ⊥
+IsOpen (Open group) = Unit {0}
+IsOpen Moving = ⊥
+
+-- there is nothing to commit: no call is prepared, and a group that is open has made none
+abbrev pub HasNoCall : State → Type 0
+HasNoCall (Idle pass) = Unit {0}
+HasNoCall (Prepared running) = ⊥
+HasNoCall (PreparedGroup running) = ⊥
+HasNoCall (Open group) = group.steps ≡ []
+HasNoCall Moving = ⊥
+
+-- its pass is free, or it has a call or a group that runs on the store, or one that is open there
 abbrev pub IsStateOf : StoreSeen → State → Type 0
 IsStateOf store (Idle pass) = IsFree store pass
 IsStateOf store (Prepared running) = IsRunningOn store running
 IsStateOf store (PreparedGroup running) = IsGroupRunningOn store running
+IsStateOf store (Open group) = IsOpenOn store group
 IsStateOf store Moving = ⊥
 
 -- the length of the history that it has seen
@@ -81,6 +119,7 @@ abbrev pub seen_of : State → Option ℕ
 seen_of (Idle pass) = Some (core_of pass).seen
 seen_of (Prepared running) = None
 seen_of (PreparedGroup running) = None
+seen_of (Open group) = None
 seen_of Moving = None
 
 -- the calls that are asked of the session's store
@@ -115,22 +154,32 @@ pub record HasPrepared (old : SessionSeen) (asked : List AskedCall) (new : Sessi
   pub picked : new.picked ≡ 0
   pub begun : HasBegunGroup old.store (calls_in old asked) before running
 
--- the prepared calls are made, with the replies that were told
+-- What the pass held at the commit: of prepared calls exactly the stripes of a group of them, and of those of an open group
+-- none but what that had declared.
+abbrev pub HeldFor : StoreSeen → State → List Step → PassState → Type 0
+HeldFor store (Idle pass) steps u = ⊥
+HeldFor store (Prepared running) steps u = HoldsExactly (compiled_of store.row) u steps
+HeldFor store (PreparedGroup running) steps u = HoldsExactly (compiled_of store.row) u steps
+HeldFor store (Open group) steps u = (h : Hold) → In h u.held → In (h.stripe, h.mode) group.locks
+HeldFor store Moving steps u = ⊥
+
+-- the uncommitted calls are made as one, and the session tells the replies that were told
 pub record HasCommitted (old new : SessionSeen) (at : Position) : Type 0 where
   pub running : RunningGroupSeen
   pub after : PassSeen
-  pub was : prepared_in old.state ≡ Some running
+  pub was : uncommitted_in old.state ≡ Some running
   pub is : new.state ≡ Idle after
   pub told : new.last ≡ replies_with running.steps
   pub picked : new.picked ≡ 0
-  pub made : HasMadeGroup old.store (calls_of running.steps) new.last running.begun after
-      (receipt_of at new.last)
+  pub entry : HasMadeEntry old.store running.steps running.begun after at.place at.nth
+  pub held : HeldFor old.store old.state running.steps entry.at_commit
+  pub given : AreRepliesFor old.store.row.keeping new.last (Some new.last)
 
--- the prepared calls are not made, and the pass is as before they were begun
+-- the uncommitted calls are not made, and the pass is as before they were begun
 pub record HasCancelled (old new : SessionSeen) : Type 0 where
   pub running : RunningGroupSeen
   pub after : PassSeen
-  pub was : prepared_in old.state ≡ Some running
+  pub was : uncommitted_in old.state ≡ Some running
   pub is : new.state ≡ Idle after
   pub last : new.last ≡ old.last
   pub picked : new.picked ≡ 0
@@ -161,14 +210,15 @@ pub record IsUnseenBy (old : SessionSeen) (told : ℕ) (new : SessionSeen) : Typ
 
 -- ---- what faults leave
 
--- the pass, or what is prepared, is as before
+-- the pass, or what is prepared or open, is as before
 abbrev pub IsStateAsBefore : State → State → Type 0
 IsStateAsBefore (Idle old) (Idle new) = IsAsBefore old new
 IsStateAsBefore (Prepared old) new = new ≡ Prepared old
 IsStateAsBefore (PreparedGroup old) new = new ≡ PreparedGroup old
+IsStateAsBefore (Open old) new = new ≡ Open old
 IsStateAsBefore old new = ⊥
 
--- history, pass, prepared calls and replies are as before
+-- history, pass, what is prepared or open and replies are as before
 pub record IsUnchanged (old new : SessionSeen) : Type 0 where
   pub state : IsStateAsBefore old.state new.state
   pub last : new.last ≡ old.last

@@ -28,11 +28,11 @@ use Rattle.rc_embed.specs.declared.opening.Options as opening
 use Rattle.rc_embed.specs.declared.session.Position.{Position}
 use Rattle.rc_embed.specs.Asked.{AskedCall, calls_by}
 use Rattle.rc_embed.specs.Entries.{HasEntry, HaveEntriesOf, StandsAt, entries_of}
-use Rattle.rc_embed.specs.EntriesLaws.{calls_stand, commits_stand}
+use Rattle.rc_embed.specs.EntriesLaws.{calls_stand, commits_stand, prepared_uncommitted}
 use Rattle.rc_embed.specs.OfText.{AreAnsweredAt, IsHistoryOfText}
 use Rattle.rc_embed.specs.Opened.{IsOpened, OpenSeen}
 use Rattle.rc_embed.specs.OpenedLaws.{histories_are_of_the_text, opened_calls, store_spec}
-use Rattle.rc_embed.specs.Session.{HasCalled, HasCommitted, HasPrepared, SessionSeen, calls_in, prepared_in, replies_of}
+use Rattle.rc_embed.specs.Session.{HasCalled, HasCommitted, HasPrepared, SessionSeen, calls_in, replies_of, uncommitted_in}
 
 -- ---- what a store leaves that is closed
 
@@ -143,7 +143,7 @@ entries_are_plain spec store passes closed history is w has =
     (stands spec store passes closed history is w has)
 
 -- calls that stand among the entries of a pass are answered so
-answered : (spec : Spec) (store : StoreSeen) (passes : List PassSeen) (closed : ClosedSeen) (history : List Entry)
+pub answered : (spec : Spec) (store : StoreSeen) (passes : List PassSeen) (closed : ClosedSeen) (history : List Entry)
     → IsHistoryOfText spec store passes closed history
     → (entries : List Placed) → ((w : Placed) → In w entries → HasEntry passes w)
     → (place : ℕ) (calls : List Call) (replies : List Reply) → StandsAt entries place calls replies
@@ -161,7 +161,7 @@ answered spec store passes closed history is entries have place calls replies at
     }
 
 -- what is asked for are the same calls by the specification of a store as by that of the text which opened it
-same_calls : (text : List ℕ) (options : opening.Options) (opened : OpenSeen) (is : IsOpened text options opened)
+pub same_calls : (text : List ℕ) (options : opening.Options) (opened : OpenSeen) (is : IsOpened text options opened)
     → (asked : List AskedCall) → calls_by (store_spec opened) asked ≡ calls_by is.spec asked
 same_calls text options opened is [] = refl
 same_calls text options opened is (call ∷ asked) = λ i.
@@ -196,15 +196,16 @@ CommittedRepliesArePlain = (text : List ℕ) (options : opening.Options) (opened
     → HasCommitted ready new at → HaveEntriesOf passes new
     → AreAnsweredAt is.spec history at.place (calls_by is.spec asked) (replies_of new)
 
--- the calls that are prepared
-abbrev calls_or : List Call → Option RunningGroupSeen → List Call
+-- the calls that aren't committed yet
+abbrev pub calls_or : List Call → Option RunningGroupSeen → List Call
 calls_or d None = d
 calls_or d (Some running) = calls_of running.steps
 
 pub committed_replies_are_plain : CommittedRepliesArePlain
 committed_replies_are_plain text options opened is passes closed history of old begun ready new asked at same prepared still committed have =
     let these : calls_of committed.running.steps ≡ calls_of prepared.running.steps =
-    ap (calls_or (calls_of prepared.running.steps)) (sym committed.was ∙ ap prepared_in still ∙ prepared.is) in
+    ap (calls_or (calls_of prepared.running.steps))
+    (sym committed.was ∙ ap uncommitted_in still ∙ prepared_uncommitted begun.state prepared.running prepared.is) in
     let calls : calls_of committed.running.steps ≡ calls_by is.spec asked =
     these ∙ prepared.begun.asked
     ∙ ap (λ (store : StoreSeen). calls_by (spec_of store.row) asked) same

@@ -13,9 +13,9 @@ pub const SPENT: u32 = 3;
 pub const OPERATION: u32 = 4;
 /// The operation takes another number of values.
 pub const VALUE_COUNT: u32 = 5;
-/// A call is prepared.
+/// A call is prepared, or a group is open.
 pub const PREPARED: u32 = 6;
-/// No call is prepared.
+/// There is nothing to commit, or to cancel.
 pub const NOT_PREPARED: u32 = 7;
 /// The reply has no such row, or the frame no room for it.
 pub const NO_ROW: u32 = 8;
@@ -33,3 +33,7 @@ pub const NONE_LEFT: u32 = 13;
 pub const UNSEEN: u32 = 14;
 /// No call, or more than there may be in a group.
 pub const COUNT: u32 = 15;
+/// No group is open.
+pub const NOT_OPEN: u32 = 16;
+/// What an open group declared doesn't suffice for the call.
+pub const UNCOVERED: u32 = 17;

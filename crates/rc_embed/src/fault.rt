@@ -44,8 +44,8 @@ pub enum SessionFault {
     NoneLeft,
 }
 
-/// Why a call, or calls that are asked for as one, aren't made, or aren't begun. The session is as
-/// before.
+/// Why a call, or calls that are asked for as one, aren't made, or aren't begun, or why a group isn't
+/// opened. The session is as before.
 #[derive(Clone, Copy, Debug, PartialEq, Eq)]
 pub enum CallFault {
     /// Memory was wanted, and nothing stood in the way.
@@ -64,13 +64,31 @@ pub enum CallFault {
     UnknownOperation,
     /// The operation takes another number of values.
     Values,
-    /// A call or a group is prepared, and neither committed nor cancelled.
+    /// A call or a group is prepared, or a group is open, and neither committed nor cancelled.
     Prepared,
-    /// A group has no call, or more than `MAX_GROUP`.
+    /// A group has no call, or more than `MAX_GROUP`; or so much is declared of one.
     Count,
 }
 
-/// No call and no group is prepared. The session is as before.
+/// Why an open group doesn't make a call.
+#[derive(Clone, Copy, Debug, PartialEq, Eq)]
+pub enum OpenCallFault {
+    /// No group is open. The session is as before.
+    NotOpen,
+    /// No operation has this number. The session is as before.
+    UnknownOperation,
+    /// The operation takes another number of values. The session is as before.
+    Values,
+    /// The group has made `MAX_GROUP` calls. It is open, and as before.
+    Full,
+    /// What the group declared doesn't suffice for the call. It is open, and as before.
+    Uncovered,
+    /// Memory was wanted, and the group is over: nothing of it stands in the history, and the session is
+    /// as if it had been cancelled.
+    Memory,
+}
+
+/// There is nothing to commit, or to cancel. The session is as before.
 #[derive(Clone, Copy, Debug, PartialEq, Eq)]
 pub struct NotPrepared;
 
@@ -85,7 +103,7 @@ impl From<Memory> for CallFault {
 /// Why a session doesn't learn what another one has seen.
 #[derive(Clone, Copy, Debug, PartialEq, Eq)]
 pub enum LearnFault {
-    /// A call or a group is prepared. The session is as before.
+    /// A call or a group is prepared, or a group is open. The session is as before.
     Prepared,
     /// The session has looked, and has seen less than that.
     Unseen,

@@ -6,13 +6,14 @@ ghost use Rattle.rc_embed.specs.Frames.{AnswersCommit, AnswersGroup, AnswersLear
 ghost use Rattle.rc_embed.specs.Frames.{AnswersRow, AnswersRows, call_code, kind_code, number_in};
 ghost use Rattle.rc_embed.specs.Frames.{with_fault, with_fault_first, with_picked_reply, with_place};
 ghost use Rattle.rc_embed.specs.Frames.{with_replies, with_reply};
+ghost use Rattle.rc_embed.specs.OpenGroupFrames.{AnswersCallOpen, AnswersOpenGroup, open_call_code};
 ghost use Rattle.rc_embed.specs.Session.{replies_of, reply_of};
 
 use crate::codes::{
-    BUSY, COUNT, DONE, MEMORY, NO_ROW, NOT_PREPARED, OPERATION, PREPARED, SPENT, UNSEEN,
-    VALUE_COUNT,
+    BUSY, COUNT, DONE, MEMORY, NO_ROW, NOT_OPEN, NOT_PREPARED, OPERATION, PREPARED, SPENT,
+    UNCOVERED, UNSEEN, VALUE_COUNT,
 };
-use crate::fault::{CallFault, LearnFault, NotPrepared};
+use crate::fault::{CallFault, LearnFault, NotPrepared, OpenCallFault};
 use crate::group::Asks;
 use crate::session::{Position, Session};
 use rc_spec::{Found, Reply};
@@ -89,6 +90,20 @@ fn call_code(fault: CallFault) -> u32
         CallFault::Values => VALUE_COUNT,
         CallFault::Prepared => PREPARED,
         CallFault::Count => COUNT,
+    }
+}
+
+/// The code of a fault of a call of an open group.
+fn open_call_code(fault: OpenCallFault) -> u32
+    ensures { result ≡ open_call_code fault }
+{
+    match fault {
+        OpenCallFault::NotOpen => NOT_OPEN,
+        OpenCallFault::UnknownOperation => OPERATION,
+        OpenCallFault::Values => VALUE_COUNT,
+        OpenCallFault::Full => COUNT,
+        OpenCallFault::Uncovered => UNCOVERED,
+        OpenCallFault::Memory => MEMORY,
     }
 }
 
@@ -285,6 +300,37 @@ impl Session {
         }
     }
 
+    /// Opens a group over what the frames declare, as `open_group` does, a frame with no values calls
+    /// with any; and tells the first one what stood in the way.
+    pub fn open_group_by(&mut self, frames: &mut [Frame]) -> u32
+        ensures { AnswersOpenGroup self.old frames.old self.new frames.new result }
+    {
+        if let Some(fault) = self.declared_fault(frames) {
+            return call_code(fault);
+        }
+        match self.open_group_idle(frames) {
+            Ok(()) => DONE,
+            Err(fault) => tell_first(frames, fault),
+        }
+    }
+
+    /// Makes the call that the frame asks for, of the open group, as `call_open` does, and tells the
+    /// frame its reply.
+    pub fn call_open_by(&mut self, frame: &mut Frame) -> u32
+        ensures { AnswersCallOpen self.old frame.old self.new frame.new result }
+    {
+        if let Some(fault) = self.open_fault(frame.op, frame.count()) {
+            return open_call_code(fault);
+        }
+        match self.go_on(frame.op, frame.values()) {
+            Ok(()) => {
+                self.tell_picked(frame);
+                DONE
+            }
+            Err(fault) => open_call_code(fault),
+        }
+    }
+
     /// Tells the frame the kind and the number of the reply that is picked.
     fn tell_picked(&self, frame: &mut Frame)
         ensures { frame.new ≡ with_picked_reply (reply_of self.now) frame.old }
@@ -305,8 +351,8 @@ impl Session {
         }
     }
 
-    /// Commits the prepared call or group, and tells the frame its place, and the reply to its first
-    /// call.
+    /// Commits the prepared call or group, or the calls of the open group, and tells the frame the place,
+    /// and the reply to the first call.
     pub fn commit_by(&mut self, frame: &mut Frame) -> u32
         ensures { AnswersCommit self.old frame.old self.new frame.new result }
     {
@@ -320,7 +366,7 @@ impl Session {
         }
     }
 
-    /// Cancels the prepared call or group.
+    /// Cancels the prepared call or group, or the open group.
     pub fn cancel_by(&mut self) -> u32
         ensures { AnswersCancel self.old self.new result }
     {

@@ -23,11 +23,11 @@ pub struct Asked<'a> {
     pub values: &'a [u64],
 }
 
-/// What asks for a call.
+/// What asks for a call, or declares calls of an operation.
 pub(crate) trait Asks {
     ghost use Rattle.rc_embed.specs.Asked.{AskedCall};
 
-    /// The call that it asks for.
+    /// The call that it asks for, or what it declares.
     ghost asked: { Self → AskedCall };
 
     /// The number of the operation.

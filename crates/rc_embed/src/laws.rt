@@ -2,10 +2,12 @@
 //! and that handles may go to other threads.
 
 ghost use Rattle.std.specs.Prelude.{◌≡◌};
+ghost use Rattle.rc_embed.specs.DeclaringLaws.{DeclaredCallsAreCovered};
 ghost use Rattle.rc_embed.specs.EntriesLaws.{CallsKeepPasses, CallsStand, CancelsKeepPasses};
 ghost use Rattle.rc_embed.specs.EntriesLaws.{CommitsKeepPasses, CommitsStand, DealingKeepsEntries};
 ghost use Rattle.rc_embed.specs.EntriesLaws.{FaultsKeepPasses, LooksKeepPasses, PicksKeepPasses};
 ghost use Rattle.rc_embed.specs.EntriesLaws.{PreparingKeepsPasses, TakingBackKeepsEntries};
+ghost use Rattle.rc_embed.specs.OpenGroupLaws.{OpenCallsKeepPasses, OpenRepliesArePlain, OpeningKeepsPasses};
 ghost use Rattle.rc_embed.specs.OpenedLaws.{HistoriesAreOfTheText, OpenedCalls, OpenedFits};
 ghost use Rattle.rc_embed.specs.OpenedLaws.{OpenedPlain, OpenedRows, OpenedSchema};
 ghost use Rattle.rc_embed.specs.OutsideLaws.{AllAreInside, DealtGoOutside, NoneOutsideAtFirst};
@@ -49,8 +51,9 @@ pub fn closed_stores_are_of_the_text()
     ensures one { HistoriesOfTextAreOne }
 {}
 
-/// Calls that a session has made as one, and prepared ones that it has committed, stand at their
-/// position among the entries of the session's pass, with the replies that the session tells.
+/// Calls that a session has made as one, and those that it has prepared, or made of an open group, and
+/// committed, stand at their position among the entries of the session's pass, with the replies that the
+/// session tells.
 pub fn calls_stand()
     ensures calls { CallsStand }
     ensures commits { CommitsStand }
@@ -58,12 +61,13 @@ pub fn calls_stand()
 
 /// A session keeps its pass, and the entries of that, through all that it does: calls, prepared
 /// ones that are committed or cancelled, looks at the history, picks of a reply, and calls that are
-/// refused; and so of groups. One that
-/// is taken back gives its entries to the store, which keeps those of its passes until a session
-/// begins with the pass.
+/// refused; and so of groups, also of those that are opened, and of their calls. One that is taken back
+/// gives its entries to the store, which keeps those of its passes until a session begins with the pass.
 pub fn entries_stay()
     ensures calls { CallsKeepPasses }
     ensures preparing { PreparingKeepsPasses }
+    ensures opening { OpeningKeepsPasses }
+    ensures open_calls { OpenCallsKeepPasses }
     ensures commits { CommitsKeepPasses }
     ensures cancels { CancelsKeepPasses }
     ensures looks { LooksKeepPasses }
@@ -87,12 +91,21 @@ pub fn passes_come_back()
 /// The replies that a session was told, of a call or of a group whose entry has come back to the store
 /// that is closed, are in turn the plain relation's, by the specification that the text gives, from
 /// the entry's place of the one history that the closed store leaves; and the last call leaves the
-/// relation of the next place. So it is of each entry of the passes. (PLDI 2012, serializable
-/// transactions; PLDI 2011, the relation's operations.)
+/// relation of the next place. So it is of an open group's calls, in the order in which they were made,
+/// and of each entry of the passes. (PLDI 2012, serializable transactions; PLDI 2011, the relation's
+/// operations.)
 pub fn told_replies_are_plain()
     ensures entries { EntriesArePlain }
     ensures calls { ToldRepliesArePlain }
     ensures commits { CommittedRepliesArePlain }
+    ensures open_calls { OpenRepliesArePlain }
+{}
+
+/// What is declared of a group suffices for the calls that are declared: whatever the plan of such a call
+/// may want, on any rows, is among the stripes that the group takes, in a mode that suffices. So none of
+/// them is uncovered. (PLDI 2012, well-locked query plans.)
+pub fn declared_calls_are_covered()
+    ensures { DeclaredCallsAreCovered }
 {}
 
 /// What may go to another thread.

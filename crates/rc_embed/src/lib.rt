@@ -7,11 +7,13 @@
 mod calls;
 mod closing;
 mod codes;
+mod declaring;
 mod fault;
 mod frame;
 mod group;
 mod laws;
 mod open_frame;
+mod open_group;
 mod opening;
 mod prepared;
 mod replies;
@@ -21,13 +23,14 @@ mod telling;
 
 pub use closing::CloseBack;
 pub use codes::{DONE, MEMORY};
-pub use fault::{CallFault, LearnFault, NotPrepared, OpenFault, SessionFault};
+pub use declaring::Declared;
+pub use fault::{CallFault, LearnFault, NotPrepared, OpenCallFault, OpenFault, SessionFault};
 pub use frame::{Frame, MAX_CELLS, MAX_PAGE, MAX_VALUES, Page};
 pub use group::{Asked, MAX_GROUP};
 pub use laws::{
-    calls_stand, closed_stores_are_of_the_text, entries_stay, opened_stores_are_of_the_text,
-    passes_come_back, receipts_are_of_the_text, sessions_are_send, stores_are_send,
-    told_replies_are_plain,
+    calls_stand, closed_stores_are_of_the_text, declared_calls_are_covered, entries_stay,
+    opened_stores_are_of_the_text, passes_come_back, receipts_are_of_the_text, sessions_are_send,
+    stores_are_send, told_replies_are_plain,
 };
 pub use open_frame::{OpenFrame, OperationFrame, open_by, session_code};
 pub use opening::{OpenStore, Options, open};

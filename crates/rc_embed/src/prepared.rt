@@ -1,9 +1,10 @@
-//! Prepared calls and groups.
+//! Prepared calls and groups, and how they end.
 
-ghost use Rattle.std.specs.Prelude.{◌≡◌, Err, IfOk, IfSome, None, OnErr, OnOk};
+ghost use Rattle.std.specs.Prelude.{◌≡◌, ◌↔◌, Err, IfOk, IfSome, IsTrue, None, OnErr, OnOk};
 ghost use Rattle.rc_embed.specs.Asked.{one_call};
 ghost use Rattle.rc_embed.specs.Refused.{Answers, fault_of};
-ghost use Rattle.rc_embed.specs.Session.{HasCancelled, HasCommitted, HasPrepared, IsIdle};
+ghost use Rattle.rc_embed.specs.Session.{HasCancelled, HasCommitted, HasNoCall, HasPrepared, IsIdle};
+ghost use Rattle.rc_embed.specs.Session.{IsOpen};
 
 use crate::fault::{CallFault, NotPrepared, call_fault};
 use crate::session::{Last, Position, Session, State};
@@ -51,12 +52,37 @@ impl Session {
         }
     }
 
-    /// Commits the prepared call or group: it stands in the history with the replies that were told.
-    /// It takes no memory, and is refused exactly where none is prepared.
+    /// Commits the prepared call or group, or the calls of the open group, as one: they stand in the
+    /// history with the replies that were told. It takes no memory, and is refused exactly where nothing
+    /// is prepared and no group open, or where the open one has made no call: that one stays open.
     pub fn commit(&mut self) -> Result<Position, NotPrepared>
         ensures store { self.new.store ≡ self.old.store }
         ensures made { IfOk result (HasCommitted self.old self.new) }
-        ensures refused { OnErr result (IsIdle self.old.state × (self.new ≡ self.old)) }
+        ensures refused { OnErr result (HasNoCall self.old.state × (self.new ≡ self.old)) }
+    {
+        if self.has_open_group() {
+            self.commit_open()
+        } else {
+            self.commit_prepared()
+        }
+    }
+
+    /// Whether a group is open.
+    fn has_open_group(&self) -> bool
+        ensures { IsTrue result ↔ IsOpen self.now.state }
+    {
+        match &self.state {
+            State::Open(_) => true,
+            State::Idle(_) | State::Prepared(_) | State::PreparedGroup(_) | State::Moving => false,
+        }
+    }
+
+    /// Commits the prepared call or group, where no group is open.
+    fn commit_prepared(&mut self) -> Result<Position, NotPrepared>
+        requires { IsOpen self.old.state → ⊥ }
+        ensures store { self.new.store ≡ self.old.store }
+        ensures made { IfOk result (HasCommitted self.old self.new) }
+        ensures refused { OnErr result (HasNoCall self.old.state × (self.new ≡ self.old)) }
     {
         match mem::replace(&mut self.state, State::Moving) {
             State::Prepared(running) => {
@@ -86,8 +112,9 @@ impl Session {
         }
     }
 
-    /// Cancels the prepared call or group: nothing of it stands in the history, and the session is as
-    /// before it was begun. It takes no memory, and is refused exactly where none is prepared.
+    /// Cancels the prepared call or group, or the open group: nothing of it stands in the history, and
+    /// the session is as before it was begun. It takes no memory, and is refused exactly where nothing is
+    /// prepared and no group open.
     pub fn cancel(&mut self) -> Result<(), NotPrepared>
         ensures store { self.new.store ≡ self.old.store }
         ensures cancelled { OnOk result (HasCancelled self.old self.new) }
@@ -101,6 +128,11 @@ impl Session {
             }
             State::PreparedGroup(running) => {
                 self.state = State::Idle(running.cancel(&self.shared.store));
+                self.picked = 0;
+                Ok(())
+            }
+            State::Open(group) => {
+                self.state = State::Idle(group.cancel(&self.shared.store));
                 self.picked = 0;
                 Ok(())
             }

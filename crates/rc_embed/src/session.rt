@@ -15,7 +15,7 @@ use crate::group::{Asks, MAX_GROUP};
 use crate::shared::Shared;
 use rc_row::Pass;
 use rc_spec::{Call, Reply, Spec};
-use rc_store::{Running, RunningGroup};
+use rc_store::{OpenGroup, Running, RunningGroup};
 use rc_tuple::SmallList;
 use std::alloc::Global;
 use std::marker::Model;
@@ -40,6 +40,8 @@ pub(crate) enum State {
     Prepared(Running),
     /// It has prepared a group of calls.
     PreparedGroup(RunningGroup),
+    /// It has opened a group, whose calls come one after another.
+    Open(OpenGroup),
     /// The pass is on its way from one to the other. No session is so between calls.
     Moving,
 }
@@ -78,8 +80,8 @@ impl Last {
 }
 
 /// A thread's end of a store: a pass, and the replies of its last call or group. One thread uses it
-/// at a time, and it may move to another. One that is dropped in the midst of a prepared call keeps
-/// that call's stripes: cancel it before. It keeps the memory of its largest call, in which it
+/// at a time, and it may move to another. One that is dropped in the midst of a prepared call, or of an
+/// open group, keeps the stripes of that: cancel it before. It keeps the memory of its largest call, in which it
 /// makes the next ones, so that a call whose values fit there takes none for them; and so it does for
 /// the calls of groups, once it has made one.
 #[derive(Drop)]
@@ -118,14 +120,16 @@ impl Session {
         self.shared.spec()
     }
 
-    /// How many replies there are: those of the calls that are prepared, where some are, and else of
-    /// the call or the group that was made last; none before the first. What is refused leaves them.
+    /// How many replies there are: those of the calls that are prepared, or that the open group has made
+    /// so far, where there is such a thing, and else of the call or the group that was made last; none
+    /// before the first. What is refused leaves them.
     pub fn reply_count(&self) -> usize
         ensures { result ≡ length (replies_of self.now) }
     {
         match &self.state {
             State::Prepared(_) => 1,
             State::PreparedGroup(running) => running.count(),
+            State::Open(group) => group.count(),
             State::Idle(_) | State::Moving => self.last.count(),
         }
     }
@@ -138,13 +142,14 @@ impl Session {
         match &self.state {
             State::Prepared(running) if call == 0 => Some(running.reply()),
             State::PreparedGroup(running) if call < running.count() => Some(running.reply(call)),
-            State::Prepared(_) | State::PreparedGroup(_) => None,
+            State::Open(group) if call < group.count() => Some(group.reply(call)),
+            State::Prepared(_) | State::PreparedGroup(_) | State::Open(_) => None,
             State::Idle(_) | State::Moving => self.last.reply(call),
         }
     }
 
-    /// The reply that is picked: that of the call, and of a group the first one, or the one that
-    /// `pick` picked since.
+    /// The reply that is picked: that of the call, of a group the first one, of an open group that of
+    /// the call that it has made last; or the one that `pick` picked since.
     pub fn reply(&self) -> Option<&Reply>
         ensures reply { option_copied result ≡ reply_of self.now }
         ensures state { IsStateOf self.now.store self.now.state }
@@ -153,8 +158,8 @@ impl Session {
     }
 
     /// Picks the reply to the call with this number, counted from 0, for `reply`, `row_count`,
-    /// `copy_row` and `copy_rows`; whether there is one. What is made, prepared, committed or
-    /// cancelled next picks the first again.
+    /// `copy_row` and `copy_rows`; whether there is one. What is made, prepared, opened, committed or
+    /// cancelled next picks the first again, and a call of an open group its own.
     pub fn pick(&mut self, call: usize) -> bool
         ensures picked { call < length (replies_of self.old)
             → IsTrue result × (self.new ≡ with_picked call self.old) }
@@ -168,17 +173,17 @@ impl Session {
     }
 
     /// The length of the history that the session has seen: it is above the place of each of its
-    /// calls. `None` while a call or a group is prepared.
+    /// calls. `None` while a call or a group is prepared, or a group is open.
     pub fn seen(&self) -> Option<u64>
         ensures { result ≡ seen_of self.now.state }
     {
         match &self.state {
             State::Idle(pass) => Some(pass.seen()),
-            State::Prepared(_) | State::PreparedGroup(_) | State::Moving => None,
+            State::Prepared(_) | State::PreparedGroup(_) | State::Open(_) | State::Moving => None,
         }
     }
 
-    /// The pass of a session that has prepared no call.
+    /// The pass of a session that has prepared no call, and opened no group.
     pub(crate) fn into_pass(self) -> Pass
         requires { IsIdle self.state }
         ensures { self.state ≡ states.Idle result }
@@ -193,7 +198,9 @@ impl Session {
         } = self;
         match state {
             State::Idle(pass) => pass,
-            State::Prepared(_) | State::PreparedGroup(_) | State::Moving => unreachable!(),
+            State::Prepared(_) | State::PreparedGroup(_) | State::Open(_) | State::Moving => {
+                unreachable!()
+            }
         }
     }
 

@@ -1,13 +1,16 @@
 //! What a store shares with its sessions.
 
-ghost use Rattle.std.specs.Prelude.{◌≡◌, ◌<◌, ◌≤◌, None, OnOk, length, map, take};
+ghost use Rattle.std.specs.Prelude.{◌≡◌, ◌<◌, ◌≤◌, All, None, OnOk, length, map, take};
 ghost use Rattle.std.specs.List.{AllByRecursion};
+ghost use Rattle.rc_multi.specs.GroupLocks.{HasOperation};
 ghost use Rattle.rc_spec.specs.Calls.{Fits};
 ghost use Rattle.rc_spec.specs.InRange.{IsInRange};
 ghost use Rattle.rc_spec.specs.Names.{IsWellNamed};
 ghost use Rattle.rc_row.specs.Passes.{spec_of};
 ghost use Rattle.rc_work.specs.CallColumns.{call_of, written_columns_at};
 ghost use Rattle.rc_embed.specs.Asked.{TakesValues, calls_by};
+ghost use Rattle.rc_embed.specs.Declaring.{declared_by, declared_call, declared_fault_at};
+ghost use Rattle.rc_embed.specs.Declaring.{first_declared_fault, pattern_at};
 ghost use Rattle.rc_embed.specs.Refused.{fault_at, first_fault, spent_by};
 
 use crate::fault::CallFault;
@@ -95,6 +98,33 @@ impl Shared {
         None
     }
 
+    /// What is wrong with what is declared of the operation by so many values, if anything: no operation
+    /// has this number, or there are values, and its pattern has another number of columns.
+    pub(crate) fn declared_fault_at(&self, op: u32, count: usize) -> Option<CallFault>
+        ensures { result ≡ declared_fault_at (spec_of self.now.row) op count }
+    {
+        let spec = self.spec();
+        if op as usize >= spec.ops.list().len() {
+            return Some(CallFault::UnknownOperation);
+        }
+        if count != 0 && count != spec.op(op as u8).pattern.list().len() {
+            return Some(CallFault::Values);
+        }
+        None
+    }
+
+    /// What is wrong with the first of what is declared that has such a fault, if something has.
+    pub(crate) fn first_declared_fault<A: Asks>(&self, declared: &[A]) -> Option<CallFault>
+        ensures { result ≡ first_declared_fault (spec_of self.now.row) (map A.asked declared.now) }
+    {
+        for one in declared {
+            if let Some(fault) = self.declared_fault_at(one.op(), one.count()) {
+                return Some(fault);
+            }
+        }
+        None
+    }
+
     /// Whether the pass has made as many entries as the store lets it: the fault then.
     pub(crate) fn spent_by(&self, pass: &Pass) -> Option<CallFault>
         ensures { result ≡ spent_by self.now pass.now }
@@ -139,6 +169,45 @@ impl Shared {
         grow(calls, asked.len())?;
         for (at, call) in asked.iter().enumerate() {
             self.refill_call(&mut calls[at], call.op(), call.values())?;
+        }
+        Ok(())
+    }
+
+    /// Makes the call what stands for the calls of an operation with these values of its pattern, in the
+    /// memory that it has. Memory is taken, and wanted, only where it had room for fewer values.
+    fn declare_call(&self, call: &mut Call, op: u32, values: &[u64]) -> Result<(), Memory>
+        requires known { op < length (spec_of self.now.row).ops }
+        requires few { length values.now ≤ length (pattern_at (spec_of self.now.row) op) }
+        ensures { OnOk result (call.new ≡ declared_call (spec_of self.now.row) op values.now) }
+    {
+        let spec = self.spec();
+        let number = op as u8;
+        let pattern = spec.op(number).pattern.list();
+        call.op = number;
+        call.args.refill(&pattern[..values.len()], values)?;
+        call.ranges.clear();
+        Ok(())
+    }
+
+    /// Makes the first calls those that stand for what is declared, each in the memory that it has, and
+    /// adds calls where there are fewer.
+    pub(crate) fn declare_all<A: Asks>(
+        &self,
+        calls: &mut Vec<Call>,
+        declared: &[A],
+    ) -> Result<(), Memory>
+        requires { first_declared_fault (spec_of self.now.row) (map A.asked declared.now) ≡ None }
+        ensures many { OnOk result (length declared.now ≤ length calls.new.items) }
+        ensures calls { OnOk result (take (length declared.now) calls.new.items
+            ≡ declared_by (spec_of self.now.row) (map A.asked declared.now)) }
+        ensures known { OnOk result (All (HasOperation (spec_of self.now.row))
+            (take (length declared.now) calls.new.items)) }
+    {
+        // A call of `spec` tells the check that no pattern has more than 32 columns.
+        let _ = self.spec();
+        grow(calls, declared.len())?;
+        for (at, one) in declared.iter().enumerate() {
+            self.declare_call(&mut calls[at], one.op(), one.values())?;
         }
         Ok(())
     }

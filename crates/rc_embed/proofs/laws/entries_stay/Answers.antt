@@ -1,4 +1,5 @@
 use Rattle.rc_embed.specs.EntriesLaws as laws
+use Rattle.rc_embed.specs.OpenGroupLaws.{open_calls_keep, opening_keeps}
 use Rattle.rc_embed.proofs.laws.entries_stay.Goals as goal
 
 pub returns-clause-calls : goal.returns-clause-calls
@@ -6,6 +7,12 @@ returns-clause-calls c = laws.calls_keep
 
 pub returns-clause-preparing : goal.returns-clause-preparing
 returns-clause-preparing c = laws.preparing_keeps
+
+pub returns-clause-opening : goal.returns-clause-opening
+returns-clause-opening c = opening_keeps
+
+pub returns-clause-open_calls : goal.returns-clause-open_calls
+returns-clause-open_calls c = open_calls_keep
 
 pub returns-clause-commits : goal.returns-clause-commits
 returns-clause-commits c = laws.commits_keep

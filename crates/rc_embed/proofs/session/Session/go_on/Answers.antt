@@ -1,0 +1,63 @@
+use Rattle.std.proofs.Common.{◌≡◌, ◌∙◌, ap, rules, refl, subst, sym}
+use Rattle.rc_spec.specs.declared.call.Call.{Call}
+use Rattle.rc_multi.specs.Group.{Covers}
+use Rattle.rc_row.specs.Passes.{compiled_of, spec_of}
+use Rattle.rc_store.specs.declared.open_group.OpenBack.TheVariants as backs
+use Rattle.rc_store.specs.OpenBacks.{IsCallBack}
+use Rattle.rc_store.specs.OpenGroups.{OpenGroupSeen}
+use Rattle.rc_store.specs.Store.{StoreSeen}
+use Rattle.rc_work.specs.CallColumns.{call_of}
+use Rattle.rc_embed.specs.declared.session.State.{State}
+use Rattle.rc_embed.specs.declared.session.State.TheVariants as states
+use Rattle.rc_embed.specs.OpenGroups.{IsUncoveredIn}
+use Rattle.rc_embed.specs.Session.{SessionSeen, made_of, uncommitted_in}
+use Rattle.rc_embed.specs.SessionInside.{session_seen}
+use Rattle.rc_embed.proofs.session.Session.go_on.Goals as goal
+
+pub returns-in-Err-Uncovered : goal.returns-in-Err-Uncovered
+returns-in-Err-Uncovered c =
+    let group = c.in-Open.group in
+    let store = c.args.self.now.store in
+    let made = c.refill_call.new.call in
+    let here : c.behind-self.inside.store ≡ store = search rules in
+    let inner : c.self.inside.state ≡ states.Open group = search rules in
+    let state : c.args.self.now.state ≡ states.Open group = search rules in
+    let call : made ≡ call_of (spec_of store.row) c.args.op c.args.values.now = search rules in
+    let back : IsCallBack c.behind-self.inside.store made group (backs.Uncovered c.in-Err-Uncovered.group) =
+    subst (IsCallBack c.behind-self.inside.store made group) c.in-Err-Uncovered.field-0-is c.in-Err-Uncovered.ensures.back in
+    record {
+      store = ap (λ (s : SessionSeen). s.store) c.self.view_is;
+      made = tt;
+      cause = (
+        c.requires,
+        subst (λ (s : State). IsUncoveredIn store s (call_of (spec_of store.row) c.args.op c.args.values.now)) (sym state)
+            (subst (λ (z : Call). Covers (compiled_of store.row) z group.locks → ⊥) call
+            (subst (λ (s : StoreSeen). Covers (compiled_of s.row) made group.locks → ⊥) here back.2)),
+      );
+      left =
+          ap (λ (s : State). record (session_seen c.self.inside) { state = s })
+          (ap (λ (g : OpenGroupSeen). states.Open g) back.0 ∙ sym inner)
+          ∙ c.self.view_is;
+    }
+
+pub returns-in-Err-Memory : goal.returns-in-Err-Memory
+returns-in-Err-Memory c =
+    let group = c.in-Open.group in
+    let made = c.refill_call.new.call in
+    let state : c.args.self.now.state ≡ states.Open group = search rules in
+    let back : IsCallBack c.behind-self.inside.store made group (backs.Memory c.in-Err-Memory.pass) =
+    subst (IsCallBack c.behind-self.inside.store made group) c.in-Err-Memory.field-0-is c.in-Err-Memory.ensures.back in
+    record {
+      store = ap (λ (s : SessionSeen). s.store) c.self.view_is;
+      made = tt;
+      cause = c.requires;
+      left = record {
+        running = made_of group;
+        after = c.in-Err-Memory.pass;
+        was = ap uncommitted_in state;
+        is = refl;
+        last = ap (λ (s : SessionSeen). s.last) c.self.view_is;
+        picked = refl;
+        before = back.1;
+      };
+    }
