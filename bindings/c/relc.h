@@ -12,7 +12,7 @@
  *             call at a time.
  * Codes.      Each function answers a code, but relc_version and those that close; RELC_DONE is 0.
  *             A call that is refused has changed nothing in the store, nor in the session but for
- *             RELC_UNSEEN; a relc_frame or a relc_operation_frame is as before but for what
+ *             RELC_UNSEEN, and for RELC_MEMORY of relc_call_open; a relc_frame or a relc_operation_frame is as before but for what
  *             RELC_BUSY tells, and a relc_page but for `rows`. Nothing aborts, nothing waits, and nothing is printed.
  * Memory.     Every byte that is lent is initialised: frames and pages (= {0}), and the places that store
  *             and session are written to (= NULL). What is lent is aligned as its type is. What one
@@ -63,8 +63,9 @@ enum relc_code {
     RELC_SPENT = 3,        /* the session has made as many calls as its store lets it */
     RELC_OPERATION = 4,    /* no operation has this number, or this name */
     RELC_VALUE_COUNT = 5,  /* the operation takes another number of values */
-    RELC_PREPARED = 6,     /* a call or a group is prepared, and neither committed nor cancelled */
-    RELC_NOT_PREPARED = 7, /* no call and no group is prepared */
+    RELC_PREPARED = 6,     /* a call or a group is prepared, or a group is open, and neither
+                              committed nor cancelled */
+    RELC_NOT_PREPARED = 7, /* there is nothing to commit, or to cancel */
     RELC_NO_ROW = 8,       /* the reply has no such row, or there is no such reply */
     RELC_OPTIONS = 9,      /* passes, limit or rows are out of their ranges */
     RELC_TOO_LONG = 10,    /* the text is longer than 2^24 bytes */
@@ -72,7 +73,9 @@ enum relc_code {
     RELC_RULE = 12,        /* the specification breaks a rule of acceptance: the same */
     RELC_NONE_LEFT = 13,   /* as many sessions were begun as the store has passes */
     RELC_UNSEEN = 14,      /* the session has seen less than what was to be learned */
-    RELC_COUNT = 15        /* a group has no call, or more than RELC_GROUP */
+    RELC_COUNT = 15,       /* a group has no call, or would have more than RELC_GROUP */
+    RELC_NOT_OPEN = 16,    /* no group is open */
+    RELC_UNCOVERED = 17    /* what the open group declared doesn't suffice for the call */
 };
 
 /* kinds of a reply */
@@ -133,9 +136,9 @@ typedef struct relc_frame {
     uint32_t stripe;              /* told with RELC_BUSY: the stripe, over all classes */
     uint32_t who;                 /* told with RELC_BUSY: see enum relc_found */
     uint64_t number;              /* told: of rows, or of the dependency */
-    uint64_t place;               /* told where calls are made, and not where they are prepared: the
-                                     place of the call, or of the group, in the one history of all,
-                                     in which a group counts as one */
+    uint64_t place;               /* told where calls are made, and not where they are prepared, or
+                                     made of an open group: the place of the call, or of the group,
+                                     in the one history of all, in which a group counts as one */
     uint64_t nth;                 /* told with it: its number among the session's own */
     uint64_t seen;                /* asked and told by relc_learn: the length of a history that a
                                      session has seen */
@@ -192,16 +195,34 @@ uint32_t relc_try_group(relc_session *session, relc_frame *frames, size_t count)
  * follows. Codes as relc_try_group. */
 uint32_t relc_begin_group(relc_session *session, relc_frame *frames, size_t count);
 
-/* Commits the prepared call or group, which has the replies that were told; of a group the frame tells
- * that of the first call again. It takes no memory. RELC_DONE or RELC_NOT_PREPARED. */
+/* Opens a group of calls that aren't known yet, and waits for nobody: each of up to RELC_GROUP frames
+ * declares an operation that may be called, with the values of its pattern, or with none (`count` 0):
+ * then with any. The stripes that calls of these may want are taken, and held until relc_commit or
+ * relc_cancel; of stripes that the declared values don't choose, all that the operation may want. Codes
+ * as relc_try_group, where RELC_VALUE_COUNT means that there are values, and not one for each column of
+ * the pattern. The frames are told nothing but what RELC_BUSY tells the first. */
+uint32_t relc_open_group(relc_session *session, relc_frame *frames, size_t count);
+
+/* Makes one call more of the open group, over what those before it left; nobody else sees it yet. RELC_DONE:
+ * the frame tells its reply, which relc_row and relc_rows read then. Else RELC_NOT_OPEN,
+ * RELC_OPERATION, RELC_VALUE_COUNT, RELC_COUNT (it has made RELC_GROUP calls), in that order of tests, then
+ * RELC_UNCOVERED: it wants a stripe that the group doesn't hold, or doesn't hold to be changed; the group
+ * is open and as it was. RELC_MEMORY, in place of RELC_DONE or RELC_UNCOVERED: the group is over, as if it
+ * had been cancelled. */
+uint32_t relc_call_open(relc_session *session, relc_frame *frame);
+
+/* Commits the prepared call or group, or the calls of the open group, as one; they have the replies that
+ * were told. Of several the frame tells that of the first call again. It takes no memory. RELC_DONE, or
+ * RELC_NOT_PREPARED, also where a group is open that has made no call: it stays open. */
 uint32_t relc_commit(relc_session *session, relc_frame *frame);
 
-/* Cancels the prepared call or group, as if it had not begun. It takes no memory, and neither reads nor
- * writes the frame. RELC_DONE or RELC_NOT_PREPARED. */
+/* Cancels the prepared call or group, or the open group, as if it had not begun. It takes no memory, and
+ * neither reads nor writes the frame. RELC_DONE or RELC_NOT_PREPARED. */
 uint32_t relc_cancel(relc_session *session, relc_frame *frame);
 
 /* Picks the reply to the call of a group that has the number `row`, from 0: relc_row and relc_rows read
- * it from then on. Whatever is made, prepared, committed or cancelled next picks the first again.
+ * it from then on. Whatever is made, prepared, opened, committed or cancelled next picks the first again,
+ * and a call of an open group its own.
  * RELC_DONE, or RELC_NO_ROW, where there is no such call and nothing changes. */
 uint32_t relc_pick(relc_session *session, relc_frame *frame);
 
@@ -214,7 +235,8 @@ uint32_t relc_pick(relc_session *session, relc_frame *frame);
 uint32_t relc_learn(relc_session *session, relc_frame *frame);
 
 /* Copies row `row` into `cells`: of the reply of the prepared call, where one is, else of the last
- * call that was made; of a group that of the first call, or of the one that relc_pick picked.
+ * call that was made; of a group that of the first call, of an open one that of the last, or of the one
+ * that relc_pick picked.
  * RELC_DONE or RELC_NO_ROW. */
 uint32_t relc_row(relc_session *session, relc_frame *frame);
 
@@ -227,8 +249,8 @@ uint32_t relc_rows(relc_session *session, relc_page *page);
 /* Closes a store, where it isn't NULL. Its sessions may go on. */
 void relc_close_store(relc_store *store);
 
-/* Closes a session, where it isn't NULL, and cancels the call or the group that it has prepared, where
- * there is one. */
+/* Closes a session, where it isn't NULL, and cancels the call or the group that it has prepared or opened,
+ * where there is one. */
 void relc_close_session(relc_session *session);
 
 #ifdef __cplusplus

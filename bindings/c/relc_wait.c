@@ -141,7 +141,7 @@ static uint32_t call(relc_waiting *waiting, export *asks, relc_session *session,
     return code;
 }
 
-/* calls are prepared, and keep their stripes, but for those of a refused try */
+/* calls are prepared, or a group is opened, and they keep their stripes, but for those of a refused try */
 static uint32_t begin(relc_waiting *waiting, export *asks, relc_session *session, relc_frame *frames,
     size_t count)
 {
@@ -171,4 +171,10 @@ uint32_t relc_begin_group_waiting(
     relc_waiting *waiting, relc_session *session, relc_frame *frames, size_t count)
 {
     return begin(waiting, relc_begin_group, session, frames, count);
+}
+
+uint32_t relc_open_group_waiting(
+    relc_waiting *waiting, relc_session *session, relc_frame *frames, size_t count)
+{
+    return begin(waiting, relc_open_group, session, frames, count);
 }

@@ -29,15 +29,19 @@ uint32_t relc_call(relc_waiting *waiting, relc_session *session, relc_frame *fra
 /* Prepares a call as relc_begin does, and waits as relc_call does. */
 uint32_t relc_begin_waiting(relc_waiting *waiting, relc_session *session, relc_frame *frame);
 
-/* The same of groups, as relc_try_group and relc_begin_group make and prepare them. */
+/* The same of groups, as relc_try_group, relc_begin_group and relc_open_group make, prepare and open
+ * them. */
 uint32_t relc_call_group(
     relc_waiting *waiting, relc_session *session, relc_frame *frames, size_t count);
 uint32_t relc_begin_group_waiting(
     relc_waiting *waiting, relc_session *session, relc_frame *frames, size_t count);
+uint32_t relc_open_group_waiting(
+    relc_waiting *waiting, relc_session *session, relc_frame *frames, size_t count);
 
 /* Wakes those that wait: to be called after each relc_try_call, relc_try_group, relc_commit,
- * relc_cancel or relc_close_session that stands alone, and after each relc_begin or relc_begin_group
- * that is refused. Where nobody waits it costs one load. */
+ * relc_cancel or relc_close_session that stands alone, after each relc_begin, relc_begin_group or
+ * relc_open_group that is refused, and after a relc_call_open that answers RELC_MEMORY. Where nobody
+ * waits it costs one load. */
 void relc_ring(relc_waiting *waiting);
 
 #ifdef __cplusplus

@@ -556,6 +556,91 @@ static void test_groups(void)
     relc_close_session(other);
 }
 
+/* What an open group may call is declared, and what isn't covered is refused; nobody sees its calls before
+ * they are committed. */
+static void test_open_groups(void)
+{
+    relc_store *store = opened(2, 2);
+    relc_session *session = session_of(store), *other = session_of(store);
+    static relc_frame declared[RELC_GROUP + 1];
+    relc_frame frames[3] = {0}, read = {0};
+    ask_all(store, frames, 2, 10);
+    ask(&read, frames[2].op, 1, 1, 0, 0);
+    relc_close_store(store);
+    CHECK(relc_call_open(session, frames) == RELC_NOT_OPEN);
+    CHECK(relc_open_group(session, declared, 0) == RELC_COUNT);
+    CHECK(relc_open_group(session, declared, RELC_GROUP + 1) == RELC_COUNT);
+    /* an insert is declared by its pattern, which is source and target, and not by its tuple */
+    ask(&declared[0], frames[0].op, 3, 1, 2, 10);
+    CHECK(relc_open_group(session, declared, 1) == RELC_VALUE_COUNT);
+    declared[0].count = 1000000;
+    CHECK(relc_open_group(session, declared, 1) == RELC_VALUE_COUNT);
+    declared[0].count = 2;
+    ask(&declared[1], 99, 0, 0, 0, 0);
+    CHECK(relc_open_group(session, declared, 2) == RELC_OPERATION);
+    ask(&declared[1], frames[1].op, 2, 1, 2, 0);
+
+    CHECK(relc_open_group(session, declared, 2) == RELC_DONE);
+    CHECK(relc_open_group(session, declared, 0) == RELC_PREPARED);
+    CHECK(relc_try_call(session, frames) == RELC_PREPARED);
+    CHECK(relc_commit(session, frames) == RELC_NOT_PREPARED);
+    CHECK(relc_row(session, frames) == RELC_NO_ROW);
+    read.stripe = read.found = read.who = 99;
+    CHECK(relc_try_call(other, &read) == RELC_BUSY && read.stripe < 12);
+    CHECK(read.found == RELC_WRITER && read.who == 0);
+    CHECK(relc_call_open(session, &frames[0]) == RELC_DONE && frames[0].kind == RELC_INSERTED);
+    CHECK(relc_call_open(session, &frames[2]) == RELC_DONE && frames[2].number == 1);
+    CHECK(relc_row(session, frames) == RELC_DONE && frames[0].width == 2 && frames[0].cells[1] == 10);
+    CHECK(relc_call_open(session, &frames[1]) == RELC_DONE && frames[1].kind == RELC_REMOVED);
+    CHECK(relc_row(session, frames) == RELC_DONE && frames[0].width == 3 && frames[0].cells[2] == 10);
+    uint64_t calls = 3;
+    frames[0].row = calls;
+    CHECK(relc_pick(session, frames) == RELC_NO_ROW);
+    /* a node whose stripes are others than those of node 1 */
+    relc_frame far = {0};
+    for (uint64_t node = 2;; node++) {
+        ask(&far, read.op, 1, node, 0, 0);
+        uint32_t code = relc_call_open(session, &far);
+        if (code == RELC_UNCOVERED)
+            break;
+        CHECK(code == RELC_DONE && far.number == 0 && ++calls < RELC_GROUP);
+    }
+    frames[0].row = 1;
+    CHECK(relc_pick(session, frames) == RELC_DONE);
+    CHECK(relc_call_open(session, &far) == RELC_UNCOVERED);
+    far.count = 2;
+    CHECK(relc_call_open(session, &far) == RELC_VALUE_COUNT);
+    far.op = 99;
+    CHECK(relc_call_open(session, &far) == RELC_OPERATION);
+    frames[0].row = 0;
+    CHECK(relc_row(session, frames) == RELC_DONE && frames[0].width == 2);
+    for (; calls < RELC_GROUP; calls++)
+        CHECK(relc_call_open(session, &frames[2]) == RELC_DONE && frames[2].number == 0);
+    CHECK(relc_call_open(session, &frames[2]) == RELC_COUNT);
+    CHECK(relc_cancel(session, frames) == RELC_DONE);
+    CHECK(relc_cancel(session, frames) == RELC_NOT_PREPARED);
+    CHECK(relc_try_call(other, &read) == RELC_DONE && read.number == 0 && read.place == 0);
+
+    /* with no values any may be called */
+    for (int at = 0; at < 2; at++)
+        declared[at].count = 0;
+    CHECK(relc_open_group(session, declared, 2) == RELC_DONE);
+    CHECK(relc_call_open(session, &frames[0]) == RELC_DONE);
+    frames[0].values[0] = 4;
+    CHECK(relc_call_open(session, &frames[0]) == RELC_DONE);
+    frames[2].kind = 99;
+    CHECK(relc_commit(session, &frames[2]) == RELC_DONE && frames[2].kind == RELC_INSERTED);
+    CHECK(frames[2].place == 1 && frames[2].nth == 0);
+    CHECK(relc_call_open(session, frames) == RELC_NOT_OPEN);
+    CHECK(relc_try_call(other, &read) == RELC_DONE && read.number == 1 && read.place == 2);
+    CHECK(relc_open_group(session, declared, 1) == RELC_DONE);
+    CHECK(relc_call_open(session, frames) == RELC_DONE && frames[0].kind == RELC_PRESENT);
+    CHECK(relc_commit(session, frames) == RELC_DONE && frames[0].place == 3);
+    CHECK(relc_open_group(session, declared, 1) == RELC_SPENT);
+    relc_close_session(session);
+    relc_close_session(other);
+}
+
 /* What closes, closes nothing where there is nothing. */
 static void test_closing(void)
 {
@@ -585,6 +670,8 @@ static void test_waiting(void)
     CHECK(relc_call_group(waiting, session, &frame, 0) == RELC_COUNT);
     CHECK(relc_call_group(waiting, session, &frame, 1) == RELC_SPENT);
     CHECK(relc_begin_group_waiting(waiting, session, &frame, 1) == RELC_SPENT);
+    frame.count = 0;
+    CHECK(relc_open_group_waiting(waiting, session, &frame, 1) == RELC_SPENT);
     relc_close_session(session);
     relc_close_waiting(waiting);
 }
@@ -703,6 +790,7 @@ int main(void)
     test_busy();
     test_groups_are_refused();
     test_groups();
+    test_open_groups();
     test_closing();
     test_waiting();
     test_latch();
@@ -711,6 +799,6 @@ int main(void)
     CHECK(waiting != NULL);
     test_threads(waiting);
     relc_close_waiting(waiting);
-    puts("relc.h: 14 passed, 0 failed");
+    puts("relc.h: 15 passed, 0 failed");
     return 0;
 }

@@ -91,6 +91,15 @@ static uint32_t begin_group(relc_waiting *waiting, relc_session *session, relc_f
     return relc_begin_group_waiting(waiting, session, frames, 2);
 }
 
+/* opens a group that may put any key, and puts that one */
+static uint32_t open_group(relc_waiting *waiting, relc_session *session, relc_frame *frame)
+{
+    relc_frame any = *frame;
+    any.count = 0;
+    CHECK(relc_open_group_waiting(waiting, session, &any, 1) == RELC_DONE);
+    return relc_call_open(session, frame);
+}
+
 /* Lets a thread fall asleep behind a prepared call, and sees that it is back soon after
  * `let_go`. */
 static void test_waking(call_by *call, void (*let_go)(void))
@@ -128,13 +137,13 @@ static void test_waking(call_by *call, void (*let_go)(void))
 
 int main(void)
 {
-    call_by *const calls[] = {relc_call, relc_begin_waiting, call_group, begin_group};
+    call_by *const calls[] = {relc_call, relc_begin_waiting, call_group, begin_group, open_group};
     void (*const ways[])(void) = {
         commit, cancel, close_holder, commit_and_call, commit_and_be_refused};
-    for (size_t call = 0; call < 4; call++) {
+    for (size_t call = 0; call < 5; call++) {
         for (size_t way = 0; way < 5; way++)
             test_waking(calls[call], ways[way]);
     }
-    puts("relc_wait.h: 20 passed, 0 failed");
+    puts("relc_wait.h: 25 passed, 0 failed");
     return 0;
 }

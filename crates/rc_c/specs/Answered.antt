@@ -19,7 +19,7 @@ abbrev pub lies_again : (T : RattleType) → Ptr → (T.Denot → Type 0) → Fm
 lies_again T pointer IsSo =
     fex T.Denot (λ after. fsep (fex (IsSo after) (λ _. ftrue)) (lies_at T full_share pointer after))
 
--- what is prepared is cancelled, and the frame is the same
+-- what is prepared or open is cancelled, and the frame is the same
 pub record AnswersSameFrame (old : SessionSeen) (before : Frame)
     (new : SessionSeen) (after : Frame) (code : ℕ) : Type 0 where
   pub same : after ≡ before

@@ -10,6 +10,7 @@ ghost use Rattle.rc_embed.specs.Codes as codes;
 ghost use Rattle.rc_embed.specs.Frames.{AnswersBegin, AnswersBeginGroup, AnswersCall, AnswersCommit};
 ghost use Rattle.rc_embed.specs.Frames.{AnswersGroup, AnswersLearn};
 ghost use Rattle.rc_embed.specs.OpenFrames.{HasOpened, IsRefusedBy, KeepsAsked};
+ghost use Rattle.rc_embed.specs.OpenGroupFrames.{AnswersCallOpen, AnswersOpenGroup};
 ghost use Rattle.rc_embed.specs.Opened.{OpenSeen};
 ghost use Rattle.rc_embed.specs.Session.{SessionSeen};
 ghost use Rattle.rc_embed.specs.contracts.opening.OpenStore as stores;
@@ -164,14 +165,50 @@ pub unsafe extern "C" fn relc_begin_group(session: *mut u8, frames: &mut [Frame]
     prepare_group_on(&mut *(session as *mut Session), frames)
 }
 
-/// Commits the prepared call or group.
+/// Opens a group over what the frames declare, and waits for nobody.
+fn open_group_on(session: &mut Session, frames: &mut [Frame]) -> u32
+    ensures { AnswersOpenGroup session.old frames.old session.new frames.new result }
+{
+    session.open_group_by(frames)
+}
+
+/// Opens a group over what the frames declare, by the session at the pointer, and waits for nobody.
+#[unsafe(no_mangle)]
+pub unsafe extern "C" fn relc_open_group(session: *mut u8, frames: &mut [Frame]) -> u32
+    ghost held: { SessionSeen }
+    requires* { sem 𝓛 (lies_at sessions.the_row full_share session held) }
+    ensures* { sem 𝓛 (lies_again sessions.the_row session
+        (λ after. AnswersOpenGroup held frames.old after frames.new result)) }
+{
+    open_group_on(&mut *(session as *mut Session), frames)
+}
+
+/// Makes the call that the frame asks for, of the open group.
+fn call_open_on(session: &mut Session, frame: &mut Frame) -> u32
+    ensures { AnswersCallOpen session.old frame.old session.new frame.new result }
+{
+    session.call_open_by(frame)
+}
+
+/// Makes the call that the frame asks for, of the group that the session at the pointer has opened.
+#[unsafe(no_mangle)]
+pub unsafe extern "C" fn relc_call_open(session: *mut u8, frame: &mut Frame) -> u32
+    ghost held: { SessionSeen }
+    requires* { sem 𝓛 (lies_at sessions.the_row full_share session held) }
+    ensures* { sem 𝓛 (lies_again sessions.the_row session
+        (λ after. AnswersCallOpen held frame.old after frame.new result)) }
+{
+    call_open_on(&mut *(session as *mut Session), frame)
+}
+
+/// Commits the prepared call or group, or the calls of the open group.
 fn commit_on(session: &mut Session, frame: &mut Frame) -> u32
     ensures { AnswersCommit session.old frame.old session.new frame.new result }
 {
     session.commit_by(frame)
 }
 
-/// Commits the call or the group that the session at the pointer has prepared.
+/// Commits the call or the group that the session at the pointer has prepared, or has opened.
 #[unsafe(no_mangle)]
 pub unsafe extern "C" fn relc_commit(session: *mut u8, frame: &mut Frame) -> u32
     ghost held: { SessionSeen }
@@ -182,8 +219,8 @@ pub unsafe extern "C" fn relc_commit(session: *mut u8, frame: &mut Frame) -> u32
     commit_on(&mut *(session as *mut Session), frame)
 }
 
-/// Cancels the prepared call or group. (The frame is neither read nor written: so the exports have one
-/// shape.)
+/// Cancels the prepared call or group, or the open group. (The frame is neither read nor written: so
+/// the exports have one shape.)
 fn cancel_on(session: &mut Session, frame: &mut Frame) -> u32
     ensures { AnswersSameFrame session.old frame.old session.new frame.new result }
 {
@@ -191,7 +228,7 @@ fn cancel_on(session: &mut Session, frame: &mut Frame) -> u32
     session.cancel_by()
 }
 
-/// Cancels the call or the group that the session at the pointer has prepared.
+/// Cancels the call or the group that the session at the pointer has prepared, or has opened.
 #[unsafe(no_mangle)]
 pub unsafe extern "C" fn relc_cancel(session: *mut u8, frame: &mut Frame) -> u32
     ghost held: { SessionSeen }
@@ -290,14 +327,14 @@ pub unsafe extern "C" fn relc_end_store(store: *mut u8)
     let_store_go(std::ptr::read(store as *const OpenStore))
 }
 
-/// Drops the session. What it has prepared is cancelled before: nobody else could give its stripes
-/// back.
+/// Drops the session. What it has prepared or opened is cancelled before: nobody else could give its
+/// stripes back.
 fn let_session_go(session: Session) {
     let mut session = session;
     let _ = session.cancel();
 }
 
-/// Ends the session at the pointer, and cancels what it has prepared, if anything. The memory
+/// Ends the session at the pointer, and cancels what it has prepared or opened, if anything. The memory
 /// behind the pointer is the caller's again, to be freed.
 #[unsafe(no_mangle)]
 pub unsafe extern "C" fn relc_end_session(session: *mut u8)
