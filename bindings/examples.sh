@@ -24,7 +24,7 @@ run ${CC:-cc} -std=c11 -D_POSIX_C_SOURCE=200809L -O2 -Wall -Wextra -I"$here/c" -
 run "$out/graph" "$here/rust/examples/graph.relc"
 if command -v cargo >/dev/null 2>&1; then
     cd "$here/rust" || exit 1
-    for name in scheduler states cache directory graph accounts; do
+    for name in scheduler states cache directory graph accounts payments; do
         run cargo run --quiet --offline --release --example "$name"
     done
 else

@@ -25,8 +25,8 @@ impl fmt::Display for Many {
 
 impl std::error::Error for Many {}
 
-/// Why something isn't done. The store is as before, and so is the session but for `Unseen`; only
-/// `Many` speaks of a call that was made.
+/// Why something isn't done. The store is as before, and so is the session but for `Unseen`, and for
+/// `Memory` of a call of a transaction, which is over then; only `Many` speaks of a call that was made.
 #[derive(Clone, Debug, PartialEq, Eq)]
 pub enum Error {
     /// Memory was wanted.
@@ -62,11 +62,15 @@ pub enum Error {
     },
     /// The session has made as many calls as its store lets it.
     Spent,
-    /// A prepared call or group was forgotten, and is neither committed nor cancelled. Drop the session:
-    /// it is cancelled.
+    /// A prepared call or group, or a transaction, was forgotten, and is neither committed nor cancelled.
+    /// Drop the session: it is cancelled.
     Prepared,
-    /// A group has no call, or would have more than 16.
+    /// A group has no call, or would have more than 16; or so many are declared.
     Count,
+    /// What is declared of an operation has another number of values than its pattern has columns.
+    Pattern,
+    /// What the transaction declared doesn't suffice for the call.
+    Uncovered,
     /// The slot is another group's, or one of before this group was cleared.
     Slot,
     /// The session has looked, and has seen less than what was to be learned. What a session of
@@ -99,6 +103,8 @@ impl fmt::Display for Error {
             Error::Spent => write!(f, "the session has made all its calls"),
             Error::Prepared => write!(f, "a prepared call was forgotten"),
             Error::Count => write!(f, "a group has 1 to 16 calls"),
+            Error::Pattern => write!(f, "the operation's pattern has another number of columns"),
+            Error::Uncovered => write!(f, "what was declared doesn't suffice for the call"),
             Error::Slot => write!(f, "the slot is another group's"),
             Error::Unseen => write!(f, "the session has seen less than that"),
             Error::Many(many) => many.fmt(f),

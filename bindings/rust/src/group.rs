@@ -16,11 +16,11 @@ pub struct Group {
     calls: Vec<Call>,
 }
 
-/// A call that a group asks for.
+/// A call that a group asks for, or calls that a transaction declares.
 #[derive(Debug)]
-struct Call {
-    of: Number,
-    values: Vec<u64>,
+pub(crate) struct Call {
+    pub(crate) of: Number,
+    pub(crate) values: Vec<u64>,
 }
 
 /// Where a group's call, and its reply, stand.
@@ -116,14 +116,14 @@ impl Group {
 }
 
 impl Session {
-    /// Fills the session's frames with the group's calls.
-    fn put_all(&mut self, group: &Group) -> Result<(), Error> {
+    /// Fills the session's frames with the calls.
+    pub(crate) fn put_all(&mut self, calls: &[Call]) -> Result<(), Error> {
         let store = self.store();
-        if group.calls.iter().any(|call| call.of.store != store) {
+        if calls.iter().any(|call| call.of.store != store) {
             return Err(Error::Foreign);
         }
-        self.frames.resize_with(group.calls.len(), Frame::new);
-        for (frame, call) in self.frames.iter_mut().zip(&group.calls) {
+        self.frames.resize_with(calls.len(), Frame::new);
+        for (frame, call) in self.frames.iter_mut().zip(calls) {
             frame.ask(call.of.op, &call.values);
         }
         Ok(())
@@ -166,7 +166,7 @@ impl Session {
     /// left, and nobody sees a state between them. A reply such as `Conflict` is a reply, and the
     /// group goes on.
     pub fn try_transaction(&mut self, group: &Group) -> Result<Done<'_>, Error> {
-        self.put_all(group)?;
+        self.put_all(&group.calls)?;
         let code = self.ask_group(sys::relc_try_group);
         self.done(group, code)
     }
@@ -174,7 +174,7 @@ impl Session {
     /// Makes the group's calls as one as `try_transaction` does, and waits while another session is in
     /// the way. What `call_placed` says of waiting holds here too.
     pub fn transaction(&mut self, group: &Group) -> Result<Done<'_>, Error> {
-        self.put_all(group)?;
+        self.put_all(&group.calls)?;
         let code = self.until_free(|session| session.ask_group(sys::relc_try_group));
         self.done(group, code)
     }
@@ -182,7 +182,7 @@ impl Session {
     /// Prepares the group's calls as one, and waits for nobody: they have their replies, and hold their
     /// stripes until they are committed, or dropped.
     pub fn begin_transaction(&mut self, group: &Group) -> Result<PreparedGroup<'_>, Error> {
-        self.put_all(group)?;
+        self.put_all(&group.calls)?;
         let code = self.ask_group(sys::relc_begin_group);
         self.prepared_group(group, code)
     }
@@ -190,7 +190,7 @@ impl Session {
     /// Prepares the group's calls as `begin_transaction` does, and waits while another session is in
     /// the way. What `call_placed` says of waiting holds here too.
     pub fn begin_transaction_waiting(&mut self, group: &Group) -> Result<PreparedGroup<'_>, Error> {
-        self.put_all(group)?;
+        self.put_all(&group.calls)?;
         let code = self.until_free(|session| session.ask_group(sys::relc_begin_group));
         self.prepared_group(group, code)
     }

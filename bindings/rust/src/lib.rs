@@ -19,6 +19,15 @@
 //! let back = moved.add(insert, [1, 3, 10])?;
 //! let mut done = session.transaction(&moved)?;
 //! println!("{:?} {:?}", done.reply(out)?, done.reply(back)?);
+//! // and calls that depend on the replies before them
+//! let mut over = relc::Declared::new();
+//! over.at(remove, [1, 3])?;
+//! over.at(insert, [1, 4])?; // its pattern, of two columns
+//! let mut transaction = session.open(&over)?;
+//! if let Some([src, _, weight]) = transaction.call(remove, [1, 3])? {
+//!     let _ = transaction.call(insert, [src, 4, weight + 1])?;
+//! }
+//! transaction.commit()?;
 //! # Ok(())
 //! # }
 //! ```
@@ -32,6 +41,7 @@ mod operation;
 mod session;
 mod store;
 mod sys;
+mod transaction;
 mod waiting;
 
 pub use error::{Error, Found, Many};
@@ -39,3 +49,4 @@ pub use group::{Done, Group, PreparedGroup, Slot};
 pub use operation::{Answer, Insert, Inserted, Operation, Query, Reading, Remove, Update, Updated};
 pub use session::{Position, Prepared, Rows, Seen, Session};
 pub use store::{Options, Store};
+pub use transaction::{Declared, Transaction};

@@ -77,7 +77,7 @@ pub struct Session {
     /// It has made all its calls.
     spent: bool,
     pub(crate) frame: Box<Frame>,
-    /// Those of the group that it made or prepared last.
+    /// Those of the group that it made, prepared or opened last.
     pub(crate) frames: Vec<Frame>,
     /// Where rows are read, many at a time; none before the first.
     page: Option<Box<Page>>,
@@ -165,7 +165,7 @@ impl Session {
         self.shared.number()
     }
 
-    fn put<const N: usize, O: Operation<N>>(
+    pub(crate) fn put<const N: usize, O: Operation<N>>(
         &mut self,
         op: &O,
         values: [u64; N],
@@ -218,7 +218,7 @@ impl Session {
     }
 
     /// The reply that the frame tells of.
-    fn reply<R: Reading>(&mut self) -> R {
+    pub(crate) fn reply<R: Reading>(&mut self) -> R {
         let Frame { kind, number, .. } = *self.frame;
         R::read(self, Told { kind, number })
     }

@@ -21,7 +21,9 @@ pub const DONE: u32 = 0;
 pub const MEMORY: u32 = 1;
 pub const BUSY: u32 = 2;
 pub const SPENT: u32 = 3;
+pub const VALUE_COUNT: u32 = 5;
 pub const PREPARED: u32 = 6;
+pub const NOT_PREPARED: u32 = 7;
 pub const OPTIONS: u32 = 9;
 pub const TOO_LONG: u32 = 10;
 pub const LINE: u32 = 11;
@@ -29,6 +31,8 @@ pub const RULE: u32 = 12;
 pub const NONE_LEFT: u32 = 13;
 pub const UNSEEN: u32 = 14;
 pub const COUNT: u32 = 15;
+pub const NOT_OPEN: u32 = 16;
+pub const UNCOVERED: u32 = 17;
 
 // Kinds of a reply.
 pub const ROWS: u32 = 0;
@@ -165,6 +169,8 @@ unsafe extern "C" {
     pub fn relc_begin(session: *mut c_void, frame: *mut Frame) -> u32;
     pub fn relc_try_group(session: *mut c_void, frames: *mut Frame, count: usize) -> u32;
     pub fn relc_begin_group(session: *mut c_void, frames: *mut Frame, count: usize) -> u32;
+    pub fn relc_open_group(session: *mut c_void, frames: *mut Frame, count: usize) -> u32;
+    pub fn relc_call_open(session: *mut c_void, frame: *mut Frame) -> u32;
     pub fn relc_commit(session: *mut c_void, frame: *mut Frame) -> u32;
     pub fn relc_cancel(session: *mut c_void, frame: *mut Frame) -> u32;
     pub fn relc_pick(session: *mut c_void, frame: *mut Frame) -> u32;

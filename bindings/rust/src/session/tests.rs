@@ -2,7 +2,7 @@
 //! whoever is back soon was woken.
 
 use super::*;
-use crate::{Group, Insert, Inserted, Options, Query, Store};
+use crate::{Declared, Group, Insert, Inserted, Options, Query, Store};
 use std::mem::forget;
 use std::thread;
 use std::time::{Duration, Instant};
@@ -44,6 +44,13 @@ impl Graph {
     }
 }
 
+/// What a transaction declares that puts an edge of the node in.
+fn declared(graph: &Graph, node: u64) -> Declared {
+    let mut declared = Declared::new();
+    declared.at(graph.insert, [node, 2]).unwrap();
+    declared
+}
+
 fn prepared(session: &mut Session) -> Prepared<'_, Inserted> {
     Prepared {
         session,
@@ -66,11 +73,15 @@ fn wakes(let_go: impl Fn(&Graph, Session)) {
     let begin_transaction = |graph: &Graph, waiter: &mut Session| {
         drop(waiter.begin_transaction_waiting(&graph.group(1)).unwrap());
     };
+    let open = |graph: &Graph, waiter: &mut Session| {
+        drop(waiter.open(&declared(graph, 1)).unwrap());
+    };
     for waits in [
         call as fn(&Graph, &mut Session),
         begin,
         transaction,
         begin_transaction,
+        open,
     ] {
         let graph = &Graph::open();
         let (mut holder, mut waiter) = (graph.session(), graph.session());
@@ -160,6 +171,22 @@ fn a_group_wakes() {
 }
 
 #[test]
+fn a_transaction_wakes() {
+    wakes(|graph, holder| {
+        commit_silently(holder);
+        let mut session = graph.session();
+        let over = declared(graph, 1);
+        let mut transaction = session.open(&over).unwrap();
+        let _ = transaction.call(graph.insert, EDGE).unwrap();
+        transaction.commit().unwrap();
+    });
+    wakes(|graph, holder| {
+        commit_silently(holder);
+        drop(graph.session().open(&declared(graph, 1)).unwrap());
+    });
+}
+
+#[test]
 fn a_refused_call_wakes() {
     let is_busy = |error: Option<Error>| matches!(error, Some(Error::Busy { .. }));
     wakes(|graph, holder| {
@@ -183,5 +210,10 @@ fn a_refused_call_wakes() {
         let group = graph.group(other_node(graph));
         commit_silently(holder);
         assert!(is_busy(graph.session().begin_transaction(&group).err()));
+    });
+    wakes(|graph, holder| {
+        let over = declared(graph, other_node(graph));
+        commit_silently(holder);
+        assert!(is_busy(graph.session().try_open(&over).err()));
     });
 }
