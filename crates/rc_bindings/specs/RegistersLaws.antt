@@ -288,7 +288,7 @@ in_from_get (q ∷ t) c v h = go (q.0 == c) refl h (in_from_get t c v)
     go false e k later = inr (later k)
 
 -- and those that have the same projection have the same values there
-get-project : (xs : List ℕ) (t : Pairs) (c : ℕ) → has xs c ≡ true → get (project xs t) c ≡ get t c
+pub get-project : (xs : List ℕ) (t : Pairs) (c : ℕ) → has xs c ≡ true → get (project xs t) c ≡ get t c
 get-project xs [] c h = refl
 get-project xs (p ∷ t) c h = go (has xs p.0) (p.0 == c) refl refl (get-project xs t c h)
   where

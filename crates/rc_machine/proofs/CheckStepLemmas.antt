@@ -75,6 +75,7 @@ module _ (spec : Spec) (sealed : IsSealed spec) (plan : List Statement) (call : 
       taken = λ x m. taken_now x.0 x.1 (o.taken x m);
       tuple = λ i. record { probing = inr (xs, refl, refl); named = (o.tuple i).named };
       no_probe = λ n. absurd (n keeps.k1.1);
+      given = λ n. absurd (n keeps.k1.1);
       found = o.found;
     }
 
@@ -117,6 +118,7 @@ module _ (spec : Spec) (sealed : IsSealed spec) (plan : List Statement) (call : 
     taken = λ x m. same_taken p ns sought checked x.0 x.1 (o.taken x m);
     tuple = λ i. record { probing = (o.tuple i).probing; named = (o.tuple i).named };
     no_probe = o.no_probe;
+    given = o.given;
     found = found;
   }
 

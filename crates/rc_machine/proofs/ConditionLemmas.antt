@@ -236,6 +236,10 @@ module _ (spec : Spec) (sealed : IsSealed spec) (plan : List Statement) (call : 
       go (inl e) = absurd (subst (In 0) e.0 (w 0 (in_range_below (length spec.columns) 0 sealed.populated.column)))
       go (inr seen) = all_seen_match (all_columns spec) (rising_range 0 (length spec.columns)) r a.relation o.sought o.rising o.inside at.progress.visited bs w o.search.rising seen
 
+  -- what is found matches the arguments
+  pub found_args : (op_at spec call.op).kind ≡ Remove → bs ≡ filter (matches call.args) r
+  found_args k = found_match k ∙ ap (λ s. filter (matches s) r) (o.given (remove_no_insert (op_at spec call.op).kind k))
+
   pub found_in : (op_at spec call.op).kind ≡ Remove → (b : Pairs) → In b bs → In b r
   found_in k b m = (in_filter (matches o.sought) b r (subst (In b) (found_match k) m)).0
 

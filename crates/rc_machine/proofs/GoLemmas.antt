@@ -31,7 +31,7 @@ use Rattle.rc_plan.specs.declared.statement.Statement.{Statement}
 use Rattle.rc_plan.specs.declared.statement.Statement.TheVariants.{Apply, CheckAbsent, CheckDep, CheckFound, Emit, Lock}
 use Rattle.rc_plan.specs.declared.statement.Which.{Which}
 use Rattle.rc_plan.specs.Compiled.{IsPlanOf}
-use Rattle.rc_plan.specs.Evaluation.{RunState, answer, eval, named_by, run, run_one, some_differs, some_left, stripes_locked, apply, emit, replace}
+use Rattle.rc_plan.specs.Evaluation.{RunState, answer, eval, named_by, run_one, some_differs, some_left, stripes_locked, apply, emit, replace}
 use Rattle.rc_plan.specs.NamedStripes.{IsNamedBy}
 use Rattle.rc_plan.specs.NamedStripesLaws.{named_law}
 use Rattle.rc_plan.specs.PlanRules.{ChecksAreDone, IsQuery, IsUpdate, MayApply}
@@ -42,7 +42,7 @@ use Rattle.rc_plan.specs.StripeLocksLaws.{stripe_lock_order}
 use Rattle.rc_machine.specs.Applied.{CanApply, CanReplace, HasApplied, HasRemoved, HasReplaced, replaced_in}
 use Rattle.rc_machine.specs.Apply.{all_changed}
 use Rattle.rc_machine.specs.Locks.{AreLocked, HasLocked, HasRefusedOne}
-use Rattle.rc_machine.specs.Machine.{AreAsTaken, AreTakenAsOffered, HasReplied, IsRefused, locks_of, rows_taken, stripes_held}
+use Rattle.rc_machine.specs.Machine.{AreAsTaken, AreTakenAsOffered, HasReplied, IsRefused, locks_of, stripes_held}
 use Rattle.rc_machine.specs.Run.{HasGoneOn, HasKeptLeast, IsAt, IsOn}
 use Rattle.rc_machine.proofs.ApplyLemmas.{Change, IsSameAt, LeavesOthers, lowered_leaves, raised_leaves, stripes_stay}
 use Rattle.rc_machine.proofs.ChangeLemmas.{IsLocal, all_done, changed_evaluated, changed_served, lowered_done, lowered_local, raised_done, raised_local}

@@ -21,3 +21,7 @@ pub mod GoLemmas
 mod BackLemmas
 mod EmitLemmas
 mod StripeLemmas
+mod AccessLemmas
+mod AccessRunLemmas
+mod ArriveLemmas
+mod EdgeChangeLemmas

@@ -150,6 +150,7 @@ module _ (spec : Spec) (sealed : IsSealed spec) (plan : List Statement) (call : 
               named = (o.tuple i).named;
             };
             no_probe = o.no_probe;
+            given = o.given;
             found = o.found;
           };
       runs = λ r a stripes w.

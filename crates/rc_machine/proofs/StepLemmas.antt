@@ -123,6 +123,7 @@ module _ (spec : Spec) (sealed : IsSealed spec) (plan : List Statement) (call : 
           taken = λ x m. absurd m;
           tuple = λ i. record { probing = inl (refl, refl, refl); named = λ x m. absurd m };
           no_probe = λ n. refl;
+          given = λ n. refl;
           found = λ u e. absurd (false≢true e);
         };
         runs = λ r a stripes w. refl;
@@ -210,6 +211,7 @@ module _ (spec : Spec) (sealed : IsSealed spec) (plan : List Statement) (call : 
               ];
             };
             no_probe = o.no_probe;
+            given = o.given;
             found = o.found;
           }
 

@@ -1,12 +1,17 @@
 -- On which stripe a tuple falls, and which columns a tuple has.
-use Rattle.std.specs.Prelude.{◌≡◌, ℕ, ◌<◌, List, length}
+use Rattle.std.specs.Prelude.{◌≡◌, ℕ, ◌+◌, ◌<◌, Bool, true, false, List, [], ◌∷◌, ◌++◌, Option, cond, filter, get_or, length, take, unwrap_or}
+use Rattle.std.specs.List.{fold}
 use Rattle.std.specs.Ordering.{nat_cmp}
-use Rattle.std.proofs.Common.{arith, inl, inr, subst, sym}
+use Rattle.std.proofs.Common.{add-one, arith, ap, inl, inr, subst, refl, sym, ◌∙◌}
+use Rattle.std.proofs.Math.Seq.{take-suc}
+use Rattle.std.proofs.lemmas.List.{map-append}
+use Rattle.std.proofs.lemmas.List.Elements.{filter-append}
+use Rattle.std.proofs.lemmas.List.Sums.{fold-append}
 use Rattle.rc_tuple.specs.RisingSet.{In, IsRising}
-use Rattle.rc_tuple.specs.RisingSetLaws.{in_gather, nat_order, slice_get_in}
-use Rattle.rc_tuple.specs.ColSet.{Within, union}
+use Rattle.rc_tuple.specs.RisingSetLaws.{filter_in, get_or_in, has_in, in_filter, in_gather, in_has, nat_order, rising_filter, same_rising, slice_get_in}
+use Rattle.rc_tuple.specs.ColSet.{IsColSet, Within, has, union}
 use Rattle.rc_tuple.specs.ColSetLaws.{in_range_bounds, in_union, rising_range}
-use Rattle.rc_tuple.specs.Tuple.{Pairs, cols_of}
+use Rattle.rc_tuple.specs.Tuple.{IsTuple, Pairs, cols_of, value}
 use Rattle.rc_tuple.specs.TupleLaws.{fewer_cols, in_project, one_pair}
 use Rattle.rc_spec.specs.declared.call.Call.{Call}
 use Rattle.rc_spec.specs.declared.items.Op.{Op}
@@ -19,7 +24,8 @@ use Rattle.rc_spec.specs.CountedRows.{row_in}
 use Rattle.rc_spec.specs.Decomposition.{bound, edge_at}
 use Rattle.rc_spec.specs.InRange.{AreBelow, IsOpAmong}
 use Rattle.rc_spec.specs.Placement.{class_at, class_of}
-use Rattle.rc_spec.specs.Stripes.{physical_stripe}
+use Rattle.rc_spec.specs.Stripes.{hash_of, mix, physical_stripe}
+use Rattle.rc_bindings.specs.RegistersLaws.{get_of}
 use Rattle.rc_plan.specs.StripeLocksLaws.{physical_stripe-agreeing, striping_in_target}
 use Rattle.rc_machine.proofs.ApplyLemmas.{cols_of-row_in}
 use Rattle.rc_spec.specs.ContentsLaws.{target_within}
@@ -57,3 +63,37 @@ args_below spec sealed call fits c m =
 pub joined_below : (spec : Spec) → IsSealed spec → (e : ℕ) → e < length spec.edges → (cols : List ℕ) → AreBelow (length spec.columns) cols → AreBelow (length spec.columns) (union cols (bound spec (edge_at spec e).to))
 joined_below spec sealed e l cols below c m =
     elim (in_union cols (bound spec (edge_at spec e).to) c m) [ inl h ↦ below c h | inr h ↦ all_below spec c (target_within spec sealed.in_range e l c h) ]
+
+-- ---- the hash of a tuple's values, pair after pair
+
+hash_next : (cols : List ℕ) (t : Pairs) (i : ℕ) (d : ℕ × ℕ) → i < length t → (b : Bool) → has cols (get_or t i d).0 ≡ b
+    → hash_of (filter (has cols) (cols_of (take (i + 1) t))) t ≡ cond b (mix (hash_of (filter (has cols) (cols_of (take i t))) t) (value t (get_or t i d).0)) (hash_of (filter (has cols) (cols_of (take i t))) t)
+hash_next cols t i d l b e =
+    let p : ℕ × ℕ = get_or t i d in
+    let before : List ℕ = filter (has cols) (cols_of (take i t)) in
+    let next : take (i + 1) t ≡ take i t ++ p ∷ [] = ap (λ k. take k t) (add-one i) ∙ take-suc t i d l in
+    let split : filter (has cols) (cols_of (take (i + 1) t)) ≡ before ++ cond (has cols p.0) (p.0 ∷ []) [] =
+    ap (λ (z : Pairs). filter (has cols) (cols_of z)) next ∙ ap (filter (has cols)) (map-append (λ (q : ℕ × ℕ). q.0) (take i t) (p ∷ [])) ∙ filter-append (has cols) (cols_of (take i t)) (p.0 ∷ []) in
+    ap (λ z. hash_of z t) (split ∙ ap (λ b. before ++ cond b (p.0 ∷ []) []) e) ∙ fold-append (λ hash c. mix hash (value t c)) 7 before (cond b (p.0 ∷ []) []) ∙ go p before b
+  where
+    go : (p : ℕ × ℕ) (before : List ℕ) (b : Bool) → fold (λ hash c. mix hash (value t c)) (hash_of before t) (cond b (p.0 ∷ []) []) ≡ cond b (mix (hash_of before t) (value t p.0)) (hash_of before t)
+    go p before true = refl
+    go p before false = refl
+
+pub hash_with : (cols : List ℕ) (t : Pairs) → IsTuple t → (i : ℕ) (d : ℕ × ℕ) → i < length t → (hash : ℕ) → hash ≡ hash_of (filter (has cols) (cols_of (take i t))) t → has cols (get_or t i d).0 ≡ true
+    → hash_of (filter (has cols) (cols_of (take (i + 1) t))) t ≡ mix hash (get_or t i d).1
+hash_with cols t tuple i d l hash is e =
+    let p : ℕ × ℕ = get_or t i d in
+    let its : value t p.0 ≡ p.1 = ap (λ (o : Option ℕ). unwrap_or o 0) (get_of t p tuple.rising (get_or_in t i d l)) in
+    hash_next cols t i d l true e ∙ ap (mix (hash_of (filter (has cols) (cols_of (take i t))) t)) its ∙ ap (λ z. mix z p.1) (sym is)
+
+pub hash_without : (cols : List ℕ) (t : Pairs) (i : ℕ) (d : ℕ × ℕ) → i < length t → (hash : ℕ) → hash ≡ hash_of (filter (has cols) (cols_of (take i t))) t → has cols (get_or t i d).0 ≡ false
+    → hash_of (filter (has cols) (cols_of (take (i + 1) t))) t ≡ hash
+hash_without cols t i d l hash is e = hash_next cols t i d l false e ∙ sym is
+
+-- in the end each column of the set was met
+pub columns_met : (cols : List ℕ) (t : Pairs) → IsTuple t → Within cols (cols_of t) → IsColSet cols → filter (has cols) (cols_of t) ≡ cols
+columns_met cols t tuple within set =
+    same_rising nat_cmp nat_order (filter (has cols) (cols_of t)) cols (rising_filter nat_cmp (has cols) (cols_of t) tuple.rising) set.rising
+    (λ c m. in_has cols c (in_filter (has cols) c (cols_of t) m).1)
+    (λ c m. filter_in (has cols) c (cols_of t) (within c m) (has_in cols c m))

@@ -1,3 +1,4 @@
+pub mod Access
 pub mod Applied
 pub mod Apply
 pub mod Checks

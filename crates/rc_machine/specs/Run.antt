@@ -46,6 +46,8 @@ pub record IsOn (spec : Spec) (r : List Pairs) (op : Op) (t : Pairs) (p : Progre
   pub taken : (x : ℕ × Which) → In x p.locked → IsClassTaken spec p (stripes_of ns) x.0 x.1
   pub tuple : GivesTuple op.kind → IsFromTuple spec t p sought bs ns
   pub no_probe : (GivesTuple op.kind → ⊥) → p.probe ≡ None
+  -- a query and a remove search for their arguments
+  pub given : (GivesTuple op.kind → ⊥) → sought ≡ t
   pub found : IsUpdate op.kind → p.sought ≡ true → (o : Pairs) × (old ≡ Some o) × IsOld r t op.pattern o
 
 -- Before the rest of the plan, with these bindings, this old tuple and held stripes: nothing is changed, stripes were taken rising and are of locked classes; and over each relation of which the held stripes have fragments, evaluation on the fragments of any stripes among which are those held goes on as the rest of the plan from here.

@@ -2,12 +2,16 @@
 #![tactic(auto)]
 
 mod apply;
+mod arguments;
 mod check;
 mod differing;
+mod edge_change;
+mod edge_query;
 mod edge_read;
 mod emit;
 mod lock;
 mod machine;
+mod path_answer;
 mod places;
 mod read;
 mod step;

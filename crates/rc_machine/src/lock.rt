@@ -112,7 +112,11 @@ fn push_band(stripes: &mut Vec<u32>, compiled: &Compiled, class: u8) -> Result<(
 }
 
 /// Takes the stripes one after another.
-fn take_all<H: Holder>(holder: &mut H, stripes: &[u32], mode: Mode) -> Result<(), TakeStop>
+pub(crate) fn take_all<H: Holder>(
+    holder: &mut H,
+    stripes: &[u32],
+    mode: Mode,
+) -> Result<(), TakeStop>
     requires known { (s : ℕ) → In s stripes.now → s < length (H.seen holder.old).offered }
     requires lent { (s : ℕ) → In s stripes.now → MayTake (H.seen holder.old).lends s mode }
     requires rising { IsRising nat_cmp stripes.now }

@@ -13,6 +13,8 @@ ghost use Rattle.rc_machine.specs.Stopped.{CountsOnlyHeld};
 ghost use Rattle.rc_machine.specs.declared.stop.Stop.TheVariants as stop;
 
 use crate::Stop;
+use crate::arguments::lock_arguments;
+use crate::path_answer::answer_by_path;
 use crate::step::step;
 use crate::workspace::Workspace;
 use rc_fragment::{Holder, Reverts};
@@ -63,9 +65,41 @@ pub fn run_plan<H: Reverts>(
 ///
 /// The holder lends whatever the plan may name at the arguments: all stripes, or those that it has.
 ///
-/// Costs, for each Read and binding, a look-up or the rows of one source, on one stripe where the binding chooses it and
-/// else on each of the class; and for an Apply one change in each edge. What the workspace has is of no matter.
+/// A query that has an access path costs its Locks, and one look-up or the rows of one source. Else the costs are, for each
+/// Read and binding, a look-up or the rows of one source, on one stripe where the binding chooses it and else on each of the
+/// class; and for an Apply one change in each edge. What the workspace has is of no matter.
 pub fn run_statements<H: Holder>(
+    compiled: &Compiled,
+    call: &Call,
+    space: &mut Workspace,
+    holder: &mut H,
+) -> Result<Reply, Stop>
+    requires fits { Fits compiled.now.spec call.now }
+    requires sound { H.is_sound holder.old compiled.now.spec }
+    requires free { held_of (H.seen holder.old) ≡ [] }
+    requires lent { (lock : StripeLock) → IsNamedBy compiled.now.spec call.now.args (plan_at compiled.now.plans call.now.op) lock
+        → MayTake (H.seen holder.old).lends lock.0 lock.1 }
+    ensures answered { IfOk result (HasAnswered compiled.now call.now (H.seen holder.new)) }
+    ensures taken { AreTakenAsOffered (H.seen holder.new) }
+    ensures stopped { (h : Held) → result ≡ Err (stop.Held h) → AreAsTaken (held_of (H.seen holder.new)) }
+    ensures refused { (h : Held) → result ≡ Err (stop.Held h)
+        → HasRefusedCall compiled.now call.now (H.seen holder.old) (H.seen holder.new) h }
+    ensures counted { CountsOnlyHeld result (H.seen holder.old) (H.seen holder.new) }
+    ensures goes_on { GoesOn (H.seen holder.old) (H.seen holder.new) }
+    ensures sound { (spec : Spec) → H.is_sound holder.old spec → H.is_sound holder.new spec }
+{
+    let Some(path) = compiled.access_path(call.op) else {
+        return run_in_turn(compiled, call, space, holder);
+    };
+    // What is compiled is accepted.
+    let _ = compiled.accepted();
+    let plan = compiled.plan(call.op).list();
+    lock_arguments(holder, compiled, call, plan, path.locks)?;
+    Ok(answer_by_path(holder, compiled, call, path, space)?)
+}
+
+/// Runs the statements one after another, up to the one that answers.
+fn run_in_turn<H: Holder>(
     compiled: &Compiled,
     call: &Call,
     space: &mut Workspace,

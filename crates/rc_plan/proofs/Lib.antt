@@ -4,3 +4,4 @@ mod UpdateExample
 mod ResolvedLemmas
 mod RowLemmas
 mod TextLemmas
+mod FirstLemmas

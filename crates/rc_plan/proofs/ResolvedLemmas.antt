@@ -1,11 +1,15 @@
--- Lists in which each number below a bound has its own.
+-- Lists in which each number below a bound has its own, as the edges that are resolved.
 use Rattle.std.specs.Prelude.{◌≡◌, ℕ, ◌+◌, ◌<◌, ◌≤◌, List, Some, length, slice_set}
 use Rattle.std.proofs.Common.{inl, inr, get_or, sym, ap, subst, ◌∙◌, arith}
 use Rattle.std.proofs.lemmas.Bool.{cases_eq}
 use Rattle.std.proofs.lemmas.Grind.{get_or-set_at}
 use Rattle.std.proofs.lemmas.List.{get_or-set_other, length-set}
 use Rattle.std.proofs.lemmas.Option.{get_or_from_slice_get, slice_get-get_or}
-use Rattle.rc_plan.specs.Resolved.{AllBelow}
+use Rattle.rc_tuple.specs.ColSet.{union}
+use Rattle.rc_spec.specs.declared.spec.Spec.{Spec}
+use Rattle.rc_spec.specs.Decomposition.{bound, edge_at, source_and_key}
+use Rattle.rc_plan.specs.Resolved.{AllBelow, IsResolvedEdge}
+use Rattle.rc_plan.specs.declared.resolved.ResolvedEdge.{ResolvedEdge}
 
 module _ {X : Type 0} (holds : ℕ → X → Type 0) (items : List X) where
   -- one more, put at its number
@@ -22,3 +26,11 @@ module _ {X : Type 0} (holds : ℕ → X → Type 0) (items : List X) where
           before.each i y less (slice_get-get_or items i y (omega (arith, less, within)) ∙ ap Some is)
     ];
   }
+
+  -- what stands at a number
+  pub at_number : (n i : ℕ) (d : X) → AllBelow holds n items → i < n → holds i (get_or items i d)
+  at_number n i d all below = let count = all.count in all.each i (get_or items i d) below (slice_get-get_or items i d (omega (arith, count, below)))
+
+-- source and key of the edge
+pub given_is : (spec : Spec) (e : ℕ) (r : ResolvedEdge) → IsResolvedEdge spec e r → union r.source r.key ≡ source_and_key spec (edge_at spec e)
+given_is spec e r resolved = ap (λ (cols : List ℕ). union cols r.key) resolved.source ∙ ap (union (bound spec (edge_at spec e).from)) resolved.key

@@ -1,17 +1,15 @@
 -- The law of accepted plans, for inserts.
-use Rattle.std.specs.Prelude.{◌≡◌, ℕ, ◌-◌, ◌<◌, ◌≤◌, Bool, true, false, List, [], ◌∷◌, ◌++◌, ◌⊎◌, None, Some, map, cond, not, length}
+use Rattle.std.specs.Prelude.{◌≡◌, ℕ, ◌-◌, ◌<◌, ◌≤◌, Bool, true, false, List, [], ◌∷◌, ◌++◌, None, Some, cond, not, length}
 use Rattle.std.specs.Ordering.{nat_cmp}
 use Rattle.std.proofs.Common.{inl, inr, refl, sym, ap, subst, ◌∙◌, arith}
-use Rattle.std.proofs.lemmas.Bool.{false≢true, true≢false, cases_Bool, not_from_false, not-true}
+use Rattle.std.proofs.lemmas.Bool.{true≢false, cases_Bool, not_from_false, not-true}
 use Rattle.rc_tuple.specs.RisingSet.{In, IsRising, put, gather}
-use Rattle.rc_tuple.specs.RisingSetLaws.{same_rising, in_gather, gather_in, rising_filter, get_or_in, nat_order}
-use Rattle.rc_tuple.specs.ColSet.{has, Within, inter}
-use Rattle.rc_tuple.specs.ColSetLaws.{inter_in, rising_range}
-use Rattle.rc_tuple.specs.Tuple.{Pairs, cols_of, project, pair_cmp, tuple_cmp, tuple_eq, merge, agree_on}
-use Rattle.rc_tuple.specs.TupleLaws.{Agree, pair_order, in_project, project_in, project-project, project_less, rising_cols, in_merge, merge_right, rising_merge, one_pair}
-use Rattle.rc_tuple.specs.MergeLaws.{inter-same}
+use Rattle.rc_tuple.specs.RisingSetLaws.{in_gather, gather_in, get_or_in, nat_order}
+use Rattle.rc_tuple.specs.ColSet.{Within}
+use Rattle.rc_tuple.specs.Tuple.{Pairs, cols_of, project, pair_cmp, tuple_cmp, tuple_eq, agree_on}
+use Rattle.rc_tuple.specs.TupleLaws.{project-project, project_less}
 use Rattle.rc_tuple.specs.Relation.{IsRelation, Satisfies}
-use Rattle.rc_tuple.specs.RelationLaws.{rising_of, in_list_any, list_any_in, agree_from_test, test_from_agree}
+use Rattle.rc_tuple.specs.RelationLaws.{in_list_any, list_any_in, agree_from_test, test_from_agree}
 use Rattle.rc_spec.specs.declared.call.Reply.{Reply}
 use Rattle.rc_spec.specs.declared.call.Reply.TheVariants.{Inserted, Present, Conflict}
 use Rattle.rc_spec.specs.declared.items.Op.{Op}
@@ -22,11 +20,10 @@ use Rattle.rc_spec.specs.declared.spec.Spec.{Spec}
 use Rattle.rc_spec.specs.Adequacy.{IsAdequate}
 use Rattle.rc_spec.specs.Calls.{all_columns}
 use Rattle.rc_spec.specs.Contents.{join}
-use Rattle.rc_spec.specs.ContentsLaws.{target_within}
 use Rattle.rc_spec.specs.Fragments.{EdgeRow, all_rows, tuples_of_edge, rows_on, fragment_of}
-use Rattle.rc_spec.specs.HeathLaws.{IsSeen, IsReached}
+use Rattle.rc_spec.specs.HeathLaws.{IsSeen}
 use Rattle.rc_spec.specs.InRange.{IsInRange}
-use Rattle.rc_spec.specs.Placement.{class_at, class_of, IsPlaced}
+use Rattle.rc_spec.specs.Placement.{class_of, IsPlaced}
 use Rattle.rc_spec.specs.Plain.{Outcome, plain_by}
 use Rattle.rc_spec.specs.PlainLaws.{insert-present, insert-absent}
 use Rattle.rc_spec.specs.Stripes.{physical_stripe}
@@ -34,20 +31,18 @@ use Rattle.rc_plan.specs.declared.statement.ReadMode.{ReadMode}
 use Rattle.rc_plan.specs.declared.statement.Statement.{Statement}
 use Rattle.rc_plan.specs.declared.statement.Statement.TheVariants.{Lock, Probe, Read, CheckAbsent, CheckFound, CheckDep, Apply, Emit, Commit, Release}
 use Rattle.rc_plan.specs.declared.statement.Which.{Which}
-use Rattle.rc_plan.specs.declared.statement.Which.TheVariants as which
 use Rattle.rc_plan.specs.ConflictLaws.{list_any_none, within_or_not, IsUnbroken, no_conflict, conflict_with, unbroken_within}
 use Rattle.rc_spec.specs.CountedRows.{row_in, with_rows}
 use Rattle.rc_spec.specs.CountedRowsLaws.{AllHeld, with_rows-fragments, without_rows-with, fragment_of-insert}
 use Rattle.rc_plan.specs.Evaluation.{RunState, dep_at, some_left, some_differs, stripes_locked, named_by, run, rows_as_taken}
-use Rattle.rc_plan.specs.PlanRules.{Phase, Progress, after, AreKnown, IsLocked, IsAtRisk, Covers, KeepsAll, KeepsFrom}
-use Rattle.rc_spec.specs.Decomposition.{target_columns}
-use Rattle.rc_plan.specs.RunLaws.{cols_of-project, EndsAs, run-replied, stripes_grow, lock_keeps, read_keeps, read_same}
+use Rattle.rc_plan.specs.PlanRules.{Phase, Progress, after, AreKnown, KeepsAll, KeepsFrom}
+use Rattle.rc_plan.specs.RunLaws.{EndsAs, run-replied, stripes_grow, lock_keeps, read_keeps, read_same}
 use Rattle.rc_spec.specs.Locks.{StripeLock}
 use Rattle.rc_plan.specs.StripeLocks.{stripe_lock_cmp, stripes_of, AreIn}
-use Rattle.rc_plan.specs.StripeLocksLaws.{named_before, named_now, AreIn-more, not_named, physical_stripe-agreeing, physical_stripe-in_band, striping_in_target}
+use Rattle.rc_plan.specs.StripeLocksLaws.{AreIn-more, not_named}
 use Rattle.rc_spec.specs.declared.call.Call.{Call}
 use Rattle.rc_plan.specs.Search.{searching, IsSearching}
-use Rattle.rc_plan.specs.ProbeLaws.{checked_before, no_column, one_left, none_left, named_tuple, more_named, tuple_named, probe_searching, IsProbing, columns_rise, t_rises, up, found_one, one_found, up_at, seen_at, tuple_is_named}
+use Rattle.rc_plan.specs.ProbeLaws.{checked_before, one_left, none_left, more_named, tuple_named, probe_searching, IsProbing, t_rises, found_one, one_found, up_at, seen_at, tuple_is_named}
 use Rattle.rc_plan.specs.NamedStripes.{HasNamed}
 
 abbrev pub insert_op : List ℕ → List ℕ → Op

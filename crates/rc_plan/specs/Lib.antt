@@ -1,3 +1,5 @@
+pub mod Access
+pub mod AccessLaws
 pub mod Compiled
 pub mod CompiledLaws
 pub mod ConflictLaws

@@ -41,7 +41,7 @@ agreeing_matches columns xs s t a b e u w f =
     let g : p ≡ q.0 = f p q.0 h (project_in xs q.0 t q.1 (subst (λ z. In z xs) q.2 (w p.0 c))) q.2 in
     project_in (cols_of s) p t (subst (λ z. In z t) (sym g) q.1) c)
 
-matching_agrees : (xs : List ℕ) (s t : Pairs) → IsRising nat_cmp (cols_of t) → project (cols_of s) t ≡ s → Agree s (project xs t)
+pub matching_agrees : (xs : List ℕ) (s t : Pairs) → IsRising nat_cmp (cols_of t) → project (cols_of s) t ≡ s → Agree s (project xs t)
 matching_agrees xs s t b e p q h k c = one_pair t b p q (in_project (cols_of s) p t (subst (In p) (sym e) h)).0 (in_project xs q t k).0 c
 
 -- s adds nothing to the projection of a tuple that matches it

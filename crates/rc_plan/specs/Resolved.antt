@@ -6,9 +6,7 @@ use Rattle.rc_spec.specs.Decomposition.{bound, edge_at, source_and_key}
 use Rattle.rc_spec.specs.Placement.{class_of}
 use Rattle.rc_spec.specs.Stripes.{band_start}
 use Rattle.rc_spec.specs.declared.spec.Spec.{Spec}
-use Rattle.rc_plan.specs.Compiled.{IsCompiled}
 use Rattle.rc_plan.specs.declared.resolved.ResolvedEdge.{ResolvedEdge}
-use Rattle.rc_plan.specs.declared.statement.Statement.{Statement}
 
 -- what is told of the edge is the specification's
 pub record IsResolvedEdge (spec : Spec) (e : ℕ) (r : ResolvedEdge) : Type 0 where
@@ -35,9 +33,3 @@ AreResolvedEdges spec edges = AllBelow (IsResolvedEdge spec) (length spec.edges)
 -- the first stripe of each class, by its number
 abbrev pub AreBandStarts : Spec → List ℕ → Type 0
 AreBandStarts spec starts = AllBelow (λ class start. start ≡ band_start spec class) (length spec.classes) starts
-
--- an accepted specification with accepted plans, and what they ask of its edges and classes
-pub record IsCompiledWith (spec : Spec) (plans : List (List Statement)) (edges : List ResolvedEdge) (starts : List ℕ) : Type 0 where
-  pub compiled : IsCompiled spec plans
-  pub resolved : AreResolvedEdges spec edges
-  pub begun : AreBandStarts spec starts

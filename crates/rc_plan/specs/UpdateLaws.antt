@@ -1,12 +1,11 @@
 -- The law of accepted plans, for updates.
-use Rattle.std.specs.Prelude.{◌≡◌, ℕ, ◌-◌, ◌<◌, ◌≤◌, ◌&&◌, Bool, true, false, List, [], ◌∷◌, ◌++◌, ◌⊎◌, Option, None, Some, map, cond, filter, not, length}
+use Rattle.std.specs.Prelude.{◌≡◌, ℕ, ◌-◌, ◌<◌, ◌≤◌, ◌&&◌, Bool, true, false, List, [], ◌∷◌, ◌++◌, Option, None, Some, cond, filter, not, length}
 use Rattle.std.specs.Ordering.{nat_cmp}
 use Rattle.std.proofs.Common.{inl, inr, refl, sym, ap, subst, ◌∙◌, arith}
 use Rattle.std.proofs.lemmas.Bool.{false≢true, true≢false, cases_Bool, not_from_false, not-true, and_from, and_parts}
 use Rattle.rc_tuple.specs.RisingSet.{In, IsRising, put, gather}
 use Rattle.rc_tuple.specs.RisingSetLaws.{same_rising, in_gather, gather_in, rising_filter, in_filter, filter_in, get_or_in, nat_order}
-use Rattle.rc_tuple.specs.ColSet.{has, Within}
-use Rattle.rc_tuple.specs.ColSetLaws.{rising_range}
+use Rattle.rc_tuple.specs.ColSet.{Within}
 use Rattle.rc_tuple.specs.Tuple.{Pairs, cols_of, project, pair_cmp, tuple_cmp, tuple_eq, agree_on}
 use Rattle.rc_tuple.specs.TupleLaws.{in_project, project-project, project_less, one_pair, tuple_order, same_from_test, test_from_same}
 use Rattle.rc_tuple.specs.MergeLaws.{project_all}
@@ -23,7 +22,7 @@ use Rattle.rc_spec.specs.declared.spec.Spec.{Spec}
 use Rattle.rc_spec.specs.Adequacy.{IsAdequate}
 use Rattle.rc_spec.specs.Calls.{all_columns}
 use Rattle.rc_spec.specs.Contents.{join}
-use Rattle.rc_spec.specs.ContentsLaws.{target_within, holds_deps}
+use Rattle.rc_spec.specs.ContentsLaws.{holds_deps}
 use Rattle.rc_spec.specs.CountedRows.{row_in, with_rows, without_rows}
 use Rattle.rc_spec.specs.CountedRowsLaws.{AllHeld, with_rows-fragments, without_rows-fragments, with_rows-without, without_rows-with, fragment_of-insert, fragment_of-remove}
 use Rattle.rc_spec.specs.Decomposition.{target_columns}
@@ -39,11 +38,11 @@ use Rattle.rc_plan.specs.declared.statement.Statement.{Statement}
 use Rattle.rc_plan.specs.declared.statement.Statement.TheVariants.{Lock, Probe, Read, CheckAbsent, CheckFound, CheckDep, Apply, Emit, Commit, Release}
 use Rattle.rc_plan.specs.declared.statement.Which.{Which}
 use Rattle.rc_plan.specs.declared.statement.Which.TheVariants as which
-use Rattle.rc_plan.specs.ConflictLaws.{list_any_none, within_or_not, IsUnbroken, no_conflict, conflict_with, unbroken_within}
+use Rattle.rc_plan.specs.ConflictLaws.{within_or_not, IsUnbroken, no_conflict, conflict_with, unbroken_within}
 use Rattle.rc_plan.specs.Evaluation.{RunState, dep_at, some_differs, stripes_locked, named_by, keep_least, replace, run, rows_as_taken}
 use Rattle.rc_plan.specs.NamedStripes.{HasNamed}
-use Rattle.rc_plan.specs.PlanRules.{Phase, Progress, after, AreKnown, IsLocked, IsAtRisk, CoversOld, KeepsAll, KeepsFrom}
-use Rattle.rc_plan.specs.ProbeLaws.{checked_before, no_column, named_tuple, more_named, tuple_named, probe_searching, IsProbing, columns_rise, t_rises, up, found_one, one_found, up_at, seen_at, tuple_is_named}
+use Rattle.rc_plan.specs.PlanRules.{Phase, Progress, after, AreKnown, IsLocked, CoversOld, KeepsAll, KeepsFrom}
+use Rattle.rc_plan.specs.ProbeLaws.{checked_before, more_named, tuple_named, probe_searching, IsProbing, columns_rise, t_rises, found_one, one_found, up_at, seen_at, tuple_is_named}
 use Rattle.rc_plan.specs.RunLaws.{cols_of-project, EndsAs, run-replied, stripes_grow, lock_keeps, read_keeps, read_same}
 use Rattle.rc_plan.specs.Search.{updating, IsSearching}
 use Rattle.rc_spec.specs.Locks.{StripeLock}

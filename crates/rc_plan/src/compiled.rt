@@ -1,13 +1,15 @@
-ghost use Rattle.std.specs.Prelude.{◌≡◌, ◌<◌, length};
+ghost use Rattle.std.specs.Prelude.{◌≡◌, ◌<◌, IfSome, None, length};
 ghost use Rattle.rc_spec.specs.Acceptance.{IsSealed};
 ghost use Rattle.rc_spec.specs.InRange.{IsSetBelow};
-ghost use Rattle.rc_spec.specs.Placement.{class_at};
+ghost use Rattle.rc_spec.specs.Placement.{class_at, op_at};
 ghost use Rattle.rc_spec.specs.Stripes.{band_start};
+ghost use Rattle.rc_plan.specs.Access.{HasNoPath, IsAccessPath};
 ghost use Rattle.rc_plan.specs.Compiled.{ArePlansOf, IsPlanOf, plan_at};
 ghost use Rattle.rc_plan.specs.Resolved.{IsResolvedEdge};
 
+use crate::access::{MAX_OPS, access_paths};
 use crate::resolved::{band_starts, resolve_edges};
-use crate::{Plan, ResolvedEdge};
+use crate::{AccessPath, Plan, ResolvedEdge};
 use rc_spec::{Accepted, Class, MAX_CLASSES, MAX_EDGES};
 use std::marker::Model;
 
@@ -21,33 +23,38 @@ pub struct Compiled {
     edges: [ResolvedEdge; MAX_EDGES],
     /// The number, among all stripes, of the first of each class.
     starts: [u32; MAX_CLASSES],
+    /// The path of each operation that has one, by its number.
+    paths: [Option<AccessPath>; MAX_OPS],
 }
 
 impl Model for Compiled {
     ghost use Rattle.rc_plan.specs.Compiled.{SpecWithPlans};
-    ghost use Rattle.rc_plan.specs.Resolved.{IsCompiledWith};
+    ghost use Rattle.rc_plan.specs.Access.{IsCompiledWith};
 
     ghost Value = { SpecWithPlans };
 
     ghost view = { λ c. record { spec = c.accepted; plans = c.plans.items } };
 
-    ghost invariant = { λ c. IsCompiledWith c.accepted c.plans.items c.edges c.starts };
+    ghost invariant = { λ c. IsCompiledWith c.accepted c.plans.items c.edges c.starts c.paths };
 }
 
 impl Compiled {
     /// Keeps an accepted specification with as many plans as operations, each for its own. Takes no memory, and costs, for
-    /// each edge, a walk over the placements and the classes, and for each class one over the classes.
+    /// each edge, a walk over the placements and the classes, for each class one over the classes, and for each operation one
+    /// over its plan for each edge that the plan reads.
     pub fn seal(accepted: Accepted, plans: Vec<Plan>) -> Compiled
         requires { ArePlansOf accepted plans.items }
         ensures { result ≡ record { spec = accepted; plans = plans.items } }
     {
         let edges = resolve_edges(&accepted);
         let starts = band_starts(&accepted);
+        let paths = access_paths(&accepted, &plans, &edges);
         Compiled {
             accepted,
             plans,
             edges,
             starts,
+            paths,
         }
     }
 
@@ -67,6 +74,16 @@ impl Compiled {
         ensures accepted { IsPlanOf self.now.spec op result.now }
     {
         &self.plans[op as usize]
+    }
+
+    /// The path on which the calls of an operation are answered without the statements of its plan, by its number; `None`
+    /// where no edge that the plan reads has one.
+    pub fn access_path(&self, op: u8) -> Option<AccessPath>
+        requires { op < length self.now.spec.ops }
+        ensures some { IfSome result (IsAccessPath self.now.spec (op_at self.now.spec op) (plan_at self.now.plans op)) }
+        ensures none { result ≡ None → HasNoPath self.now.spec (op_at self.now.spec op) (plan_at self.now.plans op) }
+    {
+        self.paths[op as usize]
     }
 
     /// What plans ask of an edge, by its number.

@@ -1,6 +1,7 @@
 //! Plans as data, what they mean, the rules that they keep, and the law of accepted plans.
 #![tactic(auto)]
 
+mod access;
 mod compiled;
 mod evaluation;
 mod laws;
@@ -9,6 +10,7 @@ mod refusal;
 mod resolved;
 mod statement;
 
+pub use access::AccessPath;
 pub use compiled::Compiled;
 pub use evaluation::{answer, push_merge, push_merges, some_differs, stripes_locked};
 pub use laws::{

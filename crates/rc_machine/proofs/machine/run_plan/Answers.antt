@@ -1,4 +1,4 @@
-use Rattle.std.proofs.Common.{◌≡◌, ◌∙◌, ap, Err}
+use Rattle.std.proofs.Common.{◌∙◌, ap, Err}
 use Rattle.rc_machine.proofs.BackLemmas.{back_as_taken}
 use Rattle.rc_machine.proofs.machine.run_plan.Goals as goal
 

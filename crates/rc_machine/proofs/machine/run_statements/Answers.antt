@@ -1,106 +1,54 @@
-use Rattle.std.proofs.Common.{◌≡◌, ◌<◌, ◌≤◌, ◌∷◌, ◌++◌, [], List, Err, None, Option, length, refl, sym, ap, subst, ◌∙◌}
+use Rattle.std.proofs.Common.{◌≡◌, ◌∷◌, [], None, Err, true, sym, ap, subst, ◌∙◌}
+use Rattle.std.specs.List.{list_all}
 use Rattle.rc_tuple.specs.RisingSet.{In}
-use Rattle.rc_tuple.specs.MergeLaws.{project_all}
-use Rattle.rc_tuple.specs.Tuple.{Pairs, project}
-use Rattle.rc_tuple.specs.TupleLaws.{rising_pairs}
-use Rattle.rc_bindings.specs.Bindings.{BindingList}
-use Rattle.rc_machine.proofs.StripeLemmas.{args_below}
-use Rattle.rc_spec.specs.declared.spec.Spec.{Spec}
-use Rattle.rc_fragment.specs.Holder.{HeldStripe, MayTake, held_of}
-use Rattle.rc_fragment.specs.HoldingLaws.{goes_on_same}
+use Rattle.rc_spec.specs.Placement.{class_of, op_at}
+use Rattle.rc_fragment.specs.Holder.{held_of}
+use Rattle.rc_plan.specs.Access.{IsAccessPath, is_tuple_lock}
+use Rattle.rc_plan.specs.Compiled.{plan_at}
 use Rattle.rc_plan.specs.declared.statement.Statement.{Statement}
-use Rattle.rc_plan.specs.Compiled.{IsPlanOf, plan_at}
-use Rattle.rc_plan.specs.NamedStripes.{IsNamedBy}
+use Rattle.std.specs.Prelude.{List, drop, take}
 use Rattle.rc_machine.specs.Machine.{IsRefused}
 use Rattle.rc_machine.specs.Run.{IsAt}
-use Rattle.rc_machine.proofs.GoLemmas.{refused_since}
-use Rattle.rc_machine.proofs.LentLemmas.{counted_same}
-use Rattle.rc_machine.proofs.LockLemmas.{counted_stop_on, counted_stop_since}
-use Rattle.rc_machine.proofs.StepLemmas.{begins}
+use Rattle.rc_machine.proofs.AccessRunLemmas.{args_are, stripe_taken}
 use Rattle.rc_machine.proofs.machine.run_statements.Given.{Over}
-use Rattle.rc_machine.proofs.machine.run_statements.Goals.{After-list, After-list-plan}
+use Rattle.rc_machine.proofs.machine.run_statements.Goals.{After-list-plan}
 use Rattle.rc_machine.proofs.machine.run_statements.Goals as goal
 
--- the specification and the call's plan are those of what is compiled
-spec_is : (g : Over) (c : After-list g) → c.spec.result.now ≡ c.args.compiled.now.spec
-spec_is g c = c.spec.ensures.value ∙ c.accepted.ensures.value
-
+-- the call's plan is that of what is compiled
 plan_is : (g : Over) (c : After-list-plan g) → c.list-plan.result.now ≡ plan_at c.args.compiled.now.plans c.args.call.now.op
 plan_is g c = c.list-plan.ensures ∙ c.plan.ensures.value
 
--- so many columns it has
-columns_are : (g : Over) (c : After-list g) → length c.list.result.now ≡ length c.args.compiled.now.spec.columns
-columns_are g c = ap length c.list.ensures ∙ ap (λ (s : Spec). length s.columns) (spec_is g c)
+-- the path is one of the plan that is run
+path_of : (g : Over) (c : After-list-plan g) → IsAccessPath c.args.compiled.now.spec (op_at c.args.compiled.now.spec c.args.call.now.op) c.list-plan.result.now c.in-Some.path
+path_of g c = subst (λ (z : List Statement). IsAccessPath c.args.compiled.now.spec (op_at c.args.compiled.now.spec c.args.call.now.op) z c.in-Some.path) (sym (plan_is g c)) c.in-Some.ensures.some
 
--- the specification has a column, and few
-pub clear_for-requires-clause-some : goal.clear_for-requires-clause-some
-clear_for-requires-clause-some g c = subst (λ n. 0 < n) (sym (columns_are g (goal.at.clear_for-requires-clause-some g c).After-list)) c.accepted.ensures.sealed.populated.column
+pub lock_arguments-requires-clause-first : goal.lock_arguments-requires-clause-first
+lock_arguments-requires-clause-first g c =
+    let at = (goal.at.lock_arguments-requires-clause-first g c).After-list-plan in
+    subst (λ cols. list_all (is_tuple_lock c.args.compiled.now.spec cols) (take c.in-Some.path.locks c.list-plan.result.now) ≡ true)
+    (sym (args_are c.args.compiled.now.spec c.accepted.ensures.sealed c.args.call.now c.requires.fits)) (path_of g at).locks.first
 
-pub clear_for-requires-clause-few : goal.clear_for-requires-clause-few
-clear_for-requires-clause-few g c = subst (λ n. n ≤ 32) (sym (columns_are g (goal.at.clear_for-requires-clause-few g c).After-list)) c.accepted.ensures.sealed.in_range.columns
+pub returns-in_err-lock_arguments-clause-stopped : goal.returns-in_err-lock_arguments-clause-stopped
+returns-in_err-lock_arguments-clause-stopped g c h e =
+    let given = c.from_residual.ensures.1 in
+    let is = rw e at given in
+    c.in_err-lock_arguments.ensures.stopped h (ap Err (sym is))
 
-pub begin-requires : goal.begin-requires
-begin-requires g c n m =
-    subst (λ w. n < w) (sym (ap (λ (z : BindingList). z.width) c.clear_for.ensures.bindings ∙ columns_are g (goal.at.begin-requires g c).After-list))
-    (args_below c.args.compiled.now.spec c.accepted.ensures.sealed c.args.call.now c.requires.fits n (subst (In n) c.cols.ensures.cols m))
+pub returns-in_err-lock_arguments-clause-refused : goal.returns-in_err-lock_arguments-clause-refused
+returns-in_err-lock_arguments-clause-refused g c h e =
+    let given = c.from_residual.ensures.1 in
+    let is = rw e at given in
+    subst (λ (z : List Statement). IsRefused c.args.compiled.now.spec z c.args.call.now (g.H.Holder.seen c.args.holder.now) (g.H.Holder.seen c.lock_arguments.new.holder) h)
+    (plan_is g (goal.at.returns-in_err-lock_arguments-clause-refused g c).After-list-plan) (c.in_err-lock_arguments.ensures.refused h (ap Err (sym is)))
 
-pub push_projection-requires : goal.push_projection-requires
-push_projection-requires g c n m = subst (In n) c.cols.ensures.cols (subst (λ (z : BindingList). In n z.columns) c.begin.ensures m)
-
-pub loop-at-init : goal.loop-at-init
-loop-at-init g c =
-    let at = goal.at.loop-at-init g c in
-    let spec : Spec = c.args.compiled.now.spec in
-    let plan : List Statement = c.list-plan.result.now in
-    let planned : IsPlanOf spec c.args.call.now.op plan = subst (IsPlanOf spec c.args.call.now.op) (sym c.list-plan.ensures) c.plan.ensures.accepted in
-    let start : IsAt spec plan c.args.call.now plan (c.args.call.now.args ∷ []) None [] = begins spec c.accepted.ensures.sealed plan c.args.call.now c.requires.fits planned in
-    let whole : project c.begin.new.self.columns c.args.call.now.args ≡ c.args.call.now.args =
-    ap (λ (z : BindingList). project z.columns c.args.call.now.args) c.begin.ensures
-    ∙ project_all c.cols.result c.args.call.now.args (rising_pairs c.args.call.now.args c.cols.ensures.tuple) (λ n m. subst (In n) (sym c.cols.ensures.cols) m) in
-    let args : c.push_projection.new.self.tuples ≡ c.args.call.now.args ∷ [] =
-    ap (λ (z : BindingList). z.tuples) c.in_ok-push_projection.ensures.ok ∙ ap (λ t. c.begin.new.self.tuples ++ t ∷ []) whole ∙ ap (λ (z : BindingList). z.tuples ++ c.args.call.now.args ∷ []) c.begin.ensures in
+pub answer_by_path-requires-clause-locked : goal.answer_by_path-requires-clause-locked
+answer_by_path-requires-clause-locked g c =
+    let at = (goal.at.answer_by_path-requires-clause-locked g c).After-list-plan in
+    let spec = c.args.compiled.now.spec in
+    let held = held_of (g.H.Holder.seen c.lock_arguments.new.holder) in
     record {
-      wide = record {
-        bindings = ap (λ (z : BindingList). z.width) c.in_ok-push_projection.ensures.ok ∙ ap (λ (z : BindingList). z.width) c.begin.ensures ∙ ap (λ (z : BindingList). z.width) c.clear_for.ensures.bindings ∙ columns_are g at.After-list;
-        found = ap (λ (z : BindingList). z.width) c.clear_for.ensures.found ∙ columns_are g at.After-list;
-      };
-      run = subst (λ (z : Option Pairs). IsAt spec plan c.args.call.now plan c.push_projection.new.self.tuples z (held_of (g.H.Holder.seen c.args.holder.now))) (sym c.clear_for.ensures.old)
-          (subst (λ (z : List Pairs). IsAt spec plan c.args.call.now plan z None (held_of (g.H.Holder.seen c.args.holder.now))) (sym args)
-          (subst (λ (z : List HeldStripe). IsAt spec plan c.args.call.now plan (c.args.call.now.args ∷ []) None z) (sym c.requires.free) start));
-      taken = λ h m. absurd (subst (In h) c.requires.free m);
-      counted = refl;
-      goes_on = goes_on_same (g.H.Holder.seen c.args.holder.now);
-      sound = λ spec h. h;
+      path = c.in-Some.ensures.some;
+      run = subst (λ (z : List Statement). IsAt spec z c.args.call.now (drop c.in-Some.path.locks z) (c.args.call.now.args ∷ []) None held) (plan_is g at) c.in_ok-lock_arguments.ensures.run;
+      stripe = subst (In _) (sym c.in_ok-lock_arguments.ensures.held)
+          (stripe_taken spec c.args.call.now.args (class_of spec c.in-Some.path.edge) (take c.in-Some.path.locks c.list-plan.result.now) (path_of g at).locks.locked);
     }
-
--- what the plan may name there is to lend, before each statement
-pub step-requires-clause-lent : goal.step-requires-clause-lent
-step-requires-clause-lent g c lock named =
-    subst (λ lends. MayTake lends lock.0 lock.1) (sym c.loop-at.invariant.goes_on.lends)
-    (c.requires.lent lock (subst (λ (z : List Statement). IsNamedBy c.args.compiled.now.spec c.args.call.now.args z lock) (plan_is g (goal.at.step-requires-clause-lent g c).After-list-plan) named))
-
-pub returns-in_err-reply-clause-stopped : goal.returns-in_err-reply-clause-stopped
-returns-in_err-reply-clause-stopped g c h e =
-    let given = c.from_residual-in_err-reply.ensures.1 in
-    let is = rw e at given in
-    c.in_err-reply.ensures.stopped h (ap Err (sym is))
-
-pub returns-in_err-reply-clause-refused : goal.returns-in_err-reply-clause-refused
-returns-in_err-reply-clause-refused g c h e =
-    let given = c.from_residual-in_err-reply.ensures.1 in
-    let is = rw e at given in
-    let spec : Spec = c.args.compiled.now.spec in
-    let old = g.H.Holder.seen c.args.holder.now in
-    let new = g.H.Holder.seen c.step.new.holder in
-    subst (λ (z : List Statement). IsRefused spec z c.args.call.now old new h) (plan_is g (goal.at.returns-in_err-reply-clause-refused g c).After-list-plan)
-    (refused_since spec c.list-plan.result.now c.args.call.now old (g.H.Holder.seen c.loop-at.holder) new h c.loop-at.invariant.goes_on (c.in_err-reply.ensures.refused h (ap Err (sym is))))
-
-pub returns-in_err-push_projection-clause-counted : goal.returns-in_err-push_projection-clause-counted
-returns-in_err-push_projection-clause-counted g c = counted_same _ _
-
-pub returns-in_err-reply-clause-counted : goal.returns-in_err-reply-clause-counted
-returns-in_err-reply-clause-counted g c =
-    let old = g.H.Holder.seen c.loop-at.holder in
-    let new = g.H.Holder.seen c.step.new.holder in
-    counted_stop_since c.from_residual-in_err-reply.result (g.H.Holder.seen c.args.holder.now) old new c.loop-at.invariant.counted
-    (counted_stop_on c.from_residual-in_err-reply.result c.in_err-reply.field-0.0 old new c.from_residual-in_err-reply.ensures.0 c.from_residual-in_err-reply.ensures.1 c.in_err-reply.ensures.counted)

@@ -4,7 +4,7 @@ use Rattle.rc_fragment.specs.Holder.{GoesOn, held_of}
 use Rattle.rc_machine.specs.Machine.{AreTakenAsOffered}
 use Rattle.rc_machine.specs.Run.{IsAt}
 use Rattle.rc_machine.specs.Workspace.{AreWide}
-use Rattle.rc_machine.proofs.machine.run_statements.Given as goal
+use Rattle.rc_machine.proofs.machine.run_in_turn.Given as goal
 
 abbrev pub invariant-loop-at : goal.invariant-loop-at
 invariant-loop-at g l = record {

@@ -1,0 +1,182 @@
+-- Calls that are answered by an access path.
+use Rattle.std.specs.Prelude.{◌≡◌, ℕ, true, false, List, [], ◌∷◌, None, Some, length, map}
+use Rattle.std.specs.List.{list_any}
+use Rattle.std.specs.Ordering.{nat_cmp}
+use Rattle.std.proofs.Common.{refl, sym, ap, subst, ◌∙◌}
+use Rattle.std.proofs.lemmas.Bool.{eqb-true, false≢true}
+use Rattle.rc_tuple.specs.RisingSet.{In, gather}
+use Rattle.rc_tuple.specs.RisingSetLaws.{gather_in, in_gather, map_in, nat_order, slice_get_in}
+use Rattle.rc_tuple.specs.RelationLaws.{in_list_any}
+use Rattle.rc_tuple.specs.ColSet.{Within}
+use Rattle.rc_tuple.specs.ColSetLaws.{in_range_below}
+use Rattle.rc_tuple.specs.Tuple.{Pairs, cols_of}
+use Rattle.rc_spec.specs.declared.call.Call.{Call}
+use Rattle.rc_spec.specs.declared.call.Reply.{Reply}
+use Rattle.rc_spec.specs.declared.items.Edge.{Edge}
+use Rattle.rc_spec.specs.declared.items.OpKind.{OpKind}
+use Rattle.rc_spec.specs.declared.items.OpKind.TheVariants.{Query, Insert, Remove, Update}
+use Rattle.rc_spec.specs.declared.range.Range.{Range}
+use Rattle.rc_spec.specs.declared.spec.Spec.{Spec}
+use Rattle.rc_spec.specs.Acceptance.{IsSealed}
+use Rattle.rc_spec.specs.Calls.{Fits, FitsAt, all_columns, value_columns}
+use Rattle.rc_spec.specs.CallsLaws.{fits_at_op}
+use Rattle.rc_spec.specs.Decomposition.{edge_at}
+use Rattle.rc_spec.specs.Fragments.{EdgeRow, fragment_of, rows_on}
+use Rattle.rc_spec.specs.InRange.{AreBelow, IsOpAmong}
+use Rattle.rc_spec.specs.Placement.{class_at, class_of, op_at}
+use Rattle.rc_spec.specs.Plain.{Outcome, plain, plain_by}
+use Rattle.rc_spec.specs.PlainLaws.{plain-known}
+use Rattle.rc_spec.specs.Ranges.{range_column, range_columns}
+use Rattle.rc_spec.specs.Stripes.{physical_stripe}
+use Rattle.rc_fragment.specs.Fragment.{shape_of}
+use Rattle.rc_fragment.specs.Holder.{AreOfOneRelation, AreOfRelation, HeldStripe}
+use Rattle.rc_plan.specs.Access.{Asks, AsksForRow, AsksForRows, AsksQuery, IsAccessPath, is_lock, is_lock_of}
+use Rattle.rc_plan.specs.AccessLaws.{named-no_lock}
+use Rattle.rc_plan.specs.Compiled.{IsPlanOf}
+use Rattle.rc_plan.specs.Evaluation.{eval}
+use Rattle.rc_plan.specs.PlanRules.{given_columns, pattern_columns}
+use Rattle.rc_plan.specs.Search.{updating}
+use Rattle.rc_plan.specs.declared.access.AccessPath.{AccessPath}
+use Rattle.rc_plan.specs.declared.statement.ReadMode.{ReadMode}
+use Rattle.rc_plan.specs.declared.statement.ReadMode.TheVariants.{Lookup, Scan}
+use Rattle.rc_plan.specs.declared.statement.Statement.{Statement}
+use Rattle.rc_plan.specs.declared.statement.Statement.TheVariants.{Lock, Probe, Read, CheckAbsent, CheckFound, CheckDep, Apply, Emit, Commit, Release}
+use Rattle.rc_machine.specs.Access.{HasListed, HasLookedUp, argument_stripe, leaving}
+use Rattle.rc_machine.specs.Machine.{AreAsTaken, HasReplied, locks_of, stripes_held}
+use Rattle.rc_machine.specs.Run.{IsAt}
+use Rattle.rc_machine.proofs.AccessLemmas.{key_and_extra_within, listed, looked_up}
+use Rattle.rc_machine.proofs.ReadLemmas.{is_held}
+use Rattle.rc_machine.proofs.RunLemmas.{has_evaluated, has_served, serves, stripes_named}
+
+-- ---- the stripe of the edge's class
+
+stripe_of_lock : (spec : Spec) (t : Pairs) (class : ℕ) (x : Statement) → is_lock_of class x ≡ true → argument_stripe spec t x ≡ physical_stripe spec class t
+stripe_of_lock spec t class (Lock c choice mode) e = ap (λ k. physical_stripe spec k t) (eqb-true c class e)
+stripe_of_lock spec t class (Probe cols) e = absurd (false≢true e)
+stripe_of_lock spec t class (Read k mode) e = absurd (false≢true e)
+stripe_of_lock spec t class CheckAbsent e = absurd (false≢true e)
+stripe_of_lock spec t class CheckFound e = absurd (false≢true e)
+stripe_of_lock spec t class (CheckDep dep) e = absurd (false≢true e)
+stripe_of_lock spec t class Apply e = absurd (false≢true e)
+stripe_of_lock spec t class Emit e = absurd (false≢true e)
+stripe_of_lock spec t class Commit e = absurd (false≢true e)
+stripe_of_lock spec t class (Release c) e = absurd (false≢true e)
+
+-- a stripe of each class that is locked first is taken
+pub stripe_taken : (spec : Spec) (t : Pairs) (class : ℕ) (first : List Statement) → list_any (is_lock_of class) first ≡ true → In (physical_stripe spec class t) (map (argument_stripe spec t) first)
+stripe_taken spec t class first e =
+    let q : (x : Statement) × In x first × (is_lock_of class x ≡ true) = in_list_any (is_lock_of class) first e in
+    subst (λ z. In z (map (argument_stripe spec t) first)) (stripe_of_lock spec t class q.0 q.2) (map_in (argument_stripe spec t) q.0 first q.1)
+
+no_ranges : (ranges : List Range) → map range_column ranges ≡ [] → ranges ≡ []
+no_ranges [] e = refl
+no_ranges (range ∷ ranges) e = absurd (none e)
+  where
+    none : map range_column (range ∷ ranges) ≡ [] → ⊥
+    none e = cc
+
+abbrev outs_of : OpKind → List ℕ
+outs_of (Query outs ranges) = outs
+outs_of Insert = []
+outs_of Remove = []
+outs_of Update = []
+
+-- a call's tuple has the pattern's columns
+pattern_given : (spec : Spec) (pattern : List ℕ) (kind : OpKind) → AreBelow (length spec.columns) pattern → Within (gather nat_cmp pattern) (gather nat_cmp (value_columns spec pattern kind))
+pattern_given spec pattern (Query outs ranges) below c m = m
+pattern_given spec pattern Insert below c m = gather_in nat_cmp nat_order c (all_columns spec) (in_range_below (length spec.columns) c (below c (in_gather nat_cmp nat_order c pattern m)))
+pattern_given spec pattern Remove below c m = m
+pattern_given spec pattern Update below c m = gather_in nat_cmp nat_order c (all_columns spec) (in_range_below (length spec.columns) c (below c (in_gather nat_cmp nat_order c pattern m)))
+
+module _ (spec : Spec) (sealed : IsSealed spec) (call : Call) (fits : Fits spec call) where
+  at : FitsAt spec call (op_at spec call.op)
+  at = fits_at_op spec call fits
+
+  pub args_are : cols_of call.args ≡ given_columns spec (op_at spec call.op)
+  args_are = at.columns
+
+  pub pattern_in_args : Within (pattern_columns (op_at spec call.op)) (cols_of call.args)
+  pattern_in_args c m =
+      let among : IsOpAmong (length spec.columns) (op_at spec call.op) = sealed.in_range.known_ops (op_at spec call.op) (slice_get_in spec.ops call.op (op_at spec call.op) at.known) in
+      subst (In c) (sym at.columns) (pattern_given spec (op_at spec call.op).pattern (op_at spec call.op).kind among.pattern c m)
+
+module _ (spec : Spec) (sealed : IsSealed spec) (call : Call) (fits : Fits spec call) (plan : List Statement) (p : AccessPath) (path : IsAccessPath spec (op_at spec call.op) plan p) where
+  pub args_striped : Within (class_at spec (class_of spec p.edge)).cols (cols_of call.args)
+  args_striped c m = pattern_in_args spec sealed call fits c (path.locks.striped c m)
+
+  -- ---- a query
+
+  module _ (outs ranges : List ℕ) (kind : (op_at spec call.op).kind ≡ Query outs ranges) where
+    asks : AsksQuery p.mode spec (op_at spec call.op) (edge_at spec p.edge)
+    asks = subst (λ k. Asks k p.mode spec (op_at spec call.op) plan (edge_at spec p.edge)) kind path.asks
+
+    abbrev query_of : (mode : ReadMode) (e : Edge) → AsksQuery mode spec (op_at spec call.op) e → (outs : List ℕ) × ((op_at spec call.op).kind ≡ Query outs [])
+    query_of Lookup e asks = (asks.outs, asks.query)
+    query_of Scan e asks = (_, asks.query)
+
+    abbrev query : (outs : List ℕ) × ((op_at spec call.op).kind ≡ Query outs [])
+    query = query_of p.mode (edge_at spec p.edge) asks
+
+    args_given : cols_of call.args ≡ pattern_columns (op_at spec call.op)
+    args_given = args_are spec sealed call fits ∙ ap (λ k. gather nat_cmp (value_columns spec (op_at spec call.op).pattern k)) kind
+
+    none : call.ranges ≡ []
+    none = no_ranges call.ranges ((at spec sealed call fits).ranges ∙ ap range_columns query.1)
+
+    plain_is : (r : List Pairs) → plain spec r call ≡ plain_by spec.most_rows (Query query.0 []) (op_at spec call.op).pattern spec.deps call.args call.ranges r
+    plain_is r =
+        plain-known spec r call (op_at spec call.op) (at spec sealed call fits).known
+        ∙ ap (λ k. plain_by spec.most_rows k (op_at spec call.op).pattern spec.deps call.args call.ranges r) query.1
+
+    outs_are : outs ≡ query.0
+    outs_are = ap outs_of (sym kind ∙ query.1)
+
+    module _ (held : List HeldStripe) (m : In (physical_stripe spec (class_of spec p.edge) call.args) (stripes_held held)) (unchanged : AreAsTaken held) (rows : List EdgeRow)
+        (lent : (h : HeldStripe) → In h held → h.stripe ≡ physical_stripe spec (class_of spec p.edge) call.args → rows ≡ h.now) (r : List Pairs) (a : AreOfRelation spec held r) where
+      rows_are : rows ≡ fragment_of spec r (physical_stripe spec (class_of spec p.edge) call.args)
+      rows_are = let q = is_held held (physical_stripe spec (class_of spec p.edge) call.args) m in lent q.0 q.1 q.2 ∙ unchanged q.0 q.1 ∙ a.rows q.0 q.1 ∙ ap (fragment_of spec r) q.2
+
+      -- what the look-up found is the plain reply
+      pub row_served : (reply : Reply) → p.mode ≡ Lookup → HasLookedUp (shape_of spec (edge_at spec p.edge)) rows p.edge call.args outs reply → plain spec r call ≡ leaving reply r
+      row_served reply mode found =
+          let row : AsksForRow spec (op_at spec call.op) (edge_at spec p.edge) = subst (λ m. AsksQuery m spec (op_at spec call.op) (edge_at spec p.edge)) mode asks in
+          let same : query.0 ≡ row.outs = ap outs_of (sym query.1 ∙ row.query) in
+          plain_is r
+          ∙ ap (λ z. leaving z r)
+          (looked_up spec sealed p.edge path.locks.edge call.args (at spec sealed call fits).tuple (args_striped) r a.relation rows rows_are call.ranges none query.0
+          (subst (λ z. Within z (shape_of spec (edge_at spec p.edge)).target) (sym same) row.within) spec.most_rows (args_given ∙ row.given) row.told reply
+          (subst (λ z. HasLookedUp (shape_of spec (edge_at spec p.edge)) rows p.edge call.args z reply) outs_are found))
+
+      -- and so is what the scan listed
+      pub rows_served : (reply : Reply) → p.mode ≡ Scan → HasListed (shape_of spec (edge_at spec p.edge)) rows p.edge call.args outs spec.most_rows reply → plain spec r call ≡ leaving reply r
+      rows_served reply mode found =
+          let listing : AsksForRows spec (op_at spec call.op) (edge_at spec p.edge) = subst (λ m. AsksQuery m spec (op_at spec call.op) (edge_at spec p.edge)) mode asks in
+          let same = ap outs_of (sym query.1 ∙ listing.query) in
+          plain_is r
+          ∙ ap (λ z. leaving z r)
+          (listed spec sealed p.edge path.locks.edge call.args (at spec sealed call fits).tuple (args_striped) r a.relation rows rows_are call.ranges none query.0
+          (subst (λ z. Within z (shape_of spec (edge_at spec p.edge)).target) (sym same) (key_and_extra_within spec sealed p.edge path.locks.edge)) spec.most_rows (args_given ∙ listing.given) same reply
+          (subst (λ z. HasListed (shape_of spec (edge_at spec p.edge)) rows p.edge call.args z spec.most_rows reply) outs_are found))
+
+-- ---- the end of a run that leaves the relation
+
+module _ (spec : Spec) (sealed : IsSealed spec) (call : Call) (fits : Fits spec call) (plan : List Statement) (planned : IsPlanOf spec call.op plan) (rest : List Statement) (others : list_any is_lock rest ≡ false) (held : List HeldStripe)
+    (begun : IsAt spec plan call rest (call.args ∷ []) None held) (one : AreOfOneRelation spec held) (answer : Reply) (served : (r : List Pairs) → AreOfRelation spec held r → plain spec r call ≡ leaving answer r) where
+  named : (r : List Pairs) → AreOfRelation spec held r → (eval spec plan call (rows_on spec r (stripes_held held))).named ≡ locks_of held
+  named r a =
+      ap (λ z. z.named) (begun.runs r a (stripes_held held) (λ n k. k))
+      ∙ named-no_lock spec (op_at spec call.op) call rest (updating None (call.args ∷ []) (locks_of held) (rows_on spec r (stripes_held held))) others
+
+  replied : (r : List Pairs) → AreOfRelation spec held r → (eval spec plan call (rows_on spec r (stripes_held held))).reply ≡ Some answer
+  replied r a =
+      ap (λ z. (eval spec plan call (rows_on spec r z)).reply) (sym (stripes_named held)) ∙ (serves spec sealed plan call fits planned r held a (named r a)).reply ∙ ap (λ (o : Outcome). Some o.reply) (served r a)
+
+  rows_after : (r : List Pairs) → AreOfRelation spec held r → (h : HeldStripe) → In h held → h.now ≡ fragment_of spec (plain spec r call).relation h.stripe
+  rows_after r a h m = begun.unchanged h m ∙ a.rows h m ∙ ap (λ (o : Outcome). fragment_of spec o.relation h.stripe) (sym (served r a))
+
+  -- the call is replied to as its plan does
+  pub path_replies : HasReplied spec plan call held answer
+  path_replies = record {
+    evaluated = has_evaluated spec sealed plan call fits planned held begun.stripes_rise answer named replied rows_after one.0 one.1;
+    served = has_served spec sealed plan call fits planned held begun.stripes_rise answer named replied rows_after;
+  }

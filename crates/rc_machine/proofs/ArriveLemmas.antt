@@ -1,0 +1,89 @@
+-- A run whose Locks are taken, of a change that finds what it is to find, comes to its Apply.
+use Rattle.std.specs.Prelude.{◌≡◌, ℕ, Bool, true, false, List, [], ◌∷◌, None}
+use Rattle.std.specs.List.{list_any}
+use Rattle.std.specs.Ordering.{nat_cmp}
+use Rattle.std.proofs.Common.{refl, subst, sym, ◌∙◌}
+use Rattle.std.proofs.lemmas.Bool.{false≢true, or_parts}
+use Rattle.std.proofs.lemmas.Option.{slice_get_within}
+use Rattle.rc_tuple.specs.RisingSet.{In}
+use Rattle.rc_tuple.specs.RisingSetLaws.{gather_in, nat_order}
+use Rattle.rc_tuple.specs.Tuple.{Pairs, project}
+use Rattle.rc_spec.specs.declared.call.Call.{Call}
+use Rattle.rc_spec.specs.declared.items.OpKind.{OpKind}
+use Rattle.rc_spec.specs.declared.items.OpKind.TheVariants.{Query, Insert, Remove, Update}
+use Rattle.rc_spec.specs.declared.spec.Spec.{Spec}
+use Rattle.rc_spec.specs.Acceptance.{IsSealed}
+use Rattle.rc_spec.specs.Calls.{Fits, GivesTuple}
+use Rattle.rc_spec.specs.Contents.{join}
+use Rattle.rc_spec.specs.Fragments.{tuples_of_edge}
+use Rattle.rc_spec.specs.Placement.{op_at}
+use Rattle.rc_fragment.specs.Holder.{AreOfOneRelation, HeldStripe}
+use Rattle.rc_plan.specs.declared.statement.Statement.{Statement}
+use Rattle.rc_plan.specs.declared.statement.Statement.TheVariants.{Lock, Probe, Read, CheckAbsent, CheckFound, CheckDep, Apply, Emit, Commit, Release}
+use Rattle.rc_plan.specs.Access.{is_dep_check, is_lock}
+use Rattle.rc_plan.specs.Evaluation.{some_left}
+use Rattle.rc_plan.specs.PlanRules.{IsInsert, IsQuery, IsUpdate, Phase, pattern_columns}
+use Rattle.rc_plan.specs.ProbeLaws.{found_one, one_left, seen_at}
+use Rattle.rc_machine.specs.Machine.{locks_of, rows_now}
+use Rattle.rc_machine.specs.Run.{IsAt, IsOn}
+use Rattle.rc_machine.proofs.CheckStepLemmas.{absent_step, probe_step, whole_tuple}
+use Rattle.rc_machine.proofs.ReadStepLemmas.{read_step}
+
+is_insert : (kind : OpKind) → IsInsert kind → kind ≡ Insert
+is_insert (Query outs ranges) i = absurd i
+is_insert Insert i = refl
+is_insert Remove i = absurd i
+is_insert Update i = absurd i
+
+module _ (spec : Spec) (sealed : IsSealed spec) (plan : List Statement) (call : Call) (fits : Fits spec call) (held : List HeldStripe) (one : AreOfOneRelation spec held) where
+  abbrev pattern : List ℕ
+  pattern = pattern_columns (op_at spec call.op)
+
+  -- no tuple of the relation has the values at an insert's pattern
+  abbrev pub IsNew : Type 0
+  IsNew = IsInsert (op_at spec call.op).kind → (u : Pairs) → In u one.0 → project pattern call.args ≡ project pattern u → ⊥
+
+  -- where a run stands whose next statement is an Apply
+  abbrev pub ComesToApply : Type 0
+  ComesToApply = (rest : List Statement) × (bs : List Pairs) × IsAt spec plan call (Apply ∷ rest) bs None held
+
+  some_pattern : IsInsert (op_at spec call.op).kind → (op_at spec call.op).pattern ≡ [] → ⊥
+  some_pattern i = (sealed.accepted.ops call.op (slice_get_within spec.ops call.op fits.0 fits.1.known)).o1 (is_insert (op_at spec call.op).kind i)
+
+  -- where none has them, no binding is left at a check for one
+  none_found : IsNew → (rest : List Statement) (bs : List Pairs) (at : IsAt spec plan call (CheckAbsent ∷ rest) bs None held) → some_left bs ≡ false
+  none_found new rest bs at = go (some_left bs) refl
+    where
+      insert : IsInsert (op_at spec call.op).kind
+      insert = at.keeps.0.k1.1
+
+      o : IsOn spec one.0 (op_at spec call.op) call.args at.progress bs None (locks_of held)
+      o = at.on one.0 one.1
+
+      go : (b : Bool) → some_left bs ≡ b → some_left bs ≡ false
+      go false e = e
+      go true e =
+          let gives : GivesTuple (op_at spec call.op).kind = subst GivesTuple (sym (is_insert (op_at spec call.op).kind insert)) tt in
+          let over = whole_tuple spec call fits gives in
+          let seen = seen_at spec one.0 one.1.relation call.args over at.progress o.sought bs (locks_of held) o.search (o.tuple gives).probing pattern at.keeps.0.k6.0 (op_at spec call.op).pattern (some_pattern insert)
+          (λ c m. at.keeps.0.k6.1 c (gather_in nat_cmp nat_order c (op_at spec call.op).pattern m)) in
+          let b = one_left bs e in
+          let u = found_one spec one.0 one.1.relation call.args over pattern at.progress.visited bs seen at.keeps.0.k6.1 b.0 b.1 in
+          absurd (new insert u.0 u.1 u.2)
+
+  module _ (no_query : IsQuery (op_at spec call.op).kind → ⊥) (no_update : IsUpdate (op_at spec call.op).kind → ⊥) (new : IsNew) where
+    pub arrives : (rest : List Statement) → list_any is_lock rest ≡ false → (GivesTuple (op_at spec call.op).kind → list_any is_dep_check rest ≡ false)
+        → (bs : List Pairs) → IsAt spec plan call rest bs None held → ComesToApply
+    arrives [] others unchecked bs at = absurd (let e : Phase.Searching ≡ Phase.Committed = sym (at.on one.0 one.1).search.phase ∙ at.keeps.0 in cc)
+    arrives (Lock c choice mode ∷ rest) others unchecked bs at = absurd (false≢true (sym (or_parts true (list_any is_lock rest) others).0))
+    arrives (Probe xs ∷ rest) others unchecked bs at = arrives rest others unchecked (project xs call.args ∷ []) (probe_step spec sealed plan call fits xs rest bs None held at)
+    arrives (Read e mode ∷ rest) others unchecked bs at =
+        let joined : List Pairs = join bs (tuples_of_edge e (rows_now held)) in
+        arrives rest others unchecked joined (read_step spec sealed plan call e mode rest bs None held at joined refl one.0 one.1)
+    arrives (CheckAbsent ∷ rest) others unchecked bs at = arrives rest others unchecked bs (absent_step spec sealed plan call fits rest bs None held at (none_found new rest bs at))
+    arrives (CheckFound ∷ rest) others unchecked bs at = absurd (no_update at.keeps.0.k1.1)
+    arrives (CheckDep dep ∷ rest) others unchecked bs at = absurd (false≢true (sym (or_parts true (list_any is_dep_check rest) (unchecked at.keeps.0.k1.1)).0))
+    arrives (Apply ∷ rest) others unchecked bs at = (rest, bs, at)
+    arrives (Emit ∷ rest) others unchecked bs at = absurd (no_query at.keeps.0.k1.1)
+    arrives (Commit ∷ rest) others unchecked bs at = absurd (let e : Phase.Searching ≡ Phase.Decided = sym (at.on one.0 one.1).search.phase ∙ at.keeps.0.k1 in cc)
+    arrives (Release c ∷ rest) others unchecked bs at = absurd (let e : Phase.Searching ≡ Phase.Committed = sym (at.on one.0 one.1).search.phase ∙ at.keeps.0.k1.0 in cc)

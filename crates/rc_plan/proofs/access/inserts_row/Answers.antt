@@ -1,0 +1,19 @@
+use Rattle.std.proofs.Common.{ap, not, sym, ◌∙◌, length}
+use Rattle.std.proofs.lemmas.Bool.{false≢true, not-true}
+use Rattle.rc_plan.specs.Resolved.{IsResolvedEdge}
+use Rattle.rc_plan.proofs.ResolvedLemmas.{at_number, given_is}
+use Rattle.rc_plan.proofs.access.inserts_row.Goals as goal
+
+pub returns-then-is_given : goal.returns-then-is_given
+returns-then-is_given c =
+    let resolved = at_number (IsResolvedEdge c.args.spec.now) c.args.edges.now (length c.args.spec.now.edges) c.args.edge c.index-edges-edge.result c.requires.resolved c.requires.edge in (
+      (λ e. record { given = c.is_given.ensures.0 c.if-is_given.true ∙ given_is c.args.spec.now c.args.edge _ resolved; unchecked = sym c.checks_dependency.ensures ∙ not-true c.checks_dependency.result e }),
+      (λ row. ap not (c.checks_dependency.ensures ∙ row.unchecked)),
+    )
+
+pub returns-else-is_given : goal.returns-else-is_given
+returns-else-is_given c =
+    let resolved = at_number (IsResolvedEdge c.args.spec.now) c.args.edges.now (length c.args.spec.now.edges) c.args.edge c.index-edges-edge.result c.requires.resolved c.requires.edge in (
+      (λ e. absurd (false≢true (sym c.if-is_given.false ∙ e))),
+      (λ row. c.is_given.ensures.1 (row.given ∙ sym (given_is c.args.spec.now c.args.edge _ resolved))),
+    )

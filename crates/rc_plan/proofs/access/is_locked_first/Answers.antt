@@ -1,0 +1,57 @@
+use Rattle.std.proofs.Common.{◌≡◌, ◌<◌, ◌∙◌, List, ap, drop, length, not, subst, sym, take}
+use Rattle.std.specs.List.{list_all, list_any}
+use Rattle.std.proofs.lemmas.Bool.{false≢true, not-true}
+use Rattle.std.proofs.lemmas.List.{take-append-drop}
+use Rattle.rc_tuple.specs.ColSet.{Within}
+use Rattle.rc_tuple.specs.RisingSet.{In}
+use Rattle.rc_tuple.specs.RisingSetLaws.{append_in_left}
+use Rattle.rc_spec.specs.Placement.{class_at, class_of}
+use Rattle.rc_spec.specs.PlacementLaws.{class_of_known}
+use Rattle.rc_plan.specs.Access.{is_lock, is_lock_of, is_tuple_lock}
+use Rattle.rc_plan.specs.PlanRules.{given_columns, pattern_columns}
+use Rattle.rc_plan.specs.declared.statement.Statement.{Statement}
+use Rattle.rc_plan.proofs.access.is_locked_first.Goals as goal
+use Rattle.rc_plan.proofs.access.is_locked_first.Goals.{then-are_tuple_locks, else-are_tuple_locks}
+
+pub are_tuple_locks-requires : goal.are_tuple_locks-requires
+are_tuple_locks-requires c x m =
+    let plan = c.args.plan.now in
+    let locks = c.args.path.locks in
+    let here = subst (λ (xs : List Statement). In x xs) c.split_at.ensures.front m in
+    c.requires.known x (subst (λ (xs : List Statement). In x xs) (take-append-drop locks plan) (append_in_left x (take locks plan) (drop locks plan) here))
+
+pub is_striped-requires-clause-class : goal.is_striped-requires-clause-class
+is_striped-requires-clause-class c =
+    subst (λ z. z < length c.args.spec.now.classes) (sym c.class_of-class.ensures)
+    (class_of_known c.args.spec.now c.args.path.edge c.requires.sealed.in_range (c.requires.sealed.accepted.placed.p1 c.args.path.edge c.requires.edge))
+
+pub returns-then-not-is_striped : goal.returns-then-not-is_striped
+returns-then-not-is_striped c = (
+  (λ e. absurd (false≢true e)),
+  (λ locks. absurd (false≢true (sym c.if-not-is_striped.true
+      ∙ c.is_striped.ensures.1 (subst (λ k. Within (class_at c.args.spec.now k).cols (pattern_columns c.args.op.now)) (sym c.class_of-class.ensures) locks.striped)))),
+)
+
+pub returns-then-has_lock_of : goal.returns-then-has_lock_of
+returns-then-has_lock_of c =
+    let spec = c.args.spec.now in
+    let plan = c.args.plan.now in
+    let given = given_columns spec c.args.op.now in
+    let class = class_of spec c.args.path.edge in
+    let others : c.has_lock.result ≡ list_any is_lock (drop c.args.path.locks plan) = c.has_lock.ensures ∙ ap (list_any is_lock) c.split_at.ensures.back in
+    elim c.if-are_tuple_locks.branch [
+      | then-are_tuple_locks w ↦ (
+        (λ e. record {
+          edge = c.requires.edge;
+          within = c.requires.within;
+          first = ap (λ cols. list_all (is_tuple_lock spec cols) (take c.args.path.locks plan)) (sym c.given_columns-given.ensures)
+              ∙ ap (list_all (is_tuple_lock spec c.given_columns-given.result)) (sym c.split_at.ensures.front) ∙ sym c.are_tuple_locks.ensures ∙ w.if-are_tuple_locks.true;
+          others = sym others ∙ not-true c.has_lock.result e;
+          locked = ap (λ k. list_any (is_lock_of k) (take c.args.path.locks plan)) (sym c.class_of-class.ensures)
+              ∙ ap (list_any (is_lock_of c.class_of-class.result)) (sym c.split_at.ensures.front) ∙ sym w.has_lock_of.ensures ∙ sym w.value-is ∙ c.if-has_lock_of.true;
+          striped = subst (λ k. Within (class_at spec k).cols (pattern_columns c.args.op.now)) c.class_of-class.ensures (c.is_striped.ensures.0 c.if-not-is_striped.false);
+        }),
+        (λ locks. ap not (others ∙ locks.others)),
+      )
+      | else-are_tuple_locks w ↦ absurd (false≢true (sym w.if-are_tuple_locks.false ∙ sym w.value-is ∙ c.if-has_lock_of.true))
+    ]

@@ -1,0 +1,155 @@
+-- How the calls of an operation are answered where its plan's statements need not be run in turn: from the rows of one edge, on the arguments' stripe. (Access paths: Selinger et al., SIGMOD 1979.)
+use Rattle.std.specs.Prelude.{◌≡◌, ℕ, ◌<◌, ◌≤◌, ◌==◌, ◌++◌, Bool, true, false, List, [], Option, None, IfSome, drop, length, take}
+use Rattle.std.specs.List.{list_all, list_any}
+use Rattle.rc_tuple.specs.ColSet.{Within, is_within, minus}
+use Rattle.rc_tuple.specs.RisingSet.{In}
+use Rattle.rc_spec.specs.declared.items.Edge.{Edge}
+use Rattle.rc_spec.specs.declared.items.Op.{Op}
+use Rattle.rc_spec.specs.declared.items.OpKind.{OpKind}
+use Rattle.rc_spec.specs.declared.items.OpKind.TheVariants.{Query, Insert, Remove, Update}
+use Rattle.rc_spec.specs.declared.spec.Spec.{Spec}
+use Rattle.rc_spec.specs.Calls.{all_columns}
+use Rattle.rc_spec.specs.Decomposition.{bound, edge_at, source_and_key}
+use Rattle.rc_spec.specs.Placement.{class_at, class_of, op_at}
+use Rattle.rc_plan.specs.declared.access.AccessPath.{AccessPath}
+use Rattle.rc_plan.specs.declared.resolved.ResolvedEdge.{ResolvedEdge}
+use Rattle.rc_plan.specs.declared.statement.ReadMode.{ReadMode}
+use Rattle.rc_plan.specs.declared.statement.ReadMode.TheVariants.{Lookup, Scan}
+use Rattle.rc_plan.specs.declared.statement.Statement.{Statement}
+use Rattle.rc_plan.specs.declared.statement.Statement.TheVariants.{Lock, Probe, Read, CheckAbsent, CheckFound, CheckDep, Apply, Emit, Commit, Release}
+use Rattle.rc_plan.specs.declared.statement.Which.TheVariants as which
+use Rattle.rc_plan.specs.Compiled.{IsCompiled, plan_at}
+use Rattle.rc_plan.specs.PlanRules.{given_columns, pattern_columns}
+use Rattle.rc_plan.specs.Resolved.{AllBelow, AreBandStarts, AreResolvedEdges}
+
+-- ---- Locks
+
+abbrev pub is_lock : Statement → Bool
+is_lock (Lock c choice mode) = true
+is_lock (Probe cols) = false
+is_lock (Read e mode) = false
+is_lock CheckAbsent = false
+is_lock CheckFound = false
+is_lock (CheckDep dep) = false
+is_lock Apply = false
+is_lock Emit = false
+is_lock Commit = false
+is_lock (Release c) = false
+
+-- a Lock of the stripe on which a tuple with these columns falls
+abbrev pub is_tuple_lock : Spec → List ℕ → Statement → Bool
+is_tuple_lock spec cols (Lock c which.Keyed mode) = is_within (class_at spec c).cols cols
+is_tuple_lock spec cols (Lock c which.All mode) = false
+is_tuple_lock spec cols (Probe others) = false
+is_tuple_lock spec cols (Read e mode) = false
+is_tuple_lock spec cols CheckAbsent = false
+is_tuple_lock spec cols CheckFound = false
+is_tuple_lock spec cols (CheckDep dep) = false
+is_tuple_lock spec cols Apply = false
+is_tuple_lock spec cols Emit = false
+is_tuple_lock spec cols Commit = false
+is_tuple_lock spec cols (Release c) = false
+
+-- a Lock of the class
+abbrev pub is_lock_of : ℕ → Statement → Bool
+is_lock_of class (Lock c choice mode) = c == class
+is_lock_of class (Probe cols) = false
+is_lock_of class (Read e mode) = false
+is_lock_of class CheckAbsent = false
+is_lock_of class CheckFound = false
+is_lock_of class (CheckDep dep) = false
+is_lock_of class Apply = false
+is_lock_of class Emit = false
+is_lock_of class Commit = false
+is_lock_of class (Release c) = false
+
+-- a check of a dependency
+abbrev pub is_dep_check : Statement → Bool
+is_dep_check (Lock c choice mode) = false
+is_dep_check (Probe cols) = false
+is_dep_check (Read e mode) = false
+is_dep_check CheckAbsent = false
+is_dep_check CheckFound = false
+is_dep_check (CheckDep dep) = true
+is_dep_check Apply = false
+is_dep_check Emit = false
+is_dep_check Commit = false
+is_dep_check (Release c) = false
+
+-- ---- paths
+
+-- The plan begins with so many Locks of the stripe of a call's tuple, among them one of the edge's class, and has no other Lock; the tuple's values at the pattern tell the stripe of that class.
+pub record IsLockedFirst (spec : Spec) (op : Op) (plan : List Statement) (p : AccessPath) : Type 0 where
+  pub edge : p.edge < length spec.edges
+  pub within : p.locks ≤ length plan
+  pub first : list_all (is_tuple_lock spec (given_columns spec op)) (take p.locks plan) ≡ true
+  pub others : list_any is_lock (drop p.locks plan) ≡ false
+  pub locked : list_any (is_lock_of (class_of spec p.edge)) (take p.locks plan) ≡ true
+  pub striped : Within (class_at spec (class_of spec p.edge)).cols (pattern_columns op)
+
+-- the columns of the edge's target that neither source nor key has
+abbrev pub extra_of : Spec → Edge → List ℕ
+extra_of spec e = minus (bound spec e.to) (source_and_key spec e)
+
+-- A query without ranges gives source and key of the edge, and asks for columns of its target: one row at most answers it.
+pub record AsksForRow (spec : Spec) (op : Op) (e : Edge) : Type 0 where
+  pub given : pattern_columns op ≡ source_and_key spec e
+  pub outs : List ℕ
+  pub query : op.kind ≡ Query outs []
+  pub within : Within outs (bound spec e.to)
+  pub told : 0 < spec.most_rows
+
+-- A query without ranges gives the edge's source, and asks for its key, which has a column, and then for its extra columns: the rows of one source answer it.
+pub record AsksForRows (spec : Spec) (op : Op) (e : Edge) : Type 0 where
+  pub given : pattern_columns op ≡ bound spec e.from
+  pub query : op.kind ≡ Query (e.key ++ extra_of spec e) []
+  pub keyed : e.key ≡ [] → ⊥
+
+-- a query is answered by the one row, or by the rows
+abbrev pub AsksQuery : ReadMode → Spec → Op → Edge → Type 0
+AsksQuery Lookup spec op e = AsksForRow spec op e
+AsksQuery Scan spec op e = AsksForRows spec op e
+
+-- An insert's pattern is source and key of the edge, and its plan checks no dependency: the row tells whether a tuple has the pattern's values.
+pub record InsertsRow (spec : Spec) (op : Op) (plan : List Statement) (e : Edge) : Type 0 where
+  pub given : pattern_columns op ≡ source_and_key spec e
+  pub unchecked : list_any is_dep_check plan ≡ false
+
+-- A remove gives source and key of the edge, whose target has all columns: the row is the tuple that is removed.
+pub record RemovesRow (spec : Spec) (op : Op) (e : Edge) : Type 0 where
+  pub given : pattern_columns op ≡ source_and_key spec e
+  pub whole : bound spec e.to ≡ all_columns spec
+
+-- what an operation of this kind asks of the edge, whose rows are found so
+abbrev pub Asks : OpKind → ReadMode → Spec → Op → List Statement → Edge → Type 0
+Asks (Query outs ranges) mode spec op plan e = AsksQuery mode spec op e
+Asks Insert Lookup spec op plan e = InsertsRow spec op plan e
+Asks Insert Scan spec op plan e = ⊥
+Asks Remove Lookup spec op plan e = RemovesRow spec op e
+Asks Remove Scan spec op plan e = ⊥
+Asks Update mode spec op plan e = ⊥
+
+-- the operation's calls are answered by the edge's rows, which lie on the arguments' stripe, which the plan locks first
+pub record IsAccessPath (spec : Spec) (op : Op) (plan : List Statement) (p : AccessPath) : Type 0 where
+  pub locks : IsLockedFirst spec op plan p
+  pub asks : Asks op.kind p.mode spec op plan (edge_at spec p.edge)
+
+-- no edge that the plan reads has a path
+abbrev pub HasNoPath : Spec → Op → List Statement → Type 0
+HasNoPath spec op plan = (p : AccessPath) (mode : ReadMode) → In (Read p.edge mode) plan → IsAccessPath spec op plan p → ⊥
+
+-- a path of the operation's calls, wherever an edge that the plan reads has one
+pub record IsPathOf (spec : Spec) (op : Op) (plan : List Statement) (path : Option AccessPath) : Type 0 where
+  pub some : IfSome path (IsAccessPath spec op plan)
+  pub none : path ≡ None → HasNoPath spec op plan
+
+-- the paths of the operations that have one, by their numbers
+abbrev pub AreAccessPaths : Spec → List (List Statement) → List (Option AccessPath) → Type 0
+AreAccessPaths spec plans paths = AllBelow (λ op path. IsPathOf spec (op_at spec op) (plan_at plans op) path) (length spec.ops) paths
+
+-- an accepted specification with accepted plans, what they ask of its edges and classes, and how calls are answered
+pub record IsCompiledWith (spec : Spec) (plans : List (List Statement)) (edges : List ResolvedEdge) (starts : List ℕ) (paths : List (Option AccessPath)) : Type 0 where
+  pub compiled : IsCompiled spec plans
+  pub resolved : AreResolvedEdges spec edges
+  pub begun : AreBandStarts spec starts
+  pub answered : AreAccessPaths spec plans paths

@@ -1,0 +1,146 @@
+-- Laws of plans whose Locks come first, and of the rows of an edge that lie on the stripe of a tuple.
+use Rattle.std.specs.Prelude.{◌≡◌, ℕ, ◌<◌, Bool, true, false, ◌||◌, List, [], ◌∷◌, cond, get_or, is_some, length, take, ◌≤◌}
+use Rattle.std.specs.List.{list_all, list_any}
+use Rattle.std.specs.Ordering.{nat_cmp}
+use Rattle.std.proofs.Common.{arith, inl, inr, refl, sym, subst, ◌∙◌}
+use Rattle.std.proofs.lemmas.List.{get_or-take, length-take-le}
+use Rattle.std.proofs.lemmas.Bool.{false≢true}
+use Rattle.rc_tuple.specs.RisingSet.{In, IsRising}
+use Rattle.rc_tuple.specs.ColSet.{Within, union}
+use Rattle.rc_tuple.specs.ColSetLaws.{rising_range}
+use Rattle.rc_tuple.specs.MergeLaws.{project-nothing}
+use Rattle.rc_tuple.specs.Relation.{IsRelation}
+use Rattle.rc_tuple.specs.RisingSetLaws.{get_or_in, list_all_in}
+use Rattle.rc_tuple.specs.Tuple.{Pairs, agrees, cols_of, matches, pair_cmp, project}
+use Rattle.rc_tuple.specs.TupleLaws.{Agree, agree_from, same_from_test}
+use Rattle.rc_spec.specs.declared.call.Call.{Call}
+use Rattle.rc_spec.specs.declared.items.Op.{Op}
+use Rattle.rc_spec.specs.declared.lock.Mode.{Mode}
+use Rattle.rc_spec.specs.declared.spec.Spec.{Spec}
+use Rattle.rc_spec.specs.Adequacy.{IsAdequate}
+use Rattle.rc_spec.specs.Calls.{all_columns}
+use Rattle.rc_spec.specs.Contents.{join}
+use Rattle.rc_spec.specs.ContentsLaws.{target_within}
+use Rattle.rc_spec.specs.Decomposition.{target_columns}
+use Rattle.rc_spec.specs.Fragments.{EdgeRow, all_rows, fragment_of, rows_on, tuples_of_edge}
+use Rattle.rc_spec.specs.FragmentsLaws.{fragments_in, in_fragments, in_tuples_of_edge, tuples_of_edge_in}
+use Rattle.rc_spec.specs.HeathLaws.{AreProjections, IsSeen, reached_more}
+use Rattle.rc_spec.specs.InRange.{IsInRange}
+use Rattle.rc_spec.specs.Placement.{class_at, class_of, IsPlaced}
+use Rattle.rc_spec.specs.Stripes.{physical_stripe}
+use Rattle.rc_plan.specs.Access.{is_lock, is_tuple_lock}
+use Rattle.rc_plan.specs.declared.statement.Statement.{Statement}
+use Rattle.rc_plan.specs.declared.statement.Which.{Which}
+use Rattle.rc_plan.specs.declared.statement.Which.TheVariants as which
+use Rattle.rc_plan.specs.declared.statement.Statement.TheVariants.{Lock, Probe, Read, CheckAbsent, CheckFound, CheckDep, Apply, Emit, Commit, Release}
+use Rattle.rc_plan.specs.Evaluation.{RunState, run, run_next, run_one}
+use Rattle.rc_plan.specs.MatchLaws.{matching_agrees}
+use Rattle.rc_plan.specs.RunLaws.{AreProjections-all_rows, cols_of-project, edge_of_fragments, fragments_of_edge, join_same, named-apply, named-check_absent, named-check_dep, named-emit, named-keep_least}
+use Rattle.rc_plan.specs.StripeLocksLaws.{physical_stripe-agreeing, striping_in_target}
+
+-- ---- statements that are no Locks name no stripe
+
+neither : (a b : Bool) → (a || b) ≡ false → (a ≡ false) × (b ≡ false)
+neither true b e = absurd (false≢true (sym e))
+neither false b e = (refl, e)
+
+module _ (spec : Spec) (op : Op) (call : Call) where
+  named-other : (state : RunState) (x : Statement) → is_lock x ≡ false → (run_one spec op call state x).named ≡ state.named
+  named-other state (Lock c choice mode) e = absurd (false≢true (sym e))
+  named-other state (Probe cols) e = refl
+  named-other state (Read k mode) e = refl
+  named-other state CheckAbsent e = named-check_absent spec op call state
+  named-other state CheckFound e = named-keep_least state.bindings state
+  named-other state (CheckDep dep) e = named-check_dep spec op call state dep
+  named-other state Apply e = named-apply spec op.kind call.args state
+  named-other state Emit e = named-emit spec.most_rows op.kind call.ranges state
+  named-other state Commit e = refl
+  named-other state (Release c) e = refl
+
+  named-next : (state : RunState) (x : Statement) → is_lock x ≡ false → (run_next spec op call state x).named ≡ state.named
+  named-next state x e = go (is_some state.reply)
+    where
+      go : (b : Bool) → (cond b state (run_one spec op call state x)).named ≡ state.named
+      go true = refl
+      go false = named-other state x e
+
+  pub named-no_lock : (rest : List Statement) (state : RunState) → list_any is_lock rest ≡ false → (run spec op call rest state).named ≡ state.named
+  named-no_lock [] state e = refl
+  named-no_lock (x ∷ rest) state e =
+      let parts = neither (is_lock x) (list_any is_lock rest) e in
+      named-no_lock rest (run_next spec op call state x) parts.1 ∙ named-next state x parts.0
+
+-- ---- the rows of an edge on the stripe on which a tuple falls
+
+module _ (spec : Spec) (range : IsInRange spec) (ok : IsAdequate spec) (placed : IsPlaced spec) (r : List Pairs) (i : IsRelation (all_columns spec) r) (e : ℕ) (known : e < length spec.edges) where
+  -- a row of the edge is a tuple's
+  pub tuple_of_row : (stripe : ℕ) (u : Pairs) (n : ℕ) → In {A = EdgeRow} (e, u, n) (fragment_of spec r stripe) → (t : Pairs) × In t r × (u ≡ project (target_columns spec e) t)
+  tuple_of_row stripe u n m =
+      let w : EdgeRow = (e, u, n) in
+      (AreProjections-all_rows spec r e known).only u (tuples_of_edge_in e (all_rows spec r) w (in_fragments spec r (stripe ∷ []) w m).0 refl)
+
+  -- the columns of a tuple's row
+  row_has : (t : Pairs) → In t r → Within (target_columns spec e) (cols_of (project (target_columns spec e) t))
+  row_has t m c n = cols_of-project (target_columns spec e) t c n (subst (In c) (sym (i.each t m).over) (target_within spec range e known c n))
+
+  -- the row of a tuple that matches s is on the stripe of s
+  pub row_of_match : (s : Pairs) → Within (class_at spec (class_of spec e)).cols (cols_of s) → (t : Pairs) → In t r → matches s t ≡ true
+      → (n : ℕ) × In {A = EdgeRow} (e, project (target_columns spec e) t, n) (fragment_of spec r (physical_stripe spec (class_of spec e) s))
+  row_of_match s striped t m match =
+      let u : Pairs = project (target_columns spec e) t in
+      let stripe : ℕ = physical_stripe spec (class_of spec e) s in
+      let q : (w : EdgeRow) × In w (all_rows spec r) × (w.0 ≡ e) × (u ≡ w.1) =
+      in_tuples_of_edge e (all_rows spec r) u ((AreProjections-all_rows spec r e known).each t m) in
+      let agree : Agree s u = matching_agrees (target_columns spec e) s t (subst (IsRising nat_cmp) (sym (i.each t m).over) (rising_range 0 (length spec.columns))) (same_from_test (project (cols_of s) t) s match) in
+      let falls : physical_stripe spec (class_of spec e) u ≡ stripe =
+      sym (physical_stripe-agreeing spec (class_of spec e) s u striped (λ c n. row_has t m c (striping_in_target spec ok placed e known c n)) agree) in
+      let w : EdgeRow = (e, u, q.0.2) in
+      let is : q.0 ≡ w = λ k. (q.2 k, sym q.3 k, q.0.2) in
+      (q.0.2, fragments_in spec r (stripe ∷ []) w (subst (λ (z : EdgeRow). In z (all_rows spec r)) is q.1) (inl falls))
+
+  -- where s has the class's columns, what it is joined with on stripes among which is its own is all that the edge has of it
+  pub joined_seen : (s : Pairs) → IsRising pair_cmp s → Within (class_at spec (class_of spec e)).cols (cols_of s) → (stripes : List ℕ) → In (physical_stripe spec (class_of spec e) s) stripes
+      → IsSeen r s (union [] (target_columns spec e)) (join (s ∷ []) (tuples_of_edge e (rows_on spec r stripes)))
+  joined_seen s rises striped stripes there =
+      let all : List Pairs = tuples_of_edge e (all_rows spec r) in
+      let projections : AreProjections r (target_columns spec e) all = AreProjections-all_rows spec r e known in
+      let columns : (u : Pairs) → In u all → Within (class_at spec (class_of spec e)).cols (cols_of u) = (λ u m c n.
+      let q : (t : Pairs) × In t r × (u ≡ project (target_columns spec e) t) = projections.only u m in
+      subst (λ z. In c (cols_of z)) (sym q.2) (row_has q.0 q.1 c (striping_in_target spec ok placed e known c n))) in
+      let same : join (s ∷ []) (tuples_of_edge e (rows_on spec r stripes)) ≡ join (s ∷ []) all =
+      join_same (s ∷ []) (tuples_of_edge e (rows_on spec r stripes)) all (edge_of_fragments spec r stripes e)
+      (λ b u m n agree. fragments_of_edge spec r stripes e u n
+      (subst (λ z. In z stripes) (physical_stripe-agreeing spec (class_of spec e) s u striped (columns u n) (agree_from s u (subst (λ z. agrees z u ≡ true) (one b m) agree))) there)) in
+      subst (IsSeen r s (union [] (target_columns spec e))) (sym same)
+      (reached_more (all_columns spec) (rising_range 0 (length spec.columns)) r i s rises [] (target_columns spec e) (s ∷ []) all (inl (refl, refl)) projections
+      (inl (λ t u m n e. project-nothing t ∙ sym (project-nothing u))))
+    where
+      one : (b : Pairs) → In b (s ∷ []) → b ≡ s
+      one b (inl e) = e
+      one b (inr m) = absurd m
+
+-- ---- the first Locks
+
+-- such a Lock takes the stripes of the bindings
+pub keyed_lock : (spec : Spec) (cols : List ℕ) (x : Statement) (c : ℕ) (choice : Which) (mode : Mode) → x ≡ Lock c choice mode → is_tuple_lock spec cols x ≡ true → x ≡ Lock c which.Keyed mode
+keyed_lock spec cols x c which.Keyed mode is first = is
+keyed_lock spec cols x c which.All mode is first = absurd (false≢true (subst (λ z. is_tuple_lock spec cols z ≡ true) is first))
+
+-- and is a Lock
+pub tuple_lock_locks : (spec : Spec) (cols : List ℕ) (x : Statement) → is_tuple_lock spec cols x ≡ true → ((c : ℕ) (choice : Which) (mode : Mode) → x ≡ Lock c choice mode → ⊥) → ⊥
+tuple_lock_locks spec cols (Lock c choice mode) first n = n c choice mode refl
+tuple_lock_locks spec cols (Probe others) first n = false≢true first
+tuple_lock_locks spec cols (Read e mode) first n = false≢true first
+tuple_lock_locks spec cols CheckAbsent first n = false≢true first
+tuple_lock_locks spec cols CheckFound first n = false≢true first
+tuple_lock_locks spec cols (CheckDep dep) first n = false≢true first
+tuple_lock_locks spec cols Apply first n = false≢true first
+tuple_lock_locks spec cols Emit first n = false≢true first
+tuple_lock_locks spec cols Commit first n = false≢true first
+tuple_lock_locks spec cols (Release c) first n = false≢true first
+
+-- each of the first statements passes the test of all
+pub first_at : (f : Statement → Bool) (plan : List Statement) (n at : ℕ) (d : Statement) → n ≤ length plan → list_all f (take n plan) ≡ true → at < n → f (get_or plan at d) ≡ true
+first_at f plan n at d within all l =
+    let long : length (take n plan) ≡ n = length-take-le n plan within in
+    list_all_in f (take n plan) all (get_or plan at d) (subst (λ z. In z (take n plan)) (get_or-take n plan at d l) (get_or_in (take n plan) at d (omega (arith, l, long))))
