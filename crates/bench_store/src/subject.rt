@@ -1,7 +1,7 @@
 //! The relations on which calls are made.
 
 use crate::failed::Failed;
-use rc_inline::inline;
+use rc_inline::embed;
 use rc_mutate::compile;
 use rc_place::accept;
 use rc_plan::Compiled;
@@ -85,13 +85,13 @@ impl Subject {
         }
     }
 
-    /// The specification with its singletons inlined, as an embedded store has it, and its plans.
+    /// The specification as an embedded store has it, with its singletons inlined and its edges placed together, and its plans.
     pub(crate) fn compiled(self, alloc: Global) -> Result<Compiled, Failed> {
         let spec = match self {
             Subject::Split => read_spec_only(alloc, SPLIT)?,
             Subject::BySource => read_spec_only(alloc, BY_SOURCE)?,
         };
         let accepted = accept(alloc, spec)?;
-        Ok(compile(alloc, inline(alloc, accepted)?)?)
+        Ok(compile(alloc, embed(alloc, accepted)?)?)
     }
 }

@@ -4,7 +4,7 @@ use Rattle.std.specs.List.{slice_get}
 use Rattle.rc_spec.specs.declared.call.Call.{Call}
 use Rattle.rc_spec.specs.declared.call.Reply.{Reply}
 use Rattle.rc_spec.specs.declared.spec.Spec.{Spec}
-use Rattle.rc_inline.specs.Inlining.{inlined}
+use Rattle.rc_inline.specs.Placing.{embedded}
 use Rattle.rc_rel.specs.declared.entry.Entry.{Entry}
 use Rattle.rc_rel.specs.declared.entry.Step.{Step}
 use Rattle.rc_rel.specs.History.{AreLegalFrom, after_steps, own_placed, relation_at, replay, with_replies}
@@ -17,13 +17,13 @@ use Rattle.rc_store.specs.Receipts.{history_with}
 use Rattle.rc_store.specs.Store.{StoreSeen}
 
 -- The history is good for the specification, and what was closed has the rows of the relation that it leaves, as the
--- specification with its singletons inlined keeps them. Each pass's entries are its own of the history, and the
--- journal, where passes kept their entries, is the history. (PLDI 2012, serializable transactions.)
+-- specification with its singletons inlined and its edges placed together keeps them. Each pass's entries are its own of
+-- the history, and the journal, where passes kept their entries, is the history. (PLDI 2012, serializable transactions.)
 pub record IsHistoryOfText (spec : Spec) (store : StoreSeen) (passes : List PassSeen) (closed : ClosedSeen)
     (history : List Entry) : Type 0 where
   pub good : IsGoodHistory spec (length passes) history
-  pub keeps : closed.compiled.spec ≡ inlined spec
-  pub relation : IsOfRelation (inlined spec) closed.instance (replay spec history)
+  pub keeps : closed.compiled.spec ≡ embedded spec
+  pub relation : IsOfRelation (embedded spec) closed.instance (replay spec history)
   pub own : (k : ℕ) (pass : PassSeen) → slice_get passes k ≡ Some pass → (core_of pass).own ≡ own_placed history k
   pub journal : closed.journal ≡ where_kept store.row.keeping history
   pub made : closed.made ≡ made_by passes

@@ -10,7 +10,7 @@ use Rattle.rc_spec.specs.Calls.{Fits, value_columns}
 use Rattle.rc_spec.specs.Plain.{plain}
 use Rattle.rc_spec.specs.Ranges.{range_columns}
 use Rattle.rc_inline.specs.Inlining.{HasItsSchema}
-use Rattle.rc_inline.specs.InliningLaws.{inlined_schema}
+use Rattle.rc_inline.specs.PlacingLaws.{embedded_schema}
 use Rattle.rc_inline.specs.SchemaLaws.{fits_same, fitting_of_one_schema, plain_same, value_columns_same}
 use Rattle.rc_rel.specs.declared.entry.Entry.{Entry}
 use Rattle.rc_rel.specs.declared.entry.Step.{Step}
@@ -90,7 +90,7 @@ module _ (spec other : Spec) (same : HasItsSchema spec other) where
 
 -- ---- the specification of an open store
 
--- that of its text with its singletons inlined
+-- that of its text with its singletons inlined and its edges placed together
 abbrev pub store_spec : OpenSeen → Spec
 store_spec opened = spec_of opened.store.row
 
@@ -108,7 +108,7 @@ OpenedSchema = (text : List ℕ) (options : asked.Options) (opened : OpenSeen) (
     → HasItsSchema is.spec (store_spec opened)
 
 pub opened_schema : OpenedSchema
-opened_schema text options opened is = subst (HasItsSchema is.spec) (sym is.store.of_spec) (inlined_schema is.spec)
+opened_schema text options opened is = subst (HasItsSchema is.spec) (sym is.store.of_spec) (embedded_schema is.spec)
 
 -- an operation's number and values make one call by both
 abbrev pub OpenedCalls : Type 0

@@ -11,7 +11,7 @@ use Rattle.rc_spec.specs.declared.call.Call.{Call}
 use Rattle.rc_spec.specs.declared.call.Reply.{Reply}
 use Rattle.rc_spec.specs.declared.spec.Spec.{Spec}
 use Rattle.rc_spec.specs.Plain.{plain}
-use Rattle.rc_inline.specs.Inlining.{inlined}
+use Rattle.rc_inline.specs.Placing.{embedded}
 use Rattle.rc_plan.specs.Compiled.{SpecWithPlans}
 use Rattle.rc_rel.specs.declared.entry.Entry.{Entry}
 use Rattle.rc_rel.specs.declared.entry.Placed.{Placed}
@@ -50,7 +50,7 @@ closed_is_of_the_text text options opened is passes closed has =
       good = both.0;
       keeps = ap (λ (compiled : SpecWithPlans). compiled.spec) has.compiled ∙ is.store.of_spec;
       relation =
-          subst (λ (r : List Pairs). IsOfRelation (inlined is.spec) closed.instance r) both.1
+          subst (λ (r : List Pairs). IsOfRelation (embedded is.spec) closed.instance r) both.1
           (subst (λ (s : Spec). IsOfRelation s closed.instance (replay (store_spec opened) has.history))
           is.store.of_spec has.leaves.relation);
       own = has.own;

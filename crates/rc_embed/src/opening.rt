@@ -18,7 +18,7 @@ ghost use Rattle.rc_embed.specs.declared.fault.SessionFault.TheVariants as sessi
 use crate::fault::{OpenFault, SessionFault};
 use crate::session::{Last, Session, State};
 use crate::shared::{Shared, blank_call};
-use rc_inline::inline;
+use rc_inline::embed;
 use rc_maps::Seed;
 use rc_mutate::compile;
 use rc_place::{AcceptFault, accept};
@@ -106,9 +106,10 @@ impl Model for OpenStore {
     ghost invariant = { IsWholeOpen };
 }
 
-/// Opens a store with no tuple by the text of its specification, with its singletons inlined, for
-/// so many sessions. Its queries answer one by one as many rows as the options say. Costs what
-/// reading, inlining and planning cost, and for each session room for a fragment of each stripe.
+/// Opens a store with no tuple by the text of its specification, with its singletons inlined and its
+/// edges placed together, for so many sessions. Its queries answer one by one as many rows as the
+/// options say. Costs what reading, embedding and planning cost, and for each session room for a
+/// fragment of each stripe.
 pub fn open(alloc: Global, text: &[u8], options: Options) -> Result<OpenStore, OpenFault>
     ensures opened { IfOk result (IsOpened text.now options) }
     ensures refused { IfErr result (IsRefusedFor text.now options) }
@@ -155,7 +156,8 @@ fn read_accepted(alloc: Global, text: &[u8], options: Options) -> Result<Accepte
     }
 }
 
-/// Inlines an accepted specification's singletons, plans its operations, and opens a store of it.
+/// Inlines an accepted specification's singletons and places its edges together, plans its
+/// operations, and opens a store of it.
 fn open_accepted(
     alloc: Global,
     accepted: Accepted,
@@ -166,9 +168,9 @@ fn open_accepted(
     ensures store { IfOk result (IsStoreOf accepted options) }
     ensures memory { IfErr result (λ fault. fault ≡ faults.Memory) }
 {
-    let inlined = inline(alloc, accepted)?;
-    let columns = all_columns(alloc, inlined.spec())?;
-    let compiled = compile(alloc, inlined)?;
+    let embedded = embed(alloc, accepted)?;
+    let columns = all_columns(alloc, embedded.spec())?;
+    let compiled = compile(alloc, embedded)?;
     let Options {
         passes,
         limit,
@@ -213,8 +215,8 @@ fn all_columns(alloc: Global, spec: &Spec) -> Result<Vec<Cols>, Memory>
 }
 
 impl OpenStore {
-    /// The store's specification: that of its text with its singletons inlined, some of whose nodes
-    /// and edges have other numbers.
+    /// The store's specification: that of its text with its singletons inlined and its edges placed
+    /// together, some of whose nodes and edges have other numbers.
     pub fn spec(&self) -> &Spec
         ensures value { result.now ≡ spec_of self.now.store.row }
         ensures range { IsInRange (spec_of self.now.store.row) }

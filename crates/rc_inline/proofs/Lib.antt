@@ -1,6 +1,7 @@
 mod AcceptedLemmas
 mod AdequacyLemmas
 mod BackLemmas
+mod CoPlacedLemmas
 mod ContractionLemmas
 mod EdgeLemmas
 mod GraphLemmas

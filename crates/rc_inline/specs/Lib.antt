@@ -2,5 +2,8 @@ pub mod Contraction
 pub mod Inlining
 pub mod InliningLaws
 pub mod NamesLaws
+pub mod Placing
+pub mod PlacingLaws
 pub mod RemovedLaws
 pub mod SchemaLaws
+pub mod WidestLaws

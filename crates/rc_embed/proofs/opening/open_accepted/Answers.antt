@@ -6,7 +6,7 @@ use Rattle.rc_store.specs.FreeLaws.{new_are_free}
 use Rattle.rc_plan.specs.Compiled.{SpecWithPlans}
 use Rattle.rc_spec.specs.declared.spec.Spec.{Spec}
 use Rattle.std.specs.Arc.{arc_value}
-use Rattle.rc_inline.specs.InliningLaws.{inlined_schema}
+use Rattle.rc_inline.specs.PlacingLaws.{embedded_schema}
 use Rattle.rc_embed.specs.Opened.{ArePlannedOf}
 use Rattle.rc_embed.proofs.opening.open_accepted.Goals as goal
 
@@ -43,8 +43,8 @@ returns-in-Ok-clause-store c =
     ap (λ (store : StoreSeen). compiled_of store.row) shared ∙ built.compiled in
     let of = ap (λ (z : SpecWithPlans). z.spec) whole ∙ same in
     record {
-      of_spec = of ∙ c.in_ok-inlined.ensures.value;
-      most_rows = ap (λ (spec : Spec). spec.most_rows) (of ∙ c.in_ok-inlined.ensures.value) ∙ (inlined_schema c.args.accepted).most_rows;
+      of_spec = of ∙ c.in_ok-embedded.ensures.value;
+      most_rows = ap (λ (spec : Spec). spec.most_rows) (of ∙ c.in_ok-embedded.ensures.value) ∙ (embedded_schema c.args.accepted).most_rows;
       planned =
           subst ArePlannedOf (sym whole)
           (subst (λ (spec : Spec). ArePlannedOf (record { spec = spec; plans = compiled.plans })) (sym same)
