@@ -12,8 +12,10 @@
  *             call at a time.
  * Codes.      Each function answers a code, but relc_version and those that close; RELC_DONE is 0.
  *             A call that is refused has changed nothing in the store, nor in the session but for
- *             RELC_UNSEEN, and for RELC_MEMORY of relc_call_open; a relc_frame or a relc_operation_frame is as before but for what
- *             RELC_BUSY tells, and a relc_page but for `rows`. Nothing aborts, nothing waits, and nothing is printed.
+ *             RELC_UNSEEN, and for RELC_NO_CALL of relc_commit and RELC_MEMORY of relc_call_open,
+ *             which end an open group; a relc_frame or a relc_operation_frame is as before but for
+ *             what RELC_BUSY tells, and a relc_page but for `rows`. Nothing aborts, nothing waits,
+ *             and nothing is printed.
  * Memory.     Every byte that is lent is initialised: frames and pages (= {0}), and the places that store
  *             and session are written to (= NULL). What is lent is aligned as its type is. What one
  *             call is lent doesn't overlap, and but for a text nobody else reads or writes it
@@ -35,7 +37,7 @@ extern "C" {
 #endif
 
 /* the version of this header and of its library: it rises where programs must be compiled anew */
-#define RELC_VERSION 2
+#define RELC_VERSION 3
 
 /* how many values of a call there is room for: of a query those of its pattern, and a least and a
  * greatest value of each range column, of 32 columns at most */
@@ -65,7 +67,7 @@ enum relc_code {
     RELC_VALUE_COUNT = 5,  /* the operation takes another number of values */
     RELC_PREPARED = 6,     /* a call or a group is prepared, or a group is open, and neither
                               committed nor cancelled */
-    RELC_NOT_PREPARED = 7, /* there is nothing to commit, or to cancel */
+    RELC_NOT_PREPARED = 7, /* nothing is prepared, and no group open */
     RELC_NO_ROW = 8,       /* the reply has no such row, or there is no such reply */
     RELC_OPTIONS = 9,      /* passes, limit or rows are out of their ranges */
     RELC_TOO_LONG = 10,    /* the text is longer than 2^24 bytes */
@@ -75,7 +77,8 @@ enum relc_code {
     RELC_UNSEEN = 14,      /* the session has seen less than what was to be learned */
     RELC_COUNT = 15,       /* a group has no call, or would have more than RELC_GROUP */
     RELC_NOT_OPEN = 16,    /* no group is open */
-    RELC_UNCOVERED = 17    /* what the open group declared doesn't suffice for the call */
+    RELC_UNCOVERED = 17,   /* what the open group declared doesn't suffice for the call */
+    RELC_NO_CALL = 18      /* the open group had made no call, and is over */
 };
 
 /* kinds of a reply */
@@ -206,14 +209,16 @@ uint32_t relc_open_group(relc_session *session, relc_frame *frames, size_t count
 /* Makes one call more of the open group, over what those before it left; nobody else sees it yet. RELC_DONE:
  * the frame tells its reply, which relc_row and relc_rows read then. Else RELC_NOT_OPEN,
  * RELC_OPERATION, RELC_VALUE_COUNT, RELC_COUNT (it has made RELC_GROUP calls), in that order of tests, then
- * RELC_UNCOVERED: it wants a stripe that the group doesn't hold, or doesn't hold to be changed; the group
- * is open and as it was. RELC_MEMORY, in place of RELC_DONE or RELC_UNCOVERED: the group is over, as if it
- * had been cancelled. */
+ * RELC_UNCOVERED: it may want a stripe that the group doesn't hold, or doesn't hold to be changed; the
+ * group is open and as it was. This never comes of a call that was declared. RELC_MEMORY, in place of
+ * RELC_DONE or RELC_UNCOVERED: the group is over, as if it had been cancelled, and relc_row reads the
+ * reply of what was made before it. */
 uint32_t relc_call_open(relc_session *session, relc_frame *frame);
 
 /* Commits the prepared call or group, or the calls of the open group, as one; they have the replies that
  * were told. Of several the frame tells that of the first call again. It takes no memory. RELC_DONE, or
- * RELC_NOT_PREPARED, also where a group is open that has made no call: it stays open. */
+ * RELC_NO_CALL where a group is open that has made no call: it is over, as if it had been cancelled; or
+ * RELC_NOT_PREPARED. */
 uint32_t relc_commit(relc_session *session, relc_frame *frame);
 
 /* Cancels the prepared call or group, or the open group, as if it had not begun. It takes no memory, and
@@ -234,10 +239,10 @@ uint32_t relc_pick(relc_session *session, relc_frame *frame);
  * Else RELC_PREPARED. */
 uint32_t relc_learn(relc_session *session, relc_frame *frame);
 
-/* Copies row `row` into `cells`: of the reply of the prepared call, where one is, else of the last
- * call that was made; of a group that of the first call, of an open one that of the last, or of the one
- * that relc_pick picked.
- * RELC_DONE or RELC_NO_ROW. */
+/* Copies row `row` into `cells`: of the reply of what is prepared or open, where something is, else of
+ * the call or the group that was made last; of a group that of the first call, of an open one that of the
+ * last, or of the one that relc_pick picked. RELC_DONE or RELC_NO_ROW, also where an open group has made
+ * no call yet. */
 uint32_t relc_row(relc_session *session, relc_frame *frame);
 
 /* Copies the rows from `row` on into `cells`, one behind the other, as many as there is room for,

@@ -22,8 +22,11 @@ void relc_close_waiting(relc_waiting *waiting);
 
 /* Calls as relc_try_call does, and waits while the answer is RELC_BUSY. Nothing is promised of when
  * it returns. Whatever it answers, stripe, found and who may tell of a try that was refused
- * meanwhile. Wait for nothing while you have a prepared call on another session: where it is that
- * call's stripes that are wanted, the wait has no end. */
+ * meanwhile.
+ *
+ * Wait for nothing by a session while you have something prepared or open on another one: where it is
+ * its stripes that are wanted, the wait has no end. Nor has it where two threads do so, and each waits
+ * for what the other holds. */
 uint32_t relc_call(relc_waiting *waiting, relc_session *session, relc_frame *frame);
 
 /* Prepares a call as relc_begin does, and waits as relc_call does. */
@@ -38,8 +41,8 @@ uint32_t relc_begin_group_waiting(
 uint32_t relc_open_group_waiting(
     relc_waiting *waiting, relc_session *session, relc_frame *frames, size_t count);
 
-/* Wakes those that wait: to be called after each relc_try_call, relc_try_group, relc_commit,
- * relc_cancel or relc_close_session that stands alone, after each relc_begin, relc_begin_group or
+/* Wakes those that wait: to be called after each relc_try_call, relc_try_group, relc_commit (also
+ * where it answers RELC_NO_CALL), relc_cancel or relc_close_session that stands alone, after each relc_begin, relc_begin_group or
  * relc_open_group that is refused, and after a relc_call_open that answers RELC_MEMORY. Where nobody
  * waits it costs one load. */
 void relc_ring(relc_waiting *waiting);

@@ -583,7 +583,14 @@ static void test_open_groups(void)
     CHECK(relc_open_group(session, declared, 2) == RELC_DONE);
     CHECK(relc_open_group(session, declared, 0) == RELC_PREPARED);
     CHECK(relc_try_call(session, frames) == RELC_PREPARED);
+    /* a commit of no call is a cancel: the stripes are free again, and the frame is as before */
+    frames[0].kind = frames[0].place = 99;
+    CHECK(relc_commit(session, frames) == RELC_NO_CALL);
+    CHECK(frames[0].kind == 99 && frames[0].place == 99);
     CHECK(relc_commit(session, frames) == RELC_NOT_PREPARED);
+    CHECK(relc_call_open(session, frames) == RELC_NOT_OPEN);
+    CHECK(relc_begin(other, &read) == RELC_DONE && relc_cancel(other, &read) == RELC_DONE);
+    CHECK(relc_open_group(session, declared, 2) == RELC_DONE);
     CHECK(relc_row(session, frames) == RELC_NO_ROW);
     read.stripe = read.found = read.who = 99;
     CHECK(relc_try_call(other, &read) == RELC_BUSY && read.stripe < 12);

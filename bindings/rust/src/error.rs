@@ -65,9 +65,11 @@ pub enum Error {
     /// A prepared call or group, or a transaction, was forgotten, and is neither committed nor cancelled.
     /// Drop the session: it is cancelled.
     Prepared,
-    /// A group has no call, or would have more than 16; or so many are declared.
+    /// A group, or what is declared of a transaction, has no call, or would have more than 16; or a
+    /// transaction has made 16 calls and is asked for one more, or is committed and has made none.
     Count,
-    /// What is declared of an operation has another number of values than its pattern has columns.
+    /// What is declared of an operation has another number of values than its pattern has columns, or has
+    /// none.
     Pattern,
     /// What the transaction declared doesn't suffice for the call.
     Uncovered,
@@ -101,8 +103,8 @@ impl fmt::Display for Error {
             Error::Foreign => write!(f, "the operation, or what was seen, is another store's"),
             Error::Busy { stripe, found } => write!(f, "busy at stripe {stripe}: {found:?}"),
             Error::Spent => write!(f, "the session has made all its calls"),
-            Error::Prepared => write!(f, "a prepared call was forgotten"),
-            Error::Count => write!(f, "a group has 1 to 16 calls"),
+            Error::Prepared => write!(f, "a prepared call, or a transaction, was forgotten"),
+            Error::Count => write!(f, "a group or a transaction has 1 to 16 calls"),
             Error::Pattern => write!(f, "the operation's pattern has another number of columns"),
             Error::Uncovered => write!(f, "what was declared doesn't suffice for the call"),
             Error::Slot => write!(f, "the slot is another group's"),

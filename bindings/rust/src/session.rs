@@ -326,8 +326,11 @@ impl Session {
     }
 
     /// Calls the operation, and waits while another session is in the way: the reply, with the
-    /// call's place in the history. Call nothing that waits while the thread has a prepared call on
-    /// another session: where it is that call's stripes that are wanted, the wait has no end.
+    /// call's place in the history.
+    ///
+    /// Wait for nothing by a session while the thread has something prepared, or a transaction open, on
+    /// another one: where it is its stripes that are wanted, the wait has no end. Nor has it where two
+    /// threads do so, and each waits for what the other holds.
     pub fn call_placed<const N: usize, O: Operation<N>>(
         &mut self,
         op: O,

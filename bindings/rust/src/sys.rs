@@ -23,7 +23,6 @@ pub const BUSY: u32 = 2;
 pub const SPENT: u32 = 3;
 pub const VALUE_COUNT: u32 = 5;
 pub const PREPARED: u32 = 6;
-pub const NOT_PREPARED: u32 = 7;
 pub const OPTIONS: u32 = 9;
 pub const TOO_LONG: u32 = 10;
 pub const LINE: u32 = 11;
@@ -33,6 +32,7 @@ pub const UNSEEN: u32 = 14;
 pub const COUNT: u32 = 15;
 pub const NOT_OPEN: u32 = 16;
 pub const UNCOVERED: u32 = 17;
+pub const NO_CALL: u32 = 18;
 
 // Kinds of a reply.
 pub const ROWS: u32 = 0;

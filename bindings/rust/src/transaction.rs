@@ -26,14 +26,17 @@ impl Declared {
 
     /// Declares the calls of the operation that have these values of its pattern's columns, in the order
     /// in which the pattern is written. `Count` where 16 are declared, and `Foreign` where the others are
-    /// another store's. (How many columns the pattern has, the store tells as a transaction is opened:
-    /// `Pattern`.)
+    /// another store's. Another number of values than the pattern has columns is refused by `Pattern`, as
+    /// a transaction is opened; but no values here, where the operation's calls have some: who means all
+    /// calls says `any`, also where the pattern has no columns.
     pub fn at<const K: usize, const N: usize, O: Operation<N>>(
         &mut self,
         op: O,
         pattern: [u64; K],
     ) -> Result<(), Error> {
-        if K > sys::VALUES {
+        // to declare no values is below to declare all calls
+        let says_nothing = K == 0 && N > 0;
+        if says_nothing || K > sys::VALUES {
             return Err(Error::Pattern);
         }
         self.declare(op.number(), &pattern)
@@ -68,7 +71,7 @@ impl Session {
     }
 
     /// Opens a transaction as `try_open` does, and waits while another session is in the way. What
-    /// `call_placed` says of waiting holds here too.
+    /// `call_placed` says of waiting holds here too, and for as long as the transaction is open.
     pub fn open(&mut self, over: &Declared) -> Result<Transaction<'_>, Error> {
         self.put_all(&over.calls)?;
         let code = self.until_free(|session| session.ask_group(sys::relc_open_group));
@@ -102,10 +105,10 @@ pub struct Transaction<'s> {
 }
 
 impl Transaction<'_> {
-    /// Makes one call more, over what those before it left. `Uncovered` where what was declared doesn't
-    /// suffice for it, and `Count` after 16 calls: the transaction is as before then. `Memory` where
-    /// memory was wanted, for it or for a call before it: the transaction is over, and nothing of it is
-    /// made.
+    /// Makes one call more, over what those before it left. `Foreign` where the operation is another
+    /// store's, `Uncovered` where what was declared doesn't suffice for it, and `Count` after 16 calls: the
+    /// transaction is as before then. `Memory` where memory was wanted, for it or for a call before it: the
+    /// transaction is over, and nothing of it is made.
     pub fn call<const N: usize, O: Operation<N>>(
         &mut self,
         op: O,
@@ -125,20 +128,19 @@ impl Transaction<'_> {
         }
     }
 
-    /// Makes its calls, which have their replies, as one. It is refused only where there is none of them:
-    /// `Count` where no call was made, and `Memory` where want of memory has ended it.
+    /// Makes its calls, which have their replies, as one. Refused only where there is none of them, and the
+    /// transaction is over then as if it had been cancelled: `Count` where no call was made, and `Memory`
+    /// where want of memory has ended it.
     pub fn commit(mut self) -> Result<Position, Error> {
         if self.is_over {
             return Err(Error::Memory);
         }
-        match self.session.ask(sys::relc_commit) {
-            sys::DONE => {
-                self.is_over = true;
-                self.session.ring();
-                Ok(self.session.position())
-            }
-            // it is open still, and its drop cancels it
-            sys::NOT_PREPARED => Err(Error::Count),
+        let code = self.session.ask(sys::relc_commit);
+        self.is_over = true;
+        self.session.ring();
+        match code {
+            sys::DONE => Ok(self.session.position()),
+            sys::NO_CALL => Err(Error::Count),
             code => unreachable!("a commit is never refused by code {code}"),
         }
     }

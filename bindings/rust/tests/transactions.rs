@@ -67,6 +67,9 @@ fn refuses_what_is_not_declared() {
     let mut session = graph.store.session().unwrap();
     let mut over = Declared::new();
     assert_eq!(session.open(&over).err(), Some(Error::Count));
+    // no values would declare all calls: who means these says so
+    assert_eq!(over.at(graph.del, []), Err(Error::Pattern));
+    assert_eq!(session.open(&over).err(), Some(Error::Count));
     over.at(graph.ins, [1, 2, 10]).unwrap();
     assert_eq!(session.open(&over).err(), Some(Error::Pattern));
     assert_eq!(over.at(graph.ins, [0; 65]), Err(Error::Pattern));
@@ -88,6 +91,7 @@ fn refuses_what_is_not_declared() {
     // a commit of no call, which cancels
     let none = session.open(&over).unwrap();
     assert_eq!(none.commit().err(), Some(Error::Count));
+    assert!(session.look().is_ok());
     let mut reads = session.open(&over).unwrap();
     assert_eq!(reads.call(find, [1, 2]), Err(Error::Foreign));
     // they hold their stripes to read, and not to write

@@ -12,14 +12,15 @@ ghost use Rattle.rc_embed.specs.Frames.{AnswersGroup, AnswersLearn};
 ghost use Rattle.rc_embed.specs.OpenFrames.{HasOpened, IsRefusedBy, KeepsAsked};
 ghost use Rattle.rc_embed.specs.OpenGroupFrames.{AnswersCallOpen, AnswersOpenGroup};
 ghost use Rattle.rc_embed.specs.Opened.{OpenSeen};
-ghost use Rattle.rc_embed.specs.Session.{SessionSeen};
+ghost use Rattle.rc_embed.specs.Session.{HasCancelled, IsIdle, SessionSeen};
 ghost use Rattle.rc_embed.specs.contracts.opening.OpenStore as stores;
 ghost use Rattle.rc_embed.specs.contracts.session.Session as sessions;
 ghost use Rattle.rc_c.specs.Answered.{AnswersSameFrame, AnswersSameOperation, AnswersSamePick};
 ghost use Rattle.rc_c.specs.Answered.{AnswersSameRow, AnswersSameRows, AnswersSession, lies_again};
 
 use rc_embed::{
-    DONE, Frame, MEMORY, OpenFrame, OpenStore, OperationFrame, Page, Session, open_by, session_code,
+    DONE, Frame, MEMORY, NotPrepared, OpenFrame, OpenStore, OperationFrame, Page, Session, open_by,
+    session_code,
 };
 use std::alloc::Global;
 
@@ -327,11 +328,30 @@ pub unsafe extern "C" fn relc_end_store(store: *mut u8)
     let_store_go(std::ptr::read(store as *const OpenStore))
 }
 
+/// Cancels what the session has prepared or opened, if anything.
+fn settled(session: Session) -> Session
+    ensures idle { IsIdle result.state }
+    ensures same { IsIdle session.state → result ≡ session }
+    ensures cancelled { (IsIdle session.state → ⊥) → HasCancelled session result }
+{
+    let mut session = session;
+    match session.cancel() {
+        Ok(()) => session,
+        Err(NotPrepared) => session,
+    }
+}
+
+/// Drops a session that has nothing prepared or open.
+fn let_idle_go(session: Session)
+    requires { IsIdle session.state }
+{
+    let _session = session;
+}
+
 /// Drops the session. What it has prepared or opened is cancelled before: nobody else could give its
 /// stripes back.
 fn let_session_go(session: Session) {
-    let mut session = session;
-    let _ = session.cancel();
+    let_idle_go(settled(session));
 }
 
 /// Ends the session at the pointer, and cancels what it has prepared or opened, if anything. The memory

@@ -11,12 +11,15 @@ use Rattle.rc_tuple.specs.Tuple.{pair_cmp}
 use Rattle.rc_tuple.specs.RisingSet.{gather}
 use Rattle.rc_spec.specs.declared.call.Call.{Call}
 use Rattle.rc_spec.specs.declared.spec.Spec.{Spec}
+use Rattle.rc_spec.specs.Calls.{Fits}
 use Rattle.rc_spec.specs.InRange.{IsInRange}
 use Rattle.rc_spec.specs.Names.{IsWellNamed}
 use Rattle.rc_spec.specs.Placement.{no_op, op_at}
 use Rattle.rc_spec.specs.Ranges.{range_columns}
+use Rattle.rc_plan.specs.Compiled.{IsCompiled}
+use Rattle.rc_multi.specs.Group.{Covers}
 use Rattle.rc_multi.specs.GroupLocks.{HasOperation}
-use Rattle.rc_row.specs.Passes.{core_of, spec_of}
+use Rattle.rc_row.specs.Passes.{compiled_of, core_of, spec_of}
 use Rattle.rc_store.specs.OpenGroups.{OpenGroupSeen}
 use Rattle.rc_store.specs.Store.{StoreSeen}
 use Rattle.rc_work.specs.CallColumns.{written_columns_at}
@@ -29,7 +32,8 @@ use Rattle.rc_embed.specs.declared.session.State.{State}
 use Rattle.rc_embed.specs.declared.session.State.TheVariants as states
 use Rattle.rc_embed.specs.Asked.{AskedCall}
 use Rattle.rc_embed.specs.Declaring.{declared_by, declared_call, declared_fault_at, declared_fault_in, declared_fault_of, declares_values, first_declared_fault, pattern_at}
-use Rattle.rc_embed.specs.OpenGroups.{HasDeclaredCause, HasOpenCause, IsLeftBy, open_fault_by, open_fault_in, open_fault_of}
+use Rattle.rc_embed.specs.DeclaringLaws.{declared_calls_are_covered}
+use Rattle.rc_embed.specs.OpenGroups.{HasDeclaredCause, HasOpenCause, IsLeftBy, IsUncoveredIn, open_fault_by, open_fault_in, open_fault_of}
 use Rattle.rc_embed.specs.Refused.{is_group, spent_by}
 use Rattle.rc_embed.specs.Session.{SessionSeen}
 use Rattle.rc_embed.proofs.FaultLemmas.{IsOwn, IsOwnIf, none_both, own_group, own_or, own_spent}
@@ -209,7 +213,7 @@ own_open_in store (states.Open group) asked =
 own_open_in store states.Moving asked = tt
 
 open_cause_by : (session : SessionSeen) (asked : AskedCall) (fault : OpenCallFault) → IsOwnOpen fault → open_fault_of session asked ≡ Some fault
-    → HasOpenCause session asked fault × IsLeftBy session session fault
+    → HasOpenCause session session asked fault × IsLeftBy session session fault
 open_cause_by session asked faults.NotOpen own is = (is, refl)
 open_cause_by session asked faults.UnknownOperation own is = (is, refl)
 open_cause_by session asked faults.Values own is = (is, refl)
@@ -218,7 +222,7 @@ open_cause_by session asked faults.Uncovered own is = absurd own
 open_cause_by session asked faults.Memory own is = absurd own
 
 pub own_open_cause : (session : SessionSeen) (asked : AskedCall) (fault : OpenCallFault) → open_fault_of session asked ≡ Some fault
-    → HasOpenCause session asked fault × IsLeftBy session session fault
+    → HasOpenCause session session asked fault × IsLeftBy session session fault
 own_open_cause session asked fault is =
     open_cause_by session asked fault (subst IsOwnOpenIf is (own_open_in session.store session.state asked)) is
 
@@ -229,6 +233,15 @@ open_tests true true true is = absurd cc
 open_tests true true false is = (refl, refl, refl)
 open_tests true false full is = absurd cc
 open_tests false same full is = absurd cc
+
+-- one for which what was declared doesn't suffice was not declared
+pub uncovered_so : (store : StoreSeen) (group : OpenGroupSeen) (call : Call) → IsCompiled (spec_of store.row) (compiled_of store.row).plans
+    → Fits (spec_of store.row) call → (Covers (compiled_of store.row) call group.locks → ⊥) → IsUncoveredIn store (states.Open group) call
+uncovered_so store group call ok fits none = (
+  none,
+  (λ declared locks is. none
+      (subst (Covers (compiled_of store.row) call) (sym locks) (declared_calls_are_covered store ok declared call fits is))),
+)
 
 -- an open group that may be asked for a call: the call's operation is known and takes so many values, and the group isn't full
 pub record MayBeAsked (spec : Spec) (group : OpenGroupSeen) (asked : AskedCall) : Type 0 where

@@ -72,3 +72,7 @@ not_open = 16
 -- what an open group declared doesn't suffice for the call
 abbrev pub uncovered : ℕ
 uncovered = 17
+
+-- an open group had no call to commit, and is over
+abbrev pub no_call : ℕ
+no_call = 18

@@ -154,13 +154,15 @@ pub record HasTold (session : SessionSeen) (at : Position) (before after : Frame
   pub same : after ≡ with_reply reply (with_place at before)
 
 -- The uncommitted calls are made, at the place that the frame tells, with the reply to the first of
--- them; or there are none.
+-- them; or a group is open that has made none, and is cancelled; or nothing is prepared, and no group
+-- open.
 pub record AnswersCommit (old : SessionSeen) (before : Frame)
     (new : SessionSeen) (after : Frame) (code : ℕ) : Type 0 where
   pub store : new.store ≡ old.store
   pub made : code ≡ codes.done → (at : Position) × HasCommitted old new at × HasTold new at before after
-  pub refused : (code ≡ codes.done → ⊥)
-      → (code ≡ codes.not_prepared) × HasNoCall old.state × (new ≡ old) × (after ≡ before)
+  pub none : code ≡ codes.no_call → HasNoCall old.state × HasCancelled old new × (after ≡ before)
+  pub refused : (code ≡ codes.done → ⊥) → (code ≡ codes.no_call → ⊥)
+      → (code ≡ codes.not_prepared) × IsIdle old.state × (new ≡ old) × (after ≡ before)
 
 -- the reply to the call is picked, by its number, counted from 0; or there is none
 pub record AnswersPick (old : SessionSeen) (frame : Frame) (new : SessionSeen) (code : ℕ) : Type 0 where

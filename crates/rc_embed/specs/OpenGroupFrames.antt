@@ -54,7 +54,7 @@ pub record IsNotCalled (old : SessionSeen) (before : Frame)
     (new : SessionSeen) (after : Frame) (code : ℕ) : Type 0 where
   pub fault : OpenCallFault
   pub code_is : code ≡ open_call_code fault
-  pub cause : HasOpenCause old (asked_by before) fault
+  pub cause : HasOpenCause old new (asked_by before) fault
   pub left : IsLeftBy old new fault
   pub same : after ≡ before
 

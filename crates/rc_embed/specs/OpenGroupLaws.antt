@@ -1,25 +1,30 @@
 -- What holds of the calls of open groups: they keep the session's pass and its entries, and once they are committed their
 -- replies are the plain relation's. (PLDI 2012, serializable transactions.)
-use Rattle.std.proofs.Common.{◌≡◌, ℕ, List, [], ◌∷◌, ◌++◌, sym, ap, ◌∙◌, subst, append_assoc}
+use Rattle.std.proofs.Common.{◌≡◌, ℕ, List, [], ◌∷◌, ◌++◌, refl, sym, ap, ◌∙◌, subst, append_assoc}
 use Rattle.std.proofs.lemmas.List.{append-nil, map-append}
 use Rattle.rc_tuple.specs.RisingSet.{In}
 use Rattle.rc_spec.specs.declared.call.Call.{Call}
+use Rattle.rc_spec.specs.Locks.{StripeLock}
 use Rattle.rc_rel.specs.declared.entry.Entry.{Entry}
 use Rattle.rc_rel.specs.declared.entry.Placed.{Placed}
 use Rattle.rc_rel.specs.declared.entry.Step.{Step}
 use Rattle.rc_row.specs.Passes.{PassSeen, core_of, spec_of}
 use Rattle.rc_store.specs.Closed.{ClosedSeen}
+use Rattle.rc_store.specs.OpenGroups.{OpenGroupSeen, declared_locks}
 use Rattle.rc_store.specs.Running.{calls_of}
 use Rattle.rc_store.specs.Store.{StoreSeen}
+use Rattle.rc_work.specs.CallColumns.{call_of}
+use Rattle.rc_embed.specs.declared.fault.OpenCallFault.TheVariants as faults
 use Rattle.rc_embed.specs.declared.opening.Options as opening
 use Rattle.rc_embed.specs.declared.session.Position.{Position}
 use Rattle.rc_embed.specs.declared.session.State.{State}
-use Rattle.rc_embed.specs.declared.session.State.TheVariants.{Idle, Open}
+use Rattle.rc_embed.specs.declared.session.State.TheVariants.{Idle, Prepared, PreparedGroup, Open, Moving}
 use Rattle.rc_embed.specs.Asked.{AskedCall, calls_by}
+use Rattle.rc_embed.specs.Declaring.{IsDeclared, declared_in}
 use Rattle.rc_embed.specs.Entries.{HaveEntriesOf, KeepsPass, entries_of, number_in}
 use Rattle.rc_embed.specs.EntriesLaws.{commits_stand}
 use Rattle.rc_embed.specs.OfText.{AreAnsweredAt, IsHistoryOfText}
-use Rattle.rc_embed.specs.OpenGroups.{HasCalledOpen, HasOpenedGroup, call_in}
+use Rattle.rc_embed.specs.OpenGroups.{HasCalledOpen, HasOpenCause, HasOpenedGroup, IsUncoveredIn, call_in}
 use Rattle.rc_embed.specs.Opened.{IsOpened, OpenSeen}
 use Rattle.rc_embed.specs.Session.{HasCommitted, SessionSeen, calls_in, replies_of, uncommitted_in}
 use Rattle.rc_embed.specs.ToldLaws.{answered, calls_or, same_calls}
@@ -56,7 +61,7 @@ open_calls_keep old new asked h =
     (ap (λ (pass : PassSeen). number_in (Idle pass)) h.called.begun)
     (ap (λ (pass : PassSeen). (core_of pass).own) h.called.begun)
 
--- ---- the replies that it was told
+-- ---- the calls of an open group, one after another
 
 -- store and state are the same: calls may have been refused between, and replies picked
 pub record IsStill (old new : SessionSeen) : Type 0 where
@@ -74,6 +79,66 @@ pub record HasCalledNext (old : SessionSeen) (asked : AskedCall) (new : SessionS
 abbrev pub HaveCalledInTurn : SessionSeen → List AskedCall → SessionSeen → Type 0
 HaveCalledInTurn old [] new = IsStill old new
 HaveCalledInTurn old (asked ∷ rest) new = (next : SessionSeen) × HasCalledNext old asked next × HaveCalledInTurn next rest new
+
+-- ---- what it declared
+
+-- the locks that an open group holds
+abbrev locks_in : State → List StripeLock
+locks_in (Idle pass) = []
+locks_in (Prepared running) = []
+locks_in (PreparedGroup running) = []
+locks_in (Open group) = group.locks
+locks_in Moving = []
+
+-- An open group has the locks of what it declared, whatever calls it has made.
+abbrev pub OpenGroupsKeepTheirLocks : Type 0
+OpenGroupsKeepTheirLocks = (old begun ready : SessionSeen) (declared asked : List AskedCall) (group : OpenGroupSeen)
+    → HasOpenedGroup old declared begun → HaveCalledInTurn begun asked ready → ready.state ≡ Open group
+    → group.locks ≡ declared_locks old.store.row (declared_in old declared)
+
+still_locks : (old new : SessionSeen) (asked : AskedCall) → HasCalledNext old asked new → locks_in new.state ≡ locks_in old.state
+still_locks old new asked h =
+    ap locks_in h.called.is ∙ h.called.called.locks ∙ sym (ap locks_in h.called.was) ∙ ap locks_in h.still.state
+
+all_locks : (old new : SessionSeen) (asked : List AskedCall) → HaveCalledInTurn old asked new → locks_in new.state ≡ locks_in old.state
+all_locks old new [] h = ap locks_in h.state
+all_locks old new (asked ∷ rest) h = all_locks h.0 new rest h.2 ∙ still_locks old h.0 asked h.1
+
+pub open_groups_keep_their_locks : OpenGroupsKeepTheirLocks
+open_groups_keep_their_locks old begun ready declared asked group opens on is =
+    sym (ap locks_in is) ∙ all_locks begun ready asked on ∙ ap locks_in opens.is ∙ opens.opened.locks
+
+-- So none of the calls that it declared is answered that what was declared doesn't suffice for it.
+abbrev pub NoDeclaredCallIsUncovered : Type 0
+NoDeclaredCallIsUncovered = (old begun ready new : SessionSeen) (declared asked : List AskedCall) (next : AskedCall)
+    → begun.store ≡ old.store → HasOpenedGroup old declared begun → HaveCalledInTurn begun asked ready
+    → IsDeclared (spec_of old.store.row) declared (call_in old next)
+    → HasOpenCause ready new next faults.Uncovered → ⊥
+
+all_stores : (old new : SessionSeen) (asked : List AskedCall) → HaveCalledInTurn old asked new → new.store ≡ old.store
+all_stores old new [] h = h.store
+all_stores old new (asked ∷ rest) h = all_stores h.0 new rest h.2 ∙ h.1.store ∙ h.1.still.store
+
+pub no_declared_call_is_uncovered : NoDeclaredCallIsUncovered
+no_declared_call_is_uncovered old begun ready new declared asked next began opens on is cause = go ready.state refl
+  where
+    same : ready.store ≡ old.store
+    same = all_stores begun ready asked on ∙ began
+
+    uncovered : IsUncoveredIn old.store ready.state (call_in old next)
+    uncovered = subst (λ (store : StoreSeen). IsUncoveredIn store ready.state (call_of (spec_of store.row) next.op next.values)) same cause.1
+
+    here : (state : State) → ready.state ≡ state → IsUncoveredIn old.store state (call_in old next)
+    here state e = subst (λ (s : State). IsUncoveredIn old.store s (call_in old next)) e uncovered
+
+    go : (state : State) → ready.state ≡ state → ⊥
+    go (Idle pass) e = here (Idle pass) e
+    go (Prepared running) e = here (Prepared running) e
+    go (PreparedGroup running) e = here (PreparedGroup running) e
+    go (Open group) e = (here (Open group) e).1 declared (open_groups_keep_their_locks old begun ready declared asked group opens on e) is
+    go Moving e = here Moving e
+
+-- ---- the replies that it was told
 
 -- The replies that a session was told of the calls of an open group, once they are committed and their entry has come back
 -- to the store that is closed, are in turn the plain relation's, by the specification that the text gives, at the place of

@@ -20,7 +20,7 @@ use Rattle.rc_embed.specs.declared.fault.OpenCallFault.TheVariants as faults
 use Rattle.rc_embed.specs.declared.session.State.{State}
 use Rattle.rc_embed.specs.declared.session.State.TheVariants as states
 use Rattle.rc_embed.specs.Asked.{AskedCall}
-use Rattle.rc_embed.specs.Declaring.{declared_fault_of, declared_in}
+use Rattle.rc_embed.specs.Declaring.{IsDeclared, declared_by, declared_fault_of, declared_in}
 use Rattle.rc_embed.specs.Refused.{HasNoRefusal}
 use Rattle.rc_embed.specs.Session.{HasCancelled, IsUnchanged, SessionSeen}
 
@@ -105,24 +105,33 @@ pub record HasCalledOpen (old : SessionSeen) (asked : AskedCall) (new : SessionS
   pub picked : new.picked ≡ length before.steps
   pub called : HasCalledOn old.store (call_in old asked) before after
 
--- what the open group declared doesn't suffice for the call
+-- What the open group declared doesn't suffice for the call: so this is none of those that it declared, whatever gave it
+-- the locks that it has.
 abbrev pub IsUncoveredIn : StoreSeen → State → Call → Type 0
 IsUncoveredIn store (states.Idle pass) call = ⊥
 IsUncoveredIn store (states.Prepared running) call = ⊥
 IsUncoveredIn store (states.PreparedGroup running) call = ⊥
-IsUncoveredIn store (states.Open group) call = Covers (compiled_of store.row) call group.locks → ⊥
+IsUncoveredIn store (states.Open group) call =
+    (Covers (compiled_of store.row) call group.locks → ⊥)
+    × ((declared : List AskedCall) → group.locks ≡ declared_locks store.row (declared_by (spec_of store.row) declared)
+    → IsDeclared (spec_of store.row) declared call → ⊥)
 IsUncoveredIn store states.Moving call = ⊥
 
+-- no step of the call was refused: the pass comes back with as many refused steps as that of the open group had
+abbrev pub HasNoRefusalIn : State → State → Type 0
+HasNoRefusalIn (states.Open group) (states.Idle pass) = pass.standing.refusals ≡ group.pass.standing.refusals
+HasNoRefusalIn old new = ⊥
+
 -- Why there is this fault. Only where the call has no fault of its own, memory may be wanted, or what was declared not
--- suffice for it. Each other fault is the one that the call has.
-abbrev pub HasOpenCause : SessionSeen → AskedCall → OpenCallFault → Type 0
-HasOpenCause old asked faults.NotOpen = open_fault_of old asked ≡ Some faults.NotOpen
-HasOpenCause old asked faults.UnknownOperation = open_fault_of old asked ≡ Some faults.UnknownOperation
-HasOpenCause old asked faults.Values = open_fault_of old asked ≡ Some faults.Values
-HasOpenCause old asked faults.Full = open_fault_of old asked ≡ Some faults.Full
-HasOpenCause old asked faults.Uncovered =
+-- suffice for it; where memory is wanted nothing was in the way of a step. Each other fault is the one that the call has.
+abbrev pub HasOpenCause : SessionSeen → SessionSeen → AskedCall → OpenCallFault → Type 0
+HasOpenCause old new asked faults.NotOpen = open_fault_of old asked ≡ Some faults.NotOpen
+HasOpenCause old new asked faults.UnknownOperation = open_fault_of old asked ≡ Some faults.UnknownOperation
+HasOpenCause old new asked faults.Values = open_fault_of old asked ≡ Some faults.Values
+HasOpenCause old new asked faults.Full = open_fault_of old asked ≡ Some faults.Full
+HasOpenCause old new asked faults.Uncovered =
     (open_fault_of old asked ≡ None) × IsUncoveredIn old.store old.state (call_in old asked)
-HasOpenCause old asked faults.Memory = open_fault_of old asked ≡ None
+HasOpenCause old new asked faults.Memory = (open_fault_of old asked ≡ None) × HasNoRefusalIn old.state new.state
 
 -- What a fault leaves. After want of memory the group is over, as if it had been cancelled; after each other fault the
 -- session is the same.
@@ -139,5 +148,5 @@ pub record AnswersOpen {A : Type 0} (old : SessionSeen) (asked : AskedCall) (new
     (result : Result A OpenCallFault) : Type 0 where
   pub store : new.store ≡ old.store
   pub made : IfOk result (λ _. HasCalledOpen old asked new)
-  pub cause : IfErr result (HasOpenCause old asked)
+  pub cause : IfErr result (HasOpenCause old new asked)
   pub left : IfErr result (IsLeftBy old new)

@@ -5,7 +5,7 @@ use Rattle.rc_spec.specs.declared.refusal.Refusal.{Refusal}
 use Rattle.rc_spec.specs.Acceptance.{IsAccepted, IsFirstBroken, IsItemOf}
 use Rattle.rc_spec.specs.Placement.{op_at}
 use Rattle.rc_inline.specs.Placing.{embedded}
-use Rattle.rc_plan.specs.Compiled.{SpecWithPlans, plan_at}
+use Rattle.rc_plan.specs.Compiled.{IsCompiled, SpecWithPlans, plan_at}
 use Rattle.rc_query.specs.Planned.{IsPlanned}
 use Rattle.rc_reader.specs.Grammar.{spec_of}
 use Rattle.rc_row.specs.declared.keeping.Keeping.TheVariants.{Counts}
@@ -50,12 +50,14 @@ ArePlannedOf compiled = (op : ℕ) → op < length compiled.spec.ops
     → IsPlanned compiled.spec (op_at compiled.spec op) (plan_at compiled.plans op)
 
 -- A new store of the specification with its singletons inlined and its edges placed together, which keeps the most rows of
--- a reply, whose operations have their planned plans, with all of its passes, by number, and with the seed that was given.
+-- a reply, whose operations have their planned plans, which are accepted, with all of its passes, by number, and with the
+-- seed that was given.
 -- None of them has made a call, and none keeps its entries.
 pub record IsStoreOf (spec : Spec) (options : asked.Options) (opened : OpenSeen) : Type 0 where
   pub of_spec : rows.spec_of opened.store.row ≡ embedded spec
   pub most_rows : (rows.spec_of opened.store.row).most_rows ≡ spec.most_rows
   pub planned : ArePlannedOf (compiled_of opened.store.row)
+  pub compiled : IsCompiled (rows.spec_of opened.store.row) (compiled_of opened.store.row).plans
   pub counts : opened.store.row.keeping ≡ Counts
   pub number : opened.store.row.key.passes ≡ options.passes
   pub limit : opened.store.limit ≡ options.limit

@@ -2,14 +2,12 @@
 -- transactions over striped locks.)
 use Rattle.std.specs.Prelude.{◌≡◌, ℕ, ◌<◌, ◌≤◌, List, [], ◌∷◌, Option, Some, None}
 use Rattle.std.specs.List.{slice_get}
-use Rattle.rc_tuple.specs.RisingSet.{In}
 use Rattle.rc_spec.specs.declared.call.Call.{Call}
 use Rattle.rc_spec.specs.declared.call.Reply.{Reply}
 use Rattle.rc_rel.specs.declared.entry.Step.{Step}
-use Rattle.rc_core.specs.declared.state.Hold.{Hold}
 use Rattle.rc_core.specs.declared.state.PassState.{PassState}
 use Rattle.rc_row.specs.Passes.{HasLookedAt, PassSeen, compiled_of, core_of, spec_of}
-use Rattle.rc_store.specs.OpenGroups.{IsOpenOn, OpenGroupSeen}
+use Rattle.rc_store.specs.OpenGroups.{HoldsDeclared, IsOpenOn, OpenGroupSeen}
 use Rattle.rc_store.specs.Running.{HasBegunGroup, IsGroupRunningOn, IsRunningOn, RunningGroupSeen}
 use Rattle.rc_store.specs.Running.{RunningSeen, replies_of as replies_with}
 use Rattle.rc_store.specs.Store.{AreRepliesFor, HasMadeEntry, HasMadeGroup, HoldsExactly, IsAsBefore}
@@ -98,9 +96,9 @@ IsOpen (PreparedGroup running) = ⊥
 IsOpen (Open group) = Unit {0}
 IsOpen Moving = ⊥
 
--- there is nothing to commit: no call is prepared, and a group that is open has made none
+-- a group is open that has made no call
 abbrev pub HasNoCall : State → Type 0
-HasNoCall (Idle pass) = Unit {0}
+HasNoCall (Idle pass) = ⊥
 HasNoCall (Prepared running) = ⊥
 HasNoCall (PreparedGroup running) = ⊥
 HasNoCall (Open group) = group.steps ≡ []
@@ -155,12 +153,12 @@ pub record HasPrepared (old : SessionSeen) (asked : List AskedCall) (new : Sessi
   pub begun : HasBegunGroup old.store (calls_in old asked) before running
 
 -- What the pass held at the commit: of prepared calls exactly the stripes of a group of them, and of those of an open group
--- none but what that had declared.
+-- exactly what they needed of that which it had declared.
 abbrev pub HeldFor : StoreSeen → State → List Step → PassState → Type 0
 HeldFor store (Idle pass) steps u = ⊥
 HeldFor store (Prepared running) steps u = HoldsExactly (compiled_of store.row) u steps
 HeldFor store (PreparedGroup running) steps u = HoldsExactly (compiled_of store.row) u steps
-HeldFor store (Open group) steps u = (h : Hold) → In h u.held → In (h.stripe, h.mode) group.locks
+HeldFor store (Open group) steps u = HoldsDeclared (compiled_of store.row) u steps group.locks
 HeldFor store Moving steps u = ⊥
 
 -- the uncommitted calls are made as one, and the session tells the replies that were told
@@ -175,7 +173,7 @@ pub record HasCommitted (old new : SessionSeen) (at : Position) : Type 0 where
   pub held : HeldFor old.store old.state running.steps entry.at_commit
   pub given : AreRepliesFor old.store.row.keeping new.last (Some new.last)
 
--- the uncommitted calls are not made, and the pass is as before they were begun
+-- the uncommitted calls are not made, and the pass is as before they were begun, with the refused steps that it had come to
 pub record HasCancelled (old new : SessionSeen) : Type 0 where
   pub running : RunningGroupSeen
   pub after : PassSeen
@@ -184,6 +182,7 @@ pub record HasCancelled (old new : SessionSeen) : Type 0 where
   pub last : new.last ≡ old.last
   pub picked : new.picked ≡ 0
   pub before : IsAsBefore running.begun after
+  pub refusals : after.standing.refusals ≡ running.pass.standing.refusals
 
 -- The session has seen a good history of that moment, which has this length, has all calls that it
 -- made, and goes on from all that it was told of.

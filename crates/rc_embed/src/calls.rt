@@ -16,8 +16,8 @@ impl Session {
     /// serializable transactions.)
     ///
     /// `Prepared`, `UnknownOperation`, `Values` and `Spent` come exactly where the call has that
-    /// fault, and before all else; in that order. `Busy` comes only where another session held a
-    /// stripe that the call's plan names. After any fault history and session are as before. Costs
+    /// fault, and before all else; in that order. `Busy` comes only where something was in the way at
+    /// a stripe that the call's plan names. After any fault history and session are as before. Costs
     /// what the call's plan costs.
     pub fn try_call(&mut self, op: u32, values: &[u64]) -> Result<Position, CallFault>
         ensures answers { let calls = one_call op values.now in

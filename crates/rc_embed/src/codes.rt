@@ -37,3 +37,5 @@ pub const COUNT: u32 = 15;
 pub const NOT_OPEN: u32 = 16;
 /// What an open group declared doesn't suffice for the call.
 pub const UNCOVERED: u32 = 17;
+/// An open group had no call to commit, and is over.
+pub const NO_CALL: u32 = 18;

@@ -10,7 +10,7 @@ ghost use Rattle.rc_embed.specs.OpenGroupFrames.{AnswersCallOpen, AnswersOpenGro
 ghost use Rattle.rc_embed.specs.Session.{replies_of, reply_of};
 
 use crate::codes::{
-    BUSY, COUNT, DONE, MEMORY, NO_ROW, NOT_OPEN, NOT_PREPARED, OPERATION, PREPARED, SPENT,
+    BUSY, COUNT, DONE, MEMORY, NO_CALL, NO_ROW, NOT_OPEN, NOT_PREPARED, OPERATION, PREPARED, SPENT,
     UNCOVERED, UNSEEN, VALUE_COUNT,
 };
 use crate::fault::{CallFault, LearnFault, NotPrepared, OpenCallFault};
@@ -352,16 +352,17 @@ impl Session {
     }
 
     /// Commits the prepared call or group, or the calls of the open group, and tells the frame the place,
-    /// and the reply to the first call.
+    /// and the reply to the first call. An open group that has made no call is cancelled.
     pub fn commit_by(&mut self, frame: &mut Frame) -> u32
         ensures { AnswersCommit self.old frame.old self.new frame.new result }
     {
         match self.commit() {
-            Ok(at) => {
+            Ok(Some(at)) => {
                 frame.tell_place(at);
                 self.tell_picked(frame);
                 DONE
             }
+            Ok(None) => NO_CALL,
             Err(NotPrepared) => NOT_PREPARED,
         }
     }

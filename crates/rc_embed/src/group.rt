@@ -70,8 +70,8 @@ impl Session {
     ///
     /// `Prepared`, `Count`, `UnknownOperation`, `Values` and `Spent` come exactly where the calls have
     /// that fault, and before all else; in that order, but that of `UnknownOperation` and `Values` it is
-    /// that of the first call that has one. `Busy` comes only where another session held a stripe that
-    /// the group wants: of each class that a plan of its calls locks, those that their values choose, or
+    /// that of the first call that has one. `Busy` comes only where something was in the way at a stripe
+    /// that the group wants: of each class that a plan of its calls locks, those that their values choose, or
     /// all of it where a plan finds its stripe by reading. After any fault history and session are as
     /// before. A reply such as `Conflict` or `Absent` is no fault: who wants all or nothing prepares the
     /// group, and looks at its replies. Costs what the calls' plans cost, and memory for the lists of
@@ -153,12 +153,12 @@ impl Session {
             .begin_group(pass, &self.calls[..calls.len()])
         {
             Ok(running) => {
-                self.state = State::PreparedGroup(running);
+                self.state.come_to(State::PreparedGroup(running));
                 self.picked = 0;
                 Ok(())
             }
             Err(BeginBack { pass, fault }) => {
-                self.state = State::Idle(pass);
+                self.state.come_to(State::Idle(pass));
                 Err(call_fault(fault))
             }
         }

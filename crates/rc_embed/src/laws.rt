@@ -7,7 +7,9 @@ ghost use Rattle.rc_embed.specs.EntriesLaws.{CallsKeepPasses, CallsStand, Cancel
 ghost use Rattle.rc_embed.specs.EntriesLaws.{CommitsKeepPasses, CommitsStand, DealingKeepsEntries};
 ghost use Rattle.rc_embed.specs.EntriesLaws.{FaultsKeepPasses, LooksKeepPasses, PicksKeepPasses};
 ghost use Rattle.rc_embed.specs.EntriesLaws.{PreparingKeepsPasses, TakingBackKeepsEntries};
-ghost use Rattle.rc_embed.specs.OpenGroupLaws.{OpenCallsKeepPasses, OpenRepliesArePlain, OpeningKeepsPasses};
+ghost use Rattle.rc_embed.specs.OpenGroupLaws.{NoDeclaredCallIsUncovered, OpenCallsKeepPasses};
+ghost use Rattle.rc_embed.specs.OpenGroupLaws.{OpenGroupsKeepTheirLocks, OpenRepliesArePlain};
+ghost use Rattle.rc_embed.specs.OpenGroupLaws.{OpeningKeepsPasses};
 ghost use Rattle.rc_embed.specs.OpenedLaws.{HistoriesAreOfTheText, OpenedCalls, OpenedFits};
 ghost use Rattle.rc_embed.specs.OpenedLaws.{OpenedPlain, OpenedRows, OpenedSchema};
 ghost use Rattle.rc_embed.specs.OutsideLaws.{AllAreInside, DealtGoOutside, NoneOutsideAtFirst};
@@ -102,10 +104,13 @@ pub fn told_replies_are_plain()
 {}
 
 /// What is declared of a group suffices for the calls that are declared: whatever the plan of such a call
-/// may want, on any rows, is among the stripes that the group takes, in a mode that suffices. So none of
-/// them is uncovered. (PLDI 2012, well-locked query plans.)
+/// may want, on any rows, is among the stripes that the group takes, in a mode that suffices. The group
+/// has the locks of these, whatever calls it has made, and so none of the calls that it declared is ever
+/// answered `Uncovered`. (PLDI 2012, well-locked query plans.)
 pub fn declared_calls_are_covered()
-    ensures { DeclaredCallsAreCovered }
+    ensures covered { DeclaredCallsAreCovered }
+    ensures locks { OpenGroupsKeepTheirLocks }
+    ensures answered { NoDeclaredCallIsUncovered }
 {}
 
 /// What may go to another thread.

@@ -1,15 +1,15 @@
 //! Open groups: calls that are made one after another, each with the replies before it known, and
 //! committed as one.
 
-ghost use Rattle.std.specs.Prelude.{◌≡◌, ℕ, ◌≤◌, Err, IfOk, IfSome, List, None, OnErr, map};
+ghost use Rattle.std.specs.Prelude.{◌≡◌, ℕ, ◌≤◌, Err, IfNone, IfSome, List, None, map};
 ghost use Rattle.rc_embed.specs.Asked.{asked_with};
 ghost use Rattle.rc_embed.specs.Asking.{all_declared};
 ghost use Rattle.rc_embed.specs.Declaring.{declared_fault_of};
 ghost use Rattle.rc_embed.specs.OpenGroups.{AnswersOpen, AnswersOpening, open_fault_of};
-ghost use Rattle.rc_embed.specs.Session.{HasCommitted, HasNoCall, IsOpen};
+ghost use Rattle.rc_embed.specs.Session.{HasCancelled, HasCommitted, HasNoCall, IsOpen};
 
 use crate::declaring::Declared;
-use crate::fault::{CallFault, NotPrepared, OpenCallFault, call_fault};
+use crate::fault::{CallFault, OpenCallFault, call_fault};
 use crate::group::{Asks, MAX_GROUP};
 use crate::session::{Last, Position, Session, State};
 use rc_store::{BeginBack, GroupReceipt, OpenBack};
@@ -23,8 +23,8 @@ impl Session {
     ///
     /// `Prepared`, `Count`, `UnknownOperation`, `Values` and `Spent` come exactly where what is declared
     /// has that fault, and before all else; in that order, but that of `UnknownOperation` and `Values` it
-    /// is that of the first that has one. `Busy` comes only where another session held a stripe that is
-    /// declared. After any fault history and session are as before. Costs a few atomic steps a stripe,
+    /// is that of the first that has one. `Busy` comes only where something was in the way at a stripe that
+    /// is declared. After any fault history and session are as before. Costs a few atomic steps a stripe,
     /// and memory for the list of locks and for what is declared.
     pub fn open_group(&mut self, declared: &[Declared<'_>]) -> Result<(), CallFault>
         ensures answers { AnswersOpening self.old (all_declared declared.now) self.new result }
@@ -72,12 +72,12 @@ impl Session {
             .open_group(pass, &self.calls[..declared.len()])
         {
             Ok(group) => {
-                self.state = State::Open(group);
+                self.state.come_to(State::Open(group));
                 self.picked = 0;
                 Ok(())
             }
             Err(BeginBack { pass, fault }) => {
-                self.state = State::Idle(pass);
+                self.state.come_to(State::Idle(pass));
                 Err(call_fault(fault))
             }
         }
@@ -88,10 +88,11 @@ impl Session {
     ///
     /// `NotOpen`, `UnknownOperation`, `Values` and `Full` come exactly where the call has that fault, and
     /// before all else; in that order. `Uncovered` comes only where the call's plan may want a stripe, at
-    /// these values, that the group doesn't hold, or doesn't hold so that it may be changed; so not of a
+    /// these values, that the group doesn't hold, or doesn't hold so that it may be changed; so never of a
     /// call that was declared (`declared_calls_are_covered`). After these the group is open and as before.
-    /// `Memory` ends it: history and session are as before it was opened. A reply such as `Conflict` or
-    /// `Absent` is no fault. Costs what the call's plan costs, a walk over it with one over the held
+    /// `Memory` ends it, as `cancel` does: nothing of it stands in the history, and the replies are those
+    /// of what was made before it. Nothing is ever in its way. A reply such as `Conflict` or `Absent` is
+    /// no fault. Costs what the call's plan costs, a walk over it with one over the held
     /// stripes for each that it may take, and a copy of the call.
     pub fn call_open(&mut self, op: u32, values: &[u64]) -> Result<(), OpenCallFault>
         ensures answers { AnswersOpen self.old (asked_with op values.now) self.new result }
@@ -140,55 +141,54 @@ impl Session {
             };
             return Err(OpenCallFault::Memory);
         };
+        self.shared.is_compiled();
         let State::Open(group) = mem::replace(&mut self.state, State::Moving) else {
             unreachable!()
         };
         let at = group.count();
         match group.call(&self.shared.store, &self.call) {
             Ok(group) => {
-                self.state = State::Open(group);
+                self.state.come_to(State::Open(group));
                 self.picked = at;
                 Ok(())
             }
             Err(OpenBack::Full(_)) => unreachable!(),
             Err(OpenBack::Uncovered(group)) => {
-                self.state = State::Open(group);
+                self.state.come_to(State::Open(group));
                 Err(OpenCallFault::Uncovered)
             }
             Err(OpenBack::Memory(pass)) => {
-                self.state = State::Idle(pass);
+                self.state.come_to(State::Idle(pass));
                 self.picked = 0;
                 Err(OpenCallFault::Memory)
             }
         }
     }
 
-    /// Commits the calls of the open group, where it has made some.
-    pub(crate) fn commit_open(&mut self) -> Result<Position, NotPrepared>
+    /// Commits the calls of the open group, and cancels it where it has made none.
+    pub(crate) fn commit_open(&mut self) -> Option<Position>
         requires { IsOpen self.old.state }
         ensures store { self.new.store ≡ self.old.store }
-        ensures made { IfOk result (HasCommitted self.old self.new) }
-        ensures refused { OnErr result (HasNoCall self.old.state × (self.new ≡ self.old)) }
+        ensures made { IfSome result (HasCommitted self.old self.new) }
+        ensures none { IfNone result (HasNoCall self.old.state × HasCancelled self.old self.new) }
     {
         let State::Open(group) = mem::replace(&mut self.state, State::Moving) else {
             unreachable!()
         };
-        if group.count() == 0 {
-            self.state = State::Open(group);
-            return Err(NotPrepared);
-        }
         let (pass, receipt) = group.commit(&self.shared.store);
-        let Some(receipt) = receipt else {
-            unreachable!()
-        };
-        let GroupReceipt {
-            place,
-            nth,
-            replies,
-        } = receipt;
-        self.state = State::Idle(pass);
-        self.last = Last::Group(replies);
+        self.state.come_to(State::Idle(pass));
         self.picked = 0;
-        Ok(Position { place, nth })
+        match receipt {
+            Some(receipt) => {
+                let GroupReceipt {
+                    place,
+                    nth,
+                    replies,
+                } = receipt;
+                self.last = Last::Group(replies);
+                Some(Position { place, nth })
+            }
+            None => None,
+        }
     }
 }

@@ -171,6 +171,8 @@ fn open_accepted(
     let embedded = embed(alloc, accepted)?;
     let columns = all_columns(alloc, embedded.spec())?;
     let compiled = compile(alloc, embedded)?;
+    // A read tells the check that the plans are accepted.
+    let _ = compiled.accepted();
     let Options {
         passes,
         limit,

@@ -1,6 +1,6 @@
 //! Prepared calls and groups, and how they end.
 
-ghost use Rattle.std.specs.Prelude.{◌≡◌, ◌↔◌, Err, IfOk, IfSome, IsTrue, None, OnErr, OnOk};
+ghost use Rattle.std.specs.Prelude.{◌≡◌, ◌↔◌, Err, IfNone, IfOk, IfSome, IsTrue, None, OnErr, OnOk};
 ghost use Rattle.rc_embed.specs.Asked.{one_call};
 ghost use Rattle.rc_embed.specs.Refused.{Answers, fault_of};
 ghost use Rattle.rc_embed.specs.Session.{HasCancelled, HasCommitted, HasNoCall, HasPrepared, IsIdle};
@@ -41,29 +41,34 @@ impl Session {
         };
         match self.shared.store.begin(pass, &self.call) {
             Ok(running) => {
-                self.state = State::Prepared(running);
+                self.state.come_to(State::Prepared(running));
                 self.picked = 0;
                 Ok(())
             }
             Err(BeginBack { pass, fault }) => {
-                self.state = State::Idle(pass);
+                self.state.come_to(State::Idle(pass));
                 Err(call_fault(fault))
             }
         }
     }
 
     /// Commits the prepared call or group, or the calls of the open group, as one: they stand in the
-    /// history with the replies that were told. It takes no memory, and is refused exactly where nothing
-    /// is prepared and no group open, or where the open one has made no call: that one stays open.
-    pub fn commit(&mut self) -> Result<Position, NotPrepared>
+    /// history with the replies that were told. `None` exactly where a group is open that has made no
+    /// call: it is cancelled then. It takes no memory, and is refused exactly where nothing is prepared
+    /// and no group open.
+    pub fn commit(&mut self) -> Result<Option<Position>, NotPrepared>
         ensures store { self.new.store ≡ self.old.store }
-        ensures made { IfOk result (HasCommitted self.old self.new) }
-        ensures refused { OnErr result (HasNoCall self.old.state × (self.new ≡ self.old)) }
+        ensures made { IfOk result (λ at. IfSome at (HasCommitted self.old self.new)) }
+        ensures none { IfOk result
+            (λ at. IfNone at (HasNoCall self.old.state × HasCancelled self.old self.new)) }
+        ensures refused { OnErr result (IsIdle self.old.state × (self.new ≡ self.old)) }
     {
         if self.has_open_group() {
-            self.commit_open()
-        } else {
-            self.commit_prepared()
+            return Ok(self.commit_open());
+        }
+        match self.commit_prepared() {
+            Ok(at) => Ok(Some(at)),
+            Err(fault) => Err(fault),
         }
     }
 
@@ -82,13 +87,13 @@ impl Session {
         requires { IsOpen self.old.state → ⊥ }
         ensures store { self.new.store ≡ self.old.store }
         ensures made { IfOk result (HasCommitted self.old self.new) }
-        ensures refused { OnErr result (HasNoCall self.old.state × (self.new ≡ self.old)) }
+        ensures refused { OnErr result (IsIdle self.old.state × (self.new ≡ self.old)) }
     {
         match mem::replace(&mut self.state, State::Moving) {
             State::Prepared(running) => {
                 let (pass, receipt) = running.commit(&self.shared.store);
                 let Receipt { place, nth, reply } = receipt;
-                self.state = State::Idle(pass);
+                self.state.come_to(State::Idle(pass));
                 self.last = Last::Call(reply);
                 self.picked = 0;
                 Ok(Position { place, nth })
@@ -100,21 +105,21 @@ impl Session {
                     nth,
                     replies,
                 } = receipt;
-                self.state = State::Idle(pass);
+                self.state.come_to(State::Idle(pass));
                 self.last = Last::Group(replies);
                 self.picked = 0;
                 Ok(Position { place, nth })
             }
             idle => {
-                self.state = idle;
+                self.state.come_to(idle);
                 Err(NotPrepared)
             }
         }
     }
 
-    /// Cancels the prepared call or group, or the open group: nothing of it stands in the history, and
-    /// the session is as before it was begun. It takes no memory, and is refused exactly where nothing is
-    /// prepared and no group open.
+    /// Cancels the prepared call or group, or the open group: nothing of it stands in the
+    /// history, and the session is as before it was begun, but that the first reply is picked.
+    /// It takes no memory, and is refused exactly where nothing is prepared and no group open.
     pub fn cancel(&mut self) -> Result<(), NotPrepared>
         ensures store { self.new.store ≡ self.old.store }
         ensures cancelled { OnOk result (HasCancelled self.old self.new) }
@@ -122,22 +127,25 @@ impl Session {
     {
         match mem::replace(&mut self.state, State::Moving) {
             State::Prepared(running) => {
-                self.state = State::Idle(running.cancel(&self.shared.store));
+                self.state
+                    .come_to(State::Idle(running.cancel(&self.shared.store)));
                 self.picked = 0;
                 Ok(())
             }
             State::PreparedGroup(running) => {
-                self.state = State::Idle(running.cancel(&self.shared.store));
+                self.state
+                    .come_to(State::Idle(running.cancel(&self.shared.store)));
                 self.picked = 0;
                 Ok(())
             }
             State::Open(group) => {
-                self.state = State::Idle(group.cancel(&self.shared.store));
+                self.state
+                    .come_to(State::Idle(group.cancel(&self.shared.store)));
                 self.picked = 0;
                 Ok(())
             }
             idle => {
-                self.state = idle;
+                self.state.come_to(idle);
                 Err(NotPrepared)
             }
         }

@@ -46,6 +46,16 @@ pub(crate) enum State {
     Moving,
 }
 
+impl State {
+    /// Comes to the next one. (What lets a state go stands here alone: it has many ways, and each place of
+    /// it would be proved anew.)
+    pub(crate) fn come_to(&mut self, next: State)
+        ensures { self.new ≡ next }
+    {
+        *self = next;
+    }
+}
+
 /// What the last receipt of a session gave, of a call or of a group; nothing where none was made.
 #[derive(Drop)]
 pub(crate) enum Last {
@@ -122,7 +132,8 @@ impl Session {
 
     /// How many replies there are: those of the calls that are prepared, or that the open group has made
     /// so far, where there is such a thing, and else of the call or the group that was made last; none
-    /// before the first. What is refused leaves them.
+    /// before the first. What is refused leaves them, but for an open group that wants memory for a call:
+    /// it is over then, and they are those of what was made before it.
     pub fn reply_count(&self) -> usize
         ensures { result ≡ length (replies_of self.now) }
     {

@@ -6,7 +6,8 @@ ghost use Rattle.rc_multi.specs.GroupLocks.{HasOperation};
 ghost use Rattle.rc_spec.specs.Calls.{Fits};
 ghost use Rattle.rc_spec.specs.InRange.{IsInRange};
 ghost use Rattle.rc_spec.specs.Names.{IsWellNamed};
-ghost use Rattle.rc_row.specs.Passes.{spec_of};
+ghost use Rattle.rc_plan.specs.Compiled.{IsCompiled};
+ghost use Rattle.rc_row.specs.Passes.{compiled_of, spec_of};
 ghost use Rattle.rc_work.specs.CallColumns.{call_of, written_columns_at};
 ghost use Rattle.rc_embed.specs.Asked.{TakesValues, calls_by};
 ghost use Rattle.rc_embed.specs.Declaring.{declared_by, declared_call, declared_fault_at};
@@ -53,6 +54,13 @@ impl Shared {
         // A read of a field tells the check what holds of every shared store.
         let _ = &self.limit;
         self.store.compiled().accepted().spec()
+    }
+
+    /// Tells the check that the specification and the plans are accepted ones.
+    pub(crate) fn is_compiled(&self)
+        ensures { IsCompiled (spec_of self.now.row) (compiled_of self.now.row).plans }
+    {
+        let _ = self.store.compiled().accepted();
     }
 
     /// How many entries each pass may make.

@@ -12,10 +12,10 @@ impl Session {
     /// it. `Ok(length)`: this session has seen `length`, at least `seen`. Takes no memory. (PLDI
     /// 2012, serializable transactions.)
     ///
-    /// `Prepared` comes exactly while a call is prepared. `Unseen`: the session has looked, and
-    /// the history has a length that is below `seen`. The length is that of a good history of that
-    /// moment, which goes on from all that the session was told of; that what another session of
-    /// the store told is never refused is how it is built.
+    /// `Prepared` comes exactly while a call or a group is prepared, or a group is open. `Unseen`:
+    /// the session has looked, and the history has a length that is below `seen`. The length is
+    /// that of a good history of that moment, which goes on from all that the session was told of;
+    /// that what another session of the store told is never refused is how it is built.
     pub fn learn(&mut self, seen: u64) -> Result<u64, LearnFault>
         ensures store { self.new.store ≡ self.old.store }
         ensures learned { IfOk result (HasLearned self.old seen self.new) }

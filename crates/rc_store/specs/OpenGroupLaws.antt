@@ -16,20 +16,24 @@ use Rattle.rc_spec.specs.Locks.{StripeLock}
 use Rattle.rc_fragment.specs.Holder.{HeldStripe}
 use Rattle.rc_fragment.specs.Keep.{IsAtRest}
 use Rattle.rc_plan.specs.Compiled.{IsCompiled, SpecWithPlans, plan_at}
+use Rattle.rc_plan.specs.Evaluation.{eval}
 use Rattle.rc_plan.specs.StripeLocks.{stripes_of}
+use Rattle.rc_plan.specs.StripeLocksLaws.{in_stripes_of, stripes_of_in}
+use Rattle.rc_plan.specs.Turns.{AllAreHeld}
 use Rattle.rc_rel.specs.declared.entry.Step.{Step}
 use Rattle.rc_rel.specs.History.{StepsFit, after_steps, with_replies}
 use Rattle.rc_rel.specs.HistoryLaws.{with_replies-parts}
 use Rattle.rc_core.specs.declared.state.Hold.{Hold}
 use Rattle.rc_core.specs.declared.state.PassState.{PassState}
-use Rattle.rc_core.specs.Passes.{MayCommit, committed, next_of}
+use Rattle.rc_core.specs.Passes.{HoldsNoMore, IsOfClassLocked, MayCommit, calls_with_plans, committed, next_of}
+use Rattle.rc_core.specs.State.{locks_of as core_locks, rows_held}
 use Rattle.rc_machine.specs.Machine.{AreAsTaken, locks_of, stripes_held}
-use Rattle.rc_multi.specs.CommitLaws.{group_committed, group_may_commit}
+use Rattle.rc_multi.specs.CommitLaws.{group_committed, group_may_commit, one_held}
 use Rattle.rc_multi.specs.Group.{AreNowOf, AreOfRelationFor, Covers, HasRunIn, HasRunTaking, HaveServed, Suffice, with_part, with_step}
 use Rattle.rc_multi.specs.GroupLaws.{locks_after, now_of_relation, served_more, served_none}
 use Rattle.rc_multi.specs.GroupLocks.{HasOperation}
 use Rattle.rc_multi.specs.GroupLocksLaws.{have_operations}
-use Rattle.rc_multi.specs.GroupRunLaws.{stripes_after}
+use Rattle.rc_multi.specs.GroupRunLaws.{stripes_after, taken_after}
 use Rattle.rc_multi.specs.HeldStripes.{all_now, all_taken}
 use Rattle.rc_multi.specs.KeptLaws.{groups_keep_what_they_use, one_call_keeps_what_it_took}
 use Rattle.rc_multi.specs.Laws.{AreLeftAtRest, IsUsedBy, KeepsTaken, KeepsUsed}
@@ -45,7 +49,7 @@ use Rattle.rc_store.specs.declared.running_group.PreparedGroup.TheVariants as pr
 use Rattle.rc_store.specs.GroupLaws.{held_rise, relation_held, spare_on}
 use Rattle.rc_store.specs.Lending.{IsOnTheWay, held_stripe, held_stripes}
 use Rattle.rc_store.specs.LendingLaws.{all_now-held, all_taken-held}
-use Rattle.rc_store.specs.OpenGroups.{AreUnchangedBut, HasCalledOn, HasGivenBack, HasGoneOver, HasHeldDeclared, HasMadeOpenGroup, HasOpened, HasRunAlone, IsAlone, IsNeeded, IsOpenOn, KeepsNeeded, OpenGroupSeen, holding}
+use Rattle.rc_store.specs.OpenGroups.{AreUnchangedBut, HasCalledOn, HasGivenBack, HasGoneOver, HasHeldDeclared, HasMadeOpenGroup, HasOpened, HasRunAlone, HoldsDeclared, IsAlone, IsNeeded, IsOpenOn, KeepsNeeded, NeedStripe, OpenGroupSeen, holding}
 use Rattle.rc_store.specs.Prepared.{HasGoneOn, IsPrepared}
 use Rattle.rc_store.specs.ReleaseLaws.{kept_until, until_keeps}
 use Rattle.rc_store.specs.Running.{calls_of, replies_of}
@@ -67,6 +71,7 @@ opened_on store declared old group free agrees left of h begun none = record {
     idle = subst (λ (p : PassSeen). (p.held ≡ []) × ((core_of p).held ≡ [])) (sym begun) (free.idle, sym agrees ∙ ap holds_taken free.idle);
     left = subst (λ (p : PassSeen). length (core_of p).own < store.limit) (sym begun) left;
     since = subst (λ (p : PassSeen). HasGoneOn p group.pass) (sym begun) h.since;
+    unrefused = h.unrefused ∙ ap (λ (p : PassSeen). p.standing.refusals) (sym begun);
     room = h.room;
     agrees = h.agrees;
     one = h.one;
@@ -137,7 +142,7 @@ module _ (store : StoreSeen) (old : OpenGroupSeen) (o : IsOpenOn store old) wher
 
   -- and the group is open still after it
   module _ (new : OpenGroupSeen) (call : Call) (fits : Fits (spec_of store.row) call) (covers : Covers (compiled_of store.row) call old.locks) (few : length old.steps < 16)
-      (of : IsPassOf store.row new.pass) (way : IsOnTheWay store.row old.pass new.pass) (begun : new.begun ≡ old.begun) (locks : new.locks ≡ old.locks)
+      (of : IsPassOf store.row new.pass) (way : IsOnTheWay store.row old.pass new.pass) (unrefused : new.pass.standing.refusals ≡ old.pass.standing.refusals) (begun : new.begun ≡ old.begun) (locks : new.locks ≡ old.locks)
       (over : HasGoneOver store.row call old.steps old.pass new.pass new.took new.steps) where
     abbrev next : List HeldStripe
     next = held_stripes new.pass.held
@@ -157,6 +162,11 @@ module _ (store : StoreSeen) (old : OpenGroupSeen) (o : IsOpenOn store old) wher
     locks_on : locks_of next ≡ new.locks
     locks_on = ap locks_of ran.over.becomes ∙ locks_after ran.part held ∙ o.locks ∙ sym locks
 
+    held_on : (core_of new.pass).held ≡ (core_of old.pass).held
+    held_on =
+        sym way.agrees ∙ all_taken-held new.pass.held ∙ ap all_taken ran.over.becomes ∙ taken_after ran.part held
+        ∙ sym (all_taken-held old.pass.held) ∙ o.agrees
+
     suffice_on : Suffice (compiled_of store.row) (calls_of new.steps) new.locks
     suffice_on other m =
         let list : calls_of new.steps ≡ calls_of old.steps ++ call ∷ [] = ap calls_of over.longer_is ∙ map-append (λ (s : Step). s.call) old.steps (step ∷ []) in
@@ -172,6 +182,7 @@ module _ (store : StoreSeen) (old : OpenGroupSeen) (o : IsOpenOn store old) wher
       idle = subst (λ (p : PassSeen). (p.held ≡ []) × ((core_of p).held ≡ [])) (sym begun) o.idle;
       left = subst (λ (p : PassSeen). length (core_of p).own < store.limit) (sym begun) o.left;
       since = subst (λ (p : PassSeen). HasGoneOn p new.pass) (sym begun) since_on;
+      unrefused = unrefused ∙ o.unrefused ∙ ap (λ (p : PassSeen). p.standing.refusals) (sym begun);
       room = spare_on store.row old.pass new.pass way o.room;
       agrees = way.agrees;
       one = way.one;
@@ -187,7 +198,7 @@ module _ (store : StoreSeen) (old : OpenGroupSeen) (o : IsOpenOn store old) wher
     }
 
     pub called_on : HasCalledOn store call old new
-    called_on = record { reply = over.reply; steps = over.longer_is; begun = begun; locks = locks; runs = open_on }
+    called_on = record { reply = over.reply; steps = over.longer_is; begun = begun; locks = locks; held = held_on; runs = open_on }
 
 -- ---- which stripes its commit needs
 
@@ -217,6 +228,25 @@ pub needed_others : (c : SpecWithPlans) (steps : List Step) (took : List StripeL
 needed_others c [] took p e = refl
 needed_others c (s ∷ []) took p e = absurd (e refl)
 needed_others c (s ∷ (t ∷ steps)) took p e = refl
+
+-- ---- what is held at its commit
+
+-- of a stripe there is one lock
+one_lock : (held : List HeldStripe) → IsRising nat_cmp (stripes_held held) → (a b : StripeLock) → In a (locks_of held) → In b (locks_of held) → a.0 ≡ b.0 → a ≡ b
+one_lock held rising a b m n e =
+    let lock : HeldStripe → StripeLock = λ (h : HeldStripe). (h.stripe, h.mode) in
+    let x : (h : HeldStripe) × In h held × (a ≡ lock h) = in_map lock a held m in
+    let y : (h : HeldStripe) × In h held × (b ≡ lock h) = in_map lock b held n in
+    let same : x.0 ≡ y.0 = one_held held rising x.0 y.0 x.1 y.1 (sym (ap (λ (l : StripeLock). l.0) x.2) ∙ e ∙ ap (λ (l : StripeLock). l.0) y.2) in
+    x.2 ∙ ap lock same ∙ sym y.2
+
+-- steps of which no more is held than they need need each stripe that is held
+need_each : (c : SpecWithPlans) (u : PassState) (steps : List Step) → 1 ≤ length steps → HoldsNoMore c u steps → (lock : StripeLock) → In lock (core_locks u) → NeedStripe c u steps lock.0
+need_each c u [] some no_more lock m = absurd (omega (arith, some))
+need_each c u (s ∷ []) some no_more lock m = no_more.each lock m
+need_each c u (s ∷ (t ∷ more)) some no_more lock m =
+    let x : (x : Step) × In x (s ∷ (t ∷ more)) × IsOfClassLocked c.spec (plan_at c.plans x.call.op) lock.0 = no_more lock.0 (stripes_of_in lock (core_locks u) m) in
+    (x.0.call, map_in (λ (z : Step). z.call) x.0 (s ∷ (t ∷ more)) x.1, x.2)
 
 -- ---- what is kept may be committed
 
@@ -370,38 +400,86 @@ module _ (store : StoreSeen) (ok : IsCompiled (spec_of store.row) (compiled_of s
             o.one.rows h (subst (In h) o.agrees there);
       }
 
-  -- of what was declared
-  declared_so : (kept : PassSeen) → HasGivenBack is_needed group.pass kept → (h : Hold) → In h (core_of kept).held → In (h.stripe, h.mode) group.locks
-  declared_so kept g h m =
-      let f : HeldRows → Hold = λ (x : HeldRows). record { stripe = x.stripe; mode = x.mode; rows = x.fragment.taken } in
-      let w : (x : HeldRows) × In x g.kept × (h ≡ f x) = in_map f h g.kept (subst (λ (p : PassSeen). In h (core_of p).held) g.is m) in
-      let there : In (held_stripe w.0) all = map_in held_stripe w.0 group.pass.held (g.keeps.inside w.0 w.1) in
-      let lock : HeldStripe → StripeLock = λ (x : HeldStripe). (x.stripe, x.mode) in
-      subst (λ (l : List StripeLock). In (h.stripe, h.mode) l) o.locks
-      (subst (λ (z : Hold). In (z.stripe, z.mode) (locks_of all)) (sym w.2) (map_in lock (held_stripe w.0) all there))
+  -- what is kept are exactly the declared locks that the steps need
+  module _ (kept : PassSeen) (g : HasGivenBack is_needed group.pass kept) (some : 1 ≤ length group.steps) (may : MayCommit c (core_of kept) (next_of (core_of kept) group.steps)) where
+    abbrev u : PassState
+    u = core_of kept
 
-  -- an entry of these steps, over what was declared
+    abbrev hold_of : HeldRows → Hold
+    hold_of x = record { stripe = x.stripe; mode = x.mode; rows = x.fragment.taken }
+
+    abbrev lock_of : Hold → StripeLock
+    lock_of h = (h.stripe, h.mode)
+
+    abbrev lock_held : HeldStripe → StripeLock
+    lock_held h = (h.stripe, h.mode)
+
+    -- among the locks of all that was held
+    among : (lock : StripeLock) → In lock (core_locks u) → In lock (locks_of all)
+    among lock m =
+        let h : (h : Hold) × In h (holds_taken g.kept) × (lock ≡ lock_of h) = in_map lock_of lock (holds_taken g.kept) (subst (λ (p : PassSeen). In lock (core_locks (core_of p))) g.is m) in
+        let x : (x : HeldRows) × In x g.kept × (h.0 ≡ hold_of x) = in_map hold_of h.0 g.kept h.1 in
+        let same : lock ≡ lock_held (held_stripe x.0) = h.2 ∙ ap lock_of x.2 in
+        subst (λ (l : StripeLock). In l (locks_of all)) (sym same)
+        (map_in lock_held (held_stripe x.0) all (map_in held_stripe x.0 group.pass.held (g.keeps.inside x.0 x.1)))
+
+    -- one that is declared, and needed, is kept
+    kept_each : (lock : StripeLock) → In lock (locks_of all) → NeedStripe c u group.steps lock.0 → In lock (core_locks u)
+    kept_each lock m need = go group.steps refl
+      where
+        go : (steps : List Step) → group.steps ≡ steps → In lock (core_locks u)
+        go [] e = absurd (subst (λ (l : List Step). NeedStripe c u l lock.0) e need)
+        go (s ∷ []) e =
+            let named : List StripeLock = (eval c.spec (plan_at c.plans s.call.op) s.call (rows_held u)).named in
+            let held = (subst (λ (l : List Step). AllAreHeld c.spec (calls_with_plans c.plans l) (rows_held u) (core_locks u)) e may.held).0 in
+            let n : (l : StripeLock) × In l named × (lock.0 ≡ l.0) = in_stripes_of lock.0 named (subst (λ (l : List Step). NeedStripe c u l lock.0) e need) in
+            let h = held n.0 n.1 in
+            let there : In (n.0.0, h.0) (core_locks u) = h.1 in
+            let same : lock ≡ (n.0.0, h.0) = one_lock all (rises_on store group o) lock (n.0.0, h.0) m (among (n.0.0, h.0) there) n.2 in
+            subst (λ (l : StripeLock). In l (core_locks u)) (sym same) there
+        go (s ∷ (t ∷ more)) e =
+            let used : is_needed lock.0 = subst (λ (l : List Step). IsNeeded c l group.took lock.0) (sym e) (subst (λ (l : List Step). NeedStripe c u l lock.0) e need) in
+            let h : (h : HeldStripe) × In h all × (lock ≡ lock_held h) = in_map lock_held lock all m in
+            let x : (x : HeldRows) × In x group.pass.held × (h.0 ≡ held_stripe x) = in_map held_stripe h.0 group.pass.held h.1 in
+            let same : lock ≡ lock_of (hold_of x.0) = h.2 ∙ ap lock_held x.2 in
+            let there : In x.0 g.kept = g.keeps.each x.0 x.1 (subst is_needed (ap (λ (l : StripeLock). l.0) same) used) in
+            subst (λ (p : PassSeen). In lock (core_locks (core_of p))) (sym g.is)
+            (subst (λ (l : StripeLock). In l (core_locks (core_of (holding g.kept group.pass)))) (sym same)
+            (map_in lock_of (hold_of x.0) (holds_taken g.kept) (map_in hold_of x.0 g.kept there)))
+
+    holds_declared : HoldsDeclared c u group.steps group.locks
+    holds_declared = record {
+      inside = λ lock m. (subst (In lock) o.locks (among lock m), need_each c u group.steps some may.no_more lock m);
+      each = λ lock m need. kept_each lock (subst (In lock) (sym o.locks) m) need;
+    }
+
+  -- an entry of these steps, over what they need of what was declared
   abbrev MadeOver : PassSeen → GroupReceipt → List Step → Type 0
   MadeOver new receipt steps =
-      (entry : HasMadeEntry store steps group.begun new receipt.place receipt.nth) × ((h : Hold) → In h entry.at_commit.held → In (h.stripe, h.mode) group.locks)
+      (entry : HasMadeEntry store steps group.begun new receipt.place receipt.nth) × HoldsDeclared c entry.at_commit steps group.locks
 
   -- so it was made
   pub open_group_made : store.limit ≤ 2 ^ 48 → 1 ≤ length group.steps → (kept new : PassSeen) → HasGivenBack is_needed group.pass kept → (receipt : GroupReceipt)
       → IsGroupFinished store.row (calls_of group.steps) (replies_of group.steps) kept new receipt → HasMadeOpenGroup store group.steps group.locks group.begun new receipt
-  open_group_made small some kept new g receipt f = record { entry = made.0; declared = made.1; given = f.given }
+  open_group_made small some kept new g receipt f = record { entry = made.0; exact = made.1; given = f.given }
     where
       again : List Step
       again = with_replies (calls_of group.steps) (replies_of group.steps)
 
+      whole : IsPrepared store.row group.steps group.begun kept
+      whole = kept_prepared small some kept g
+
       prepared : IsPrepared store.row again group.begun kept
-      prepared = subst (λ (steps : List Step). IsPrepared store.row steps group.begun kept) (sym (with_replies-parts group.steps)) (kept_prepared small some kept g)
+      prepared = subst (λ (steps : List Step). IsPrepared store.row steps group.begun kept) (sym (with_replies-parts group.steps)) whole
+
+      exact : HoldsDeclared c (core_of kept) again group.locks
+      exact = subst (λ (steps : List Step). HoldsDeclared c (core_of kept) steps group.locks) (sym (with_replies-parts group.steps)) (holds_declared kept g some whole.ready.may)
 
       made : MadeOver new receipt group.steps
       made =
           subst (MadeOver new receipt) (with_replies-parts group.steps) (
             made_so store again group.begun kept new prepared receipt.place receipt.nth f.entry,
-            λ h m. declared_so kept g h
-                (subst (λ (u : PassState). In h u.held) (made_commits store again group.begun kept new prepared receipt.place receipt.nth f.entry) m),
+            subst (λ (u : PassState). HoldsDeclared c u again group.locks) (sym (made_commits store again group.begun kept new prepared receipt.place receipt.nth f.entry)) exact,
           )
 
 -- ---- the calls of an open group

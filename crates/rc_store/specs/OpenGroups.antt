@@ -6,9 +6,11 @@ use Rattle.rc_tuple.specs.RisingSet.{In, IsRising}
 use Rattle.rc_spec.specs.declared.call.Call.{Call}
 use Rattle.rc_spec.specs.declared.call.Reply.{Reply}
 use Rattle.rc_spec.specs.Locks.{StripeLock}
-use Rattle.rc_core.specs.declared.state.Hold.{Hold}
+use Rattle.rc_core.specs.declared.state.PassState.{PassState}
+use Rattle.rc_core.specs.State.{locks_of as core_locks, rows_held}
 use Rattle.rc_fragment.specs.Holder.{HeldStripe}
 use Rattle.rc_plan.specs.Compiled.{SpecWithPlans, plan_at}
+use Rattle.rc_plan.specs.Evaluation.{eval}
 use Rattle.rc_plan.specs.StripeLocks.{stripes_of}
 use Rattle.rc_plan.specs.Turns.{with_plans}
 use Rattle.rc_rel.specs.declared.entry.Step.{Step}
@@ -58,12 +60,13 @@ IsAlone c (s ∷ []) held took = HasRunAlone c s held took
 IsAlone c (s ∷ (t ∷ steps)) held took = Unit {0}
 
 -- The pass was free when the group was opened, with fewer entries than the limit, and holds exactly what was declared, which suffices
--- for the calls. These were served one after another, over the rows of one relation.
+-- for the calls; no step was refused since. The calls were served one after another, over the rows of one relation.
 pub record IsOpenOn (store : StoreSeen) (group : OpenGroupSeen) : Type 0 where
   pub of_row : IsPassOf store.row group.pass
   pub idle : (group.begun.held ≡ []) × ((core_of group.begun).held ≡ [])
   pub left : length (core_of group.begun).own < store.limit
   pub since : HasGoneOn group.begun group.pass
+  pub unrefused : group.pass.standing.refusals ≡ group.begun.standing.refusals
   pub room : HasSpare group.pass.kept
   pub agrees : holds_taken group.pass.held ≡ (core_of group.pass).held
   pub one : HaveOneRelation (spec_of store.row) (core_of group.pass).held
@@ -77,7 +80,8 @@ pub record IsOpenOn (store : StoreSeen) (group : OpenGroupSeen) : Type 0 where
 
 -- ---- how it is opened
 
--- a free pass, and declarations of operations that there are, each with the values of some columns
+-- A free pass, and declarations of operations that there are. Nothing else is asked of them: there may be any number, and what one
+-- has for values may be any list of columns with values.
 pub record MayDeclare (store : StoreSeen) (pass : PassSeen) (declared : List Call) : Type 0 where
   pub free : IsFree store pass
   pub known : All (HasOperation (spec_of store.row)) declared
@@ -125,12 +129,13 @@ pub record HasGoneOver (row : RowSeen) (call : Call) (steps : List Step) (old ne
   pub longer_is : longer ≡ with_step steps call reply
   pub taking : HasRunTaking (spec_of row) (plan_at (compiled_of row).plans call.op) call (held_stripes old.held) (held_stripes new.held) took reply
 
--- one call more was made, with a reply
+-- one call more was made, with a reply, and just what was held before is held, with the rows as taken
 pub record HasCalledOn (store : StoreSeen) (call : Call) (old new : OpenGroupSeen) : Type 0 where
   pub reply : Reply
   pub steps : new.steps ≡ with_step old.steps call reply
   pub begun : new.begun ≡ old.begun
   pub locks : new.locks ≡ old.locks
+  pub held : (core_of new.pass).held ≡ (core_of old.pass).held
   pub runs : IsOpenOn store new
 
 -- ---- its commit
@@ -162,9 +167,20 @@ pub record HasGivenBack (needed : ℕ → Type 0) (old new : PassSeen) : Type 0 
 abbrev pub AreUnchangedBut : (ℕ → Type 0) → List HeldRows → Type 0
 AreUnchangedBut needed held = (h : HeldRows) → In h held → (needed h.stripe → ⊥) → h.fragment.now ≡ h.fragment.taken
 
--- The entry of the steps was committed over what they needed of these locks, which were declared, and the replies come with the
--- receipt where no entries are kept.
+-- The steps need the stripe: evaluation of one alone names it, on what is held, and of several some call's plan locks its class.
+abbrev pub NeedStripe : SpecWithPlans → PassState → List Step → ℕ → Type 0
+NeedStripe c u [] p = ⊥
+NeedStripe c u (s ∷ []) p = In p (stripes_of (eval c.spec (plan_at c.plans s.call.op) s.call (rows_held u)).named)
+NeedStripe c u (s ∷ (t ∷ steps)) p = IsUsedBy c (calls_of (s ∷ (t ∷ steps))) p
+
+-- Of these locks it holds exactly those of stripes that the steps need, each in its mode, and nothing else.
+pub record HoldsDeclared (c : SpecWithPlans) (u : PassState) (steps : List Step) (locks : List StripeLock) : Type 0 where
+  pub inside : (lock : StripeLock) → In lock (core_locks u) → In lock locks × NeedStripe c u steps lock.0
+  pub each : (lock : StripeLock) → In lock locks → NeedStripe c u steps lock.0 → In lock (core_locks u)
+
+-- The entry of the steps was committed over exactly what they needed of these locks, which were declared, and the replies come with
+-- the receipt where no entries are kept.
 pub record HasMadeOpenGroup (store : StoreSeen) (steps : List Step) (locks : List StripeLock) (old new : PassSeen) (receipt : GroupReceipt) : Type 0 where
   pub entry : HasMadeEntry store steps old new receipt.place receipt.nth
-  pub declared : (h : Hold) → In h entry.at_commit.held → In (h.stripe, h.mode) locks
+  pub exact : HoldsDeclared (compiled_of store.row) entry.at_commit steps locks
   pub given : AreRepliesFor store.row.keeping (replies_of steps) receipt.replies

@@ -127,6 +127,8 @@ impl OpenGroup {
         ensures made { IfSome result.1 (HasMadeOpenGroup store.now self.steps self.locks
             self.begun result.0) }
         ensures none { IfNone result.1 ((self.steps ≡ []) × IsAsBefore self.begun result.0) }
+        ensures unrefused { IfNone result.1
+            (result.0.standing.refusals ≡ self.pass.standing.refusals) }
     {
         let OpenGroup {
             mut pass,
@@ -144,11 +146,12 @@ impl OpenGroup {
     }
 
     /// Takes back what its calls changed, gives all back, and hands out the pass. It holds nothing, and its entries and what it
-    /// has seen are as before. Takes no memory.
+    /// has seen are as before the group. Takes no memory.
     pub fn cancel<W: Wakes>(self, store: &Store<W>) -> Pass
         requires { IsOpenOn store.now self }
         ensures free { IsFree store.now result }
         ensures before { IsAsBefore self.begun result }
+        ensures unrefused { result.standing.refusals ≡ self.pass.standing.refusals }
     {
         let OpenGroup {
             mut pass,

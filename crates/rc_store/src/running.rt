@@ -92,6 +92,7 @@ impl Running {
         requires { IsRunningOn store.now self }
         ensures free { IsFree store.now result }
         ensures before { IsAsBefore self.begun result }
+        ensures unrefused { result.standing.refusals ≡ self.pass.standing.refusals }
     {
         let Running {
             mut pass,

@@ -95,6 +95,7 @@ impl RunningGroup {
         requires { IsGroupRunningOn store.now self }
         ensures free { IsFree store.now result }
         ensures before { IsAsBefore self.begun result }
+        ensures unrefused { result.standing.refusals ≡ self.pass.standing.refusals }
     {
         let RunningGroup {
             mut pass,

@@ -3,7 +3,7 @@ use Rattle.std.proofs.lemmas.List.FromFn.{length-map-range_with_len}
 use Rattle.rc_row.specs.Passes.{PassSeen, compiled_of, new_pass, new_passes}
 use Rattle.rc_store.specs.Store.{IsFree, StoreSeen}
 use Rattle.rc_store.specs.FreeLaws.{new_are_free}
-use Rattle.rc_plan.specs.Compiled.{SpecWithPlans}
+use Rattle.rc_plan.specs.Compiled.{IsCompiled, SpecWithPlans}
 use Rattle.rc_spec.specs.declared.spec.Spec.{Spec}
 use Rattle.std.specs.Arc.{arc_value}
 use Rattle.rc_inline.specs.PlacingLaws.{embedded_schema}
@@ -49,6 +49,9 @@ returns-in-Ok-clause-store c =
           subst ArePlannedOf (sym whole)
           (subst (λ (spec : Spec). ArePlannedOf (record { spec = spec; plans = compiled.plans })) (sym same)
           c.in_ok-compiled.ensures.planned);
+      compiled =
+          subst (λ (x : SpecWithPlans). IsCompiled x.spec x.plans) (sym whole)
+          (record { sealed = c.accepted.ensures.sealed; planned = c.accepted.ensures.planned });
       counts = ap (λ (store : StoreSeen). store.row.keeping) shared ∙ built.row.1;
       number = ap (λ (store : StoreSeen). store.row.key.passes) shared ∙ built.row.0;
       limit = ap (λ (store : StoreSeen). store.limit) shared ∙ built.limit;

@@ -1,10 +1,10 @@
-use Rattle.std.proofs.Common.{◌≡◌, [], ◌∷◌, rules, refl, subst}
+use Rattle.std.proofs.Common.{◌≡◌, [], ◌∷◌, ap, rules, refl, subst}
 use Rattle.rc_spec.specs.declared.call.Call.{Call}
 use Rattle.rc_row.specs.Passes.{spec_of}
 use Rattle.rc_store.specs.Running.{HasBegunGroup}
 use Rattle.rc_store.specs.Store.{StoreSeen}
 use Rattle.rc_work.specs.CallColumns.{call_of}
-use Rattle.rc_embed.specs.Session.{alone}
+use Rattle.rc_embed.specs.Session.{alone, prepared_in}
 use Rattle.rc_embed.proofs.SessionLemmas.{begun_alone}
 use Rattle.rc_embed.proofs.session.Session.begin_idle.Goals as goal
 
@@ -18,7 +18,7 @@ returns-in-Ok c =
         before = c.in-Idle.pass;
         running = alone c.in-Ok.running;
         was = search rules;
-        is = refl;
+        is = ap prepared_in c.come_to.ensures;
         last = search rules;
         picked = refl;
         begun =

@@ -10,10 +10,11 @@ returns-in-Prepared-clause-cancelled c =
       running = alone c.in-Prepared.running;
       after = c.cancel.result;
       was = ap uncommitted_in state;
-      is = refl;
+      is = c.come_to.ensures;
       last = ap (λ (s : SessionSeen). s.last) c.self.view_is;
       picked = refl;
       before = c.cancel.ensures.before;
+      refusals = c.cancel.ensures.unrefused;
     }
 
 pub returns-in-Open-clause-cancelled : goal.returns-in-Open-clause-cancelled
@@ -23,8 +24,9 @@ returns-in-Open-clause-cancelled c =
       running = made_of c.in-Open.group;
       after = c.cancel-in-Open.result;
       was = ap uncommitted_in state;
-      is = refl;
+      is = c.come_to-in-Open.ensures;
       last = ap (λ (s : SessionSeen). s.last) c.self.view_is;
       picked = refl;
       before = c.cancel-in-Open.ensures.before;
+      refusals = c.cancel-in-Open.ensures.unrefused;
     }

@@ -1,18 +1,21 @@
-use Rattle.std.proofs.Common.{◌≡◌, Some, Option, ap, ◌∙◌, refl}
+use Rattle.std.proofs.Common.{IfSome, Option, ap, arith, ◌∙◌, refl, subst}
 use Rattle.rc_spec.specs.declared.call.Reply.{Reply}
 use Rattle.rc_embed.specs.declared.frame.Frame.{Frame}
-use Rattle.rc_embed.specs.Frames.{with_picked_reply, with_place, with_reply}
+use Rattle.rc_embed.specs.declared.session.Position.{Position}
+use Rattle.rc_embed.specs.Session.{HasCommitted}
+use Rattle.rc_embed.specs.Frames.{with_picked_reply, with_reply}
 use Rattle.rc_embed.proofs.SessionLemmas.{committed_first}
 use Rattle.rc_embed.proofs.session.Session.commit_by.Goals as goal
 
-pub returns-in-Ok : goal.returns-in-Ok
-returns-in-Ok c =
-    let made = c.in-Ok.ensures.made in
-    let first = committed_first c.args.self.now c.commit.new.self c.in-Ok.at made in
+pub returns-in-Ok-Some : goal.returns-in-Ok-Some
+returns-in-Ok-Some c =
+    let made : HasCommitted c.args.self.now c.commit.new.self c.in-Ok-Some.at =
+    subst (λ (o : Option Position). IfSome o (HasCommitted c.args.self.now c.commit.new.self)) c.in-Ok-Some.field-0-is c.in-Ok-Some.ensures.made in
+    let first = committed_first c.args.self.now c.commit.new.self c.in-Ok-Some.at made in
     record {
-      store = c.in-Ok.ensures.store;
+      store = c.in-Ok-Some.ensures.store;
       made = λ _. (
-        c.in-Ok.at,
+        c.in-Ok-Some.at,
         made,
         record {
           reply = first.0;
@@ -23,5 +26,6 @@ returns-in-Ok c =
               ∙ ap (λ (f : Frame). with_reply first.0 f) c.tell_place.ensures;
         },
       );
-      refused = λ none. absurd (none refl);
+      none = λ same. absurd (omega (arith, same));
+      refused = λ other _. absurd (other refl);
     }

@@ -1,15 +1,15 @@
-use Rattle.std.proofs.Common.{◌≡◌, ◌∙◌, ap, rules, refl, subst, sym}
+use Rattle.std.proofs.Common.{◌≡◌, ◌∙◌, [], ap, rules, refl, subst, sym}
 use Rattle.rc_store.specs.OpenGroups.{HasMadeOpenGroup}
-use Rattle.rc_store.specs.Store.{StoreSeen}
+use Rattle.rc_store.specs.Store.{IsAsBefore, StoreSeen}
 use Rattle.rc_embed.specs.declared.session.Last.TheVariants as lasts
 use Rattle.rc_embed.specs.declared.session.State.{State}
 use Rattle.rc_embed.specs.declared.session.State.TheVariants as states
-use Rattle.rc_embed.specs.Session.{HeldFor, made_of, replies_given, uncommitted_in}
+use Rattle.rc_embed.specs.Session.{HasNoCall, HeldFor, SessionSeen, made_of, replies_given, uncommitted_in}
 use Rattle.rc_embed.proofs.SessionLemmas.{given_so, told_open}
 use Rattle.rc_embed.proofs.session.Session.commit_open.Goals as goal
 
-pub returns-clause-made : goal.returns-clause-made
-returns-clause-made c =
+pub returns-in-Some-clause-made : goal.returns-in-Some-clause-made
+returns-in-Some-clause-made c =
     let group = c.in-Open.group in
     let after = c.commit-pass.result.0 in
     let receipt = c.in-Some.receipt in
@@ -24,13 +24,33 @@ returns-clause-made c =
       running = made_of group;
       after = after;
       was = ap uncommitted_in state;
-      is = refl;
+      is = c.come_to.ensures;
       told = told_open store group.steps receipt.replies counts made.given;
       picked = refl;
       entry = so.entry;
       held =
-          subst (λ (s : State). HeldFor c.args.self.now.store s group.steps so.entry.at_commit) (sym state) so.declared;
+          subst (λ (s : State). HeldFor c.args.self.now.store s group.steps so.entry.at_commit) (sym state) so.exact;
       given =
           given_so c.args.self.now.store (replies_given (lasts.Group receipt.replies))
           (ap (λ (s : StoreSeen). s.row.keeping) (sym here) ∙ counts);
     }
+
+pub returns-in-None-clause-none : goal.returns-in-None-clause-none
+returns-in-None-clause-none c =
+    let group = c.in-Open.group in
+    let after = c.commit-pass.result.0 in
+    let state : c.args.self.now.state ≡ states.Open group = search rules in
+    let none : (group.steps ≡ []) × IsAsBefore group.begun after = search rules in
+    let unrefused : after.standing.refusals ≡ group.pass.standing.refusals = search rules in (
+      subst HasNoCall (sym state) none.0,
+      record {
+        running = made_of group;
+        after = after;
+        was = ap uncommitted_in state;
+        is = c.come_to.ensures;
+        last = ap (λ (s : SessionSeen). s.last) c.self.view_is;
+        picked = refl;
+        before = none.1;
+        refusals = unrefused;
+      },
+    )

@@ -1,5 +1,7 @@
 use Rattle.std.proofs.Common.{◌≡◌, ◌∙◌, ap, rules, refl, subst, sym}
 use Rattle.rc_spec.specs.declared.call.Call.{Call}
+use Rattle.rc_spec.specs.Calls.{Fits}
+use Rattle.rc_plan.specs.Compiled.{IsCompiled}
 use Rattle.rc_multi.specs.Group.{Covers}
 use Rattle.rc_row.specs.Passes.{compiled_of, spec_of}
 use Rattle.rc_store.specs.declared.open_group.OpenBack.TheVariants as backs
@@ -9,9 +11,10 @@ use Rattle.rc_store.specs.Store.{StoreSeen}
 use Rattle.rc_work.specs.CallColumns.{call_of}
 use Rattle.rc_embed.specs.declared.session.State.{State}
 use Rattle.rc_embed.specs.declared.session.State.TheVariants as states
-use Rattle.rc_embed.specs.OpenGroups.{IsUncoveredIn}
+use Rattle.rc_embed.specs.OpenGroups.{HasNoRefusalIn, IsUncoveredIn}
 use Rattle.rc_embed.specs.Session.{SessionSeen, made_of, uncommitted_in}
 use Rattle.rc_embed.specs.SessionInside.{session_seen}
+use Rattle.rc_embed.proofs.DeclaringLemmas.{uncovered_so}
 use Rattle.rc_embed.proofs.session.Session.go_on.Goals as goal
 
 pub returns-in-Err-Uncovered : goal.returns-in-Err-Uncovered
@@ -23,6 +26,8 @@ returns-in-Err-Uncovered c =
     let inner : c.self.inside.state ≡ states.Open group = search rules in
     let state : c.args.self.now.state ≡ states.Open group = search rules in
     let call : made ≡ call_of (spec_of store.row) c.args.op c.args.values.now = search rules in
+    let fits : Fits (spec_of store.row) made = search rules in
+    let compiled : IsCompiled (spec_of store.row) (compiled_of store.row).plans = search rules in
     let back : IsCallBack c.behind-self.inside.store made group (backs.Uncovered c.in-Err-Uncovered.group) =
     subst (IsCallBack c.behind-self.inside.store made group) c.in-Err-Uncovered.field-0-is c.in-Err-Uncovered.ensures.back in
     record {
@@ -31,12 +36,12 @@ returns-in-Err-Uncovered c =
       cause = (
         c.requires,
         subst (λ (s : State). IsUncoveredIn store s (call_of (spec_of store.row) c.args.op c.args.values.now)) (sym state)
-            (subst (λ (z : Call). Covers (compiled_of store.row) z group.locks → ⊥) call
-            (subst (λ (s : StoreSeen). Covers (compiled_of s.row) made group.locks → ⊥) here back.2)),
+            (subst (λ (z : Call). IsUncoveredIn store (states.Open group) z) call
+            (uncovered_so store group made compiled fits (subst (λ (s : StoreSeen). Covers (compiled_of s.row) made group.locks → ⊥) here back.2))),
       );
       left =
           ap (λ (s : State). record (session_seen c.self.inside) { state = s })
-          (ap (λ (g : OpenGroupSeen). states.Open g) back.0 ∙ sym inner)
+          (c.come_to-in-Err-Uncovered.ensures ∙ ap (λ (g : OpenGroupSeen). states.Open g) back.0 ∙ sym inner)
           ∙ c.self.view_is;
     }
 
@@ -50,14 +55,18 @@ returns-in-Err-Memory c =
     record {
       store = ap (λ (s : SessionSeen). s.store) c.self.view_is;
       made = tt;
-      cause = c.requires;
+      cause = (
+        c.requires,
+        subst (λ (x : State × State). HasNoRefusalIn x.0 x.1) (λ i. (sym state i, sym c.come_to-in-Err-Memory.ensures i)) back.4,
+      );
       left = record {
         running = made_of group;
         after = c.in-Err-Memory.pass;
         was = ap uncommitted_in state;
-        is = refl;
+        is = c.come_to-in-Err-Memory.ensures;
         last = ap (λ (s : SessionSeen). s.last) c.self.view_is;
         picked = refl;
         before = back.1;
+        refusals = back.4;
       };
     }
