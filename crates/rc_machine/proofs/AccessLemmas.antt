@@ -1,21 +1,20 @@
 -- Queries that are answered from the rows of one edge.
-use Rattle.std.specs.Prelude.{◌≡◌, ℕ, ◌<◌, ◌==◌, ◌++◌, Bool, true, false, List, [], ◌∷◌, None, Option, Some, cond, filter, length, map, unwrap_or}
+use Rattle.std.specs.Prelude.{◌≡◌, ℕ, ◌<◌, ◌++◌, true, List, [], ◌∷◌, None, Option, Some, filter, length, map}
 use Rattle.std.specs.List.{flat_map, zip}
 use Rattle.std.specs.declared.cmp.Ordering.{Ordering}
 use Rattle.std.specs.declared.cmp.Ordering.TheVariants.{Less, Equal, Greater}
 use Rattle.std.specs.Ordering.{nat_cmp, ordering_then}
 use Rattle.std.proofs.Common.{inl, inr, refl, sym, ap, subst, ◌∙◌, arith}
-use Rattle.std.proofs.lemmas.Bool.{and_from, and_parts, cases_Bool, eq-eqb, eqb-true, false≢true}
+use Rattle.std.proofs.lemmas.Bool.{and_from, and_parts}
 use Rattle.std.proofs.lemmas.List.{map-append}
-use Rattle.std.proofs.lemmas.Option.{none-some}
 use Rattle.rc_tuple.specs.RisingSet.{In, IsRising}
-use Rattle.rc_tuple.specs.RisingSetLaws.{filter_in, gather_in, in_append, has_in, in_filter, in_gather, in_has, in_map, map_in, number_lists_order, rising_filter, rising_gather, same_rising}
-use Rattle.rc_tuple.specs.ColSet.{IsColSet, Within, has, union}
-use Rattle.rc_tuple.specs.ColSetLaws.{in_union, minus_in, rising_range, union_left, union_right}
-use Rattle.rc_tuple.specs.MergeLaws.{project_all, value_in}
+use Rattle.rc_tuple.specs.RisingSetLaws.{filter_in, gather_in, in_append, in_filter, in_gather, in_map, map_in, number_lists_order, rising_gather, same_rising}
+use Rattle.rc_tuple.specs.ColSet.{Within, union}
+use Rattle.rc_tuple.specs.ColSetLaws.{rising_range}
+use Rattle.rc_tuple.specs.MergeLaws.{project_all}
 use Rattle.rc_tuple.specs.Relation.{IsRelation}
-use Rattle.rc_tuple.specs.Tuple.{IsTuple, Pairs, cols_of, get, matches, pair_cmp, pick, project, value}
-use Rattle.rc_tuple.specs.TupleLaws.{cols-project, in_project, one_pair, pair_order, project-project, project_by, project_in, rising_cols, rising_pairs, same_from_test, test_from_same}
+use Rattle.rc_tuple.specs.Tuple.{IsTuple, Pairs, cols_of, matches, pick, project, value}
+use Rattle.rc_tuple.specs.TupleLaws.{cols-project, project-project, rising_pairs, same_from_test, test_from_same}
 use Rattle.rc_spec.specs.declared.call.Reply.{Reply}
 use Rattle.rc_spec.specs.declared.call.Reply.TheVariants.{Rows}
 use Rattle.rc_spec.specs.declared.range.Range.{Range}
@@ -29,83 +28,20 @@ use Rattle.rc_spec.specs.Placement.{class_at, class_of}
 use Rattle.rc_spec.specs.Plain.{at_most, row_cmp, rows_of}
 use Rattle.rc_spec.specs.Ranges.{in_ranges, is_asked}
 use Rattle.rc_spec.specs.Stripes.{physical_stripe}
-use Rattle.rc_bindings.specs.RegistersLaws.{get-project}
 use Rattle.rc_fragment.specs.Fragment.{IsLookedUp, IsScan, IsThere, IsThereWith, shape_of}
 use Rattle.rc_fragment.specs.FragmentLaws.{parted_edge}
 use Rattle.rc_fragment.specs.RowValues.{IsParted, extra_columns, values_at}
-use Rattle.rc_fragment.specs.RowValuesLaws.{extra_set, extra_within, length_values, zip_values}
+use Rattle.rc_fragment.specs.RowValuesLaws.{extra_set, extra_within, length_values}
 use Rattle.rc_fragment.specs.declared.shape.EdgeShape.{EdgeShape}
 use Rattle.rc_plan.specs.AccessLaws.{row_of_match, tuple_of_row}
 use Rattle.rc_plan.specs.MatchLaws.{pick-project}
 use Rattle.rc_machine.specs.Access.{HasListed, HasLookedUp, row_reply}
 use Rattle.rc_machine.proofs.EmitLemmas.{few_rows}
+use Rattle.rc_machine.proofs.EdgeRowLemmas.{has_key, has_source, inside, pick_values, picked, same}
 use Rattle.rc_machine.proofs.SeekLemmas.{same_projected}
 use Rattle.rc_spec.specs.DecompositionLaws.{edge_at_in}
 
--- ---- values at columns
-
-get_some : (t : Pairs) (c : ℕ) → In c (cols_of t) → (v : ℕ) × (get t c ≡ Some v)
-get_some [] c m = absurd m
-get_some (p ∷ t) c m = go (p.0 == c) refl m (get_some t c)
-  where
-    go : (b : Bool) → (p.0 == c) ≡ b → In c (cols_of (p ∷ t)) → (In c (cols_of t) → (v : ℕ) × (get t c ≡ Some v)) → (v : ℕ) × (cond b (Some p.1) (get t c) ≡ Some v)
-    go true e m rest = (p.1, refl)
-    go false e (inl is) rest = absurd (false≢true (sym e ∙ eq-eqb p.0 c (sym is)))
-    go false e (inr n) rest = rest n
-
-pub get_none : (t : Pairs) (c : ℕ) → (In c (cols_of t) → ⊥) → get t c ≡ None
-get_none [] c n = refl
-get_none (p ∷ t) c n = go (p.0 == c) refl (get_none t c (λ m. n (inr m)))
-  where
-    go : (b : Bool) → (p.0 == c) ≡ b → get t c ≡ None → cond b (Some p.1) (get t c) ≡ None
-    go true e rest = absurd (n (inl (sym (eqb-true p.0 c e))))
-    go false e rest = rest
-
-pub get_first : (t others : Pairs) (c v : ℕ) → get t c ≡ Some v → get (t ++ others) c ≡ Some v
-get_first [] others c v e = absurd (none-some v e)
-get_first (p ∷ t) others c v e = go (p.0 == c) e (get_first t others c v)
-  where
-    go : (b : Bool) → cond b (Some p.1) (get t c) ≡ Some v → (get t c ≡ Some v → get (t ++ others) c ≡ Some v) → cond b (Some p.1) (get (t ++ others) c) ≡ Some v
-    go true e rest = e
-    go false e rest = rest e
-
-pub get_second : (t others : Pairs) (c : ℕ) → get t c ≡ None → get (t ++ others) c ≡ get others c
-get_second [] others c e = refl
-get_second (p ∷ t) others c e = go (p.0 == c) e (get_second t others c)
-  where
-    go : (b : Bool) → cond b (Some p.1) (get t c) ≡ None → (get t c ≡ None → get (t ++ others) c ≡ get others c) → cond b (Some p.1) (get (t ++ others) c) ≡ get others c
-    go true e rest = absurd (none-some p.1 (sym e))
-    go false e rest = rest e
-
--- tuples with the same values at the outputs
-picked_alike : (outs : List ℕ) (t u : Pairs) → ((c : ℕ) → In c outs → get t c ≡ get u c) → pick outs t ≡ pick outs u
-picked_alike [] t u same = refl
-picked_alike (c ∷ outs) t u same =
-    let here : value t c ≡ value u c = ap (λ (o : Option ℕ). unwrap_or o 0) (same c (inl refl)) in
-    let others : pick outs t ≡ pick outs u = picked_alike outs t u (λ d m. same d (inr m)) in
-    λ i. here i ∷ others i
-
 -- ---- the values of a row's key and extra columns
-
--- the values at columns that a tuple has
-pick_values : (ys : List ℕ) (t : Pairs) → IsRising nat_cmp ys → IsRising nat_cmp (cols_of t) → Within ys (cols_of t) → pick ys t ≡ values_at ys t
-pick_values ys t rises up within =
-    let pairs : Pairs = map (λ c. (c, value t c)) ys in
-    let same : pairs ≡ project ys t =
-    same_rising pair_cmp pair_order pairs (project ys t) (rising_cols pairs (subst (IsRising nat_cmp) (sym (firsts ys)) rises)) (rising_filter pair_cmp (λ (p : ℕ × ℕ). has ys p.0) t (rising_cols t up))
-    (λ p m. let q : (c : ℕ) × In c ys × (p ≡ (c, value t c)) = in_map (λ c. let z : ℕ × ℕ = (c, value t c) in z) p ys m in
-    subst (λ (z : ℕ × ℕ). In z (project ys t)) (sym q.2) (project_in ys (q.0, value t q.0) t (value_in t q.0 (within q.0 q.1)) q.1))
-    (λ p m. let q : In p t × In p.0 ys = in_project ys p t m in
-    subst (λ (z : ℕ × ℕ). In z pairs) (one_pair t up (p.0, value t p.0) p (value_in t p.0 (within p.0 q.1)) q.0 refl) (map_in (λ c. let z : ℕ × ℕ = (c, value t c) in z) p.0 ys q.1)) in
-    seconds ys ∙ ap (map (λ (p : ℕ × ℕ). p.1)) same
-  where
-    firsts : (ys : List ℕ) → cols_of (map (λ c. (c, value t c)) ys) ≡ ys
-    firsts [] = refl
-    firsts (c ∷ ys) = ap (λ l. c ∷ l) (firsts ys)
-
-    seconds : (ys : List ℕ) → pick ys t ≡ map (λ (p : ℕ × ℕ). p.1) (map (λ c. (c, value t c)) ys)
-    seconds [] = refl
-    seconds (c ∷ ys) = ap (λ l. value t c ∷ l) (seconds ys)
 
 pub picked_parts : (spec : Spec) (sealed : IsSealed spec) (e : ℕ) → e < length spec.edges → (u : Pairs) → cols_of u ≡ (shape_of spec (edge_at spec e)).target
     → pick ((edge_at spec e).key ++ extra_columns (shape_of spec (edge_at spec e))) u ≡ values_at (edge_at spec e).key u ++ values_at (extra_columns (shape_of spec (edge_at spec e))) u
@@ -141,13 +77,13 @@ below_first (x ∷ a) (y ∷ b) c d l less = go (nat_cmp x y) less (below_first 
 
 -- ---- lists
 
-no_member : {A : Type 0} (xs : List A) → ((x : A) → In x xs → ⊥) → xs ≡ []
+pub no_member : {A : Type 0} (xs : List A) → ((x : A) → In x xs → ⊥) → xs ≡ []
 no_member [] f = refl
 no_member (x ∷ xs) f = absurd (f x (inl refl))
 
 pub flat_map_alike : {A B : Type 0} (f g : A → List B) (xs : List A) → ((x : A) → In x xs → f x ≡ g x) → flat_map f xs ≡ flat_map g xs
-flat_map_alike f g [] same = refl
-flat_map_alike f g (x ∷ xs) same = ap (λ z. z ++ flat_map f xs) (same x (inl refl)) ∙ ap (λ z. g x ++ z) (flat_map_alike f g xs (λ y m. same y (inr m)))
+flat_map_alike f g [] alike = refl
+flat_map_alike f g (x ∷ xs) alike = ap (λ z. z ++ flat_map f xs) (alike x (inl refl)) ∙ ap (λ z. g x ++ z) (flat_map_alike f g xs (λ y m. alike y (inr m)))
 
 pub some_length : {A : Type 0} (xs ys : List A) → (xs ≡ [] → ⊥) → 0 < length (xs ++ ys)
 some_length [] ys n = absurd (n refl)
@@ -170,11 +106,11 @@ module _ (spec : Spec) (sealed : IsSealed spec) (e : ℕ) (known : e < length sp
   parted : IsParted shape
   parted = parted_edge spec sealed (edge_at spec e) (edge_at_in spec e known)
 
-  over : (t : Pairs) → In t r → cols_of (project shape.target t) ≡ shape.target
+  pub over : (t : Pairs) → In t r → cols_of (project shape.target t) ≡ shape.target
   over t m = cols-project (all_columns spec) shape.target t (rising_range 0 (length spec.columns)) parted.target.rising (target_within spec sealed.in_range e known) (i.each t m).over
 
   -- a row that has the arguments' values is that of a tuple that matches them
-  match_of : Within (cols_of s) shape.target → (u : Pairs) → IsThere rows e u → project (cols_of s) u ≡ project (cols_of s) s → (t : Pairs) × In t r × (matches s t ≡ true) × (u ≡ project shape.target t)
+  pub match_of : Within (cols_of s) shape.target → (u : Pairs) → IsThere rows e u → project (cols_of s) u ≡ project (cols_of s) s → (t : Pairs) × In t r × (matches s t ≡ true) × (u ≡ project shape.target t)
   match_of w u there same =
       let q : (t : Pairs) × In t r × (u ≡ project shape.target t) =
       tuple_of_row spec sealed.in_range sealed.accepted.adequate sealed.accepted.placed r i e known (physical_stripe spec (class_of spec e) s) u there.0 (subst (λ (z : List EdgeRow). In (e, u, there.0) z) are there.1) in (
@@ -195,6 +131,13 @@ module _ (spec : Spec) (sealed : IsSealed spec) (e : ℕ) (known : e < length sp
   values_are : (ys : List ℕ) → Within ys shape.target → Within ys (cols_of s) → (t : Pairs) → matches s t ≡ true → values_at ys (project shape.target t) ≡ values_at ys s
   values_are ys w v t match =
       ap (map (λ (p : ℕ × ℕ). p.1)) (project-project ys shape.target t w ∙ sym (project-project ys (cols_of s) t v) ∙ ap (project ys) (same_from_test (project (cols_of s) t) s match))
+
+  pub row_of : cols_of s ≡ union shape.source shape.key → (t : Pairs) → In t r → matches s t ≡ true → IsThereWith shape rows e (values_at shape.source s) (values_at shape.key s) (project shape.target t)
+  row_of whole t m match = record {
+    there = there_of t m match;
+    source_is = values_are shape.source parted.source_within (has_source spec sealed e known s tuple whole) t match;
+    key_is = values_are shape.key parted.key_within (has_key spec sealed e known s tuple whole) t match;
+  }
 
   module _ (ranges : List Range) (none : ranges ≡ []) where
     abbrev asked : List Pairs
@@ -218,56 +161,13 @@ module _ (spec : Spec) (sealed : IsSealed spec) (e : ℕ) (known : e < length sp
       -- ---- a look-up
 
       module _ (whole : cols_of s ≡ union shape.source shape.key) where
-        has_source : Within shape.source (cols_of s)
-        has_source c m = subst (In c) (sym whole) (union_left shape.source shape.key c m)
-
-        has_key : Within shape.key (cols_of s)
-        has_key c m = subst (In c) (sym whole) (union_right shape.source shape.key c m)
-
-        inside : Within (cols_of s) shape.target
-        inside c m = elim (in_union shape.source shape.key c (subst (In c) whole m)) [ inl n ↦ parted.source_within c n | inr n ↦ parted.key_within c n ]
-
-        row_of : (t : Pairs) → In t r → matches s t ≡ true → IsThereWith shape rows e (values_at shape.source s) (values_at shape.key s) (project shape.target t)
-        row_of t m match = record {
-          there = there_of t m match;
-          source_is = values_are shape.source parted.source_within has_source t match;
-          key_is = values_are shape.key parted.key_within has_key t match;
-        }
-
-        module _ (u : Pairs) (found : IsThereWith shape rows e (values_at shape.source s) (values_at shape.key s) u) (columns : cols_of u ≡ shape.target) where
-          same_at : (ys : List ℕ) → IsColSet ys → Within ys shape.target → Within ys (cols_of s) → values_at ys u ≡ values_at ys s → project ys u ≡ project ys s
-          same_at ys set w v is = same_projected ys u s set (subst (IsRising nat_cmp) (sym columns) parted.target.rising) tuple.rising (λ c m. subst (In c) (sym columns) (w c m)) v is
-
-          same : project (cols_of s) u ≡ project (cols_of s) s
-          same = project_by (cols_of s) u s (rising_cols u (subst (IsRising nat_cmp) (sym columns) parted.target.rising)) (rising_pairs s tuple)
-              (λ c m. elim (in_union shape.source shape.key c (subst (In c) whole m)) [
-                | inl n ↦ (shape.source, n, same_at shape.source parted.source parted.source_within has_source found.source_is)
-                | inr n ↦ (shape.key, n, same_at shape.key parted.key parted.key_within has_key found.key_is)
-              ])
-
-          -- its values are the arguments', and the extra ones
-          get_found : (c : ℕ) → In c shape.target → get u c ≡ get (s ++ project (extra_columns shape) u) c
-          get_found c m = elim (cases_Bool (has (cols_of s) c)) [
-            | inl y ↦ (let v : (v : ℕ) × (get s c ≡ Some v) = get_some s c (in_has (cols_of s) c y) in
-                let is : get u c ≡ get s c = sym (get-project (cols_of s) u c y) ∙ ap (λ z. get z c) (same ∙ project_all (cols_of s) s (rising_pairs s tuple) (λ d n. n)) in
-                is ∙ v.1 ∙ sym (get_first s (project (extra_columns shape) u) c v.0 v.1))
-            | inr n ↦ (let extra : In c (extra_columns shape) = minus_in shape.target (union shape.source shape.key) c m (λ k. false≢true (sym n ∙ has_in (cols_of s) c (subst (In c) (sym whole) k))) in
-                sym (get_second s (project (extra_columns shape) u) c (get_none s c (λ k. false≢true (sym n ∙ has_in (cols_of s) c k)))
-                ∙ get-project (extra_columns shape) u c (has_in (extra_columns shape) c extra)))
-          ]
-
-          picked : (values : List ℕ) → values_at (extra_columns shape) u ≡ values → pick outs u ≡ pick outs (s ++ zip (extra_columns shape) values)
-          picked values is =
-              picked_alike outs u (s ++ project (extra_columns shape) u) (λ c m. get_found c (within c m))
-              ∙ ap (λ z. pick outs (s ++ z)) (sym (zip_values shape.target (extra_columns shape) u parted.target.rising (extra_set shape parted).rising (extra_within shape parted) columns) ∙ ap (zip (extra_columns shape)) is)
-
         pub looked_up : 0 < most → (reply : Reply) → HasLookedUp shape rows e s outs reply → at_most most (rows_of outs asked) ≡ reply
         looked_up some reply h = go h.0 h.1 h.2
           where
             go : (found : Option (List ℕ)) → IsLookedUp shape rows e (values_at shape.source s) (values_at shape.key s) found → reply ≡ row_reply outs s (extra_columns shape) found → at_most most (rows_of outs asked) ≡ reply
             go None nowhere is =
                 let empty : rows_of outs asked ≡ [] =
-                no_member (rows_of outs asked) (λ z m. let t = rows_in z m in let k = asked_in t.0 t.1 in nowhere (project shape.target t.0) (row_of t.0 k.0 k.1)) in
+                no_member (rows_of outs asked) (λ z m. let t = rows_in z m in let k = asked_in t.0 t.1 in nowhere (project shape.target t.0) (row_of whole t.0 k.0 k.1)) in
                 ap (at_most most) empty ∙ few_rows most [] (omega arith) ∙ sym is
             go (Some values) look is =
                 let u : Pairs = look.0 in
@@ -275,16 +175,16 @@ module _ (spec : Spec) (sealed : IsSealed spec) (e : ℕ) (known : e < length sp
                 let row : (t : Pairs) × In t r × (u ≡ project shape.target t) =
                 tuple_of_row spec sealed.in_range sealed.accepted.adequate sealed.accepted.placed r i e known (physical_stripe spec (class_of spec e) s) u one.0 (subst (λ (z : List EdgeRow). In (e, u, one.0) z) are one.1) in
                 let columns : cols_of u ≡ shape.target = ap cols_of row.2 ∙ over row.0 row.1 in
-                let t : (t : Pairs) × In t r × (matches s t ≡ true) × (u ≡ project shape.target t) = match_of inside u one (same u look.1 columns) in
+                let t : (t : Pairs) × In t r × (matches s t ≡ true) × (u ≡ project shape.target t) = match_of (inside spec sealed e known s tuple whole) u one (same spec sealed e known s tuple whole rows u look.1 columns) in
                 let only : rows_of outs asked ≡ pick outs u ∷ [] =
                 same_rising row_cmp number_lists_order (rows_of outs asked) (pick outs u ∷ []) (rising_gather row_cmp number_lists_order (map (pick outs) asked)) ((λ y m. absurd m), tt)
                 (λ z m. let v = rows_in z m in let k = asked_in v.0 v.1 in
-                inl (v.2 ∙ sym (pick-project shape.target outs v.0 within) ∙ ap (pick outs) (look.3 (project shape.target v.0) (row_of v.0 k.0 k.1))))
+                inl (v.2 ∙ sym (pick-project shape.target outs v.0 within) ∙ ap (pick outs) (look.3 (project shape.target v.0) (row_of whole v.0 k.0 k.1))))
                 (λ z m. elim m [
                   | inl q ↦ subst (λ y. In y (rows_of outs asked)) (sym (q ∙ ap (pick outs) t.3 ∙ pick-project shape.target outs t.0 within)) (in_rows t.0 (in_asked t.0 t.1 t.2))
                   | inr x ↦ absurd x
                 ]) in
-                let row_is : pick outs u ≡ pick outs (s ++ zip (extra_columns shape) values) = picked u look.1 columns values look.2 in
+                let row_is : pick outs u ≡ pick outs (s ++ zip (extra_columns shape) values) = picked spec sealed e known s tuple whole rows u look.1 columns outs within values look.2 in
                 ap (at_most most) only ∙ few_rows most (pick outs u ∷ []) (omega (arith, some)) ∙ ap (λ z. Rows (z ∷ [])) row_is ∙ sym is
 
       -- ---- a scan

@@ -1,17 +1,19 @@
 -- Calls that are answered by an access path.
-use Rattle.std.specs.Prelude.{◌≡◌, ℕ, true, false, List, [], ◌∷◌, None, Some, length, map}
+use Rattle.std.specs.Prelude.{◌≡◌, ℕ, true, false, List, [], ◌∷◌, ◌++◌, None, Some, length, map}
 use Rattle.std.specs.List.{list_any}
 use Rattle.std.specs.Ordering.{nat_cmp}
-use Rattle.std.proofs.Common.{refl, sym, ap, subst, ◌∙◌}
-use Rattle.std.proofs.lemmas.Bool.{eqb-true, false≢true}
+use Rattle.std.proofs.Common.{inl, inr, refl, sym, ap, subst, ◌∙◌}
+use Rattle.std.proofs.lemmas.Bool.{eqb-true}
 use Rattle.rc_tuple.specs.RisingSet.{In, gather}
-use Rattle.rc_tuple.specs.RisingSetLaws.{gather_in, in_gather, map_in, nat_order, slice_get_in}
-use Rattle.rc_tuple.specs.RelationLaws.{in_list_any}
+use Rattle.rc_tuple.specs.RisingSetLaws.{append_in_left, append_in_right, gather_in, in_append, in_gather, nat_order, slice_get_in}
+use Rattle.rc_tuple.specs.RelationLaws.{in_list_any, list_any_in}
 use Rattle.rc_tuple.specs.ColSet.{Within}
+use Rattle.rc_tuple.specs.Relation.{IsRelation}
 use Rattle.rc_tuple.specs.ColSetLaws.{in_range_below}
 use Rattle.rc_tuple.specs.Tuple.{Pairs, cols_of}
 use Rattle.rc_spec.specs.declared.call.Call.{Call}
 use Rattle.rc_spec.specs.declared.call.Reply.{Reply}
+use Rattle.rc_spec.specs.declared.lock.Mode.{Mode}
 use Rattle.rc_spec.specs.declared.items.Edge.{Edge}
 use Rattle.rc_spec.specs.declared.items.OpKind.{OpKind}
 use Rattle.rc_spec.specs.declared.items.OpKind.TheVariants.{Query, Insert, Remove, Update}
@@ -20,7 +22,7 @@ use Rattle.rc_spec.specs.declared.spec.Spec.{Spec}
 use Rattle.rc_spec.specs.Acceptance.{IsSealed}
 use Rattle.rc_spec.specs.Calls.{Fits, FitsAt, all_columns, value_columns}
 use Rattle.rc_spec.specs.CallsLaws.{fits_at_op}
-use Rattle.rc_spec.specs.Decomposition.{edge_at}
+use Rattle.rc_spec.specs.Decomposition.{bound, edge_at}
 use Rattle.rc_spec.specs.Fragments.{EdgeRow, fragment_of, rows_on}
 use Rattle.rc_spec.specs.InRange.{AreBelow, IsOpAmong}
 use Rattle.rc_spec.specs.Placement.{class_at, class_of, op_at}
@@ -29,10 +31,11 @@ use Rattle.rc_spec.specs.PlainLaws.{plain-known}
 use Rattle.rc_spec.specs.Ranges.{range_column, range_columns}
 use Rattle.rc_spec.specs.Stripes.{physical_stripe}
 use Rattle.rc_fragment.specs.Fragment.{shape_of}
-use Rattle.rc_fragment.specs.Holder.{AreOfOneRelation, AreOfRelation, HeldStripe}
+use Rattle.rc_fragment.specs.FragmentRows.{FragmentRows}
+use Rattle.rc_fragment.specs.Holder.{AreOfOneRelation, AreOfRelation, HeldStripe, Holding, IsLent, held_of}
 use Rattle.rc_plan.specs.Access.{Asks, AsksForRow, AsksForRows, AsksQuery, IsAccessPath, is_lock, is_lock_of}
 use Rattle.rc_plan.specs.AccessLaws.{named-no_lock}
-use Rattle.rc_plan.specs.Compiled.{IsPlanOf}
+use Rattle.rc_plan.specs.Compiled.{IsPlanOf, SpecWithPlans}
 use Rattle.rc_plan.specs.Evaluation.{eval}
 use Rattle.rc_plan.specs.PlanRules.{given_columns, pattern_columns}
 use Rattle.rc_plan.specs.Search.{updating}
@@ -40,33 +43,31 @@ use Rattle.rc_plan.specs.declared.access.AccessPath.{AccessPath}
 use Rattle.rc_plan.specs.declared.statement.ReadMode.{ReadMode}
 use Rattle.rc_plan.specs.declared.statement.ReadMode.TheVariants.{Lookup, Scan}
 use Rattle.rc_plan.specs.declared.statement.Statement.{Statement}
-use Rattle.rc_plan.specs.declared.statement.Statement.TheVariants.{Lock, Probe, Read, CheckAbsent, CheckFound, CheckDep, Apply, Emit, Commit, Release}
-use Rattle.rc_machine.specs.Access.{HasListed, HasLookedUp, argument_stripe, leaving}
-use Rattle.rc_machine.specs.Machine.{AreAsTaken, HasReplied, locks_of, stripes_held}
+use Rattle.rc_plan.specs.declared.statement.Statement.TheVariants.{Lock}
+use Rattle.rc_plan.specs.declared.statement.Which.{Which}
+use Rattle.rc_machine.specs.Access.{AreLockedFor, HasListed, HasLockedPath, HasLookedUp, leaving}
+use Rattle.rc_machine.specs.Machine.{HasReplied, locks_of, stripes_held}
 use Rattle.rc_machine.specs.Run.{IsAt}
 use Rattle.rc_machine.proofs.AccessLemmas.{key_and_extra_within, listed, looked_up}
-use Rattle.rc_machine.proofs.ReadLemmas.{is_held}
+use Rattle.rc_machine.proofs.ReadLemmas.{is_held, lent_columns}
+use Rattle.rc_machine.proofs.ReadStepLemmas.{good_stripes}
 use Rattle.rc_machine.proofs.RunLemmas.{has_evaluated, has_served, serves, stripes_named}
 
--- ---- the stripe of the edge's class
+-- ---- one Lock more
 
-stripe_of_lock : (spec : Spec) (t : Pairs) (class : ℕ) (x : Statement) → is_lock_of class x ≡ true → argument_stripe spec t x ≡ physical_stripe spec class t
-stripe_of_lock spec t class (Lock c choice mode) e = ap (λ k. physical_stripe spec k t) (eqb-true c class e)
-stripe_of_lock spec t class (Probe cols) e = absurd (false≢true e)
-stripe_of_lock spec t class (Read k mode) e = absurd (false≢true e)
-stripe_of_lock spec t class CheckAbsent e = absurd (false≢true e)
-stripe_of_lock spec t class CheckFound e = absurd (false≢true e)
-stripe_of_lock spec t class (CheckDep dep) e = absurd (false≢true e)
-stripe_of_lock spec t class Apply e = absurd (false≢true e)
-stripe_of_lock spec t class Emit e = absurd (false≢true e)
-stripe_of_lock spec t class Commit e = absurd (false≢true e)
-stripe_of_lock spec t class (Release c) e = absurd (false≢true e)
+pub one_lock_more : (spec : Spec) (t : Pairs) (first : List Statement) (c : ℕ) (choice : Which) (mode : Mode) (stripes : List ℕ) → AreLockedFor spec t first stripes
+    → AreLockedFor spec t (first ++ Lock c choice mode ∷ []) (stripes ++ physical_stripe spec c t ∷ [])
+one_lock_more spec t first c choice mode stripes are k e =
+    let x : Statement = Lock c choice mode in
+    let q : (y : Statement) × In y (first ++ x ∷ []) × (is_lock_of k y ≡ true) = in_list_any (is_lock_of k) (first ++ x ∷ []) e in
+    elim (in_append q.0 first (x ∷ []) q.1) [
+      | inl m ↦ append_in_left (physical_stripe spec k t) stripes (physical_stripe spec c t ∷ []) (are k (list_any_in (is_lock_of k) first q.0 m q.2))
+      | inr (inl is) ↦ append_in_right (physical_stripe spec k t) stripes (physical_stripe spec c t ∷ [])
+          (inl (ap (λ z. physical_stripe spec z t) (sym (eqb-true c k (subst (λ y. is_lock_of k y ≡ true) is q.2)))))
+      | inr (inr z) ↦ absurd z
+    ]
 
--- a stripe of each class that is locked first is taken
-pub stripe_taken : (spec : Spec) (t : Pairs) (class : ℕ) (first : List Statement) → list_any (is_lock_of class) first ≡ true → In (physical_stripe spec class t) (map (argument_stripe spec t) first)
-stripe_taken spec t class first e =
-    let q : (x : Statement) × In x first × (is_lock_of class x ≡ true) = in_list_any (is_lock_of class) first e in
-    subst (λ z. In z (map (argument_stripe spec t) first)) (stripe_of_lock spec t class q.0 q.2) (map_in (argument_stripe spec t) q.0 first q.1)
+-- ---- queries
 
 no_ranges : (ranges : List Range) → map range_column ranges ≡ [] → ranges ≡ []
 no_ranges [] e = refl
@@ -131,11 +132,7 @@ module _ (spec : Spec) (sealed : IsSealed spec) (call : Call) (fits : Fits spec 
     outs_are : outs ≡ query.0
     outs_are = ap outs_of (sym kind ∙ query.1)
 
-    module _ (held : List HeldStripe) (m : In (physical_stripe spec (class_of spec p.edge) call.args) (stripes_held held)) (unchanged : AreAsTaken held) (rows : List EdgeRow)
-        (lent : (h : HeldStripe) → In h held → h.stripe ≡ physical_stripe spec (class_of spec p.edge) call.args → rows ≡ h.now) (r : List Pairs) (a : AreOfRelation spec held r) where
-      rows_are : rows ≡ fragment_of spec r (physical_stripe spec (class_of spec p.edge) call.args)
-      rows_are = let q = is_held held (physical_stripe spec (class_of spec p.edge) call.args) m in lent q.0 q.1 q.2 ∙ unchanged q.0 q.1 ∙ a.rows q.0 q.1 ∙ ap (fragment_of spec r) q.2
-
+    module _ (rows : List EdgeRow) (r : List Pairs) (i : IsRelation (all_columns spec) r) (rows_are : rows ≡ fragment_of spec r (physical_stripe spec (class_of spec p.edge) call.args)) where
       -- what the look-up found is the plain reply
       pub row_served : (reply : Reply) → p.mode ≡ Lookup → HasLookedUp (shape_of spec (edge_at spec p.edge)) rows p.edge call.args outs reply → plain spec r call ≡ leaving reply r
       row_served reply mode found =
@@ -143,7 +140,7 @@ module _ (spec : Spec) (sealed : IsSealed spec) (call : Call) (fits : Fits spec 
           let same : query.0 ≡ row.outs = ap outs_of (sym query.1 ∙ row.query) in
           plain_is r
           ∙ ap (λ z. leaving z r)
-          (looked_up spec sealed p.edge path.locks.edge call.args (at spec sealed call fits).tuple (args_striped) r a.relation rows rows_are call.ranges none query.0
+          (looked_up spec sealed p.edge path.locks.edge call.args (at spec sealed call fits).tuple (args_striped) r i rows rows_are call.ranges none query.0
           (subst (λ z. Within z (shape_of spec (edge_at spec p.edge)).target) (sym same) row.within) spec.most_rows (args_given ∙ row.given) row.told reply
           (subst (λ z. HasLookedUp (shape_of spec (edge_at spec p.edge)) rows p.edge call.args z reply) outs_are found))
 
@@ -154,9 +151,22 @@ module _ (spec : Spec) (sealed : IsSealed spec) (call : Call) (fits : Fits spec 
           let same = ap outs_of (sym query.1 ∙ listing.query) in
           plain_is r
           ∙ ap (λ z. leaving z r)
-          (listed spec sealed p.edge path.locks.edge call.args (at spec sealed call fits).tuple (args_striped) r a.relation rows rows_are call.ranges none query.0
+          (listed spec sealed p.edge path.locks.edge call.args (at spec sealed call fits).tuple (args_striped) r i rows rows_are call.ranges none query.0
           (subst (λ z. Within z (shape_of spec (edge_at spec p.edge)).target) (sym same) (key_and_extra_within spec sealed p.edge path.locks.edge)) spec.most_rows (args_given ∙ listing.given) same reply
           (subst (λ z. HasListed (shape_of spec (edge_at spec p.edge)) rows p.edge call.args z spec.most_rows reply) outs_are found))
+
+-- ---- the rows that are lent of the path's stripe
+
+module _ (compiled : SpecWithPlans) (call : Call) (p : AccessPath) (stripe : ℕ) (s : Holding) (locked : HasLockedPath compiled call p stripe s) (fragment : FragmentRows) (lent : IsLent s stripe fragment) where
+  -- they are those of each relation of which the held stripes have fragments
+  pub lent_rows : (r : List Pairs) → AreOfRelation compiled.spec (held_of s) r → fragment.now ≡ fragment_of compiled.spec r (physical_stripe compiled.spec (class_of compiled.spec p.edge) call.args)
+  lent_rows r a =
+      let q = is_held (held_of s) stripe locked.held in
+      lent.now q.0 q.1 q.2 ∙ locked.run.unchanged q.0 q.1 ∙ a.rows q.0 q.1 ∙ ap (fragment_of compiled.spec r) (q.2 ∙ locked.falls)
+
+  -- and have their edges' columns
+  pub lent_over : AreOfOneRelation compiled.spec (held_of s) → (w : EdgeRow) → In w fragment.now → cols_of w.1 ≡ bound compiled.spec (edge_at compiled.spec w.0).to
+  lent_over one = lent_columns s stripe fragment locked.held lent compiled.spec (good_stripes compiled.spec locked.sealed (held_of s) locked.run.unchanged one.0 one.1)
 
 -- ---- the end of a run that leaves the relation
 

@@ -1,172 +1,65 @@
 -- Inserts and removes that are answered from the rows of one edge.
-use Rattle.std.specs.Prelude.{◌≡◌, ℕ, zero, suc, ◌==◌, Bool, true, false, List, [], ◌∷◌, None, Option, Result, Ok, Err, IfOk, OnErr, drop, filter, length}
+use Rattle.std.specs.Prelude.{◌≡◌, ℕ, zero, suc, ◌++◌, Bool, true, false, List, [], ◌∷◌, None, Option, Some, Result, Ok, Err, IsErr, drop, filter, length, map, take}
 use Rattle.std.specs.List.{list_any}
 use Rattle.std.specs.Ordering.{nat_cmp}
 use Rattle.std.proofs.Common.{inl, inr, refl, sym, ap, subst, ◌∙◌}
-use Rattle.std.proofs.lemmas.Bool.{eqb-true, false≢true, or_parts}
-use Rattle.std.proofs.lemmas.List.{nil_from_length}
-use Rattle.rc_tuple.specs.ColSet.{Within, has, union}
-use Rattle.rc_tuple.specs.ColSetLaws.{in_range_below, in_union, rising_range, union_left, union_right}
+use Rattle.std.proofs.lemmas.Bool.{or_parts}
+use Rattle.rc_tuple.specs.ColSet.{Within}
+use Rattle.rc_tuple.specs.ColSetLaws.{in_range_below, rising_range, union_left, union_right}
 use Rattle.rc_tuple.specs.MergeLaws.{project_all}
+use Rattle.rc_tuple.specs.Relation.{IsRelation}
 use Rattle.rc_tuple.specs.RelationLaws.{list_any_in, test_from_agree}
 use Rattle.rc_tuple.specs.RisingSet.{In, IsRising, gather}
-use Rattle.rc_tuple.specs.RisingSetLaws.{gather_in, nat_order, rising_filter}
-use Rattle.rc_tuple.specs.Tuple.{Pairs, agree_on, cols_of, matches, pair_cmp, project}
-use Rattle.rc_tuple.specs.TupleLaws.{one_pair, in_project, project_less, rising_cols, rising_pairs, fewer_cols}
+use Rattle.rc_tuple.specs.RisingSetLaws.{filter_in, gather_in, in_filter, nat_order, rising_filter, rising_gather, same_rising}
+use Rattle.rc_tuple.specs.Tuple.{IsTuple, Pairs, agree_on, cols_of, matches, project, tuple_cmp}
+use Rattle.rc_tuple.specs.TupleLaws.{cols-project, in_project, one_pair, project-project, project_less, rising_cols, rising_cols-project, same_from_test, test_from_same, tuple_order}
 use Rattle.rc_spec.specs.declared.call.Call.{Call}
 use Rattle.rc_spec.specs.declared.call.Reply.{Reply}
-use Rattle.rc_spec.specs.declared.call.Reply.TheVariants.{Present}
+use Rattle.rc_spec.specs.declared.call.Reply.TheVariants.{Absent, Inserted, Present, Removed}
 use Rattle.rc_spec.specs.declared.items.Edge.{Edge}
 use Rattle.rc_spec.specs.declared.items.Op.{Op}
-use Rattle.rc_spec.specs.declared.items.OpKind.{OpKind}
 use Rattle.rc_spec.specs.declared.items.OpKind.TheVariants.{Insert, Remove}
 use Rattle.rc_spec.specs.declared.spec.Spec.{Spec}
-use Rattle.rc_spec.specs.Acceptance.{IsSealed}
-use Rattle.rc_spec.specs.Calls.{Fits, GivesTuple, all_columns, value_columns}
+use Rattle.rc_spec.specs.Calls.{GivesTuple, all_columns, value_columns}
 use Rattle.rc_spec.specs.CallsLaws.{fits_at_op}
-use Rattle.rc_spec.specs.Contents.{join}
-use Rattle.rc_spec.specs.Decomposition.{bound, edge_at, source_and_key, target_columns}
-use Rattle.rc_spec.specs.Fragments.{tuples_of_edge}
-use Rattle.rc_spec.specs.HeathLaws.{IsSeen, rising_join}
+use Rattle.rc_spec.specs.CountedRows.{lowered, raised}
+use Rattle.rc_spec.specs.Decomposition.{bound, edge_at, source_and_key}
+use Rattle.rc_spec.specs.DecompositionLaws.{edge_at_in}
+use Rattle.rc_spec.specs.Fragments.{EdgeRow, edge_numbers, fragment_of}
 use Rattle.rc_spec.specs.Placement.{class_at, class_of, op_at}
 use Rattle.rc_spec.specs.Plain.{plain, plain_by}
 use Rattle.rc_spec.specs.PlainLaws.{insert-present, plain-known}
 use Rattle.rc_spec.specs.Stripes.{physical_stripe}
-use Rattle.rc_fragment.specs.Fragment.{shape_of}
+use Rattle.rc_fragment.specs.Fragment.{IsThereWith, shape_of}
 use Rattle.rc_fragment.specs.FragmentLaws.{parted_edge}
-use Rattle.rc_fragment.specs.Holder.{AreOfOneRelation, AreOfRelation, HeldStripe, Holding, held_of}
-use Rattle.rc_fragment.specs.RowValues.{IsParted}
-use Rattle.rc_plan.specs.Access.{Asks, InsertsRow, IsAccessPath, RemovesRow, is_dep_check}
-use Rattle.rc_plan.specs.AccessLaws.{joined_seen}
-use Rattle.rc_plan.specs.MatchLaws.{all_seen_match}
-use Rattle.rc_plan.specs.Compiled.{IsPlanOf, SpecWithPlans, plan_at}
+use Rattle.rc_fragment.specs.FragmentRows.{FragmentRows}
+use Rattle.rc_fragment.specs.Holder.{AreOfOneRelation, AreOfRelation, HeldStripe, Holding, IsLent, held_of, reverted}
+use Rattle.rc_fragment.specs.RowValues.{IsParted, values_at}
+use Rattle.rc_fragment.specs.declared.shape.EdgeShape.{EdgeShape}
+use Rattle.rc_plan.specs.Access.{Asks, InsertsRow, RemovesRow, is_dep_check}
+use Rattle.rc_plan.specs.Compiled.{SpecWithPlans, plan_at}
 use Rattle.rc_plan.specs.PlanRules.{IsInsert, IsQuery, IsUpdate, pattern_columns}
-use Rattle.rc_plan.specs.ProbeLaws.{found_one, one_found}
-use Rattle.rc_plan.specs.RunLaws.{cols_of-project}
 use Rattle.rc_plan.specs.StripeLocksLaws.{physical_stripe-agreeing}
 use Rattle.rc_plan.specs.declared.access.AccessPath.{AccessPath}
 use Rattle.rc_plan.specs.declared.statement.ReadMode.{ReadMode}
 use Rattle.rc_plan.specs.declared.statement.ReadMode.TheVariants.{Lookup, Scan}
 use Rattle.rc_plan.specs.declared.statement.Statement.{Statement}
-use Rattle.rc_machine.specs.Access.{HasLockedPath, leaving}
-use Rattle.rc_machine.specs.Applied.{AreTakenAlike, CanInsert, CanRemove, HasApplied, HasRemoved}
-use Rattle.rc_machine.specs.Apply.{IsSameButLent}
-use Rattle.rc_machine.specs.Machine.{AreAsTaken, AreTakenAsOffered, HasReplied, rows_now, stripes_held}
-use Rattle.rc_machine.specs.Read.{AreReaders, IsCovered, IsReader}
-use Rattle.rc_machine.proofs.AccessRunLemmas.{args_are, args_striped, path_replies, pattern_in_args}
+use Rattle.rc_machine.specs.Access.{HasAnsweredByPath, HasLockedPath, IsRowFound, IsTupleFound, leaving}
+use Rattle.rc_machine.specs.Applied.{AreTakenAlike, CanInsert, CanRemove, HasRemoved}
+use Rattle.rc_machine.specs.Apply.{IsSameButLent, all_changed, place_in}
+use Rattle.rc_machine.specs.Machine.{AreTakenAsOffered, HasReplied}
+use Rattle.rc_machine.specs.Stripes.{AreStripesOf}
+use Rattle.rc_machine.specs.declared.stripe.ClassStripe.{ClassStripe}
+use Rattle.rc_machine.proofs.AccessLemmas.{match_of, no_member, row_of}
+use Rattle.rc_machine.proofs.AccessRunLemmas.{args_are, args_striped, lent_over, lent_rows, path_replies, pattern_in_args}
 use Rattle.rc_machine.proofs.ArriveLemmas.{ComesToApply, arrives}
 use Rattle.rc_machine.proofs.CheckStepLemmas.{whole_tuple}
 use Rattle.rc_machine.proofs.ConditionLemmas.{found_args}
-use Rattle.rc_machine.proofs.GoLemmas.{applied_replies, applied_told, can_apply, told_alike}
-use Rattle.rc_machine.proofs.LentLemmas.{lent_goes_on}
-use Rattle.rc_machine.proofs.RunLemmas.{now_together}
-use Rattle.rc_machine.proofs.StripeLemmas.{args_below}
-use Rattle.rc_spec.specs.DecompositionLaws.{edge_at_in}
-
-module _ (spec : Spec) (sealed : IsSealed spec) (call : Call) (fits : Fits spec call) (plan : List Statement) (p : AccessPath) (path : IsAccessPath spec (op_at spec call.op) plan p)
-    (given : pattern_columns (op_at spec call.op) ≡ source_and_key spec (edge_at spec p.edge)) where
-  abbrev pattern : List ℕ
-  pattern = pattern_columns (op_at spec call.op)
-
-  -- what is looked up: the values at the pattern
-  abbrev pub sought : Pairs
-  sought = project (source_and_key spec (edge_at spec p.edge)) call.args
-
-  rises : IsRising nat_cmp (cols_of call.args)
-  rises = (fits_at_op spec call fits).tuple.rising
-
-  pub given_in_args : Within (source_and_key spec (edge_at spec p.edge)) (cols_of call.args)
-  given_in_args c m = pattern_in_args spec sealed call fits c (subst (In c) (sym given) m)
-
-  sought_has : Within (source_and_key spec (edge_at spec p.edge)) (cols_of sought)
-  sought_has c m = cols_of-project (source_and_key spec (edge_at spec p.edge)) call.args c m (given_in_args c m)
-
-  parted : IsParted (shape_of spec (edge_at spec p.edge))
-  parted = parted_edge spec sealed (edge_at spec p.edge) (edge_at_in spec p.edge path.locks.edge)
-
-  -- the pattern is of columns of the edge's target
-  pattern_in_target : Within pattern (target_columns spec p.edge)
-  pattern_in_target c m = elim (in_union (bound spec (edge_at spec p.edge).from) (edge_at spec p.edge).key c (subst (In c) given m)) [ inl n ↦ parted.source_within c n | inr n ↦ parted.key_within c n ]
-
-  sought_rises : IsRising pair_cmp sought
-  sought_rises = rising_filter pair_cmp (λ (q : ℕ × ℕ). has (source_and_key spec (edge_at spec p.edge)) q.0) call.args (rising_cols call.args rises)
-
-  sought_striped : Within (class_at spec (class_of spec p.edge)).cols (cols_of sought)
-  sought_striped c m = sought_has c (subst (In c) given (path.locks.striped c m))
-
-  module _ (held : List HeldStripe) (there : In (physical_stripe spec (class_of spec p.edge) call.args) (stripes_held held)) where
-    sought_held : In (physical_stripe spec (class_of spec p.edge) sought) (stripes_held held)
-    sought_held =
-        subst (λ z. In z (stripes_held held))
-        (physical_stripe-agreeing spec (class_of spec p.edge) call.args sought (args_striped spec sealed call fits plan p path) sought_striped
-        (λ x y m n e. one_pair call.args rises x y m (in_project (source_and_key spec (edge_at spec p.edge)) y call.args n).0 e)) there
-
-    -- by them the rows of the edge are found
-    pub given_readers : AreReaders spec p.edge Lookup held (sought ∷ [])
-    given_readers =
-        let one : (b : Pairs) → In b (sought ∷ []) → sought ≡ b = (λ b m. elim m [ inl e ↦ sym e | inr z ↦ absurd z ]) in
-        record {
-          readers = λ b m. subst (IsReader spec p.edge Lookup) (one b m) (record {
-            source = λ c n. sought_has c (union_left (bound spec (edge_at spec p.edge).from) (edge_at spec p.edge).key c n);
-            key = λ c n. sought_has c (union_right (bound spec (edge_at spec p.edge).from) (edge_at spec p.edge).key c n);
-          });
-          covered = λ b m. subst (IsCovered spec (class_of spec p.edge) (stripes_held held)) (one b m) (record {
-            keyed = λ w. sought_held;
-            all = λ n stripe k. absurd (n sought_striped);
-          });
-        }
-
-    module _ (unchanged : AreAsTaken held) (r : List Pairs) (a : AreOfRelation spec held r) where
-      abbrev found_here : List Pairs
-      found_here = join (sought ∷ []) (tuples_of_edge p.edge (rows_now held))
-
-      abbrev visited : List ℕ
-      visited = union [] (target_columns spec p.edge)
-
-      seen : IsSeen r sought visited found_here
-      seen =
-          subst (λ ws. IsSeen r sought visited (join (sought ∷ []) (tuples_of_edge p.edge ws))) (sym (now_together spec r held (λ h m. unchanged h m ∙ a.rows h m)))
-          (joined_seen spec sealed.in_range sealed.accepted.adequate sealed.accepted.placed r a.relation p.edge path.locks.edge sought sought_rises sought_striped (stripes_held held) sought_held)
-
-      pattern_visited : Within pattern visited
-      pattern_visited c m = union_right [] (target_columns spec p.edge) c (pattern_in_target c m)
-
-      -- a remove finds the tuples that match its arguments
-      pub found_matches : (op_at spec call.op).kind ≡ Remove → bound spec (edge_at spec p.edge).to ≡ all_columns spec → found_here ≡ filter (matches call.args) r
-      found_matches kind whole =
-          let args : cols_of call.args ≡ source_and_key spec (edge_at spec p.edge) = args_are spec sealed call fits ∙ ap (λ k. gather nat_cmp (value_columns spec (op_at spec call.op).pattern k)) kind ∙ given in
-          let is : sought ≡ call.args = project_all (source_and_key spec (edge_at spec p.edge)) call.args (rising_pairs call.args (fits_at_op spec call fits).tuple) (λ c m. subst (In c) args m) in
-          let inside : Within (cols_of sought) (all_columns spec) = (λ c m. in_range_below (length spec.columns) c (args_below spec sealed call fits c (fewer_cols (source_and_key spec (edge_at spec p.edge)) call.args c m))) in
-          all_seen_match (all_columns spec) (rising_range 0 (length spec.columns)) r a.relation sought sought_rises inside visited found_here (λ c m. union_right [] (target_columns spec p.edge) c (subst (In c) (sym whole) m))
-          (rising_join (sought ∷ []) (tuples_of_edge p.edge (rows_now held))) seen
-          ∙ ap (λ s. filter (matches s) r) is
-
-      module _ (insert : (op_at spec call.op).kind ≡ Insert) where
-        over : cols_of call.args ≡ all_columns spec
-        over = whole_tuple spec call fits (subst GivesTuple (sym insert) tt)
-
-        seen_pattern : IsSeen r (project pattern call.args) visited found_here
-        seen_pattern = subst (λ xs. IsSeen r (project xs call.args) visited found_here) (sym given) seen
-
-        -- an insert finds something exactly where a tuple has its values at the pattern
-        pub nothing_found : found_here ≡ [] → (u : Pairs) → In u r → project pattern call.args ≡ project pattern u → ⊥
-        nothing_found none u m e = subst (In (project visited u)) none (one_found spec r a.relation call.args over pattern visited found_here seen_pattern pattern_visited u m e)
-
-        pub present : (b : Pairs) → In b found_here → plain spec r call ≡ leaving Present r
-        present b m =
-            let u = found_one spec r a.relation call.args over pattern visited found_here seen_pattern pattern_visited b m in
-            plain-known spec r call (op_at spec call.op) (fits_at_op spec call fits).known
-            ∙ ap (λ k. plain_by spec.most_rows k (op_at spec call.op).pattern spec.deps call.args call.ranges r) insert
-            ∙ insert-present spec.most_rows (op_at spec call.op).pattern spec.deps call.args call.ranges r
-            (list_any_in (agree_on (op_at spec call.op).pattern call.args) r u.0 u.1
-            (test_from_agree (op_at spec call.op).pattern call.args u.0 (project_less (op_at spec call.op).pattern pattern call.args u.0 (λ c m. gather_in nat_cmp nat_order c (op_at spec call.op).pattern m) u.2)))
-
--- ---- what was taken as offered stays so, also where memory was wanted
-
-pub told_either : {E : Type 0} (spec : Spec) (kind : OpKind) (t : Pairs) (kept : Option Pairs) (bs : List Pairs) (old new : Holding) (result : Result Reply E)
-    → IfOk result (HasApplied spec kind t kept bs (held_of old) (held_of new)) → OnErr result (AreTakenAlike (held_of old) (held_of new)) → IsSameButLent old new → AreTakenAsOffered old → AreTakenAsOffered new
-told_either spec kind t kept bs old new (Ok answer) applied alike lent told = applied_told spec kind t kept bs old new answer applied (lent_goes_on old new lent) told
-told_either spec kind t kept bs old new (Err e) applied alike lent told = told_alike old new (lent_goes_on old new lent) alike told
+use Rattle.rc_machine.proofs.EdgeRowLemmas.{inside, same}
+use Rattle.rc_machine.proofs.GoLemmas.{applied_replies, can_apply}
+use Rattle.rc_machine.proofs.PlacedLemmas.{placed_changed}
+use Rattle.rc_machine.proofs.RevertLemmas.{taken_alike}
+use Rattle.rc_machine.proofs.StripeLemmas.{args_below, stripes_of_more}
 
 -- ---- what a path of a change asks
 
@@ -184,69 +77,227 @@ none_dropped f zero plan e = e
 none_dropped f (suc n) [] e = e
 none_dropped f (suc n) (x ∷ plan) e = none_dropped f n plan (or_parts (f x) (list_any f plan) e).1
 
--- a list that is not empty has a first element
-pub first_of : (bs : List Pairs) → (length bs == 0) ≡ false → (b : Pairs) × In b bs
-first_of [] e = absurd (false≢true (sym e))
-first_of (b ∷ bs) e = (b, inl refl)
+source_and_key_rise : (spec : Spec) (e : Edge) → IsRising nat_cmp (source_and_key spec e)
+source_and_key_rise spec e = rising_gather nat_cmp nat_order (bound spec e.from ++ e.key)
 
-pub none_of : (bs : List Pairs) → (length bs == 0) ≡ true → bs ≡ []
-none_of bs e = nil_from_length bs (eqb-true (length bs) 0 e)
-
-module _ (compiled : SpecWithPlans) (sealed : IsSealed compiled.spec) (call : Call) (fits : Fits compiled.spec call) (planned : IsPlanOf compiled.spec call.op (plan_at compiled.plans call.op)) (p : AccessPath) (held : List HeldStripe)
-    (locked : HasLockedPath compiled call p held) (one : AreOfOneRelation compiled.spec held) where
+module _ (compiled : SpecWithPlans) (call : Call) (p : AccessPath) (stripe : ℕ) (s : Holding) (locked : HasLockedPath compiled call p stripe s) (one : AreOfOneRelation compiled.spec (held_of s)) where
   abbrev spec : Spec
   spec = compiled.spec
 
   abbrev plan : List Statement
   plan = plan_at compiled.plans call.op
 
-  -- what is found
-  abbrev pub found : List Pairs
-  found = join (project (source_and_key spec (edge_at spec p.edge)) call.args ∷ []) (tuples_of_edge p.edge (rows_now held))
+  abbrev edge : Edge
+  edge = edge_at spec p.edge
+
+  abbrev shape : EdgeShape
+  shape = shape_of spec edge
+
+  abbrev fall : ℕ
+  fall = physical_stripe spec (class_of spec p.edge) call.args
+
+  parted : IsParted shape
+  parted = parted_edge spec locked.sealed edge (edge_at_in spec p.edge locked.path.locks.edge)
+
+  args : IsTuple call.args
+  args = (fits_at_op spec call locked.fits).tuple
+
+  -- ---- an insert
 
   module _ (kind : (op_at spec call.op).kind ≡ Insert) where
-    pub insert_row : InsertsRow spec (op_at spec call.op) plan (edge_at spec p.edge)
-    insert_row = inserts_row spec (op_at spec call.op) plan (edge_at spec p.edge) p.mode (subst (λ k. Asks k p.mode spec (op_at spec call.op) plan (edge_at spec p.edge)) kind locked.path.asks)
+    insert_row : InsertsRow spec (op_at spec call.op) plan edge
+    insert_row = inserts_row spec (op_at spec call.op) plan edge p.mode (subst (λ k. Asks k p.mode spec (op_at spec call.op) plan edge) kind locked.path.asks)
 
-    -- something found is a tuple with the values at the pattern
-    pub present_replies : (b : Pairs) → In b found → HasReplied spec plan call held Present
-    present_replies b m =
-        path_replies spec sealed call fits plan planned (drop p.locks plan) locked.path.locks.others held locked.run one Present
-        (λ r a. present spec sealed call fits plan p locked.path insert_row.given held locked.stripe locked.run.unchanged r a kind b m)
+    whole : cols_of call.args ≡ all_columns spec
+    whole = whole_tuple spec call locked.fits (subst GivesTuple (sym kind) tt)
 
-    module _ (empty : found ≡ []) where
-      insert_arrives : ComesToApply spec sealed plan call fits held one
-      insert_arrives =
-          arrives spec sealed plan call fits held one (λ q. subst IsQuery kind q) (λ u. subst IsUpdate kind u)
-          (λ i. nothing_found spec sealed call fits plan p locked.path insert_row.given held locked.stripe locked.run.unchanged one.0 one.1 kind empty)
-          (drop p.locks plan) locked.path.locks.others (λ gives. none_dropped is_dep_check p.locks plan insert_row.unchecked) (call.args ∷ []) locked.run
+    -- what is sought: the values at the pattern
+    abbrev sought : Pairs
+    sought = project (source_and_key spec edge) call.args
 
-      -- where nothing is found the tuple can be added
-      pub can_insert : CanInsert spec call.args held
-      can_insert = can_apply spec sealed plan call fits planned insert_arrives.0 insert_arrives.1 None held one insert_arrives.2 Insert kind
+    in_args : Within (source_and_key spec edge) (cols_of call.args)
+    in_args c m = pattern_in_args spec locked.sealed call locked.fits c (subst (In c) (sym insert_row.given) m)
 
-      pub insert_replies : (bs : List Pairs) (new : List HeldStripe) (answer : Reply) → HasApplied spec Insert call.args None bs held new answer → AreOfOneRelation spec new → HasReplied spec plan call new answer
-      insert_replies bs new answer applied one' = applied_replies spec sealed plan call fits planned insert_arrives.0 held insert_arrives.1 None insert_arrives.2 one Insert kind new answer applied one'
+    sought_tuple : IsTuple sought
+    sought_tuple = record {
+      rising = rising_cols-project (source_and_key spec edge) call.args args.rising;
+      columns = λ q m. args.columns q (in_project (source_and_key spec edge) q call.args m).0;
+      values = λ q m. args.values q (in_project (source_and_key spec edge) q call.args m).0;
+    }
+
+    sought_over : cols_of sought ≡ source_and_key spec edge
+    sought_over = cols-project (cols_of call.args) (source_and_key spec edge) call.args args.rising (source_and_key_rise spec edge) in_args refl
+
+    sought_striped : Within (class_at spec (class_of spec p.edge)).cols (cols_of sought)
+    sought_striped c m = subst (In c) (sym sought_over) (subst (In c) insert_row.given (locked.path.locks.striped c m))
+
+    same_fall : fall ≡ physical_stripe spec (class_of spec p.edge) sought
+    same_fall =
+        physical_stripe-agreeing spec (class_of spec p.edge) call.args sought (args_striped spec locked.sealed call locked.fits plan p locked.path) sought_striped
+        (λ x y m n e. one_pair call.args args.rising x y m (in_project (source_and_key spec edge) y call.args n).0 e)
+
+    same_values : (ys : List ℕ) → Within ys (source_and_key spec edge) → values_at ys sought ≡ values_at ys call.args
+    same_values ys w = ap (map (λ (q : ℕ × ℕ). q.1)) (project-project ys (source_and_key spec edge) call.args w)
+
+    same_source : values_at shape.source sought ≡ values_at shape.source call.args
+    same_source = same_values shape.source (union_left shape.source shape.key)
+
+    same_key : values_at shape.key sought ≡ values_at shape.key call.args
+    same_key = same_values shape.key (union_right shape.source shape.key)
+
+    module _ (r : List Pairs) (a : AreOfRelation spec (held_of s) r) (rows : List EdgeRow) (rows_are : rows ≡ fragment_of spec r fall) where
+      at_sought : rows ≡ fragment_of spec r (physical_stripe spec (class_of spec p.edge) sought)
+      at_sought = rows_are ∙ ap (fragment_of spec r) same_fall
+
+      -- where no row has them, no tuple has the values at the pattern
+      pub nothing_found : IsRowFound shape rows p.edge call.args None → (u : Pairs) → In u r → project (pattern_columns (op_at spec call.op)) call.args ≡ project (pattern_columns (op_at spec call.op)) u → ⊥
+      nothing_found nowhere u m e =
+          let match : matches sought u ≡ true =
+          test_from_same (project (cols_of sought) u) sought (ap (λ cols. project cols u) (sought_over ∙ sym insert_row.given) ∙ sym e ∙ ap (λ cols. project cols call.args) insert_row.given) in
+          let there : IsThereWith shape rows p.edge (values_at shape.source sought) (values_at shape.key sought) (project shape.target u) =
+          row_of spec locked.sealed p.edge locked.path.locks.edge sought sought_tuple sought_striped r a.relation rows at_sought sought_over u m match in
+          nowhere (project shape.target u) (record { there = there.there; source_is = there.source_is ∙ same_source; key_is = there.key_is ∙ same_key })
+
+      -- and a row is that of a tuple that has them
+      pub present : (values : List ℕ) → IsRowFound shape rows p.edge call.args (Some values) → ((w : EdgeRow) → In w rows → cols_of w.1 ≡ bound spec (edge_at spec w.0).to) → plain spec r call ≡ leaving Present r
+      present values look over =
+          let u : Pairs = look.0 in
+          let there : IsThereWith shape rows p.edge (values_at shape.source sought) (values_at shape.key sought) u =
+          record { there = look.1.there; source_is = look.1.source_is ∙ sym same_source; key_is = look.1.key_is ∙ sym same_key } in
+          let columns : cols_of u ≡ shape.target = over (p.edge, u, look.1.there.0) look.1.there.1 in
+          let t : (t : Pairs) × In t r × (matches sought t ≡ true) × (u ≡ project shape.target t) =
+          match_of spec locked.sealed p.edge locked.path.locks.edge sought sought_tuple sought_striped r a.relation rows at_sought
+          (inside spec locked.sealed p.edge locked.path.locks.edge sought sought_tuple sought_over) u there.there
+          (same spec locked.sealed p.edge locked.path.locks.edge sought sought_tuple sought_over rows u there columns) in
+          let agree : project (pattern_columns (op_at spec call.op)) call.args ≡ project (pattern_columns (op_at spec call.op)) t.0 =
+          ap (λ cols. project cols call.args) insert_row.given ∙ sym (same_from_test (project (cols_of sought) t.0) sought t.2) ∙ ap (λ cols. project cols t.0) (sought_over ∙ sym insert_row.given) in
+          plain-known spec r call (op_at spec call.op) (fits_at_op spec call locked.fits).known
+          ∙ ap (λ k. plain_by spec.most_rows k (op_at spec call.op).pattern spec.deps call.args call.ranges r) kind
+          ∙ insert-present spec.most_rows (op_at spec call.op).pattern spec.deps call.args call.ranges r
+          (list_any_in (agree_on (op_at spec call.op).pattern call.args) r t.0 t.1
+          (test_from_agree (op_at spec call.op).pattern call.args t.0
+          (project_less (op_at spec call.op).pattern (pattern_columns (op_at spec call.op)) call.args t.0 (λ c m. gather_in nat_cmp nat_order c (op_at spec call.op).pattern m) agree)))
+
+    module _ (fragment : FragmentRows) (lent : IsLent s stripe fragment) where
+      -- a row found is a tuple with the values at the pattern
+      pub present_replies : (values : List ℕ) → IsRowFound shape fragment.now p.edge call.args (Some values) → HasReplied spec plan call (held_of s) Present
+      present_replies values look =
+          path_replies spec locked.sealed call locked.fits plan locked.planned (drop p.locks plan) locked.path.locks.others (held_of s) locked.run one Present
+          (λ r a. present r a fragment.now (lent_rows compiled call p stripe s locked fragment lent r a) values look (lent_over compiled call p stripe s locked fragment lent one))
+
+      module _ (nowhere : IsRowFound shape fragment.now p.edge call.args None) where
+        insert_arrives : ComesToApply spec locked.sealed plan call locked.fits (held_of s) one
+        insert_arrives =
+            arrives spec locked.sealed plan call locked.fits (held_of s) one (λ q. subst IsQuery kind q) (λ u. subst IsUpdate kind u)
+            (λ i. nothing_found one.0 one.1 fragment.now (lent_rows compiled call p stripe s locked fragment lent one.0 one.1) nowhere)
+            (drop p.locks plan) locked.path.locks.others (λ gives. none_dropped is_dep_check p.locks plan insert_row.unchecked) (call.args ∷ []) locked.run
+
+        -- where none is found the tuple can be added
+        pub can_insert : CanInsert spec call.args (held_of s)
+        can_insert = can_apply spec locked.sealed plan call locked.fits locked.planned insert_arrives.0 insert_arrives.1 None (held_of s) one insert_arrives.2 Insert kind
+
+        pub insert_replies : (new : List HeldStripe) → new ≡ all_changed raised spec call.args (edge_numbers spec) (held_of s) → AreOfOneRelation spec new → HasReplied spec plan call new Inserted
+        insert_replies new is one' = applied_replies spec locked.sealed plan call locked.fits locked.planned insert_arrives.0 (held_of s) insert_arrives.1 None insert_arrives.2 one Insert kind new Inserted (refl, is) one'
+
+  -- ---- a remove
 
   module _ (kind : (op_at spec call.op).kind ≡ Remove) where
-    pub remove_row : RemovesRow spec (op_at spec call.op) (edge_at spec p.edge)
-    remove_row = removes_row spec (op_at spec call.op) plan (edge_at spec p.edge) p.mode (subst (λ k. Asks k p.mode spec (op_at spec call.op) plan (edge_at spec p.edge)) kind locked.path.asks)
+    remove_row : RemovesRow spec (op_at spec call.op) edge
+    remove_row = removes_row spec (op_at spec call.op) plan edge p.mode (subst (λ k. Asks k p.mode spec (op_at spec call.op) plan edge) kind locked.path.asks)
 
-    remove_arrives : ComesToApply spec sealed plan call fits held one
-    remove_arrives =
-        arrives spec sealed plan call fits held one (λ q. subst IsQuery kind q) (λ u. subst IsUpdate kind u) (λ i. absurd (subst IsInsert kind i))
-        (drop p.locks plan) locked.path.locks.others (λ gives. absurd (subst GivesTuple kind gives)) (call.args ∷ []) locked.run
+    pub remove_given : cols_of call.args ≡ source_and_key spec edge
+    remove_given = args_are spec locked.sealed call locked.fits ∙ ap (λ k. gather nat_cmp (value_columns spec (op_at spec call.op).pattern k)) kind ∙ remove_row.given
 
-    -- what is found is what the plan's Reads find
-    same_found : remove_arrives.1 ≡ found
-    same_found =
-        found_args spec sealed plan call fits remove_arrives.0 remove_arrives.1 None held remove_arrives.2 one.0 one.1 kind
-        ∙ sym (found_matches spec sealed call fits plan p locked.path remove_row.given held locked.stripe locked.run.unchanged one.0 one.1 kind remove_row.whole)
+    pub remove_whole : bound spec edge.to ≡ all_columns spec
+    remove_whole = remove_row.whole
 
-    pub can_remove : (b : Pairs) → In b found → CanRemove spec b held
-    can_remove b m = can_apply spec sealed plan call fits planned remove_arrives.0 remove_arrives.1 None held one remove_arrives.2 Remove kind b (subst (In b) (sym same_found) m)
+    -- what is found, as a list
+    abbrev found_list : Option Pairs → List Pairs
+    found_list None = []
+    found_list (Some t) = t ∷ []
 
-    pub remove_replies : (new : List HeldStripe) (answer : Reply) → HasRemoved spec found held new answer → AreOfOneRelation spec new → HasReplied spec plan call new answer
-    remove_replies new answer removed one' =
-        applied_replies spec sealed plan call fits planned remove_arrives.0 held remove_arrives.1 None remove_arrives.2 one Remove kind new answer
-        (subst (λ bs. HasRemoved spec bs held new answer) (sym same_found) removed) one'
+    module _ (fragment : FragmentRows) (lent : IsLent s stripe fragment) where
+      abbrev r : List Pairs
+      r = one.0
+
+      relation : IsRelation (all_columns spec) r
+      relation = one.1.relation
+
+      rows_are : fragment.now ≡ fragment_of spec r fall
+      rows_are = lent_rows compiled call p stripe s locked fragment lent r one.1
+
+      striped : Within (class_at spec (class_of spec p.edge)).cols (cols_of call.args)
+      striped = args_striped spec locked.sealed call locked.fits plan p locked.path
+
+      -- a tuple is its row
+      itself : (t : Pairs) → In t r → project shape.target t ≡ t
+      itself t m =
+          let its : cols_of t ≡ all_columns spec = (relation.each t m).over in
+          project_all shape.target t (rising_cols t (subst (IsRising nat_cmp) (sym its) (rising_range 0 (length spec.columns)))) (λ c n. subst (In c) (its ∙ sym remove_row.whole) n)
+
+      there : (t : Pairs) → In t (filter (matches call.args) r) → IsThereWith shape fragment.now p.edge (values_at shape.source call.args) (values_at shape.key call.args) (project shape.target t)
+      there t m =
+          let q : In t r × (matches call.args t ≡ true) = in_filter (matches call.args) t r m in
+          row_of spec locked.sealed p.edge locked.path.locks.edge call.args args striped r relation fragment.now rows_are remove_given t q.0 q.1
+
+      -- what is found is the tuple that matches the arguments
+      pub matching : (u : Pairs) → IsTupleFound shape fragment.now p.edge call.args (Some u) → In u (filter (matches call.args) r)
+      matching u found =
+          let columns : cols_of u ≡ shape.target = lent_over compiled call p stripe s locked fragment lent one (p.edge, u, found.0.there.0) found.0.there.1 in
+          let t : (t : Pairs) × In t r × (matches call.args t ≡ true) × (u ≡ project shape.target t) =
+          match_of spec locked.sealed p.edge locked.path.locks.edge call.args args striped r relation fragment.now rows_are
+          (inside spec locked.sealed p.edge locked.path.locks.edge call.args args remove_given) u found.0.there
+          (same spec locked.sealed p.edge locked.path.locks.edge call.args args remove_given fragment.now u found.0 columns) in
+          subst (λ z. In z (filter (matches call.args) r)) (sym (t.3 ∙ itself t.0 t.1)) (filter_in (matches call.args) t.0 r t.1 t.2)
+
+      found_matches : (found : Option Pairs) → IsTupleFound shape fragment.now p.edge call.args found → filter (matches call.args) r ≡ found_list found
+      found_matches None nowhere = no_member (filter (matches call.args) r) (λ t m. nowhere (project shape.target t) (there t m))
+      found_matches (Some u) found =
+          same_rising tuple_cmp tuple_order (filter (matches call.args) r) (u ∷ []) (rising_filter tuple_cmp (matches call.args) r relation.rising) ((λ y m. absurd m), tt)
+          (λ t m. inl (sym (itself t (in_filter (matches call.args) t r m).0) ∙ found.1 (project shape.target t) (there t m)))
+          (λ t m. elim m [ inl e ↦ subst (λ z. In z (filter (matches call.args) r)) (sym e) (matching u found) | inr z ↦ absurd z ])
+
+      remove_arrives : ComesToApply spec locked.sealed plan call locked.fits (held_of s) one
+      remove_arrives =
+          arrives spec locked.sealed plan call locked.fits (held_of s) one (λ q. subst IsQuery kind q) (λ u. subst IsUpdate kind u) (λ i. absurd (subst IsInsert kind i))
+          (drop p.locks plan) locked.path.locks.others (λ gives. absurd (subst GivesTuple kind gives)) (call.args ∷ []) locked.run
+
+      -- and what the plan's Reads find
+      same_found : (found : Option Pairs) → IsTupleFound shape fragment.now p.edge call.args found → remove_arrives.1 ≡ found_list found
+      same_found found is = found_args spec locked.sealed plan call locked.fits remove_arrives.0 remove_arrives.1 None (held_of s) remove_arrives.2 one.0 one.1 kind ∙ found_matches found is
+
+      pub can_remove : (u : Pairs) → IsTupleFound shape fragment.now p.edge call.args (Some u) → CanRemove spec u (held_of s)
+      can_remove u found =
+          can_apply spec locked.sealed plan call locked.fits locked.planned remove_arrives.0 remove_arrives.1 None (held_of s) one remove_arrives.2 Remove kind u (subst (In u) (sym (same_found (Some u) found)) (inl refl))
+
+      remove_replies : (found : Option Pairs) → IsTupleFound shape fragment.now p.edge call.args found → (new : List HeldStripe) (answer : Reply) → HasRemoved spec (found_list found) (held_of s) new answer → AreOfOneRelation spec new → HasReplied spec plan call new answer
+      remove_replies found is new answer removed one' =
+          applied_replies spec locked.sealed plan call locked.fits locked.planned remove_arrives.0 (held_of s) remove_arrives.1 None remove_arrives.2 one Remove kind new answer
+          (subst (λ bs. HasRemoved spec bs (held_of s) new answer) (sym (same_found found is)) removed) one'
+
+      pub removed_replies : (u : Pairs) → IsTupleFound shape fragment.now p.edge call.args (Some u) → (new : List HeldStripe) → new ≡ all_changed lowered spec u (edge_numbers spec) (held_of s) → AreOfOneRelation spec new → HasReplied spec plan call new (Removed u)
+      removed_replies u found new is one' = remove_replies (Some u) found new (Removed u) (refl, is) one'
+
+      pub absent_replies : IsTupleFound shape fragment.now p.edge call.args None → HasReplied spec plan call (held_of s) Absent
+      absent_replies nowhere = remove_replies None nowhere (held_of s) Absent (refl, refl) one
+
+      -- the stripes on which the arguments fall are the tuple's
+      pub stripes_of_removed : (stripes : List ClassStripe) → AreStripesOf spec call.args stripes → (u : Pairs) → IsTupleFound shape fragment.now p.edge call.args (Some u) → AreStripesOf spec u stripes
+      stripes_of_removed stripes are u found =
+          let q : In u r × (matches call.args u ≡ true) = in_filter (matches call.args) u r (matching u found) in
+          let over : cols_of u ≡ all_columns spec = (relation.each u q.0).over in
+          stripes_of_more spec call.args u stripes
+          (λ c m. subst (In c) (sym over) (in_range_below (length spec.columns) c (args_below spec locked.sealed call locked.fits c m)))
+          (λ x y m n e. one_pair u (subst (IsRising nat_cmp) (sym over) (rising_range 0 (length spec.columns))) x y
+          (in_project (cols_of call.args) x u (subst (In x) (sym (same_from_test (project (cols_of call.args) u) call.args q.1)) m)).0 n e) are
+
+-- ---- what was taken as offered stays so, also where memory was wanted
+
+pub unanswered : {E : Type 0} (compiled : SpecWithPlans) (call : Call) (old new : Holding) (result : Result Reply E) → IsErr result → AreTakenAsOffered new → IsSameButLent old new → HasAnsweredByPath compiled call old new result
+unanswered compiled call old new (Ok answer) is told lent = absurd cc
+unanswered compiled call old new (Err e) is told lent = record { answered = tt; taken = told; lent = lent }
+
+-- rows of the first edges may be added then
+pub raised_alike : (spec : Spec) (t : Pairs) (n : ℕ) (old new : List HeldStripe) → new ≡ all_changed raised spec t (take n (edge_numbers spec)) old → AreTakenAlike old new
+raised_alike spec t n old new is =
+    ap (map reverted) (is ∙ sym (placed_changed raised spec t (take n (edge_numbers spec)) old)) ∙ taken_alike raised (map (place_in spec t) (take n (edge_numbers spec))) old

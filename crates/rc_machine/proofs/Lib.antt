@@ -21,6 +21,7 @@ pub mod GoLemmas
 mod BackLemmas
 mod EmitLemmas
 mod StripeLemmas
+mod EdgeRowLemmas
 mod AccessLemmas
 mod AccessRunLemmas
 mod ArriveLemmas

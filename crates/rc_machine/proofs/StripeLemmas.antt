@@ -8,11 +8,11 @@ use Rattle.std.proofs.lemmas.List.{map-append}
 use Rattle.std.proofs.lemmas.List.Elements.{filter-append}
 use Rattle.std.proofs.lemmas.List.Sums.{fold-append}
 use Rattle.rc_tuple.specs.RisingSet.{In, IsRising}
-use Rattle.rc_tuple.specs.RisingSetLaws.{filter_in, get_or_in, has_in, in_filter, in_gather, in_has, nat_order, rising_filter, same_rising, slice_get_in}
+use Rattle.rc_tuple.specs.RisingSetLaws.{filter_in, get_or_in, has_in, in_append, in_filter, in_gather, in_has, nat_order, rising_filter, same_rising, slice_get_in}
 use Rattle.rc_tuple.specs.ColSet.{IsColSet, Within, has, union}
 use Rattle.rc_tuple.specs.ColSetLaws.{in_range_bounds, in_union, rising_range}
 use Rattle.rc_tuple.specs.Tuple.{IsTuple, Pairs, cols_of, value}
-use Rattle.rc_tuple.specs.TupleLaws.{fewer_cols, in_project, one_pair}
+use Rattle.rc_tuple.specs.TupleLaws.{Agree, fewer_cols, in_project, one_pair}
 use Rattle.rc_spec.specs.declared.call.Call.{Call}
 use Rattle.rc_spec.specs.declared.items.Op.{Op}
 use Rattle.rc_spec.specs.declared.items.OpKind.{OpKind}
@@ -27,6 +27,8 @@ use Rattle.rc_spec.specs.Placement.{class_at, class_of}
 use Rattle.rc_spec.specs.Stripes.{hash_of, mix, physical_stripe}
 use Rattle.rc_bindings.specs.RegistersLaws.{get_of}
 use Rattle.rc_plan.specs.StripeLocksLaws.{physical_stripe-agreeing, striping_in_target}
+use Rattle.rc_machine.specs.Stripes.{AreStripesOf, IsStripeOf}
+use Rattle.rc_machine.specs.declared.stripe.ClassStripe.{ClassStripe}
 use Rattle.rc_machine.proofs.ApplyLemmas.{cols_of-row_in}
 use Rattle.rc_spec.specs.ContentsLaws.{target_within}
 
@@ -40,6 +42,29 @@ tuple_falls_with_row spec sealed t whole e l =
     let in_row : Within (class_at spec (class_of spec e)).cols (cols_of (row_in spec t e)) = λ c m. subst (In c) (sym (cols_of-row_in spec sealed t whole e l)) (inside c m) in
     physical_stripe-agreeing spec (class_of spec e) t (row_in spec t e) (λ c m. fewer_cols target t c (in_row c m)) in_row
     (λ p q m n same. one_pair t rises p q m (in_project target q t n).0 same)
+
+-- and it has the columns of the class
+pub class_within : (spec : Spec) → IsSealed spec → (t : Pairs) → cols_of t ≡ all_columns spec → (e : ℕ) → e < length spec.edges → Within (class_at spec (class_of spec e)).cols (cols_of t)
+class_within spec sealed t whole e l c m = subst (In c) (sym whole) (target_within spec sealed.in_range e l c (striping_in_target spec sealed.accepted.adequate sealed.accepted.placed e l c m))
+
+-- ---- stripes that were found
+
+pub no_stripes : (spec : Spec) (t : Pairs) (stripes : List ClassStripe) → stripes ≡ [] → AreStripesOf spec t stripes
+no_stripes spec t stripes none s m = absurd (subst (In s) none m)
+
+pub one_stripe_more : (spec : Spec) (t : Pairs) (stripes : List ClassStripe) (s : ClassStripe) → AreStripesOf spec t stripes → IsStripeOf spec t s → AreStripesOf spec t (stripes ++ s ∷ [])
+one_stripe_more spec t stripes s are is x m = elim (in_append x stripes (s ∷ []) m) [
+  | inl n ↦ are x n
+  | inr (inl e) ↦ subst (IsStripeOf spec t) (sym e) is
+  | inr (inr z) ↦ absurd z
+]
+
+-- those of a tuple are those of each that agrees with it and has its columns
+pub stripes_of_more : (spec : Spec) (t u : Pairs) (stripes : List ClassStripe) → Within (cols_of t) (cols_of u) → Agree t u → AreStripesOf spec t stripes → AreStripesOf spec u stripes
+stripes_of_more spec t u stripes within agree are s m =
+    let is : IsStripeOf spec t s = are s m in
+    let in_more : Within (class_at spec s.class).cols (cols_of u) = (λ c n. within c (is.within c n)) in
+    record { falls = is.falls ∙ physical_stripe-agreeing spec s.class t u is.within in_more agree; within = in_more }
 
 -- ---- columns
 

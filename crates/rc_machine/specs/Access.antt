@@ -1,40 +1,33 @@
 -- What a call takes and answers from the rows of one edge, on the stripe on which its arguments fall.
-use Rattle.std.specs.Prelude.{◌≡◌, ℕ, List, [], ◌∷◌, ◌++◌, None, Option, Some, drop, map}
-use Rattle.std.specs.List.{zip}
+use Rattle.std.specs.Prelude.{◌≡◌, ℕ, List, [], ◌∷◌, ◌++◌, IfOk, None, Option, Result, Some, drop, map, true}
+use Rattle.std.specs.List.{list_any, zip}
 use Rattle.rc_tuple.specs.RisingSet.{In}
 use Rattle.rc_tuple.specs.Tuple.{Pairs, pick}
 use Rattle.rc_spec.specs.declared.call.Call.{Call}
 use Rattle.rc_spec.specs.declared.call.Reply.{Reply}
 use Rattle.rc_spec.specs.declared.call.Reply.TheVariants.{Rows}
 use Rattle.rc_spec.specs.declared.spec.Spec.{Spec}
+use Rattle.rc_spec.specs.Acceptance.{IsSealed}
+use Rattle.rc_spec.specs.Calls.{Fits}
 use Rattle.rc_spec.specs.Fragments.{EdgeRow}
 use Rattle.rc_spec.specs.Placement.{class_of, op_at}
 use Rattle.rc_spec.specs.Plain.{Outcome, at_most}
 use Rattle.rc_spec.specs.Stripes.{physical_stripe}
-use Rattle.rc_fragment.specs.Fragment.{IsLookedUp, IsScan}
+use Rattle.rc_fragment.specs.Fragment.{IsFoundAt, IsLookedUp, IsScan, edge_table}
 use Rattle.rc_fragment.specs.RowValues.{extra_columns, values_at}
 use Rattle.rc_fragment.specs.declared.shape.EdgeShape.{EdgeShape}
-use Rattle.rc_fragment.specs.Holder.{HeldStripe}
-use Rattle.rc_plan.specs.Access.{IsAccessPath}
-use Rattle.rc_plan.specs.Compiled.{SpecWithPlans, plan_at}
+use Rattle.rc_fragment.specs.Holder.{Holding, held_of}
+use Rattle.rc_plan.specs.Access.{IsAccessPath, is_lock_of}
+use Rattle.rc_plan.specs.Compiled.{IsPlanOf, SpecWithPlans, plan_at}
 use Rattle.rc_plan.specs.declared.access.AccessPath.{AccessPath}
 use Rattle.rc_plan.specs.declared.statement.Statement.{Statement}
-use Rattle.rc_plan.specs.declared.statement.Statement.TheVariants.{Lock, Probe, Read, CheckAbsent, CheckFound, CheckDep, Apply, Emit, Commit, Release}
-use Rattle.rc_machine.specs.Machine.{stripes_held}
+use Rattle.rc_machine.specs.Apply.{IsSameButLent}
+use Rattle.rc_machine.specs.Machine.{AreTakenAsOffered, HasAnswered, stripes_held}
 use Rattle.rc_machine.specs.Run.{IsAt}
 
--- the stripe of a Lock's class on which the tuple falls
-abbrev pub argument_stripe : Spec → Pairs → Statement → ℕ
-argument_stripe spec t (Lock c choice mode) = physical_stripe spec c t
-argument_stripe spec t (Probe cols) = 0
-argument_stripe spec t (Read e mode) = 0
-argument_stripe spec t CheckAbsent = 0
-argument_stripe spec t CheckFound = 0
-argument_stripe spec t (CheckDep dep) = 0
-argument_stripe spec t Apply = 0
-argument_stripe spec t Emit = 0
-argument_stripe spec t Commit = 0
-argument_stripe spec t (Release c) = 0
+-- of each class that one of the statements locks the stripe on which the tuple falls is among these
+abbrev pub AreLockedFor : Spec → Pairs → List Statement → List ℕ → Type 0
+AreLockedFor spec t first stripes = (class : ℕ) → list_any (is_lock_of class) first ≡ true → In (physical_stripe spec class t) stripes
 
 -- the step over a relation gives the reply and leaves the relation
 abbrev pub leaving : Reply → List Pairs → Outcome
@@ -45,18 +38,38 @@ abbrev pub row_reply : List ℕ → Pairs → List ℕ → Option (List ℕ) →
 row_reply outs args extra None = Rows []
 row_reply outs args extra (Some values) = Rows (pick outs (args ++ zip extra values) ∷ [])
 
+-- The row of the edge that has the tuple's values of source and key is found, told by its extra values, or there is none.
+abbrev pub IsRowFound : EdgeShape → List EdgeRow → ℕ → Pairs → Option (List ℕ) → Type 0
+IsRowFound shape rows e t found = IsLookedUp shape rows e (values_at shape.source t) (values_at shape.key t) found
+
+-- the same, told as the tuple that it is
+abbrev pub IsTupleFound : EdgeShape → List EdgeRow → ℕ → Pairs → Option Pairs → Type 0
+IsTupleFound shape rows e t found = IsFoundAt shape rows e (values_at shape.source t) (values_at shape.key t) found
+
 -- the reply is the row of the edge that has the arguments' values of source and key, if there is one
 abbrev pub HasLookedUp : EdgeShape → List EdgeRow → ℕ → Pairs → List ℕ → Reply → Type 0
 HasLookedUp shape rows e args outs reply =
-    (found : Option (List ℕ)) × IsLookedUp shape rows e (values_at shape.source args) (values_at shape.key args) found × (reply ≡ row_reply outs args (extra_columns shape) found)
+    (found : Option (List ℕ)) × IsRowFound shape rows e args found × (reply ≡ row_reply outs args (extra_columns shape) found)
 
 -- the reply is the rows of the edge that have the arguments' values of the source, if there are so many at most
 abbrev pub HasListed : EdgeShape → List EdgeRow → ℕ → Pairs → List ℕ → ℕ → Reply → Type 0
 HasListed shape rows e args outs most reply =
     (ts : List Pairs) × IsScan shape rows e (values_at shape.source args) ts × (reply ≡ at_most most (map (pick outs) ts))
 
--- The run stands behind the first Locks of the path, which is one of the call's plan: no stripe is changed, the call's tuple is the one binding, and the stripe of the path's edge on which it falls is held.
-pub record HasLockedPath (compiled : SpecWithPlans) (call : Call) (p : AccessPath) (held : List HeldStripe) : Type 0 where
+-- The run of a call stands behind the first Locks of a path of its plan: no stripe is changed, the call's tuple is the one binding, and this stripe of the class of the path's edge, on which it falls, is held.
+pub record HasLockedPath (compiled : SpecWithPlans) (call : Call) (p : AccessPath) (stripe : ℕ) (s : Holding) : Type 0 where
+  pub sealed : IsSealed compiled.spec
+  pub fits : Fits compiled.spec call
+  pub planned : IsPlanOf compiled.spec call.op (plan_at compiled.plans call.op)
   pub path : IsAccessPath compiled.spec (op_at compiled.spec call.op) (plan_at compiled.plans call.op) p
-  pub run : IsAt compiled.spec (plan_at compiled.plans call.op) call (drop p.locks (plan_at compiled.plans call.op)) (call.args ∷ []) None held
-  pub stripe : In (physical_stripe compiled.spec (class_of compiled.spec p.edge) call.args) (stripes_held held)
+  pub table : s.table ≡ edge_table compiled.spec
+  pub taken : AreTakenAsOffered s
+  pub run : IsAt compiled.spec (plan_at compiled.plans call.op) call (drop p.locks (plan_at compiled.plans call.op)) (call.args ∷ []) None (held_of s)
+  pub falls : stripe ≡ physical_stripe compiled.spec (class_of compiled.spec p.edge) call.args
+  pub held : In stripe (stripes_held (held_of s))
+
+-- From there the call is answered, or memory was wanted: stripes are taken as they are offered, and all but what is lent is the same.
+pub record HasAnsweredByPath {E : Type 0} (compiled : SpecWithPlans) (call : Call) (old new : Holding) (result : Result Reply E) : Type 0 where
+  pub answered : IfOk result (HasAnswered compiled call new)
+  pub taken : AreTakenAsOffered new
+  pub lent : IsSameButLent old new

@@ -13,7 +13,6 @@ use Rattle.rc_spec.specs.Stripes.{physical_stripe}
 use Rattle.rc_fragment.specs.declared.shape.EdgeShape.{EdgeShape}
 use Rattle.rc_fragment.specs.Fragment.{HasAlone, HasColumns, HasSingle, IsThere, edge_table}
 use Rattle.rc_fragment.specs.Holder.{HeldStripe, Holding, IsHeldExclusive, LentStripe, changed_at}
-use Rattle.rc_machine.specs.declared.places.ClassStripe.{ClassStripe}
 use Rattle.rc_machine.specs.declared.places.RowPlace.{RowPlace}
 
 -- the stripe on which a tuple's row of the edge falls
@@ -23,10 +22,6 @@ stripe_in spec t e = physical_stripe spec (class_of spec e) (row_in spec t e)
 -- the tuple's row of the edge, and the stripe on which it falls
 abbrev pub place_in : Spec → Pairs → ℕ → RowPlace
 place_in spec t e = record { edge = e; stripe = stripe_in spec t e; row = row_in spec t e }
-
--- the tuple falls on this stripe of the class
-abbrev pub IsStripeOf : Spec → Pairs → ClassStripe → Type 0
-IsStripeOf spec t s = s.stripe ≡ physical_stripe spec s.class t
 
 -- the held stripes with the change of the tuple's row in each of some edges, on the stripe on which it falls
 abbrev pub all_changed : (ℕ → Pairs → List EdgeRow → List EdgeRow) → Spec → Pairs → List ℕ → List HeldStripe → List HeldStripe

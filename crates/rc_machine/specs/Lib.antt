@@ -10,4 +10,5 @@ pub mod OffersLaws
 pub mod Read
 pub mod Run
 pub mod Stopped
+pub mod Stripes
 pub mod Workspace

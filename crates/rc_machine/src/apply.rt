@@ -12,13 +12,13 @@ ghost use Rattle.rc_fragment.specs.Fragment.{edge_table};
 ghost use Rattle.rc_fragment.specs.Holder.{held_of};
 ghost use Rattle.rc_machine.specs.Applied.{AreTakenAlike, CanApply, CanInsert, CanRemove, CanReplace, HasApplied, HasRemoved, HasReplaced, replaced_in};
 ghost use Rattle.rc_machine.specs.Apply.{CanAdd, CanSub, IsSameButLent, all_changed, all_placed, edges_of};
-ghost use Rattle.rc_machine.specs.Workspace.{AreWide};
+ghost use Rattle.rc_machine.specs.Stripes.{AreStripesOf};
 ghost use Rattle.rc_machine.specs.declared.places.RowPlace.{RowPlace};
 
 use crate::differing::differing;
 use crate::places::{RowPlace, make_room, place_rows, place_rows_with};
+use crate::stripe::ClassStripe;
 use crate::workspace::Workspace;
-use rc_bindings::{Binding, Bindings};
 use rc_fragment::Holder;
 use rc_plan::Compiled;
 use rc_spec::{OpKind, Reply};
@@ -36,7 +36,6 @@ pub(crate) fn apply<H: Holder>(
 ) -> Result<Reply, Memory>
     requires sealed { IsSealed compiled.now.spec }
     requires table { (H.seen holder.old).table ≡ edge_table compiled.now.spec }
-    requires wide { AreWide compiled.now.spec space.old }
     requires can { CanApply compiled.now.spec kind.now args.now space.old.old_tuple space.old.bindings.tuples (held_of (H.seen holder.old)) }
     ensures ok { IfOk result (HasApplied compiled.now.spec kind.now args.now space.old.old_tuple space.old.bindings.tuples (held_of (H.seen holder.old)) (held_of (H.seen holder.new))) }
     ensures alike { OnErr result (AreTakenAlike (held_of (H.seen holder.old)) (held_of (H.seen holder.new))) }
@@ -46,20 +45,17 @@ pub(crate) fn apply<H: Holder>(
     match kind {
         OpKind::Query { .. } => unreachable!(),
         OpKind::Insert => {
-            space.found.begin(args.cols());
-            space.found.push_projection(args)?;
+            space.class_stripes.clear();
             add_rows(
                 holder,
                 compiled,
                 args,
-                &space.found.get(0),
+                &mut space.class_stripes,
                 &mut space.places,
             )?;
             Ok(Reply::Inserted)
         }
-        OpKind::Remove => {
-            remove_least(alloc, holder, compiled, &space.bindings, &mut space.places)
-        }
+        OpKind::Remove => remove_least(alloc, holder, compiled, space),
         OpKind::Update => replace_old(holder, compiled, args, space),
     }
 }
@@ -69,24 +65,28 @@ fn remove_least<H: Holder>(
     alloc: Global,
     holder: &mut H,
     compiled: &Compiled,
-    bindings: &Bindings,
-    places: &mut Vec<RowPlace>,
+    space: &mut Workspace,
 ) -> Result<Reply, Memory>
     requires sealed { IsSealed compiled.now.spec }
     requires table { (H.seen holder.old).table ≡ edge_table compiled.now.spec }
-    requires wide { bindings.now.width ≡ length compiled.now.spec.columns }
-    requires can { (b : Pairs) → In b bindings.now.tuples → CanRemove compiled.now.spec b (held_of (H.seen holder.old)) }
-    ensures ok { IfOk result (HasRemoved compiled.now.spec bindings.now.tuples (held_of (H.seen holder.old)) (held_of (H.seen holder.new))) }
+    requires can { (b : Pairs) → In b space.old.bindings.tuples → CanRemove compiled.now.spec b (held_of (H.seen holder.old)) }
+    ensures ok { IfOk result (HasRemoved compiled.now.spec space.old.bindings.tuples (held_of (H.seen holder.old)) (held_of (H.seen holder.new))) }
     ensures err { OnErr result (held_of (H.seen holder.new) ≡ held_of (H.seen holder.old)) }
     ensures lent { IsSameButLent (H.seen holder.old) (H.seen holder.new) }
     ensures sound { (spec : Spec) → H.is_sound holder.old spec → H.is_sound holder.new spec }
 {
-    if bindings.is_empty() {
+    if space.bindings.is_empty() {
         return Ok(Reply::Absent);
     }
-    let least = bindings.get(0);
-    let removed = least.tuple(alloc)?;
-    sub_rows(holder, compiled, &removed, &least, places)?;
+    let removed = space.bindings.get(0).tuple(alloc)?;
+    space.class_stripes.clear();
+    sub_rows(
+        holder,
+        compiled,
+        &removed,
+        &mut space.class_stripes,
+        &mut space.places,
+    )?;
     Ok(Reply::Removed(removed))
 }
 
@@ -100,7 +100,6 @@ fn replace_old<H: Holder>(
 ) -> Result<Reply, Memory>
     requires sealed { IsSealed compiled.now.spec }
     requires table { (H.seen holder.old).table ≡ edge_table compiled.now.spec }
-    requires wide { AreWide compiled.now.spec space.old }
     requires can { (o : Pairs) → space.old.old_tuple ≡ Some o → CanReplace compiled.now.spec o args.now (held_of (H.seen holder.old)) }
     ensures ok { IfOk result (HasReplaced compiled.now.spec args.now space.old.old_tuple (held_of (H.seen holder.old)) (held_of (H.seen holder.new))) }
     ensures alike { OnErr result (AreTakenAlike (held_of (H.seen holder.old)) (held_of (H.seen holder.new))) }
@@ -115,7 +114,7 @@ fn replace_old<H: Holder>(
         compiled,
         &old,
         args,
-        &mut space.found,
+        &mut space.class_stripes,
         &mut space.places,
     )?;
     Ok(Reply::Updated(old))
@@ -128,12 +127,11 @@ fn replace<H: Holder>(
     compiled: &Compiled,
     old: &Tuple,
     args: &Tuple,
-    found: &mut Bindings,
+    stripes: &mut Vec<ClassStripe>,
     places: &mut Vec<RowPlace>,
 ) -> Result<(), Memory>
     requires sealed { IsSealed compiled.now.spec }
     requires table { (H.seen holder.old).table ≡ edge_table compiled.now.spec }
-    requires wide { found.old.width ≡ length compiled.now.spec.columns }
     requires can { CanReplace compiled.now.spec old.now args.now (held_of (H.seen holder.old)) }
     ensures ok { OnOk result (held_of (H.seen holder.new) ≡ replaced_in compiled.now.spec old.now args.now (held_of (H.seen holder.old))) }
     ensures alike { OnErr result (AreTakenAlike (held_of (H.seen holder.old)) (held_of (H.seen holder.new))) }
@@ -141,58 +139,54 @@ fn replace<H: Holder>(
     ensures sound { (spec : Spec) → H.is_sound holder.old spec → H.is_sound holder.new spec }
 {
     let cols = differing(old, args);
-    found.begin(old.cols());
-    found.push_projection(old)?;
-    let gone = place_rows_with(compiled, cols, old, &found.get(0), places)?;
+    stripes.clear();
+    let gone = place_rows_with(compiled, cols, old, stripes, places)?;
     sub_placed(holder, &places[..gone])?;
-    found.begin(args.cols());
-    found.push_projection(args)?;
-    let come = place_rows_with(compiled, cols, args, &found.get(0), places)?;
+    stripes.clear();
+    let come = place_rows_with(compiled, cols, args, stripes, places)?;
     add_placed(holder, &places[..come])
 }
 
 /// Adds the tuple's row to each edge, on the stripe on which it falls. Where memory is wanted the rows of the first
 /// edges may be added.
-fn add_rows<H: Holder>(
+pub(crate) fn add_rows<H: Holder>(
     holder: &mut H,
     compiled: &Compiled,
     tuple: &Tuple,
-    binding: &Binding,
+    stripes: &mut Vec<ClassStripe>,
     places: &mut Vec<RowPlace>,
 ) -> Result<(), Memory>
     requires sealed { IsSealed compiled.now.spec }
-    requires same { binding.now.tuple ≡ tuple.now }
-    requires wide { binding.now.width ≡ length compiled.now.spec.columns }
     requires table { (H.seen holder.old).table ≡ edge_table compiled.now.spec }
+    requires stripes { AreStripesOf compiled.now.spec tuple.now stripes.old.items }
     requires can { CanInsert compiled.now.spec tuple.now (held_of (H.seen holder.old)) }
     ensures ok { OnOk result (held_of (H.seen holder.new) ≡ all_changed raised compiled.now.spec tuple.now (edge_numbers compiled.now.spec) (held_of (H.seen holder.old))) }
     ensures some { (n : ℕ) × (held_of (H.seen holder.new) ≡ all_changed raised compiled.now.spec tuple.now (take n (edge_numbers compiled.now.spec)) (held_of (H.seen holder.old))) }
     ensures lent { IsSameButLent (H.seen holder.old) (H.seen holder.new) }
     ensures sound { (spec : Spec) → H.is_sound holder.old spec → H.is_sound holder.new spec }
 {
-    place_rows(compiled, tuple, binding, places)?;
+    place_rows(compiled, tuple, stripes, places)?;
     add_placed(holder, places)
 }
 
 /// Takes the tuple's row out of each edge, on the stripe on which it falls. Where memory is wanted the rows stay.
-fn sub_rows<H: Holder>(
+pub(crate) fn sub_rows<H: Holder>(
     holder: &mut H,
     compiled: &Compiled,
     tuple: &Tuple,
-    binding: &Binding,
+    stripes: &mut Vec<ClassStripe>,
     places: &mut Vec<RowPlace>,
 ) -> Result<(), Memory>
     requires sealed { IsSealed compiled.now.spec }
-    requires same { binding.now.tuple ≡ tuple.now }
-    requires wide { binding.now.width ≡ length compiled.now.spec.columns }
     requires table { (H.seen holder.old).table ≡ edge_table compiled.now.spec }
+    requires stripes { AreStripesOf compiled.now.spec tuple.now stripes.old.items }
     requires can { CanRemove compiled.now.spec tuple.now (held_of (H.seen holder.old)) }
     ensures ok { OnOk result (held_of (H.seen holder.new) ≡ all_changed lowered compiled.now.spec tuple.now (edge_numbers compiled.now.spec) (held_of (H.seen holder.old))) }
     ensures err { OnErr result (held_of (H.seen holder.new) ≡ held_of (H.seen holder.old)) }
     ensures lent { IsSameButLent (H.seen holder.old) (H.seen holder.new) }
     ensures sound { (spec : Spec) → H.is_sound holder.old spec → H.is_sound holder.new spec }
 {
-    place_rows(compiled, tuple, binding, places)?;
+    place_rows(compiled, tuple, stripes, places)?;
     sub_placed(holder, places)
 }
 

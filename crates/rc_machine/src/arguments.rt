@@ -1,6 +1,6 @@
 //! The Locks of a plan that take the stripes on which the arguments of a call fall.
 
-ghost use Rattle.std.specs.Prelude.{◌≡◌, ℕ, ◌<◌, ◌≤◌, [], ◌∷◌, None, true, drop, length, map, take, IfOk, OnOk, Err};
+ghost use Rattle.std.specs.Prelude.{◌≡◌, ℕ, ◌<◌, ◌≤◌, [], ◌∷◌, None, true, drop, length, take, IfOk, OnOk, Err};
 ghost use Rattle.std.specs.List.{list_all};
 ghost use Rattle.rc_tuple.specs.ColSet.{Within};
 ghost use Rattle.rc_tuple.specs.Tuple.{cols_of};
@@ -15,29 +15,31 @@ ghost use Rattle.rc_fragment.specs.declared.held.Held.{Held};
 ghost use Rattle.rc_plan.specs.Access.{is_tuple_lock};
 ghost use Rattle.rc_plan.specs.Compiled.{IsPlanOf};
 ghost use Rattle.rc_plan.specs.NamedStripes.{IsNamedBy};
-ghost use Rattle.rc_machine.specs.Access.{argument_stripe};
+ghost use Rattle.rc_machine.specs.Access.{AreLockedFor};
 ghost use Rattle.rc_machine.specs.Locks.{HasLocked, HasRefusedOne};
 ghost use Rattle.rc_machine.specs.Machine.{AreAsTaken, AreTakenAsOffered, IsRefused, stripes_held};
 ghost use Rattle.rc_machine.specs.Run.{IsAt};
 ghost use Rattle.rc_machine.specs.Stopped.{CountsOnlyHeld};
+ghost use Rattle.rc_machine.specs.Stripes.{AreStripesOf};
 ghost use Rattle.rc_machine.specs.declared.stop.Stop.TheVariants as stop;
 
 use crate::Stop;
 use crate::lock::take_all;
-use crate::stripe::tuple_stripe;
+use crate::stripe::{ClassStripe, find_stripe};
 use rc_fragment::Holder;
 use rc_plan::{Compiled, Statement};
 use rc_spec::{Call, Mode};
 use rc_tuple::Tuple;
 
-/// Takes the stripes of the plan's first Locks, each of which takes the one on which the arguments fall. After a stop those
-/// that were taken stay held.
+/// Takes the stripes of the plan's first Locks, each of which takes the one on which the arguments fall, and makes the list
+/// that of these stripes. After a stop those that were taken stay held.
 pub(crate) fn lock_arguments<H: Holder>(
     holder: &mut H,
     compiled: &Compiled,
     call: &Call,
     plan: &[Statement],
     locks: usize,
+    stripes: &mut Vec<ClassStripe>,
 ) -> Result<(), Stop>
     requires sealed { IsSealed compiled.now.spec }
     requires fits { Fits compiled.now.spec call.now }
@@ -49,8 +51,8 @@ pub(crate) fn lock_arguments<H: Holder>(
     requires within { locks ≤ length plan.now }
     requires first { list_all (is_tuple_lock compiled.now.spec (cols_of call.now.args)) (take locks plan.now) ≡ true }
     ensures run { OnOk result (IsAt compiled.now.spec plan.now call.now (drop locks plan.now) (call.now.args ∷ []) None (held_of (H.seen holder.new))) }
-    ensures held { OnOk result (stripes_held (held_of (H.seen holder.new))
-        ≡ map (argument_stripe compiled.now.spec call.now.args) (take locks plan.now)) }
+    ensures held { OnOk result (AreLockedFor compiled.now.spec call.now.args (take locks plan.now) (stripes_held (held_of (H.seen holder.new)))) }
+    ensures stripes { OnOk result (AreStripesOf compiled.now.spec call.now.args stripes.new.items) }
     ensures taken { AreTakenAsOffered (H.seen holder.new) }
     ensures stopped { (h : Held) → result ≡ Err (stop.Held h) → AreAsTaken (held_of (H.seen holder.new)) }
     ensures refused { (h : Held) → result ≡ Err (stop.Held h)
@@ -59,37 +61,42 @@ pub(crate) fn lock_arguments<H: Holder>(
     ensures goes_on { GoesOn (H.seen holder.old) (H.seen holder.new) }
     ensures sound { (spec : Spec) → H.is_sound holder.old spec → H.is_sound holder.new spec }
 {
+    stripes.clear();
     for at in 0..locks {
         let Statement::Lock { class, mode, .. } = plan[at] else {
             unreachable!()
         };
-        lock_stripe(holder, compiled, class, mode, &call.args)?;
+        lock_stripe(holder, compiled, class, mode, &call.args, stripes)?;
     }
     Ok(())
 }
 
-/// Takes the stripe of the class on which the tuple falls. After a stop nothing is taken.
+/// Takes the stripe of the class on which the tuple falls, and keeps it among those of the tuple. After a stop nothing is
+/// taken.
 fn lock_stripe<H: Holder>(
     holder: &mut H,
     compiled: &Compiled,
     class: u8,
     mode: Mode,
     tuple: &Tuple,
+    stripes: &mut Vec<ClassStripe>,
 ) -> Result<(), Stop>
     requires sealed { IsSealed compiled.now.spec }
     requires known { class < length compiled.now.spec.classes }
     requires within { Within (class_at compiled.now.spec class).cols (cols_of tuple.now) }
+    requires stripes { AreStripesOf compiled.now.spec tuple.now stripes.old.items }
     requires total { length (H.seen holder.old).offered ≡ stripe_total compiled.now.spec }
     requires lent { MayTake (H.seen holder.old).lends (physical_stripe compiled.now.spec class tuple.now) mode }
     requires above { IsAbove (held_of (H.seen holder.old)) (physical_stripe compiled.now.spec class tuple.now) }
     ensures ok { OnOk result (HasLocked (H.seen holder.old) (H.seen holder.new) (physical_stripe compiled.now.spec class tuple.now ∷ []) mode) }
+    ensures stripes { AreStripesOf compiled.now.spec tuple.now stripes.new.items }
     ensures some { (n : ℕ) × HasLocked (H.seen holder.old) (H.seen holder.new) (take n (physical_stripe compiled.now.spec class tuple.now ∷ [])) mode }
     ensures refused { (h : Held) → result ≡ Err (stop.Held h) → HasRefusedOne (H.seen holder.old) (H.seen holder.new) (physical_stripe compiled.now.spec class tuple.now ∷ []) mode h }
     ensures counted { (spec : Spec) → H.is_sound holder.old spec → CountsOnlyHeld result (H.seen holder.old) (H.seen holder.new) }
     ensures goes_on { GoesOn (H.seen holder.old) (H.seen holder.new) }
     ensures sound { (spec : Spec) → H.is_sound holder.old spec → H.is_sound holder.new spec }
 {
-    let stripe = tuple_stripe(compiled, class, tuple);
+    let stripe = find_stripe(compiled, class, tuple, stripes)?;
     take_all(holder, &[stripe], mode)?;
     Ok(())
 }

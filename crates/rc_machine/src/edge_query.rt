@@ -1,28 +1,22 @@
 //! Queries that are answered from the rows of one edge.
 
-ghost use Rattle.std.specs.Prelude.{◌≡◌, ℕ, List, ◌++◌, [], length, IfOk, OnOk};
+ghost use Rattle.std.specs.Prelude.{◌≡◌, ℕ, List, ◌++◌, [], length, IfOk};
 ghost use Rattle.std.specs.List.{zip};
 ghost use Rattle.rc_tuple.specs.RisingSet.{In};
-ghost use Rattle.rc_tuple.specs.Tuple.{IsTuple, Pairs, cols_of, pick, value};
-ghost use Rattle.rc_spec.specs.Acceptance.{IsSealed};
-ghost use Rattle.rc_spec.specs.Calls.{Fits};
+ghost use Rattle.rc_tuple.specs.Tuple.{Pairs, cols_of, pick};
 ghost use Rattle.rc_spec.specs.Decomposition.{bound, edge_at};
 ghost use Rattle.rc_spec.specs.Fragments.{EdgeRow};
-ghost use Rattle.rc_spec.specs.Placement.{class_of, op_at};
+ghost use Rattle.rc_spec.specs.Placement.{op_at};
 ghost use Rattle.rc_spec.specs.Plain.{plain};
-ghost use Rattle.rc_spec.specs.Stripes.{physical_stripe};
-ghost use Rattle.rc_fragment.specs.Fragment.{edge_table, shape_of};
+ghost use Rattle.rc_fragment.specs.Fragment.{shape_of};
 ghost use Rattle.rc_fragment.specs.Holder.{AreOfOneRelation, AreOfRelation, held_of};
-ghost use Rattle.rc_fragment.specs.RowValues.{values_at};
-ghost use Rattle.rc_plan.specs.Access.{IsAccessPath, extra_of};
-ghost use Rattle.rc_plan.specs.Compiled.{plan_at};
+ghost use Rattle.rc_plan.specs.Access.{extra_of};
 ghost use Rattle.rc_plan.specs.PlanRules.{IsQuery};
-ghost use Rattle.rc_machine.specs.Access.{HasListed, HasLookedUp, leaving};
+ghost use Rattle.rc_machine.specs.Access.{HasListed, HasLockedPath, HasLookedUp, leaving};
 ghost use Rattle.rc_machine.specs.EdgeRead.{IsReadOver};
-ghost use Rattle.rc_machine.specs.Machine.{AreAsTaken, stripes_held};
 
 use crate::edge_read::EdgeRead;
-use crate::stripe::tuple_stripe;
+use crate::edge_row::{find_row, push_picked, push_values};
 use crate::workspace::Finder;
 use rc_fragment::{Fragment, Holder};
 use rc_plan::{AccessPath, Compiled, ReadMode};
@@ -37,15 +31,11 @@ pub(crate) fn answer_by_edge<H: Holder>(
     compiled: &Compiled,
     call: &Call,
     path: AccessPath,
+    stripe: u32,
     finder: &mut Finder,
 ) -> Result<Reply, Memory>
-    requires sealed { IsSealed compiled.now.spec }
-    requires fits { Fits compiled.now.spec call.now }
-    requires path { IsAccessPath compiled.now.spec (op_at compiled.now.spec call.now.op) (plan_at compiled.now.plans call.now.op) path }
+    requires locked { HasLockedPath compiled.now call.now path stripe (H.seen holder.now) }
     requires query { IsQuery (op_at compiled.now.spec call.now.op).kind }
-    requires table { (H.seen holder.now).table ≡ edge_table compiled.now.spec }
-    requires held { In (physical_stripe compiled.now.spec (class_of compiled.now.spec path.edge) call.now.args) (stripes_held (held_of (H.seen holder.now))) }
-    requires unchanged { AreAsTaken (held_of (H.seen holder.now)) }
     requires one { AreOfOneRelation compiled.now.spec (held_of (H.seen holder.now)) }
     ensures { IfOk result (λ reply. (r : List Pairs) → AreOfRelation compiled.now.spec (held_of (H.seen holder.now)) r
         → plain compiled.now.spec r call.now ≡ leaving reply r) }
@@ -54,7 +44,7 @@ pub(crate) fn answer_by_edge<H: Holder>(
         unreachable!()
     };
     let read = EdgeRead::of(compiled, path.edge, path.mode);
-    let fragment = holder.fragment(tuple_stripe(compiled, read.resolved.class, &call.args));
+    let fragment = holder.fragment(stripe);
     match path.mode {
         ReadMode::Lookup => look_up(alloc, fragment, &read, &call.args, outs, finder),
         ReadMode::Scan => list(alloc, fragment, &read, &call.args, outs, finder),
@@ -74,11 +64,7 @@ fn look_up(
     requires columns { (w : EdgeRow) → In w fragment.now.now → cols_of w.1 ≡ bound read.now.spec.now (edge_at read.now.spec.now w.0).to }
     ensures { IfOk result (HasLookedUp (shape_of read.now.spec.now (edge_at read.now.spec.now read.now.edge)) fragment.now.now read.now.edge args.now outs.now) }
 {
-    finder.source.clear();
-    push_values(args, read.resolved.source, &mut finder.source)?;
-    finder.key.clear();
-    push_values(args, read.resolved.key, &mut finder.key)?;
-    match fragment.lookup(read.edge, &finder.source, &finder.key) {
+    match find_row(fragment, read, args, finder)? {
         None => Ok(Reply::Rows(RowList::new(alloc))),
         Some(values) => {
             let row = picked(alloc, outs, args, read.resolved.extra, values)?;
@@ -127,43 +113,6 @@ fn picked(
     ensures { IfOk result (λ row. row.items ≡ pick outs.now (tuple.now ++ zip extra values.now)) }
 {
     let mut row = Vec::with_capacity(alloc, outs.list().len())?;
-    for col in outs.list() {
-        row.push(value_at(tuple, extra, values, *col))?;
-    }
+    push_picked(&mut row, outs.list(), tuple, extra, values)?;
     Ok(row)
-}
-
-/// The value at the column: the tuple's, or else that of an extra column, or 0.
-fn value_at(tuple: &Tuple, extra: ColSet, values: &[u64], col: u8) -> u64
-    requires { length values.now ≡ length extra }
-    ensures { result ≡ value (tuple.now ++ zip extra values.now) col }
-{
-    match tuple.get(col) {
-        Some(value) => value,
-        None => value_among(extra, values, col),
-    }
-}
-
-/// The value at the column, of values at these columns, or 0.
-fn value_among(cols: ColSet, values: &[u64], col: u8) -> u64
-    requires { length values.now ≡ length cols }
-    ensures { result ≡ value (zip cols values.now) col }
-{
-    if cols.has(col) {
-        values[cols.rank(col) as usize]
-    } else {
-        0
-    }
-}
-
-/// Adds the tuple's values at those of the columns that it has, in column order, at the end of a list.
-fn push_values(tuple: &Tuple, cols: ColSet, values: &mut Vec<u64>) -> Result<(), Memory>
-    ensures { OnOk result (values.new.items ≡ values.old.items ++ values_at cols tuple.now) }
-{
-    for pair in tuple.pairs() {
-        if cols.has(pair.0) {
-            values.push(pair.1)?;
-        }
-    }
-    Ok(())
 }

@@ -8,6 +8,7 @@ mod differing;
 mod edge_change;
 mod edge_query;
 mod edge_read;
+mod edge_row;
 mod emit;
 mod lock;
 mod machine;

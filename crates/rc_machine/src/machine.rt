@@ -16,6 +16,7 @@ use crate::Stop;
 use crate::arguments::lock_arguments;
 use crate::path_answer::answer_by_path;
 use crate::step::step;
+use crate::stripe::find_stripe;
 use crate::workspace::Workspace;
 use rc_fragment::{Holder, Reverts};
 use rc_plan::Compiled;
@@ -65,9 +66,11 @@ pub fn run_plan<H: Reverts>(
 ///
 /// The holder lends whatever the plan may name at the arguments: all stripes, or those that it has.
 ///
-/// A query that has an access path costs its Locks, and one look-up or the rows of one source. Else the costs are, for each
-/// Read and binding, a look-up or the rows of one source, on one stripe where the binding chooses it and else on each of the
-/// class; and for an Apply one change in each edge. What the workspace has is of no matter.
+/// A call of an operation that has an access path costs its Locks, which hash its tuple once for each class, and then: a query
+/// one look-up, or the rows of one source; an insert one look-up, and where it finds no row a change in each edge; a remove
+/// one look-up, and where it finds a row the removed tuple's block and a change in each edge. Other calls cost, for each Read
+/// and binding, a look-up or the rows of one source, on one stripe where the binding chooses it and else on each of the class;
+/// and for an Apply a change in each edge. What the workspace has is of no matter.
 pub fn run_statements<H: Holder>(
     compiled: &Compiled,
     call: &Call,
@@ -94,8 +97,11 @@ pub fn run_statements<H: Holder>(
     // What is compiled is accepted.
     let _ = compiled.accepted();
     let plan = compiled.plan(call.op).list();
-    lock_arguments(holder, compiled, call, plan, path.locks)?;
-    Ok(answer_by_path(holder, compiled, call, path, space)?)
+    let stripes = &mut space.class_stripes;
+    lock_arguments(holder, compiled, call, plan, path.locks, stripes)?;
+    let class = compiled.edge(path.edge).class;
+    let stripe = find_stripe(compiled, class, &call.args, stripes)?;
+    Ok(answer_by_path(holder, compiled, call, path, stripe, space)?)
 }
 
 /// Runs the statements one after another, up to the one that answers.

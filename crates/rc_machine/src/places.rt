@@ -1,6 +1,6 @@
 //! The rows of a tuple in all edges, each with the stripe on which it falls, and room for a change of each.
 
-ghost use Rattle.std.specs.Prelude.{◌≡◌, ◌==◌, ◌<◌, ◌≤◌, ◌^◌, length, map, take, count_by, IfOk, IfSome, OnOk};
+ghost use Rattle.std.specs.Prelude.{◌≡◌, ◌==◌, ◌<◌, ◌≤◌, ◌^◌, length, map, take, count_by, IfOk, OnOk};
 ghost use Rattle.rc_tuple.specs.RisingSet.{In};
 ghost use Rattle.rc_tuple.specs.Tuple.{cols_of};
 ghost use Rattle.rc_spec.specs.Acceptance.{IsSealed};
@@ -10,11 +10,11 @@ ghost use Rattle.rc_spec.specs.Placement.{class_of};
 ghost use Rattle.rc_spec.specs.Stripes.{physical_stripe};
 ghost use Rattle.rc_spec.specs.declared.spec.Spec.{Spec};
 ghost use Rattle.rc_fragment.specs.Holder.{IsHeldExclusive, held_of};
-ghost use Rattle.rc_machine.specs.Apply.{HasRoomFor, IsSameButLent, IsStripeOf, count_on, edges_with, place_in};
+ghost use Rattle.rc_machine.specs.Apply.{HasRoomFor, IsSameButLent, count_on, edges_with, place_in};
+ghost use Rattle.rc_machine.specs.Stripes.{AreStripesOf};
 ghost use Rattle.rc_machine.specs.declared.places.RowPlace.{RowPlace};
 
-use crate::stripe::stripe_of;
-use rc_bindings::Binding;
+use crate::stripe::{ClassStripe, find_stripe};
 use rc_fragment::Holder;
 use rc_plan::Compiled;
 use rc_tuple::{ColSet, Memory, Tuple};
@@ -28,35 +28,24 @@ pub(crate) struct RowPlace {
     pub(crate) row: Tuple,
 }
 
-/// A class, and the number, among all stripes, of its stripe on which a binding falls.
-#[derive(Clone, Copy, Debug)]
-pub(crate) struct ClassStripe {
-    pub(crate) class: u8,
-    pub(crate) stripe: u32,
-}
-
 /// Makes the places those of the tuple's row in each edge, with the stripe on which it falls, which is that of the tuple.
-/// The binding is the tuple in registers. Edges that follow each other are mostly of one class, whose stripe is found once.
-/// Memory is taken only where the places had room for fewer edges or columns.
+/// The stripes are those of the tuple that were found; each class's is found once. Memory is taken only where the places
+/// had room for fewer edges or columns, or the stripes for fewer classes.
 pub(crate) fn place_rows(
     compiled: &Compiled,
     tuple: &Tuple,
-    binding: &Binding,
+    stripes: &mut Vec<ClassStripe>,
     places: &mut Vec<RowPlace>,
 ) -> Result<(), Memory>
     requires sealed { IsSealed compiled.now.spec }
-    requires same { binding.now.tuple ≡ tuple.now }
-    requires wide { binding.now.width ≡ length compiled.now.spec.columns }
     requires whole { cols_of tuple.now ≡ all_columns compiled.now.spec }
+    requires stripes { AreStripesOf compiled.now.spec tuple.now stripes.old.items }
     ensures { OnOk result (places.new.items ≡ map (place_in compiled.now.spec tuple.now) (edge_numbers compiled.now.spec)) }
 {
     let edges = compiled.accepted().spec().edges.list().len();
     resize(places, edges, tuple.alloc())?;
-    let mut last = None;
     for edge in 0..edges as u8 {
-        let class = compiled.edge(edge).class;
-        let stripe = stripe_after(compiled, class, binding, last);
-        last = Some(ClassStripe { class, stripe });
+        let stripe = find_stripe(compiled, compiled.edge(edge).class, tuple, stripes)?;
         place_row(compiled, tuple, edge, stripe, &mut places[edge as usize])?;
     }
     Ok(())
@@ -68,46 +57,28 @@ pub(crate) fn place_rows_with(
     compiled: &Compiled,
     cols: ColSet,
     tuple: &Tuple,
-    binding: &Binding,
+    stripes: &mut Vec<ClassStripe>,
     places: &mut Vec<RowPlace>,
 ) -> Result<usize, Memory>
     requires sealed { IsSealed compiled.now.spec }
-    requires same { binding.now.tuple ≡ tuple.now }
-    requires wide { binding.now.width ≡ length compiled.now.spec.columns }
     requires whole { cols_of tuple.now ≡ all_columns compiled.now.spec }
+    requires stripes { AreStripesOf compiled.now.spec tuple.now stripes.old.items }
     ensures within { IfOk result (λ count. count ≤ length places.new.items) }
     ensures first { IfOk result (λ count. take count places.new.items ≡ map (place_in compiled.now.spec tuple.now) (edges_with compiled.now.spec cols)) }
 {
     let all = compiled.accepted().spec().edges.list().len();
     resize(places, all, tuple.alloc())?;
     let mut count = 0;
-    let mut last = None;
     for edge in 0..all as u8 {
         let resolved = compiled.edge(edge);
         if resolved.target.inter(cols).is_empty() {
             continue;
         }
-        let class = resolved.class;
-        let stripe = stripe_after(compiled, class, binding, last);
-        last = Some(ClassStripe { class, stripe });
+        let stripe = find_stripe(compiled, resolved.class, tuple, stripes)?;
         place_row(compiled, tuple, edge, stripe, &mut places[count])?;
         count += 1;
     }
     Ok(count)
-}
-
-/// The number, among all stripes, of the class's stripe on which the binding falls, where the last one was found before.
-fn stripe_after(compiled: &Compiled, class: u8, binding: &Binding, last: Option<ClassStripe>) -> u32
-    requires sealed { IsSealed compiled.now.spec }
-    requires known { class < length compiled.now.spec.classes }
-    requires wide { binding.now.width ≡ length compiled.now.spec.columns }
-    requires last { IfSome last (IsStripeOf compiled.now.spec binding.now.tuple) }
-    ensures { result ≡ physical_stripe compiled.now.spec class binding.now.tuple }
-{
-    match last {
-        Some(last) if last.class == class => last.stripe,
-        _ => stripe_of(compiled, class, binding),
-    }
 }
 
 /// Makes the list as long as this; new places have no row.

@@ -1,29 +1,63 @@
-//! The stripe of a class on which a binding or a tuple falls.
+//! The stripe of a class on which a tuple falls.
 
-ghost use Rattle.std.specs.Prelude.{◌≡◌, ◌<◌, length};
+ghost use Rattle.std.specs.Prelude.{◌≡◌, ◌<◌, IfOk, IfSome, length};
+ghost use Rattle.rc_tuple.specs.RisingSet.{In};
 ghost use Rattle.rc_tuple.specs.ColSet.{Within};
 ghost use Rattle.rc_tuple.specs.Tuple.{cols_of};
 ghost use Rattle.rc_spec.specs.Acceptance.{IsSealed};
 ghost use Rattle.rc_spec.specs.Placement.{class_at};
 ghost use Rattle.rc_spec.specs.Stripes.{hash_of, physical_stripe};
+ghost use Rattle.rc_machine.specs.Stripes.{AreStripesOf};
+ghost use Rattle.rc_machine.specs.declared.stripe.ClassStripe.{ClassStripe};
 
-use rc_bindings::Binding;
 use rc_plan::Compiled;
 use rc_spec::mix;
-use rc_tuple::{ColSet, Tuple};
+use rc_tuple::{ColSet, Memory, Tuple};
 
-/// The number, among all stripes, of the class's stripe on which the binding falls.
-pub(crate) fn stripe_of(compiled: &Compiled, class: u8, binding: &Binding) -> u32
+/// A class, and the number, among all stripes, of its stripe on which a tuple falls.
+#[derive(Clone, Copy, Debug)]
+pub(crate) struct ClassStripe {
+    pub(crate) class: u8,
+    pub(crate) stripe: u32,
+}
+
+/// The number, among all stripes, of the class's stripe on which the tuple falls, which has the class's columns. The list
+/// has those that were found of the tuple before, and keeps this one: a class is hashed once.
+pub(crate) fn find_stripe(
+    compiled: &Compiled,
+    class: u8,
+    tuple: &Tuple,
+    stripes: &mut Vec<ClassStripe>,
+) -> Result<u32, Memory>
     requires sealed { IsSealed compiled.now.spec }
     requires known { class < length compiled.now.spec.classes }
-    requires wide { binding.now.width ≡ length compiled.now.spec.columns }
-    ensures { result ≡ physical_stripe compiled.now.spec class binding.now.tuple }
+    requires within { Within (class_at compiled.now.spec class).cols (cols_of tuple.now) }
+    requires stripes { AreStripesOf compiled.now.spec tuple.now stripes.old.items }
+    ensures stripe { IfOk result (λ stripe. stripe ≡ physical_stripe compiled.now.spec class tuple.now) }
+    ensures stripes { AreStripesOf compiled.now.spec tuple.now stripes.new.items }
 {
-    compiled.band_start(class) + binding.stripe_of(compiled.class(class))
+    if let Some(stripe) = stripe_in(stripes, class) {
+        return Ok(stripe);
+    }
+    let stripe = tuple_stripe(compiled, class, tuple);
+    stripes.push(ClassStripe { class, stripe })?;
+    Ok(stripe)
+}
+
+/// The stripe of the class that the list has, if it has one.
+fn stripe_in(stripes: &[ClassStripe], class: u8) -> Option<u32>
+    ensures { IfSome result (λ stripe. (s : ClassStripe) × In s stripes.now × (s.class ≡ class) × (s.stripe ≡ stripe)) }
+{
+    for found in stripes {
+        if found.class == class {
+            return Some(found.stripe);
+        }
+    }
+    None
 }
 
 /// The number, among all stripes, of the class's stripe on which the tuple falls, which has the class's columns.
-pub(crate) fn tuple_stripe(compiled: &Compiled, class: u8, tuple: &Tuple) -> u32
+fn tuple_stripe(compiled: &Compiled, class: u8, tuple: &Tuple) -> u32
     requires sealed { IsSealed compiled.now.spec }
     requires known { class < length compiled.now.spec.classes }
     requires within { Within (class_at compiled.now.spec class).cols (cols_of tuple.now) }

@@ -1,13 +1,8 @@
-use Rattle.std.proofs.Common.{◌<◌, ◌++◌, ◌∷◌, [], ap, get_or, subst, sym, take, ◌∙◌, map}
-use Rattle.rc_tuple.specs.MergeLaws.{project_all}
-use Rattle.rc_tuple.specs.RisingSet.{In}
-use Rattle.rc_tuple.specs.Tuple.{project}
-use Rattle.rc_tuple.specs.TupleLaws.{rising_pairs}
-use Rattle.rc_bindings.specs.Bindings.{BindingList}
+use Rattle.std.proofs.Common.{ap, subst, sym, take, ◌∙◌, map}
 use Rattle.rc_machine.specs.Applied.{CanApply}
 use Rattle.rc_machine.specs.Apply.{place_in}
 use Rattle.rc_machine.proofs.PlacedLemmas.{placed_changed}
-use Rattle.rc_machine.proofs.StripeLemmas.{all_below}
+use Rattle.rc_machine.proofs.StripeLemmas.{no_stripes}
 use Rattle.rc_spec.specs.CountedRows.{raised}
 use Rattle.rc_spec.specs.Fragments.{edge_numbers}
 use Rattle.rc_fragment.specs.Holder.{held_of, reverted}
@@ -26,15 +21,8 @@ returns-in_err-add_rows-in-Insert-clause-alike g c =
 pub returns-in-Remove-clause-alike : goal.returns-in-Remove-clause-alike
 returns-in-Remove-clause-alike g c = on_err c.remove_least.result (ap (map reverted)) c.remove_least.ensures.err
 
--- what Insert adds has all columns
-pub begin-requires : goal.begin-requires
-begin-requires g c n m = subst (λ w. n < w) (sym c.requires.wide.found) (all_below c.args.compiled.now.spec n (subst (In n) (c.cols.ensures.cols ∙ (subst (λ k. CanApply c.args.compiled.now.spec k c.args.args.now c.args.space.now.old_tuple c.args.space.now.bindings.tuples (held_of (g.H.Holder.seen c.args.holder.now))) c.in-Insert.is c.requires.can).whole) m))
-
-pub add_rows-requires-clause-same : goal.add_rows-requires-clause-same
-add_rows-requires-clause-same g c =
-    c.get.ensures.tuple ∙ ap (λ (z : BindingList). get_or z.tuples 0 []) (c.in_ok-push_projection-in-Insert.ensures.ok)
-    ∙ ap (λ (z : BindingList). get_or (z.tuples ++ project z.columns c.args.args.now ∷ []) 0 []) c.begin.ensures
-    ∙ project_all c.cols.result c.args.args.now (rising_pairs c.args.args.now c.cols.ensures.tuple) (λ n m. subst (In n) (sym c.cols.ensures.cols) m)
+pub add_rows-requires-clause-stripes : goal.add_rows-requires-clause-stripes
+add_rows-requires-clause-stripes g c = no_stripes c.args.compiled.now.spec c.args.args.now _ c.clear.ensures.items
 
 pub replace_old-requires-clause-can : goal.replace_old-requires-clause-can
 replace_old-requires-clause-can g c = subst (λ k. CanApply c.args.compiled.now.spec k c.args.args.now c.args.space.now.old_tuple c.args.space.now.bindings.tuples (held_of (g.H.Holder.seen c.args.holder.now))) c.in-Update.is c.requires.can

@@ -1,18 +1,13 @@
-use Rattle.std.proofs.Common.{◌≡◌, ◌<◌, ◌++◌, ◌∷◌, [], List, ap, get_or, subst, sym, take, ◌∙◌, map}
-use Rattle.rc_tuple.specs.MergeLaws.{project_all}
-use Rattle.rc_tuple.specs.RisingSet.{In}
-use Rattle.rc_tuple.specs.Tuple.{project}
-use Rattle.rc_tuple.specs.TupleLaws.{rising_pairs}
+use Rattle.std.proofs.Common.{◌≡◌, List, ap, subst, sym, take, ◌∙◌, map}
 use Rattle.rc_spec.specs.CountedRows.{lowered, raised}
 use Rattle.rc_fragment.specs.Fragment.{edge_table}
 use Rattle.rc_fragment.specs.Holder.{HeldStripe, Holding, held_of, reverted}
-use Rattle.rc_bindings.specs.Bindings.{BindingList}
 use Rattle.rc_machine.specs.Apply.{CanAdd, CanSub, all_changed, all_placed, edges_with, has_column, place_in}
 use Rattle.rc_machine.proofs.PlacedLemmas.{can_sub_in, each_place, few_places, placed_changed, places_rise, some_edges}
 use Rattle.rc_machine.proofs.ReadLemmas.{at_err, on_ok}
 use Rattle.rc_machine.proofs.RevertLemmas.{taken_alike}
 use Rattle.rc_machine.proofs.SharedLemmas.{can_add_kept, same_row, skipped_stay}
-use Rattle.rc_machine.proofs.StripeLemmas.{all_below}
+use Rattle.rc_machine.proofs.StripeLemmas.{no_stripes}
 use Rattle.rc_machine.proofs.apply.replace.Given.{Over}
 use Rattle.rc_machine.proofs.apply.replace.Goals.{After-deref, After-deref-2, In_ok-sub_placed}
 use Rattle.rc_machine.proofs.apply.replace.Goals as goal
@@ -33,14 +28,8 @@ out g c =
     c.in_ok-sub_placed.ensures.ok ∙ ap (λ ps. all_placed lowered ps held) (ap (take c.in_ok-gone.gone) c.deref.ensures.value ∙ c.in_ok-gone.ensures.first)
     ∙ placed_changed lowered spec c.args.old.now (edges_with spec c.differing-cols.result) held
 
-pub begin-requires : goal.begin-requires
-begin-requires g c n m = subst (λ w. n < w) (sym c.requires.wide) (all_below c.args.compiled.now.spec n (subst (In n) (c.cols.ensures.cols ∙ c.requires.can.out.whole) m))
-
-pub place_rows_with-requires-clause-same : goal.place_rows_with-requires-clause-same
-place_rows_with-requires-clause-same g c =
-    c.get.ensures.tuple ∙ ap (λ (z : BindingList). get_or z.tuples 0 []) (c.in_ok-push_projection.ensures.ok)
-    ∙ ap (λ (z : BindingList). get_or (z.tuples ++ project z.columns c.args.old.now ∷ []) 0 []) c.begin.ensures
-    ∙ project_all c.cols.result c.args.old.now (rising_pairs c.args.old.now c.cols.ensures.tuple) (λ n m. subst (In n) (sym c.cols.ensures.cols) m)
+pub place_rows_with-requires-clause-stripes : goal.place_rows_with-requires-clause-stripes
+place_rows_with-requires-clause-stripes g c = no_stripes c.args.compiled.now.spec c.args.old.now _ c.clear.ensures.items
 
 pub sub_placed-requires-clause-few : goal.sub_placed-requires-clause-few
 sub_placed-requires-clause-few g c =
@@ -63,22 +52,10 @@ sub_placed-requires-clause-can g c =
     (λ e m. subst (λ z. CanSub z (held_of s) (place_in spec c.args.old.now e)) (sym c.requires.table)
     (can_sub_in spec c.args.old.now (held_of s) c.requires.can.out e ((some_edges spec (has_column spec cols)).known e m)))
 
-pub begin-requires-2 : goal.begin-requires-2
-begin-requires-2 g c n m =
-    subst (λ w. n < w) (sym (ap (λ (z : BindingList). z.width) c.in_ok-push_projection.ensures.ok ∙ ap (λ (z : BindingList). z.width) c.begin.ensures ∙ c.requires.wide))
-    (all_below c.args.compiled.now.spec n (subst (In n) (c.cols-2.ensures.cols ∙ c.requires.can.put.whole) m))
+pub place_rows_with-requires-2-clause-stripes : goal.place_rows_with-requires-2-clause-stripes
+place_rows_with-requires-2-clause-stripes g c = no_stripes c.args.compiled.now.spec c.args.args.now _ c.clear-2.ensures.items
 
 -- the rows as taken stay, whatever was taken out
-pub returns-in_err-push_projection-2-clause-alike : goal.returns-in_err-push_projection-2-clause-alike
-returns-in_err-push_projection-2-clause-alike g c =
-    at_err _ (ap (map reverted) c.in_ok-sub_placed.ensures.ok ∙ taken_alike lowered (take c.in_ok-gone.gone c.deref.result.now) (held_of (g.H.Holder.seen c.args.holder.now)))
-
-pub place_rows_with-requires-2-clause-same : goal.place_rows_with-requires-2-clause-same
-place_rows_with-requires-2-clause-same g c =
-    c.get-2.ensures.tuple ∙ ap (λ (z : BindingList). get_or z.tuples 0 []) (c.in_ok-push_projection-2.ensures.ok)
-    ∙ ap (λ (z : BindingList). get_or (z.tuples ++ project z.columns c.args.args.now ∷ []) 0 []) c.begin-2.ensures
-    ∙ project_all c.cols-2.result c.args.args.now (rising_pairs c.args.args.now c.cols-2.ensures.tuple) (λ n m. subst (In n) (sym c.cols-2.ensures.cols) m)
-
 pub returns-in_err-come-clause-alike : goal.returns-in_err-come-clause-alike
 returns-in_err-come-clause-alike g c =
     at_err _ (ap (map reverted) c.in_ok-sub_placed.ensures.ok ∙ taken_alike lowered (take c.in_ok-gone.gone c.deref.result.now) (held_of (g.H.Holder.seen c.args.holder.now)))

@@ -1,5 +1,6 @@
-use Rattle.std.proofs.Common.{◌≡◌, ◌+◌, ◌∷◌, ◌++◌, [], ℕ, None, List, Err, drop, get_or, map, take, true, refl, sym, ap, subst, ◌∙◌, inl, arith, add-one}
+use Rattle.std.proofs.Common.{◌≡◌, ◌+◌, ◌∷◌, ◌++◌, [], ℕ, None, List, Err, drop, get_or, take, true, refl, sym, ap, subst, ◌∙◌, inl, arith, add-one}
 use Rattle.std.proofs.Math.Seq.{take-suc}
+use Rattle.std.proofs.lemmas.Bool.{false≢true}
 use Rattle.std.proofs.lemmas.List.{map-append}
 use Rattle.rc_tuple.specs.RisingSet.{In}
 use Rattle.rc_spec.specs.Stripes.{physical_stripe}
@@ -13,11 +14,13 @@ use Rattle.rc_plan.specs.declared.statement.Statement.{Statement}
 use Rattle.rc_plan.specs.declared.statement.Statement.TheVariants.{Lock}
 use Rattle.rc_plan.specs.declared.statement.Which.{Which}
 use Rattle.rc_plan.specs.declared.statement.Which.TheVariants.{Keyed}
-use Rattle.rc_machine.specs.Access.{argument_stripe}
+use Rattle.rc_machine.specs.Access.{AreLockedFor}
 use Rattle.rc_machine.specs.Machine.{stripes_held}
 use Rattle.rc_machine.specs.Run.{IsAt}
+use Rattle.rc_machine.proofs.AccessRunLemmas.{one_lock_more}
 use Rattle.rc_machine.proofs.GoLemmas.{at_is, lock_named, lock_refused, locked_told, refused_since, still_taken}
 use Rattle.rc_machine.proofs.StepLemmas.{begins, lock_above, lock_step}
+use Rattle.rc_machine.proofs.StripeLemmas.{no_stripes}
 use Rattle.rc_machine.proofs.arguments.lock_arguments.Given.{Over}
 use Rattle.rc_machine.proofs.arguments.lock_arguments.Goals.{In-loop-at}
 use Rattle.rc_machine.proofs.arguments.lock_arguments.Goals as goal
@@ -45,7 +48,8 @@ loop-at-init g c =
     let plan : List Statement = c.args.plan.now in
     record {
       run = subst (λ (z : List HeldStripe). IsAt spec plan c.args.call.now plan (c.args.call.now.args ∷ []) None z) (sym c.requires.free) (begins spec c.requires.sealed plan c.args.call.now c.requires.fits c.requires.planned);
-      held = ap stripes_held c.requires.free;
+      held = λ class e. absurd (false≢true e);
+      stripes = no_stripes spec c.args.call.now.args _ c.clear.ensures.items;
       taken = λ h m. absurd (subst (In h) c.requires.free m);
       counted = refl;
       goes_on = goes_on_same (g.H.Holder.seen c.args.holder.now);
@@ -113,13 +117,21 @@ loop-at-preserved g c =
     let within = c.requires.within in
     let next : take (c.loop-at.at + 1) plan ≡ take c.loop-at.at plan ++ x ∷ [] =
     ap (λ k. take k plan) (add-one c.loop-at.at) ∙ take-suc plan c.loop-at.at _ (omega (arith, test, within)) ∙ ap (λ z. take c.loop-at.at plan ++ z ∷ []) (keyed_lock spec (cols_of c.args.call.now.args) _ _ _ _ c.in-Lock.is (first g at _)) in
+    let more : stripes_held (held_of new) ≡ stripes_held (held_of old) ++ physical_stripe spec c.in-Lock.class c.args.call.now.args ∷ [] =
+    ap stripes_held ok.ok.beside ∙ map-append (λ (h : HeldStripe). h.stripe) (held_of old) ok.ok.more ∙ ap (λ z. stripes_held (held_of old) ++ z) ok.ok.stripes_are in
     record {
       run = lock_step spec c.requires.sealed plan c.args.call.now _ _ _ _ _ _ _ (starts g at _ _ _ _ c.in-Lock.is) _ _ ok.ok;
-      held = ap stripes_held ok.ok.beside ∙ map-append (λ (h : HeldStripe). h.stripe) (held_of old) ok.ok.more ∙ ap (λ z. stripes_held (held_of old) ++ z) ok.ok.stripes_are
-          ∙ ap (λ z. z ++ physical_stripe spec c.in-Lock.class c.args.call.now.args ∷ []) c.loop-at.invariant.held
-          ∙ sym (ap (map (argument_stripe spec c.args.call.now.args)) next ∙ map-append (argument_stripe spec c.args.call.now.args) (take c.loop-at.at plan) (x ∷ []));
+      held = subst (λ first. AreLockedFor spec c.args.call.now.args first (stripes_held (held_of new))) (sym next)
+          (subst (AreLockedFor spec c.args.call.now.args (take c.loop-at.at plan ++ x ∷ [])) (sym more)
+          (one_lock_more spec c.args.call.now.args (take c.loop-at.at plan) c.in-Lock.class Keyed c.in-Lock.mode (stripes_held (held_of old)) c.loop-at.invariant.held));
+      stripes = ok.stripes;
       taken = locked_told old new _ c.in-Lock.mode ok.ok ok.goes_on c.loop-at.invariant.taken;
       counted = ok.counted spec (c.loop-at.invariant.sound spec c.requires.sound) ∙ c.loop-at.invariant.counted;
       goes_on = goes_on_again begun old new c.loop-at.invariant.goes_on ok.goes_on;
       sound = λ s h. ok.sound s (c.loop-at.invariant.sound s h);
     }
+
+pub returns-clause-held : goal.returns-clause-held
+returns-clause-held g c =
+    let all : c.loop-at.at ≡ c.args.locks = let end = c.loop-at-test.false in omega (arith, end) in
+    subst (λ n. AreLockedFor c.args.compiled.now.spec c.args.call.now.args (take n c.args.plan.now) (stripes_held (held_of (g.H.Holder.seen c.loop-at.holder)))) all c.loop-at.invariant.held

@@ -1,15 +1,17 @@
-use Rattle.std.proofs.Common.{◌≡◌, ◌∷◌, [], None, drop, map, take}
+use Rattle.std.proofs.Common.{◌≡◌, ◌∷◌, [], None, drop, take}
 use Rattle.rc_spec.specs.declared.spec.Spec.{Spec}
 use Rattle.rc_fragment.specs.Holder.{GoesOn, held_of}
-use Rattle.rc_machine.specs.Access.{argument_stripe}
+use Rattle.rc_machine.specs.Access.{AreLockedFor}
 use Rattle.rc_machine.specs.Machine.{AreTakenAsOffered, stripes_held}
 use Rattle.rc_machine.specs.Run.{IsAt}
+use Rattle.rc_machine.specs.Stripes.{AreStripesOf}
 use Rattle.rc_machine.proofs.arguments.lock_arguments.Given as goal
 
 abbrev pub invariant-loop-at : goal.invariant-loop-at
 invariant-loop-at g l = record {
   run : IsAt l.compiled.spec l.plan l.call (drop l.at l.plan) (l.call.args ∷ []) None (held_of (g.H.Holder.seen l.holder));
-  held : stripes_held (held_of (g.H.Holder.seen l.holder)) ≡ map (argument_stripe l.compiled.spec l.call.args) (take l.at l.plan);
+  held : AreLockedFor l.compiled.spec l.call.args (take l.at l.plan) (stripes_held (held_of (g.H.Holder.seen l.holder)));
+  stripes : AreStripesOf l.compiled.spec l.call.args l.stripes.items;
   taken : AreTakenAsOffered (g.H.Holder.seen l.holder);
   counted : (g.H.Holder.seen l.holder).refusals ≡ (g.H.Holder.seen l.fn.holder).refusals;
   goes_on : GoesOn (g.H.Holder.seen l.fn.holder) (g.H.Holder.seen l.holder);

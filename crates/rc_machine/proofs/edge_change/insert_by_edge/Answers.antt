@@ -1,69 +1,77 @@
-use Rattle.std.proofs.Common.{subst, sym, ◌∙◌}
-use Rattle.rc_tuple.specs.RisingSet.{In}
+use Rattle.std.proofs.Common.{◌∙◌, None, refl, subst, sym, [], Option, List, ℕ}
+use Rattle.std.specs.Option.{option_copied}
+use Rattle.rc_spec.specs.Decomposition.{edge_at}
+use Rattle.rc_spec.specs.declared.call.Reply.TheVariants.{Inserted}
 use Rattle.rc_spec.specs.declared.items.OpKind.TheVariants.{Insert}
+use Rattle.rc_spec.specs.declared.spec.Spec.{Spec}
+use Rattle.rc_fragment.specs.Fragment.{shape_of}
 use Rattle.rc_fragment.specs.Holder.{AreOfOneRelation, held_of}
-use Rattle.rc_plan.specs.Compiled.{plan_at}
-use Rattle.rc_machine.proofs.EdgeChangeLemmas.{can_insert, first_of, given_in_args, given_readers, insert_replies, insert_row, none_of, present_replies, told_either}
-use Rattle.rc_machine.proofs.ReadLemmas.{if_ok}
-use Rattle.rc_machine.proofs.ReadStepLemmas.{good_stripes}
-use Rattle.rc_machine.proofs.StripeLemmas.{args_below}
+use Rattle.rc_machine.specs.Access.{IsRowFound}
+use Rattle.rc_machine.proofs.EdgeChangeLemmas.{can_insert, insert_replies, present_replies, raised_alike, unanswered}
+use Rattle.rc_machine.proofs.EdgeRowLemmas.{nothing_told, values_told}
+use Rattle.rc_machine.proofs.GoLemmas.{applied_told, told_alike}
+use Rattle.rc_machine.proofs.LentLemmas.{lent_goes_on}
+use Rattle.rc_machine.proofs.ReadLemmas.{is_held}
 use Rattle.rc_machine.proofs.edge_change.insert_by_edge.Given.{Over}
-use Rattle.rc_machine.proofs.edge_change.insert_by_edge.Goals.{Start}
+use Rattle.rc_machine.proofs.edge_change.insert_by_edge.Goals.{Else-is_some, In_ok-find_row, Start}
 use Rattle.rc_machine.proofs.edge_change.insert_by_edge.Goals as goal
 
 -- what is held, as taken, is of one relation
 one : (g : Over) (c : Start g) → AreOfOneRelation c.args.compiled.now.spec (held_of (g.H.Holder.seen c.args.holder.now))
 one g c = g.met.H.Holder.sound_rows c.args.holder.now c.args.compiled.now.spec c.requires.sound
 
-pub find_given-requires-clause-good : goal.find_given-requires-clause-good
-find_given-requires-clause-good g c =
-    let r = one g (goal.at.find_given-requires-clause-good g c).Start in
-    good_stripes c.args.compiled.now.spec c.requires.sealed (held_of (g.H.Holder.seen c.args.holder.now)) c.requires.locked.run.unchanged r.0 r.1
+-- what was looked up, as the edge's
+abbrev IsLooked : (g : Over) (c : In_ok-find_row g) → Option (List ℕ) → Type 0
+IsLooked g c found = IsRowFound (shape_of c.args.compiled.now.spec (edge_at c.args.compiled.now.spec c.args.path.edge)) c.fragment-fragment.result.now.now c.args.path.edge c.args.call.now.args found
 
-pub find_given-requires-clause-given : goal.find_given-requires-clause-given
-find_given-requires-clause-given g c =
+looked : (g : Over) (c : In_ok-find_row g) → IsLooked g c (option_copied c.in_ok-find_row.field-0)
+looked g c =
     let spec = c.args.compiled.now.spec in
-    let r = one g (goal.at.find_given-requires-clause-given g c).Start in
-    given_in_args spec c.requires.sealed c.args.call.now c.requires.fits (plan_at c.args.compiled.now.plans c.args.call.now.op) c.args.path c.requires.locked.path
-    (insert_row c.args.compiled.now c.requires.sealed c.args.call.now c.requires.fits c.requires.planned c.args.path _ c.requires.locked r c.requires.insert).given
+    let rows = c.fragment-fragment.result.now.now in
+    let found = option_copied c.in_ok-find_row.field-0 in
+    subst (λ e. IsRowFound (shape_of spec (edge_at spec e)) rows e c.args.call.now.args found) c.of-read.ensures.edge
+    (subst (λ (s : Spec). IsRowFound (shape_of s (edge_at s c.of-read.result.edge)) rows c.of-read.result.edge c.args.call.now.args found) c.of-read.ensures.spec c.in_ok-find_row.ensures)
 
-pub find_given-requires-clause-below : goal.find_given-requires-clause-below
-find_given-requires-clause-below g c = args_below c.args.compiled.now.spec c.requires.sealed c.args.call.now c.requires.fits
+nowhere : (g : Over) (c : Else-is_some g) → IsLooked g c.before.before.before None
+nowhere g c = subst (IsLooked g c.before.before.before) (nothing_told c.in_ok-find_row.field-0 (sym c.is_some.ensures ∙ c.if-is_some.false)) (looked g c.before.before.before)
 
-pub find_given-requires-clause-readers : goal.find_given-requires-clause-readers
-find_given-requires-clause-readers g c =
-    let spec = c.args.compiled.now.spec in
-    let r = one g (goal.at.find_given-requires-clause-readers g c).Start in
-    given_readers spec c.requires.sealed c.args.call.now c.requires.fits (plan_at c.args.compiled.now.plans c.args.call.now.op) c.args.path c.requires.locked.path
-    (insert_row c.args.compiled.now c.requires.sealed c.args.call.now c.requires.fits c.requires.planned c.args.path _ c.requires.locked r c.requires.insert).given (held_of (g.H.Holder.seen c.args.holder.now)) c.requires.locked.stripe
+pub fragment-fragment-requires : goal.fragment-fragment-requires
+fragment-fragment-requires g c = is_held (held_of (g.H.Holder.seen c.args.holder.now)) c.args.stripe c.requires.locked.held
 
-pub apply-requires-clause-can : goal.apply-requires-clause-can
-apply-requires-clause-can g c =
-    let r = one g (goal.at.apply-requires-clause-can g c).Start in
-    can_insert c.args.compiled.now c.requires.sealed c.args.call.now c.requires.fits c.requires.planned c.args.path (held_of (g.H.Holder.seen c.args.holder.now)) c.requires.locked r c.requires.insert
-    (sym c.in_ok-find_given.ensures.found ∙ none_of c.find_given.new.space.bindings.tuples (sym c.is_empty.ensures ∙ c.if-not-is_empty.false))
+pub returns-then-is_some-clause-answered : goal.returns-then-is_some-clause-answered
+returns-then-is_some-clause-answered g c =
+    let at = goal.at.returns-then-is_some-clause-answered g c in
+    let told = values_told c.in_ok-find_row.field-0 (sym c.is_some.ensures ∙ c.if-is_some.true) in
+    record {
+      answered = present_replies c.args.compiled.now c.args.call.now c.args.path c.args.stripe (g.H.Holder.seen c.args.holder.now) c.requires.locked (one g at.Start) c.requires.insert c.fragment-fragment.result.now c.fragment-fragment.ensures told.0
+          (subst (IsLooked g at.In_ok-find_row) told.1 (looked g at.In_ok-find_row));
+      taken = c.requires.locked.taken;
+      lent = refl;
+    }
 
-pub returns-then-not-is_empty-clause-answered : goal.returns-then-not-is_empty-clause-answered
-returns-then-not-is_empty-clause-answered g c =
-    let r = one g (goal.at.returns-then-not-is_empty-clause-answered g c).Start in
-    let b = first_of c.find_given.new.space.bindings.tuples (sym c.is_empty.ensures ∙ c.if-not-is_empty.true) in
-    present_replies c.args.compiled.now c.requires.sealed c.args.call.now c.requires.fits c.requires.planned c.args.path (held_of (g.H.Holder.seen c.args.holder.now)) c.requires.locked r c.requires.insert b.0
-    (subst (In b.0) c.in_ok-find_given.ensures.found b.1)
+pub add_rows-requires-clause-can : goal.add_rows-requires-clause-can
+add_rows-requires-clause-can g c =
+    let at = goal.at.add_rows-requires-clause-can g c in
+    can_insert c.args.compiled.now c.args.call.now c.args.path c.args.stripe (g.H.Holder.seen c.args.holder.now) c.requires.locked (one g at.Start) c.requires.insert c.fragment-fragment.result.now c.fragment-fragment.ensures (nowhere g at.Else-is_some)
+
+pub returns-in_err-add_rows-clause-answered : goal.returns-in_err-add_rows-clause-answered
+returns-in_err-add_rows-clause-answered g c =
+    let old = g.H.Holder.seen c.args.holder.now in
+    let new = g.H.Holder.seen c.add_rows.new.holder in
+    let failed = c.in_err-add_rows.ensures in
+    unanswered c.args.compiled.now c.args.call.now old new c.from_residual-in_err-add_rows.result c.from_residual-in_err-add_rows.ensures.0
+    (told_alike old new (lent_goes_on old new failed.lent) (raised_alike c.args.compiled.now.spec c.args.call.now.args failed.some.0 (held_of old) (held_of new) failed.some.1) c.requires.locked.taken) failed.lent
 
 pub returns-clause-answered : goal.returns-clause-answered
 returns-clause-answered g c =
+    let at = goal.at.returns-clause-answered g c in
     let spec = c.args.compiled.now.spec in
-    let held = held_of (g.H.Holder.seen c.args.holder.now) in
-    let new = held_of (g.H.Holder.seen c.apply.new.holder) in
-    let r = one g (goal.at.returns-clause-answered g c).Start in
-    if_ok c.apply.result
-    (λ reply applied.
-    insert_replies c.args.compiled.now c.requires.sealed c.args.call.now c.requires.fits c.requires.planned c.args.path held c.requires.locked r c.requires.insert
-    (sym c.in_ok-find_given.ensures.found ∙ none_of c.find_given.new.space.bindings.tuples (sym c.is_empty.ensures ∙ c.if-not-is_empty.false)) c.find_given.new.space.bindings.tuples new reply applied
-    (g.met.H.Holder.sound_rows c.apply.new.holder spec (c.apply.ensures.sound spec c.requires.sound)))
-    c.apply.ensures.ok
-
-pub returns-clause-taken : goal.returns-clause-taken
-returns-clause-taken g c =
-    told_either c.args.compiled.now.spec Insert c.args.call.now.args c.find_given.new.space.old_tuple c.find_given.new.space.bindings.tuples (g.H.Holder.seen c.args.holder.now) (g.H.Holder.seen c.apply.new.holder) c.apply.result
-    c.apply.ensures.ok c.apply.ensures.alike c.apply.ensures.lent c.requires.taken
+    let old = g.H.Holder.seen c.args.holder.now in
+    let new = g.H.Holder.seen c.add_rows.new.holder in
+    let added = c.in_ok-add_rows.ensures in
+    record {
+      answered = insert_replies c.args.compiled.now c.args.call.now c.args.path c.args.stripe (g.H.Holder.seen c.args.holder.now) c.requires.locked (one g at.Start) c.requires.insert c.fragment-fragment.result.now c.fragment-fragment.ensures (nowhere g at.Else-is_some)
+          (held_of new) added.ok (g.met.H.Holder.sound_rows c.add_rows.new.holder spec (added.sound spec c.requires.sound));
+      taken = applied_told spec Insert c.args.call.now.args None [] old new Inserted (refl, added.ok) (lent_goes_on old new added.lent) c.requires.locked.taken;
+      lent = added.lent;
+    }

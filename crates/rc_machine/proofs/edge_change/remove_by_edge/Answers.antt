@@ -1,64 +1,105 @@
-use Rattle.std.proofs.Common.{List, subst}
-use Rattle.rc_tuple.specs.RisingSet.{In}
-use Rattle.rc_tuple.specs.Tuple.{Pairs}
+use Rattle.std.proofs.Common.{◌≡◌, ◌∷◌, ◌∙◌, None, Option, Some, ap, map, refl, subst, sym, []}
+use Rattle.rc_tuple.specs.Tuple.{Pairs, cols_of}
+use Rattle.rc_spec.specs.Calls.{all_columns}
+use Rattle.rc_spec.specs.CallsLaws.{fits_at_op}
+use Rattle.rc_spec.specs.Decomposition.{bound, edge_at, source_and_key}
+use Rattle.rc_spec.specs.declared.call.Reply.TheVariants.{Removed}
 use Rattle.rc_spec.specs.declared.items.OpKind.TheVariants.{Remove}
-use Rattle.rc_fragment.specs.Holder.{AreOfOneRelation, held_of}
-use Rattle.rc_plan.specs.Compiled.{plan_at}
-use Rattle.rc_machine.specs.Applied.{HasRemoved}
-use Rattle.rc_machine.proofs.EdgeChangeLemmas.{can_remove, given_in_args, given_readers, remove_replies, remove_row, told_either}
-use Rattle.rc_machine.proofs.ReadLemmas.{if_ok}
-use Rattle.rc_machine.proofs.ReadStepLemmas.{good_stripes}
-use Rattle.rc_machine.proofs.StripeLemmas.{args_below}
+use Rattle.rc_spec.specs.declared.spec.Spec.{Spec}
+use Rattle.rc_fragment.specs.Fragment.{shape_of}
+use Rattle.rc_fragment.specs.Holder.{AreOfOneRelation, held_of, reverted}
+use Rattle.rc_machine.specs.Access.{IsTupleFound}
+use Rattle.rc_machine.proofs.AccessRunLemmas.{lent_over}
+use Rattle.rc_machine.proofs.EdgeChangeLemmas.{absent_replies, can_remove, remove_given, remove_whole, removed_replies, stripes_of_removed, unanswered}
+use Rattle.rc_machine.proofs.GoLemmas.{applied_told, told_alike}
+use Rattle.rc_machine.proofs.LentLemmas.{lent_goes_on}
+use Rattle.rc_machine.proofs.ReadLemmas.{is_held}
 use Rattle.rc_machine.proofs.edge_change.remove_by_edge.Given.{Over}
-use Rattle.rc_machine.proofs.edge_change.remove_by_edge.Goals.{Start}
+use Rattle.rc_machine.proofs.edge_change.remove_by_edge.Goals.{In-Some, In_ok-removed, Start}
 use Rattle.rc_machine.proofs.edge_change.remove_by_edge.Goals as goal
 
 -- what is held, as taken, is of one relation
 one : (g : Over) (c : Start g) → AreOfOneRelation c.args.compiled.now.spec (held_of (g.H.Holder.seen c.args.holder.now))
 one g c = g.met.H.Holder.sound_rows c.args.holder.now c.args.compiled.now.spec c.requires.sound
 
-pub find_given-requires-clause-good : goal.find_given-requires-clause-good
-find_given-requires-clause-good g c =
-    let r = one g (goal.at.find_given-requires-clause-good g c).Start in
-    good_stripes c.args.compiled.now.spec c.requires.sealed (held_of (g.H.Holder.seen c.args.holder.now)) c.requires.locked.run.unchanged r.0 r.1
+-- what was found, as the edge's
+abbrev IsLooked : (g : Over) (c : In_ok-removed g) → Option Pairs → Type 0
+IsLooked g c found = IsTupleFound (shape_of c.args.compiled.now.spec (edge_at c.args.compiled.now.spec c.args.path.edge)) c.fragment-fragment.result.now.now c.args.path.edge c.args.call.now.args found
 
-pub find_given-requires-clause-given : goal.find_given-requires-clause-given
-find_given-requires-clause-given g c =
+looked : (g : Over) (c : In_ok-removed g) → IsLooked g c c.in_ok-removed.field-0
+looked g c =
     let spec = c.args.compiled.now.spec in
-    let r = one g (goal.at.find_given-requires-clause-given g c).Start in
-    given_in_args spec c.requires.sealed c.args.call.now c.requires.fits (plan_at c.args.compiled.now.plans c.args.call.now.op) c.args.path c.requires.locked.path
-    (remove_row c.args.compiled.now c.requires.sealed c.args.call.now c.requires.fits c.requires.planned c.args.path _ c.requires.locked r c.requires.remove).given
+    let rows = c.fragment-fragment.result.now.now in
+    let found = c.in_ok-removed.field-0 in
+    subst (λ e. IsTupleFound (shape_of spec (edge_at spec e)) rows e c.args.call.now.args found) c.of-read.ensures.edge
+    (subst (λ (s : Spec). IsTupleFound (shape_of s (edge_at s c.of-read.result.edge)) rows c.of-read.result.edge c.args.call.now.args found) c.of-read.ensures.spec c.in_ok-removed.ensures)
 
-pub find_given-requires-clause-below : goal.find_given-requires-clause-below
-find_given-requires-clause-below g c = args_below c.args.compiled.now.spec c.requires.sealed c.args.call.now c.requires.fits
+removed : (g : Over) (c : In-Some g) → IsLooked g c.before (Some c.in-Some.removed)
+removed g c = subst (IsLooked g c.before) c.in-Some.is (looked g c.before)
 
-pub find_given-requires-clause-readers : goal.find_given-requires-clause-readers
-find_given-requires-clause-readers g c =
+pub fragment-fragment-requires : goal.fragment-fragment-requires
+fragment-fragment-requires g c = is_held (held_of (g.H.Holder.seen c.args.holder.now)) c.args.stripe c.requires.locked.held
+
+pub find_tuple-requires-clause-columns : goal.find_tuple-requires-clause-columns
+find_tuple-requires-clause-columns g c w m =
+    subst (λ (s : Spec). cols_of w.1 ≡ bound s (edge_at s w.0).to) (sym c.of-read.ensures.spec)
+    (lent_over c.args.compiled.now c.args.call.now c.args.path c.args.stripe (g.H.Holder.seen c.args.holder.now) c.requires.locked c.fragment-fragment.result.now c.fragment-fragment.ensures (one g (goal.at.find_tuple-requires-clause-columns g c).Start) w m)
+
+pub find_tuple-requires-clause-tuple : goal.find_tuple-requires-clause-tuple
+find_tuple-requires-clause-tuple g c = (fits_at_op c.args.compiled.now.spec c.args.call.now c.requires.locked.fits).tuple
+
+pub find_tuple-requires-clause-given : goal.find_tuple-requires-clause-given
+find_tuple-requires-clause-given g c =
     let spec = c.args.compiled.now.spec in
-    let r = one g (goal.at.find_given-requires-clause-readers g c).Start in
-    given_readers spec c.requires.sealed c.args.call.now c.requires.fits (plan_at c.args.compiled.now.plans c.args.call.now.op) c.args.path c.requires.locked.path
-    (remove_row c.args.compiled.now c.requires.sealed c.args.call.now c.requires.fits c.requires.planned c.args.path _ c.requires.locked r c.requires.remove).given (held_of (g.H.Holder.seen c.args.holder.now)) c.requires.locked.stripe
+    remove_given c.args.compiled.now c.args.call.now c.args.path c.args.stripe (g.H.Holder.seen c.args.holder.now) c.requires.locked (one g (goal.at.find_tuple-requires-clause-given g c).Start) c.requires.remove
+    ∙ sym (ap (λ (s : Spec). source_and_key s (edge_at s c.of-read.result.edge)) c.of-read.ensures.spec ∙ ap (λ e. source_and_key spec (edge_at spec e)) c.of-read.ensures.edge)
 
-pub apply-requires-clause-can : goal.apply-requires-clause-can
-apply-requires-clause-can g c b m =
-    let r = one g (goal.at.apply-requires-clause-can g c).Start in
-    can_remove c.args.compiled.now c.requires.sealed c.args.call.now c.requires.fits c.requires.planned c.args.path (held_of (g.H.Holder.seen c.args.holder.now)) c.requires.locked r c.requires.remove b
-    (subst (In b) c.in_ok-find_given.ensures.found m)
+pub find_tuple-requires-clause-whole : goal.find_tuple-requires-clause-whole
+find_tuple-requires-clause-whole g c =
+    let spec = c.args.compiled.now.spec in
+    subst (λ (s : Spec). bound s (edge_at s c.of-read.result.edge).to ≡ all_columns s) (sym c.of-read.ensures.spec)
+    (subst (λ e. bound spec (edge_at spec e).to ≡ all_columns spec) (sym c.of-read.ensures.edge)
+    (remove_whole c.args.compiled.now c.args.call.now c.args.path c.args.stripe (g.H.Holder.seen c.args.holder.now) c.requires.locked (one g (goal.at.find_tuple-requires-clause-whole g c).Start) c.requires.remove))
+
+pub returns-in_default-clause-answered : goal.returns-in_default-clause-answered
+returns-in_default-clause-answered g c =
+    let at = goal.at.returns-in_default-clause-answered g c in
+    record {
+      answered = absent_replies c.args.compiled.now c.args.call.now c.args.path c.args.stripe (g.H.Holder.seen c.args.holder.now) c.requires.locked (one g at.Start) c.requires.remove c.fragment-fragment.result.now c.fragment-fragment.ensures
+          (subst (IsLooked g at.In_ok-removed) c.in_default.is (looked g at.In_ok-removed));
+      taken = c.requires.locked.taken;
+      lent = refl;
+    }
+
+pub sub_rows-requires-clause-stripes : goal.sub_rows-requires-clause-stripes
+sub_rows-requires-clause-stripes g c =
+    let at = goal.at.sub_rows-requires-clause-stripes g c in
+    stripes_of_removed c.args.compiled.now c.args.call.now c.args.path c.args.stripe (g.H.Holder.seen c.args.holder.now) c.requires.locked (one g at.Start) c.requires.remove c.fragment-fragment.result.now c.fragment-fragment.ensures
+    c.args.space.now.class_stripes.items c.requires.stripes c.in-Some.removed (removed g at.In-Some)
+
+pub sub_rows-requires-clause-can : goal.sub_rows-requires-clause-can
+sub_rows-requires-clause-can g c =
+    let at = goal.at.sub_rows-requires-clause-can g c in
+    can_remove c.args.compiled.now c.args.call.now c.args.path c.args.stripe (g.H.Holder.seen c.args.holder.now) c.requires.locked (one g at.Start) c.requires.remove c.fragment-fragment.result.now c.fragment-fragment.ensures c.in-Some.removed (removed g at.In-Some)
+
+pub returns-in_err-sub_rows-clause-answered : goal.returns-in_err-sub_rows-clause-answered
+returns-in_err-sub_rows-clause-answered g c =
+    let old = g.H.Holder.seen c.args.holder.now in
+    let new = g.H.Holder.seen c.sub_rows.new.holder in
+    let failed = c.in_err-sub_rows.ensures in
+    unanswered c.args.compiled.now c.args.call.now old new c.from_residual-in_err-sub_rows.result c.from_residual-in_err-sub_rows.ensures.0
+    (told_alike old new (lent_goes_on old new failed.lent) (ap (map reverted) failed.err) c.requires.locked.taken) failed.lent
 
 pub returns-clause-answered : goal.returns-clause-answered
 returns-clause-answered g c =
+    let at = goal.at.returns-clause-answered g c in
     let spec = c.args.compiled.now.spec in
-    let held = held_of (g.H.Holder.seen c.args.holder.now) in
-    let new = held_of (g.H.Holder.seen c.apply.new.holder) in
-    let r = one g (goal.at.returns-clause-answered g c).Start in
-    if_ok c.apply.result
-    (λ reply removed.
-    remove_replies c.args.compiled.now c.requires.sealed c.args.call.now c.requires.fits c.requires.planned c.args.path held c.requires.locked r c.requires.remove new reply
-    (subst (λ (bs : List Pairs). HasRemoved spec bs held new reply) c.in_ok-find_given.ensures.found removed)
-    (g.met.H.Holder.sound_rows c.apply.new.holder spec (c.apply.ensures.sound spec c.requires.sound)))
-    c.apply.ensures.ok
-
-pub returns-clause-taken : goal.returns-clause-taken
-returns-clause-taken g c =
-    told_either c.args.compiled.now.spec Remove c.args.call.now.args c.find_given.new.space.old_tuple c.find_given.new.space.bindings.tuples (g.H.Holder.seen c.args.holder.now) (g.H.Holder.seen c.apply.new.holder) c.apply.result
-    c.apply.ensures.ok c.apply.ensures.alike c.apply.ensures.lent c.requires.taken
+    let old = g.H.Holder.seen c.args.holder.now in
+    let new = g.H.Holder.seen c.sub_rows.new.holder in
+    let gone = c.in_ok-sub_rows.ensures in
+    record {
+      answered = removed_replies c.args.compiled.now c.args.call.now c.args.path c.args.stripe (g.H.Holder.seen c.args.holder.now) c.requires.locked (one g at.Start) c.requires.remove c.fragment-fragment.result.now c.fragment-fragment.ensures
+          c.in-Some.removed (removed g at.In-Some) (held_of new) gone.ok (g.met.H.Holder.sound_rows c.sub_rows.new.holder spec (gone.sound spec c.requires.sound));
+      taken = applied_told spec Remove c.args.call.now.args None (c.in-Some.removed ∷ []) old new (Removed c.in-Some.removed) (refl, gone.ok) (lent_goes_on old new gone.lent) c.requires.locked.taken;
+      lent = gone.lent;
+    }

@@ -1,15 +1,17 @@
-use Rattle.std.proofs.Common.{◌≡◌, ◌∷◌, [], None, Err, true, sym, ap, subst, ◌∙◌}
+use Rattle.std.proofs.Common.{◌≡◌, ◌<◌, ◌∷◌, length, [], None, Err, true, sym, ap, subst, ◌∙◌}
 use Rattle.std.specs.List.{list_all}
 use Rattle.rc_tuple.specs.RisingSet.{In}
-use Rattle.rc_spec.specs.Placement.{class_of, op_at}
+use Rattle.rc_spec.specs.Placement.{class_at, class_of, op_at}
+use Rattle.rc_spec.specs.Stripes.{physical_stripe}
 use Rattle.rc_fragment.specs.Holder.{held_of}
 use Rattle.rc_plan.specs.Access.{IsAccessPath, is_tuple_lock}
-use Rattle.rc_plan.specs.Compiled.{plan_at}
+use Rattle.rc_plan.specs.Compiled.{IsPlanOf, plan_at}
 use Rattle.rc_plan.specs.declared.statement.Statement.{Statement}
 use Rattle.std.specs.Prelude.{List, drop, take}
-use Rattle.rc_machine.specs.Machine.{IsRefused}
+use Rattle.rc_machine.specs.Machine.{IsRefused, stripes_held}
 use Rattle.rc_machine.specs.Run.{IsAt}
-use Rattle.rc_machine.proofs.AccessRunLemmas.{args_are, stripe_taken}
+use Rattle.rc_machine.proofs.AccessRunLemmas.{args_are, args_striped}
+use Rattle.rc_machine.proofs.ReadLemmas.{class_known}
 use Rattle.rc_machine.proofs.machine.run_statements.Given.{Over}
 use Rattle.rc_machine.proofs.machine.run_statements.Goals.{After-list-plan}
 use Rattle.rc_machine.proofs.machine.run_statements.Goals as goal
@@ -45,10 +47,30 @@ pub answer_by_path-requires-clause-locked : goal.answer_by_path-requires-clause-
 answer_by_path-requires-clause-locked g c =
     let at = (goal.at.answer_by_path-requires-clause-locked g c).After-list-plan in
     let spec = c.args.compiled.now.spec in
-    let held = held_of (g.H.Holder.seen c.lock_arguments.new.holder) in
+    let args = c.args.call.now.args in
+    let holder = c.lock_arguments.new.holder in
+    let locked = c.in_ok-lock_arguments.ensures in
+    let held = held_of (g.H.Holder.seen holder) in
+    let falls : c.in_ok-stripe.stripe ≡ physical_stripe spec (class_of spec c.in-Some.path.edge) args = c.in_ok-stripe.ensures.stripe ∙ ap (λ k. physical_stripe spec k args) c.edge.ensures.class in
     record {
+      sealed = c.accepted.ensures.sealed;
+      fits = c.requires.fits;
+      planned = subst (IsPlanOf spec c.args.call.now.op) c.plan.ensures.value c.plan.ensures.accepted;
       path = c.in-Some.ensures.some;
-      run = subst (λ (z : List Statement). IsAt spec z c.args.call.now (drop c.in-Some.path.locks z) (c.args.call.now.args ∷ []) None held) (plan_is g at) c.in_ok-lock_arguments.ensures.run;
-      stripe = subst (In _) (sym c.in_ok-lock_arguments.ensures.held)
-          (stripe_taken spec c.args.call.now.args (class_of spec c.in-Some.path.edge) (take c.in-Some.path.locks c.list-plan.result.now) (path_of g at).locks.locked);
+      table = (g.met.H.Holder.sound_table holder spec (locked.sound spec c.requires.sound)).0;
+      taken = locked.taken;
+      run = subst (λ (z : List Statement). IsAt spec z c.args.call.now (drop c.in-Some.path.locks z) (args ∷ []) None held) (plan_is g at) locked.run;
+      falls = falls;
+      held = subst (λ z. In z (stripes_held held)) (sym falls) (locked.held (class_of spec c.in-Some.path.edge) (path_of g at).locks.locked);
     }
+
+pub find_stripe-requires-clause-known : goal.find_stripe-requires-clause-known
+find_stripe-requires-clause-known g c =
+    let spec = c.args.compiled.now.spec in
+    subst (λ k. k < length spec.classes) (sym c.edge.ensures.class) (class_known spec c.accepted.ensures.sealed c.in-Some.path.edge c.in-Some.ensures.some.locks.edge)
+
+pub find_stripe-requires-clause-within : goal.find_stripe-requires-clause-within
+find_stripe-requires-clause-within g c k m =
+    let spec = c.args.compiled.now.spec in
+    args_striped spec c.accepted.ensures.sealed c.args.call.now c.requires.fits (plan_at c.args.compiled.now.plans c.args.call.now.op) c.in-Some.path c.in-Some.ensures.some k
+    (subst (λ z. In k (class_at spec z).cols) c.edge.ensures.class m)

@@ -3,11 +3,14 @@ use Rattle.std.specs.List.{range_with_len}
 use Rattle.std.proofs.lemmas.List.{length-set}
 use Rattle.std.proofs.lemmas.Grind.{take-set_at}
 use Rattle.std.proofs.lemmas.List.FromFn.{map-range_with_len_more}
-use Rattle.rc_spec.specs.Placement.{class_of}
+use Rattle.rc_tuple.specs.ColSet.{Within}
+use Rattle.rc_tuple.specs.Tuple.{cols_of}
+use Rattle.rc_spec.specs.Placement.{class_at}
 use Rattle.rc_spec.specs.PlacementLaws.{class_of_known}
 use Rattle.rc_spec.specs.Stripes.{physical_stripe}
 use Rattle.rc_machine.specs.Apply.{place_in}
 use Rattle.rc_spec.specs.declared.spec.Spec.{Spec}
+use Rattle.rc_machine.proofs.StripeLemmas.{class_within}
 use Rattle.rc_machine.proofs.places.place_rows.Goals.{After-list-edges}
 use Rattle.rc_machine.proofs.places.place_rows.Goals as goal
 
@@ -18,18 +21,23 @@ edges_are c = ap length c.list-edges.ensures ∙ ap (λ (s : Spec). length s.edg
 pub edge-requires : goal.edge-requires
 edge-requires c = let all = edges_are (goal.at.edge-requires c).After-list-edges in omega (arith, all, c.loop-edge-test.true)
 
-pub stripe_after-stripe-requires-clause-known : goal.stripe_after-stripe-requires-clause-known
-stripe_after-stripe-requires-clause-known c =
+pub find_stripe-requires-clause-known : goal.find_stripe-requires-clause-known
+find_stripe-requires-clause-known c =
     let spec = c.args.compiled.now.spec in
-    let all = edges_are (goal.at.stripe_after-stripe-requires-clause-known c).After-list-edges in
+    let all = edges_are (goal.at.find_stripe-requires-clause-known c).After-list-edges in
     subst (λ z. z < length spec.classes) (sym c.edge.ensures.class)
     (class_of_known spec c.loop-edge.edge c.requires.sealed.in_range (c.requires.sealed.accepted.placed.p1 c.loop-edge.edge (omega (arith, all, c.loop-edge-test.true))))
 
-pub place_row-requires-clause-falls : goal.place_row-requires-clause-falls
-place_row-requires-clause-falls c =
+pub find_stripe-requires-clause-within : goal.find_stripe-requires-clause-within
+find_stripe-requires-clause-within c =
     let spec = c.args.compiled.now.spec in
-    c.stripe_after-stripe.ensures ∙ ap (λ z. physical_stripe spec z c.args.binding.now.tuple) c.edge.ensures.class
-    ∙ ap (physical_stripe spec (class_of spec c.loop-edge.edge)) c.requires.same
+    let tuple = c.args.tuple.now in
+    let all = edges_are (goal.at.find_stripe-requires-clause-within c).After-list-edges in
+    subst (λ z. Within (class_at spec z).cols (cols_of tuple)) (sym c.edge.ensures.class)
+    (class_within spec c.requires.sealed tuple c.requires.whole c.loop-edge.edge (omega (arith, all, c.loop-edge-test.true)))
+
+pub place_row-requires-clause-falls : goal.place_row-requires-clause-falls
+place_row-requires-clause-falls c = c.in_ok-stripe.ensures.stripe ∙ ap (λ z. physical_stripe c.args.compiled.now.spec z c.args.tuple.now) c.edge.ensures.class
 
 pub loop-edge-preserved : goal.loop-edge-preserved
 loop-edge-preserved c =
@@ -43,5 +51,5 @@ loop-edge-preserved c =
           ∙ ap (λ z. z ++ c.place_row.new.place ∷ []) c.loop-edge.invariant.first
           ∙ ap (λ p. map place (range_with_len 0 edge) ++ p ∷ []) c.in_ok-place_row.ensures
           ∙ sym (map-range_with_len_more place 0 edge edge (zero-add edge));
-      last = c.stripe_after-stripe.ensures;
+      stripes = c.in_ok-stripe.ensures.stripes;
     }

@@ -1,8 +1,8 @@
 use Rattle.std.proofs.Common.{ℕ, Option, sym, ap, ◌∙◌}
 use Rattle.std.specs.Prelude.{unwrap_or}
 use Rattle.std.specs.List.{zip}
-use Rattle.rc_machine.proofs.AccessLemmas.{get_first, get_second}
-use Rattle.rc_machine.proofs.edge_query.value_at.Goals as goal
+use Rattle.rc_machine.proofs.EdgeRowLemmas.{get_first, get_second}
+use Rattle.rc_machine.proofs.edge_row.value_at.Goals as goal
 
 pub returns-in-Some : goal.returns-in-Some
 returns-in-Some c =

@@ -9,8 +9,8 @@ use Rattle.rc_tuple.specs.RisingSet.{In, IsRising}
 use Rattle.rc_tuple.specs.RisingSetLaws.{has_in, in_has}
 use Rattle.rc_tuple.specs.TupleLaws.{cols_of-zip}
 use Rattle.rc_bindings.specs.RegistersLaws.{get_of, zip_there}
-use Rattle.rc_machine.proofs.AccessLemmas.{get_none}
-use Rattle.rc_machine.proofs.edge_query.value_among.Goals as goal
+use Rattle.rc_machine.proofs.EdgeRowLemmas.{get_none}
+use Rattle.rc_machine.proofs.edge_row.value_among.Goals as goal
 
 pub rank-requires : goal.rank-requires
 rank-requires c =

@@ -1,0 +1,171 @@
+-- The row of an edge with the values of source and key that a tuple has, and no other.
+use Rattle.std.specs.Prelude.{◌≡◌, ℕ, zero, suc, ◌+◌, ◌<◌, ◌≤◌, ◌==◌, ◌++◌, Bool, true, false, List, [], ◌∷◌, None, Option, Some, cond, length, take, map, unwrap_or}
+use Rattle.std.specs.List.{range_with_len, zip}
+use Rattle.std.specs.Option.{is_some, option_copied}
+use Rattle.std.specs.Ordering.{nat_cmp}
+use Rattle.std.proofs.Common.{Bor, inl, inr, refl, sym, ap, subst, ◌∙◌, arith}
+use Rattle.std.proofs.lemmas.Bool.{cases_Bool, eq-eqb, eqb-true, false≢true}
+use Rattle.std.proofs.lemmas.Option.{none-some}
+use Rattle.rc_tuple.specs.RisingSet.{AreDistinct, In, IsRising, gather}
+use Rattle.rc_tuple.specs.RisingSetLaws.{gather_in, has_in, in_gather, in_has, in_map, map_in, rising_filter, rising_gather, same_rising}
+use Rattle.rc_tuple.specs.ColSet.{IsColSet, Within, has, union}
+use Rattle.rc_tuple.specs.ColSetLaws.{in_range_bounds, in_union, minus_in, union_left, union_right}
+use Rattle.rc_tuple.specs.MergeLaws.{project_all, value_in}
+use Rattle.rc_tuple.specs.Tuple.{IsTuple, Pairs, cols_of, get, pair_cmp, pick, project, tuple_of, value}
+use Rattle.rc_tuple.specs.TupleLaws.{in_project, one_pair, pair_order, project_by, project_in, rising_cols, rising_pairs}
+use Rattle.rc_spec.specs.declared.spec.Spec.{Spec}
+use Rattle.rc_spec.specs.Acceptance.{IsSealed}
+use Rattle.rc_spec.specs.Decomposition.{edge_at, source_and_key}
+use Rattle.rc_spec.specs.DecompositionLaws.{edge_at_in}
+use Rattle.rc_spec.specs.Fragments.{EdgeRow}
+use Rattle.rc_bindings.specs.RegistersLaws.{get-project}
+use Rattle.rc_fragment.specs.Fragment.{IsThereWith, shape_of}
+use Rattle.rc_fragment.specs.FragmentLaws.{parted_edge}
+use Rattle.rc_fragment.specs.RowValues.{IsParted, extra_columns, values_at}
+use Rattle.rc_fragment.specs.RowValuesLaws.{extra_set, extra_within, zip_values}
+use Rattle.rc_fragment.specs.declared.shape.EdgeShape.{EdgeShape}
+use Rattle.rc_machine.proofs.SeekLemmas.{same_projected}
+
+-- ---- values at columns
+
+get_some : (t : Pairs) (c : ℕ) → In c (cols_of t) → (v : ℕ) × (get t c ≡ Some v)
+get_some [] c m = absurd m
+get_some (p ∷ t) c m = go (p.0 == c) refl m (get_some t c)
+  where
+    go : (b : Bool) → (p.0 == c) ≡ b → In c (cols_of (p ∷ t)) → (In c (cols_of t) → (v : ℕ) × (get t c ≡ Some v)) → (v : ℕ) × (cond b (Some p.1) (get t c) ≡ Some v)
+    go true e m rest = (p.1, refl)
+    go false e (inl is) rest = absurd (false≢true (sym e ∙ eq-eqb p.0 c (sym is)))
+    go false e (inr n) rest = rest n
+
+pub get_none : (t : Pairs) (c : ℕ) → (In c (cols_of t) → ⊥) → get t c ≡ None
+get_none [] c n = refl
+get_none (p ∷ t) c n = go (p.0 == c) refl (get_none t c (λ m. n (inr m)))
+  where
+    go : (b : Bool) → (p.0 == c) ≡ b → get t c ≡ None → cond b (Some p.1) (get t c) ≡ None
+    go true e rest = absurd (n (inl (sym (eqb-true p.0 c e))))
+    go false e rest = rest
+
+pub get_first : (t others : Pairs) (c v : ℕ) → get t c ≡ Some v → get (t ++ others) c ≡ Some v
+get_first [] others c v e = absurd (none-some v e)
+get_first (p ∷ t) others c v e = go (p.0 == c) e (get_first t others c v)
+  where
+    go : (b : Bool) → cond b (Some p.1) (get t c) ≡ Some v → (get t c ≡ Some v → get (t ++ others) c ≡ Some v) → cond b (Some p.1) (get (t ++ others) c) ≡ Some v
+    go true e rest = e
+    go false e rest = rest e
+
+pub get_second : (t others : Pairs) (c : ℕ) → get t c ≡ None → get (t ++ others) c ≡ get others c
+get_second [] others c e = refl
+get_second (p ∷ t) others c e = go (p.0 == c) e (get_second t others c)
+  where
+    go : (b : Bool) → cond b (Some p.1) (get t c) ≡ None → (get t c ≡ None → get (t ++ others) c ≡ get others c) → cond b (Some p.1) (get (t ++ others) c) ≡ get others c
+    go true e rest = absurd (none-some p.1 (sym e))
+    go false e rest = rest e
+
+-- tuples with the same values at the outputs
+picked_alike : (outs : List ℕ) (t u : Pairs) → ((c : ℕ) → In c outs → get t c ≡ get u c) → pick outs t ≡ pick outs u
+picked_alike [] t u same = refl
+picked_alike (c ∷ outs) t u same =
+    let here : value t c ≡ value u c = ap (λ (o : Option ℕ). unwrap_or o 0) (same c (inl refl)) in
+    let others : pick outs t ≡ pick outs u = picked_alike outs t u (λ d m. same d (inr m)) in
+    λ i. here i ∷ others i
+
+-- ---- what a look-up told
+
+pub values_told : (found : Option (Bor (List ℕ))) → is_some found ≡ true → (values : List ℕ) × (option_copied found ≡ Some values)
+values_told None e = absurd (false≢true e)
+values_told (Some values) e = (values.now, refl)
+
+pub nothing_told : (found : Option (Bor (List ℕ))) → is_some found ≡ false → option_copied found ≡ None
+nothing_told None e = refl
+nothing_told (Some values) e = absurd (false≢true (sym e))
+
+-- ---- the values at a tuple's columns, and the tuple that they give
+
+-- the values at columns that a tuple has
+pub pick_values : (ys : List ℕ) (t : Pairs) → IsRising nat_cmp ys → IsRising nat_cmp (cols_of t) → Within ys (cols_of t) → pick ys t ≡ values_at ys t
+pick_values ys t rises up within =
+    let pairs : Pairs = map (λ c. (c, value t c)) ys in
+    let same : pairs ≡ project ys t =
+    same_rising pair_cmp pair_order pairs (project ys t) (rising_cols pairs (subst (IsRising nat_cmp) (sym (firsts ys)) rises)) (rising_filter pair_cmp (λ (p : ℕ × ℕ). has ys p.0) t (rising_cols t up))
+    (λ p m. let q : (c : ℕ) × In c ys × (p ≡ (c, value t c)) = in_map (λ c. let z : ℕ × ℕ = (c, value t c) in z) p ys m in
+    subst (λ (z : ℕ × ℕ). In z (project ys t)) (sym q.2) (project_in ys (q.0, value t q.0) t (value_in t q.0 (within q.0 q.1)) q.1))
+    (λ p m. let q : In p t × In p.0 ys = in_project ys p t m in
+    subst (λ (z : ℕ × ℕ). In z pairs) (one_pair t up (p.0, value t p.0) p (value_in t p.0 (within p.0 q.1)) q.0 refl) (map_in (λ c. let z : ℕ × ℕ = (c, value t c) in z) p.0 ys q.1)) in
+    seconds ys ∙ ap (map (λ (p : ℕ × ℕ). p.1)) same
+  where
+    firsts : (ys : List ℕ) → cols_of (map (λ c. (c, value t c)) ys) ≡ ys
+    firsts [] = refl
+    firsts (c ∷ ys) = ap (λ l. c ∷ l) (firsts ys)
+
+    seconds : (ys : List ℕ) → pick ys t ≡ map (λ (p : ℕ × ℕ). p.1) (map (λ c. (c, value t c)) ys)
+    seconds [] = refl
+    seconds (c ∷ ys) = ap (λ l. value t c ∷ l) (seconds ys)
+
+-- a tuple is what its columns and the values there give
+pub tuple_of_itself : (cols : List ℕ) (u : Pairs) → IsRising nat_cmp cols → cols_of u ≡ cols → tuple_of cols (pick cols u) ≡ u
+tuple_of_itself cols u rises over =
+    let up : IsRising nat_cmp (cols_of u) = subst (IsRising nat_cmp) (sym over) rises in
+    let its : Within (cols_of u) cols = (λ c m. subst (In c) over m) in
+    let pairs : zip cols (pick cols u) ≡ u =
+    ap (zip cols) (pick_values cols u rises up (λ c m. subst (In c) (sym over) m)) ∙ zip_values cols cols u rises rises (λ c m. m) over ∙ project_all cols u (rising_cols u up) its in
+    ap (gather pair_cmp) pairs
+    ∙ same_rising pair_cmp pair_order (gather pair_cmp u) u (rising_gather pair_cmp pair_order u) (rising_cols u up) (λ q m. in_gather pair_cmp pair_order q u m) (λ q m. gather_in pair_cmp pair_order q u m)
+
+-- the first numbers of a range
+pub take_range : (from n k : ℕ) → k ≤ n → take k (range_with_len from n) ≡ range_with_len from k
+take_range from n zero h = refl
+take_range from zero (suc k) h = absurd (omega (arith, h))
+take_range from (suc n) (suc k) h = ap (λ z. from ∷ z) (take_range (from + 1) n k (omega (arith, h)))
+
+pub distinct_range : (from n : ℕ) → AreDistinct (range_with_len from n)
+distinct_range from zero = tt
+distinct_range from (suc n) = ((λ m. let h = in_range_bounds (from + 1) n from m in absurd (omega (arith, h.0))), distinct_range (from + 1) n)
+
+-- ---- a row with the values of source and key of a tuple that has no other
+
+module _ (spec : Spec) (sealed : IsSealed spec) (e : ℕ) (known : e < length spec.edges) (s : Pairs) (tuple : IsTuple s) (whole : cols_of s ≡ source_and_key spec (edge_at spec e)) where
+  abbrev edge_shape : EdgeShape
+  edge_shape = shape_of spec (edge_at spec e)
+
+  edge_parted : IsParted edge_shape
+  edge_parted = parted_edge spec sealed (edge_at spec e) (edge_at_in spec e known)
+
+  pub has_source : Within edge_shape.source (cols_of s)
+  has_source c m = subst (In c) (sym whole) (union_left edge_shape.source edge_shape.key c m)
+
+  pub has_key : Within edge_shape.key (cols_of s)
+  has_key c m = subst (In c) (sym whole) (union_right edge_shape.source edge_shape.key c m)
+
+  pub inside : Within (cols_of s) edge_shape.target
+  inside c m = elim (in_union edge_shape.source edge_shape.key c (subst (In c) whole m)) [ inl n ↦ edge_parted.source_within c n | inr n ↦ edge_parted.key_within c n ]
+
+  module _ (rows : List EdgeRow) (u : Pairs) (found : IsThereWith edge_shape rows e (values_at edge_shape.source s) (values_at edge_shape.key s) u) (columns : cols_of u ≡ edge_shape.target) where
+    same_at : (ys : List ℕ) → IsColSet ys → Within ys edge_shape.target → Within ys (cols_of s) → values_at ys u ≡ values_at ys s → project ys u ≡ project ys s
+    same_at ys set w v is = same_projected ys u s set (subst (IsRising nat_cmp) (sym columns) edge_parted.target.rising) tuple.rising (λ c m. subst (In c) (sym columns) (w c m)) v is
+
+    pub same : project (cols_of s) u ≡ project (cols_of s) s
+    same = project_by (cols_of s) u s (rising_cols u (subst (IsRising nat_cmp) (sym columns) edge_parted.target.rising)) (rising_pairs s tuple)
+        (λ c m. elim (in_union edge_shape.source edge_shape.key c (subst (In c) whole m)) [
+          | inl n ↦ (edge_shape.source, n, same_at edge_shape.source edge_parted.source edge_parted.source_within has_source found.source_is)
+          | inr n ↦ (edge_shape.key, n, same_at edge_shape.key edge_parted.key edge_parted.key_within has_key found.key_is)
+        ])
+
+    -- its values are the tuple's, and the extra ones
+    get_found : (c : ℕ) → In c edge_shape.target → get u c ≡ get (s ++ project (extra_columns edge_shape) u) c
+    get_found c m = elim (cases_Bool (has (cols_of s) c)) [
+      | inl y ↦ (let v : (v : ℕ) × (get s c ≡ Some v) = get_some s c (in_has (cols_of s) c y) in
+          let is : get u c ≡ get s c = sym (get-project (cols_of s) u c y) ∙ ap (λ z. get z c) (same ∙ project_all (cols_of s) s (rising_pairs s tuple) (λ d n. n)) in
+          is ∙ v.1 ∙ sym (get_first s (project (extra_columns edge_shape) u) c v.0 v.1))
+      | inr n ↦ (let extra : In c (extra_columns edge_shape) = minus_in edge_shape.target (union edge_shape.source edge_shape.key) c m (λ k. false≢true (sym n ∙ has_in (cols_of s) c (subst (In c) (sym whole) k))) in
+          sym (get_second s (project (extra_columns edge_shape) u) c (get_none s c (λ k. false≢true (sym n ∙ has_in (cols_of s) c k)))
+          ∙ get-project (extra_columns edge_shape) u c (has_in (extra_columns edge_shape) c extra)))
+    ]
+
+    pub picked : (outs : List ℕ) → Within outs edge_shape.target → (values : List ℕ) → values_at (extra_columns edge_shape) u ≡ values → pick outs u ≡ pick outs (s ++ zip (extra_columns edge_shape) values)
+    picked outs within values is =
+        picked_alike outs u (s ++ project (extra_columns edge_shape) u) (λ c m. get_found c (within c m))
+        ∙ ap (λ z. pick outs (s ++ z)) (sym (zip_values edge_shape.target (extra_columns edge_shape) u edge_parted.target.rising (extra_set edge_shape edge_parted).rising (extra_within edge_shape edge_parted) columns) ∙ ap (zip (extra_columns edge_shape)) is)
+
+    -- so the row, as a tuple, is made of them
+    pub completed_is : (values : List ℕ) → values_at (extra_columns edge_shape) u ≡ values → tuple_of edge_shape.target (pick edge_shape.target (s ++ zip (extra_columns edge_shape) values)) ≡ u
+    completed_is values is = ap (tuple_of edge_shape.target) (sym (picked edge_shape.target (λ c m. m) values is)) ∙ tuple_of_itself edge_shape.target u edge_parted.target.rising columns

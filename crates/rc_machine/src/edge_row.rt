@@ -1,0 +1,140 @@
+//! The row of an edge that has a tuple's values of source and key.
+
+ghost use Rattle.std.specs.Prelude.{◌≡◌, ◌≤◌, ◌++◌, length, IfOk, OnOk};
+ghost use Rattle.std.specs.List.{range_with_len, zip};
+ghost use Rattle.std.specs.Option.{option_copied};
+ghost use Rattle.rc_tuple.specs.RisingSet.{In};
+ghost use Rattle.rc_tuple.specs.Tuple.{IsTuple, cols_of, pick, tuple_of, value};
+ghost use Rattle.rc_spec.specs.Calls.{all_columns};
+ghost use Rattle.rc_spec.specs.Decomposition.{bound, edge_at, source_and_key};
+ghost use Rattle.rc_spec.specs.Fragments.{EdgeRow};
+ghost use Rattle.rc_fragment.specs.Fragment.{shape_of};
+ghost use Rattle.rc_fragment.specs.RowValues.{values_at};
+ghost use Rattle.rc_machine.specs.Access.{IsRowFound, IsTupleFound};
+ghost use Rattle.rc_machine.specs.EdgeRead.{IsReadOver};
+
+use crate::edge_read::EdgeRead;
+use crate::workspace::Finder;
+use rc_fragment::Fragment;
+use rc_tuple::{ColSet, Memory, Tuple};
+use std::alloc::Global;
+
+/// The columns that a tuple may have.
+const COLUMNS: [u8; 32] = [
+    0, 1, 2, 3, 4, 5, 6, 7, 8, 9, 10, 11, 12, 13, 14, 15, 16, 17, 18, 19, 20, 21, 22, 23, 24, 25,
+    26, 27, 28, 29, 30, 31,
+];
+
+/// Of the row that has the tuple's values of source and key the values at the extra columns, if there is one. Costs a walk
+/// over the tuple for each of source and key, and a look-up.
+pub(crate) fn find_row<'a>(
+    fragment: &'a Fragment,
+    read: &EdgeRead,
+    tuple: &Tuple,
+    finder: &mut Finder,
+) -> Result<Option<&'a [u64]>, Memory>
+    requires { IsReadOver fragment.now.table read.now }
+    ensures { IfOk result (λ found. IsRowFound (shape_of read.now.spec.now (edge_at read.now.spec.now read.now.edge)) fragment.now.now read.now.edge tuple.now (option_copied found)) }
+{
+    finder.source.clear();
+    push_values(tuple, read.resolved.source, &mut finder.source)?;
+    finder.key.clear();
+    push_values(tuple, read.resolved.key, &mut finder.key)?;
+    Ok(fragment.lookup(read.edge, &finder.source, &finder.key))
+}
+
+/// The row that has the tuple's values of source and key, which are all that the tuple has, if there is one. The row has
+/// all columns. Costs what `find_row` does, and the row's block.
+pub(crate) fn find_tuple(
+    alloc: Global,
+    fragment: &Fragment,
+    read: &EdgeRead,
+    tuple: &Tuple,
+    finder: &mut Finder,
+) -> Result<Option<Tuple>, Memory>
+    requires read { IsReadOver fragment.now.table read.now }
+    requires columns { (w : EdgeRow) → In w fragment.now.now → cols_of w.1 ≡ bound read.now.spec.now (edge_at read.now.spec.now w.0).to }
+    requires tuple { IsTuple tuple.now }
+    requires given { cols_of tuple.now ≡ source_and_key read.now.spec.now (edge_at read.now.spec.now read.now.edge) }
+    requires whole { bound read.now.spec.now (edge_at read.now.spec.now read.now.edge).to ≡ all_columns read.now.spec.now }
+    ensures { IfOk result (IsTupleFound (shape_of read.now.spec.now (edge_at read.now.spec.now read.now.edge)) fragment.now.now read.now.edge tuple.now) }
+{
+    let Some(values) = find_row(fragment, read, tuple, finder)? else {
+        return Ok(None);
+    };
+    let width = read.spec.columns.list().len();
+    let row = completed(alloc, width, tuple, read.resolved.extra, values, finder)?;
+    Ok(Some(row))
+}
+
+/// The tuple over the columns below the width that has the tuple's values, and at the other columns those of the extra
+/// ones. Costs one block.
+fn completed(
+    alloc: Global,
+    width: usize,
+    tuple: &Tuple,
+    extra: ColSet,
+    values: &[u64],
+    finder: &mut Finder,
+) -> Result<Tuple, Memory>
+    requires few { width ≤ 32 }
+    requires fits { length values.now ≡ length extra }
+    ensures { IfOk result (λ row. row ≡ tuple_of (range_with_len 0 width) (pick (range_with_len 0 width) (tuple.now ++ zip extra values.now))) }
+{
+    let columns = &COLUMNS[..width];
+    finder.rows.clear();
+    push_picked(&mut finder.rows, columns, tuple, extra, values)?;
+    Tuple::from_columns(alloc, columns, &finder.rows)
+}
+
+/// Adds the values at the columns, in the order of the list: the tuple's, or else those of the extra columns.
+pub(crate) fn push_picked(
+    row: &mut Vec<u64>,
+    cols: &[u8],
+    tuple: &Tuple,
+    extra: ColSet,
+    values: &[u64],
+) -> Result<(), Memory>
+    requires { length values.now ≡ length extra }
+    ensures { OnOk result (row.new.items ≡ row.old.items ++ pick cols.now (tuple.now ++ zip extra values.now)) }
+{
+    for col in cols {
+        row.push(value_at(tuple, extra, values, *col))?;
+    }
+    Ok(())
+}
+
+/// The value at the column: the tuple's, or else that of an extra column, or 0.
+fn value_at(tuple: &Tuple, extra: ColSet, values: &[u64], col: u8) -> u64
+    requires { length values.now ≡ length extra }
+    ensures { result ≡ value (tuple.now ++ zip extra values.now) col }
+{
+    match tuple.get(col) {
+        Some(value) => value,
+        None => value_among(extra, values, col),
+    }
+}
+
+/// The value at the column, of values at these columns, or 0.
+fn value_among(cols: ColSet, values: &[u64], col: u8) -> u64
+    requires { length values.now ≡ length cols }
+    ensures { result ≡ value (zip cols values.now) col }
+{
+    if cols.has(col) {
+        values[cols.rank(col) as usize]
+    } else {
+        0
+    }
+}
+
+/// Adds the tuple's values at those of the columns that it has, in column order, at the end of a list.
+pub(crate) fn push_values(tuple: &Tuple, cols: ColSet, values: &mut Vec<u64>) -> Result<(), Memory>
+    ensures { OnOk result (values.new.items ≡ values.old.items ++ values_at cols tuple.now) }
+{
+    for pair in tuple.pairs() {
+        if cols.has(pair.0) {
+            values.push(pair.1)?;
+        }
+    }
+    Ok(())
+}
