@@ -85,11 +85,14 @@ impl Fragment {
         Ok(())
     }
 
-    /// Takes back what `own` promised and no change has used. The memory stays.
+    /// Takes back what `own` promised and no change has used. The memory stays. Where nothing is promised it writes nothing, since a
+    /// write would take the cache line from other processors.
     pub(crate) fn disown(&mut self)
         ensures { self.new ≡ without_promise self.old }
     {
-        self.parts.room = 0;
+        if self.parts.room > 0 {
+            self.parts.room = 0;
+        }
     }
 
     /// Adds the row to the edge with the count 1, or raises its count by 1, where there is room for a

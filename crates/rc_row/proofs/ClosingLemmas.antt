@@ -1,5 +1,5 @@
 -- A closed row has one history.
-use Rattle.std.proofs.Common.{◌≡◌, ℕ, zero, suc, ◌+◌, ◌*◌, ◌<◌, ◌≤◌, ◌^◌, ◌||◌, List, [], ◌∷◌, ◌++◌, length, map, drop, take, get_or, Some, None, sym, refl, ap, ◌∙◌, subst, inl, inr, arith, length-append}
+use Rattle.std.proofs.Common.{◌≡◌, ℕ, zero, suc, ◌+◌, ◌*◌, ◌/◌, ◌%◌, ◌<◌, ◌≤◌, ◌^◌, ◌||◌, List, [], ◌∷◌, ◌++◌, length, map, drop, take, get_or, Some, None, sym, refl, ap, ◌∙◌, subst, inl, inr, arith, length-append}
 use Rattle.std.specs.Prelude.{All}
 use Rattle.std.proofs.lemmas.Option.{same_Some}
 use Rattle.std.specs.List.{slice_get, range_with_len, remove}
@@ -32,7 +32,7 @@ use Rattle.rc_row.specs.declared.law.Standing.{Standing}
 use Rattle.rc_row.specs.declared.law.View.{View}
 use Rattle.rc_row.specs.declared.row.Row.TheInside.{Inside}
 use Rattle.rc_row.specs.Ended.{IsEndedPass, HasHistory, AreEnded}
-use Rattle.rc_row.specs.Law.{Slot, kept_of, spec_by, stripes_by, numbers_in, passes_view, AreKnown, AreSeatedAt, AreTold, IsKept}
+use Rattle.rc_row.specs.Law.{Slot, kept_of, slot_place, spec_by, stripes_by, numbers_in, passes_view, AreKnown, AreSeatedAt, AreTold, IsKept}
 use Rattle.rc_row.specs.RunLaws.{good_of, refusals_of}
 use Rattle.rc_row.specs.Passes.{PassSeen, RowSeen, core_of, spec_of}
 use Rattle.rc_row.specs.RowInside.{IsWholeRow, row_seen}
@@ -115,7 +115,7 @@ pub record AreClosed (spec : Spec) (passes : List PassSeen) (slots : List Slot) 
   pub known : (k : ℕ) (pass : PassSeen) → slice_get passes k ≡ Some pass → AreKnown history pass.standing.known
   pub short : length history ≤ 255 * 2 ^ 48
   pub small : length (replay spec history) < 2 ^ 60
-  pub rows : (p : ℕ) → p < length slots → get_elem? slots p ≡ some (Some (kept_of spec (fragment_of spec (replay spec history) p)))
+  pub rows : (p : ℕ) → slot_place p < length slots → get_elem? slots (slot_place p) ≡ some (Some (kept_of spec (fragment_of spec (replay spec history) p)))
 
 -- the pass at the place k is that of the number a + k
 seated_at : (all : List PassState) (seat : ℕ → ℕ) (id a : ℕ) (passes : List PassSeen) (k : ℕ) (pass : PassSeen) → AreSeatedAt all seat id (standings_of passes) → numbers_of passes ≡ range_with_len a (length passes)
@@ -183,7 +183,7 @@ module _ (key : Key) (id : ℕ) (passes : List PassSeen) (s : State Slot View) (
       let w = ((good_of key s kept).passes k u.0 u.1).counts p in
       false≢true (sym (λ i. has (stripes_in (held_in Shared (u.2 i))) p || is_at (u.3 i) p) ∙ w ∙ has_in (stripe_at kept.core.stripes p).counted k m))
 
-  pub closed_home : (p : ℕ) → p < stripes_by key → get_elem? s.homes p ≡ some (some (Some (kept_of (spec_by key) (fragment_of (spec_by key) (replay (spec_by key) kept.core.history) p))))
+  pub closed_home : (p : ℕ) → p < stripes_by key → get_elem? s.homes (slot_place p) ≡ some (some (Some (kept_of (spec_by key) (fragment_of (spec_by key) (replay (spec_by key) kept.core.history) p))))
   closed_home p lt = slot_home key s kept p (fragment_of (spec_by key) (replay (spec_by key) kept.core.history) p) lt (unwritten p lt) (no_latch key s kept p (uncounted p lt))
 
   pub closed : (slots : List Slot) → length s.homes ≡ length slots → ((k : ℕ) (y : Slot) → get_elem? s.homes k ≡ some (some y) → get_elem? slots k ≡ some y) → AreClosed (spec_by key) passes slots
@@ -194,7 +194,7 @@ module _ (key : Key) (id : ℕ) (passes : List PassSeen) (s : State Slot View) (
     known = λ k pass e. known_at kept.core.history (refusals_of key s kept) passes k pass (kept.views id (passes_view (standings_of passes)) at).histories e;
     short = history_law (spec_by key) kept.core (good_of key s kept);
     small = few_tuples (spec_by key) kept.core (good_of key s kept);
-    rows = λ p lt. homes p (Some (kept_of (spec_by key) (fragment_of (spec_by key) (replay (spec_by key) kept.core.history) p))) (closed_home p (let w = kept.shows.slots in omega (arith, wide)));
+    rows = λ p lt. homes (slot_place p) (Some (kept_of (spec_by key) (fragment_of (spec_by key) (replay (spec_by key) kept.core.history) p))) (closed_home p (let w = kept.shows.slots in omega (arith, wide)));
   }
 
 -- the row's table at the end
@@ -208,12 +208,12 @@ module _ (a : Inside) (row : RowSeen) (is : row_seen a ≡ row) (whole : IsWhole
           closed a.table.shared.key id passes s kept (at ∙ ap some all) (numbers ∙ ap (λ (r : RowSeen). range_with_len 0 r.key.passes) (sym is)) (λ k pass e. all_at IsIdle passes k pass idle e) slots wide homes
 
   -- each slot has a fragment
-  pub closed_slot : (p : ℕ) → p < length slots → (keep : KeptRows) × (get_elem? slots p ≡ some (Some keep))
+  pub closed_slot : (p : ℕ) → slot_place p < length slots → (keep : KeptRows) × (get_elem? slots (slot_place p) ≡ some (Some keep))
   closed_slot p lt = (kept_of (spec_by a.table.shared.key) (fragment_of (spec_by a.table.shared.key) (replay (spec_by a.table.shared.key) closed_slots.history) p), closed_slots.rows p lt)
 
   -- and the fragments that were taken out of them are those of one history
-  pub has_history : (fragments : List KeptRows) → length fragments ≡ length slots → length slots ≡ a.table.shared.table_id.slots
-      → ((p : ℕ) (keep : KeptRows) → p < length slots → get_elem? slots p ≡ some (Some keep) → slice_get fragments p ≡ Some keep) → HasHistory (spec_of row) passes fragments
+  pub has_history : (fragments : List KeptRows) → length fragments ≡ (length slots + 3) / 4 → length slots ≡ a.table.shared.table_id.slots
+      → ((p : ℕ) (keep : KeptRows) → slot_place p < length slots → get_elem? slots (slot_place p) ≡ some (Some keep) → slice_get fragments p ≡ Some keep) → HasHistory (spec_of row) passes fragments
   has_history fragments wide count items = subst (λ (r : RowSeen). HasHistory (spec_of r) passes fragments) is (record {
     history = closed_slots.history;
     good = closed_slots.good;
@@ -221,16 +221,16 @@ module _ (a : Inside) (row : RowSeen) (is : row_seen a ≡ row) (whole : IsWhole
     known = closed_slots.known;
     short = closed_slots.short;
     small = closed_slots.small;
-    count = wide ∙ count ∙ whole.slots;
-    rows = λ p lt. (let inside : p < length slots = omega (arith, wide) in items p (kept_of (spec_by a.table.shared.key) (fragment_of (spec_by a.table.shared.key) (replay (spec_by a.table.shared.key) closed_slots.history) p)) inside (closed_slots.rows p inside));
+    count = (let n = whole.slots in omega arith);
+    rows = λ p lt. (let inside : slot_place p < length slots = omega (arith, wide, whole.slots, count) in items p (kept_of (spec_by a.table.shared.key) (fragment_of (spec_by a.table.shared.key) (replay (spec_by a.table.shared.key) closed_slots.history) p)) inside (closed_slots.rows p inside));
   })
 
 -- the fragments that were taken, and one more
-pub taken_more : (slots : List Slot) (taken : List KeptRows) (keep : KeptRows) (i : ℕ) → length taken ≡ i → get_elem? slots i ≡ some (Some keep)
-    → ((p : ℕ) (k : KeptRows) → p < i → get_elem? slots p ≡ some (Some k) → slice_get taken p ≡ Some k)
-    → (p : ℕ) (k : KeptRows) → p < i + 1 → get_elem? slots p ≡ some (Some k) → slice_get (taken ++ keep ∷ []) p ≡ Some k
-taken_more slots taken keep i count here before p k lt at = elim (cases_eq p i) [
-  | inl e ↦ ap (slice_get (taken ++ keep ∷ [])) (e ∙ sym count) ∙ get_last taken keep ∙ some-injective (Some keep) (Some k) (sym here ∙ ap (get_elem? slots) (sym e) ∙ at)
+pub taken_more : (slots : List Slot) (taken : List KeptRows) (keep : KeptRows) (i : ℕ) → length taken ≡ (i + 3) / 4 → i % 4 ≡ 0 → get_elem? slots i ≡ some (Some keep)
+    → ((p : ℕ) (k : KeptRows) → slot_place p < i → get_elem? slots (slot_place p) ≡ some (Some k) → slice_get taken p ≡ Some k)
+    → (p : ℕ) (k : KeptRows) → slot_place p < i + 1 → get_elem? slots (slot_place p) ≡ some (Some k) → slice_get (taken ++ keep ∷ []) p ≡ Some k
+taken_more slots taken keep i count first here before p k lt at = elim (cases_eq (slot_place p) i) [
+  | inl e ↦ ap (slice_get (taken ++ keep ∷ [])) (omega (arith, e, count)) ∙ get_last taken keep ∙ some-injective (Some keep) (Some k) (sym here ∙ ap (get_elem? slots) (sym e) ∙ at)
   | inr apart ↦ get_before taken (keep ∷ []) p k (before p k (omega (arith, lt, apart)) at)
 ]
 

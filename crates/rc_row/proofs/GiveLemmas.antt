@@ -1,12 +1,10 @@
 -- What is known of the fragment of a stripe that is given back.
-use Rattle.std.proofs.Common.{◌≡◌, ℕ, ◌+◌, ◌-◌, ◌≤◌, Bool, List, [], ◌∷◌, ◌++◌, length, take, if◌then◌else◌, None, sym, refl, ap, ◌∙◌, subst, inl, inr, arith}
+use Rattle.std.proofs.Common.{◌≡◌, ℕ, suc, Bool, List, [], ◌∷◌, ◌++◌, length, drop, if◌then◌else◌, None, sym, refl, ap, ◌∙◌, subst, inl, inr}
 use Rattle.std.specs.List.{All, remove}
-use Rattle.std.specs.Prelude.{vec_len}
 use Rattle.std.specs.Ordering.{nat_cmp}
 use Rattle.std.proofs.lemmas.Bool.{eq-eqb, ne_eqb}
 use Rattle.std.proofs.lemmas.List.{map-append}
 use Rattle.std.proofs.lemmas.List.Elements.{All-get_or}
-use Rattle.std.proofs.Math.Seq.{take-length}
 use Rattle.rc_tuple.specs.RisingSet.{In, IsRising}
 use Rattle.rc_tuple.specs.RisingSetLaws.{in_append}
 use Rattle.rc_spec.specs.declared.lock.Mode.{Mode}
@@ -23,11 +21,11 @@ use Rattle.atomic_table.specs.Table.{rest}
 use Rattle.rc_row.specs.declared.law.View.{View}
 use Rattle.rc_row.specs.declared.pass.Pass.TheInside.{Inside}
 use Rattle.rc_row.specs.HeldRows.{HeldRows}
-use Rattle.rc_row.specs.Law.{Slot, kept_of, standing_of}
+use Rattle.rc_row.specs.Law.{Slot, kept_of, slot_place, standing_of}
 use Rattle.rc_row.specs.PassInside.{IsWholePass, hands, pass_seen}
 use Rattle.rc_row.specs.Passes.{OfHeld, PassSeen, core_of, held_without, holds_taken}
 use Rattle.rc_row.specs.Turns.{IsHeldAt, turned_by_count}
-use Rattle.rc_row.proofs.TurnLemmas.{place_inside, read_here, some_out, turned_first}
+use Rattle.rc_row.proofs.TurnLemmas.{place_inside, read_here, turned_first}
 use Rattle.rc_row.proofs.ChangeLemmas.{gone_here, not_after, removed_here}
 use Rattle.rc_row.proofs.WholeLemmas.{rising_there, taken_seen}
 
@@ -35,9 +33,6 @@ rows_else : (before more : List HeldRows) (p : ℕ) → (In p (stripes_in (holds
 rows_else [] more p none = refl
 rows_else (h ∷ before) more p none =
     ap (λ (b : Bool). if b then h.fragment.taken else rows_of_hold (holds_taken (before ++ more)) p) (ne_eqb h.stripe p (λ e. none (inl (sym e)))) ∙ rows_else before more p (λ m. none (inr m))
-
-pub take_all : (held : List HeldRows) (n : ℕ) → n ≡ length held → take n held ≡ held
-take_all held n e = ap (λ (k : ℕ). take k held) e ∙ take-length held
 
 module _ (held : List HeldRows) (p at : ℕ) (h : IsHeldAt held p at) where
   -- the core has the stripe with the rows as taken
@@ -92,15 +87,10 @@ module _ (a : Inside) (whole : IsWholePass a) (seen : PassSeen) (is : pass_seen 
       ap kept_rows same ∙ kept_here a.held.items p at h spec (subst (All (λ (x : HeldRows). x.fragment.table ≡ edge_table spec)) items shapes) (subst (λ (hs : List HeldRows). OfHeld hs p IsAtRest) items rest)
       ∙ ap (λ (hs : List Hold). kept_of spec (rows_of_hold hs p)) (whole.agrees.taken ∙ ap (λ (w : View). (standing_of w).core.held) (sym e))
 
-  module _ (m : In p (writes_of (core_of seen))) (all len below : ℕ) (a_is : all ≡ length (hands (take len a.held.items))) (len_is : len ≡ vec_len a.held) (below_is : below ≡ length (hands (take at a.held.items))) where
-    all_is : all ≡ length (hands a.held.items)
-    all_is = a_is ∙ ap (λ (hs : List HeldRows). length (hands hs)) (take_all a.held.items len (len_is ∙ a.held.ok.0))
-
-    pub some_above : 1 + below ≤ all
-    some_above = let some = some_out a.held.items p at h (writes_here m) in let e = all_is in omega arith
-
-    pub front_here : (slots : List (ℕ × Slot)) → slots ≡ turned_by_count (all - 1 - below) a.seat.me.1 → slots ≡ (p, None) ∷ hands h.before ++ hands h.after
-    front_here slots e = e ∙ turned_first a.held.items p at h (writes_here m) (all - 1 - below) a.seat.me.1 (λ i. all_is i - 1 - below_is i) whole.agrees.hands_are
+  -- turned by those above it, its slot is in front
+  pub front_here : In p (writes_of (core_of seen)) → (above : ℕ) → above ≡ length (hands (drop (suc at) a.held.items)) → (slots : List (ℕ × Slot)) → slots ≡ turned_by_count above a.seat.me.1
+      → slots ≡ (slot_place p, None) ∷ hands h.before ++ hands h.after
+  front_here m above above_is slots e = e ∙ turned_first a.held.items p at h (writes_here m) above a.seat.me.1 above_is whole.agrees.hands_are
 
 -- what lies in front, and the rest
 pub front_of : (slots more : List (ℕ × Slot)) (x : ℕ × Slot) → slots ≡ x ∷ more → slots ≡ x ∷ rest slots

@@ -26,13 +26,13 @@ use Rattle.atomic_table.proofs.Lists.{set_here, set_else}
 use Rattle.rc_row.specs.declared.law.Key.{Key}
 use Rattle.rc_row.specs.declared.law.Standing.{Standing}
 use Rattle.rc_row.specs.declared.law.View.{View}
-use Rattle.rc_row.specs.Law.{Slot, compiled_by, kept_of, spec_by, stripes_by, stripe_word, latch_word, word_of, view_of, pass_view, HasLatch, HomesAre, IsKept, home_of}
+use Rattle.rc_row.specs.Law.{Slot, compiled_by, kept_of, spec_by, stripes_by, slot_place, stripe_word, latch_word, word_of, view_of, pass_view, HasLatch, HomesAre, IsKept, home_of}
 use Rattle.rc_row.specs.Run.{RowStep, TakeLatch, MissLatch, FreeLatch, CanStep, after_step, pass_of, refusal_of, row_state, refusal_at}
 use Rattle.rc_row.specs.RunLaws.{good_of, state_of}
 use Rattle.rc_row.specs.Standings.{latched_out}
 use Rattle.rc_row.specs.Told.{found_in_latch, HasLatched, IsLatchedOut, LatchesOrNot, ToldAtLatch, ToldAtUnlatch}
 use Rattle.rc_row.proofs.MoveLemmas.{Home?, Refuses, moved, its_core, its_known, its_latch, its_pass, its_place, still_core}
-use Rattle.rc_row.proofs.StripeLemmas.{by_true, by_false, home_is, there, latch_inside, commit_stays, moved_alone, out_where, slot_home}
+use Rattle.rc_row.proofs.StripeLemmas.{by_true, by_false, home_is, there, latch_inside, commit_stays, moved_alone, out_where, slot_home, slot_inside}
 
 module _ (key : Key) (s : State Slot View) (kept : IsKept key s) where
   -- the latch words where one of them changes
@@ -93,7 +93,7 @@ module _ (key : Key) (p id : ℕ) (a : Standing) (carried : List (ℕ × Slot)) 
       let inside : p < length kept.latches = (let n = kept.shows.latch_count in omega arith) in
       let rows : List EdgeRow = rows_of_hold a.core.held p in (
         view_of a (Some p),
-        takes p (Some (kept_of (spec_by key) rows)),
+        takes (slot_place p) (Some (kept_of (spec_by key) rows)),
         slot_home key s kept p rows lt (shared_rows key s kept id a None at p lt held) unlatched,
         moved_latch key s kept id a None at (Some p) p (suc k) (TakeLatch k p)
             (((its_place key s kept id a None at, there key s kept p lt), subst (λ (u : PassState). In p (shares_of u)) (sym (its_core key s kept id a None at)) held), unlatched)
@@ -104,13 +104,13 @@ module _ (key : Key) (p id : ℕ) (a : Standing) (carried : List (ℕ × Slot)) 
               idle = λ q has. idle;
             })
             (λ j n. ne_eqb (suc k) (suc j) (λ e. n (omega arith)) ∙ sym (ap (λ y. y == suc j) unlatched ∙ ne_eqb 0 (suc j) (λ e. omega arith)))
-            (set s.homes p none) (length-set s.homes p none)
-            (λ q below. each_changed (λ j y. j < length kept.core.stripes → get_elem? (set s.homes p none) j ≡ some (home_of (spec_by key) (stripe_at kept.core.stripes j).keeper (y == 0)))
+            (set s.homes (slot_place p) none) (length-set s.homes (slot_place p) none)
+            (λ q below. each_changed (λ j y. j < length kept.core.stripes → get_elem? (set s.homes (slot_place p) none) (slot_place j) ≡ some (home_of (spec_by key) (stripe_at kept.core.stripes j).keeper (y == 0)))
             kept.latches p (suc k) 0 inside
-            (λ b. set_here s.homes p none (let n = kept.shows.slots in omega arith)
+            (λ b. set_here s.homes (slot_place p) none (slot_inside key s kept p lt)
             ∙ sym (ap (λ t. some (home_of (spec_by key) (stripe_at kept.core.stripes p).keeper t)) (ne_eqb (suc k) 0 (λ e. omega arith)) ∙ ap some (out_where (spec_by key) (stripe_at kept.core.stripes p).keeper)))
-            (λ j n b. set_else s.homes p j none n ∙ kept.shows.homes j b) q below),
-        by_true (IsLatchedOut key (pass_view a, carried) p found (view_of a (Some p), (p, Some (kept_of (spec_by key) rows)) ∷ carried)) (found == 0) (eq-eqb found 0 free) (refl, refl),
+            (λ j n b. set_else s.homes (slot_place p) (slot_place j) none (λ e. n (omega arith)) ∙ kept.shows.homes j b) q below),
+        by_true (IsLatchedOut key (pass_view a, carried) p found (view_of a (Some p), (slot_place p, Some (kept_of (spec_by key) rows)) ∷ carried)) (found == 0) (eq-eqb found 0 free) (refl, refl),
       )
 
   -- a latch that another pass has
@@ -157,8 +157,8 @@ latches key slots p id a carried new lt held idle new_is s kept wide at small =
 
 -- a swap on a latch that frees it, and the slot goes home
 pub unlatches : (key : Key) (slots p id : ℕ) (a : Standing) (others : List (ℕ × Slot)) → p < stripes_by key
-    → Allows (IsKept key) slots id (view_of a (Some p), (p, Some (kept_of (spec_by key) (rows_of_hold a.core.held p))) ∷ others) (latch_word (stripes_by key) p) (λ n. 0)
-    (ToldAtUnlatch (step slots (latch_word (stripes_by key) p) 0 0 none) (view_of a (Some p), (p, Some (kept_of (spec_by key) (rows_of_hold a.core.held p))) ∷ others))
+    → Allows (IsKept key) slots id (view_of a (Some p), (slot_place p, Some (kept_of (spec_by key) (rows_of_hold a.core.held p))) ∷ others) (latch_word (stripes_by key) p) (λ n. 0)
+    (ToldAtUnlatch (step slots (latch_word (stripes_by key) p) 0 0 none) (view_of a (Some p), (slot_place p, Some (kept_of (spec_by key) (rows_of_hold a.core.held p))) ∷ others))
 unlatches key slots p id a others lt s kept wide at small =
     let k : ℕ = a.core.number in
     let its : HasLatch kept.latches (Some p) a.core = its_latch key s kept id a (Some p) at in
@@ -177,11 +177,11 @@ unlatches key slots p id a others lt s kept wide at small =
             idle = λ q has. absurd (false≢true has);
           })
           (λ j n. ne_eqb 0 (suc j) (λ e. omega arith) ∙ sym (ap (λ y. y == suc j) mine ∙ ne_eqb (suc k) (suc j) (λ e. n (omega arith))))
-          (set s.homes p home) (length-set s.homes p home)
-          (λ q below. each_changed (λ j y. j < length kept.core.stripes → get_elem? (set s.homes p home) j ≡ some (home_of (spec_by key) (stripe_at kept.core.stripes j).keeper (y == 0)))
+          (set s.homes (slot_place p) home) (length-set s.homes (slot_place p) home)
+          (λ q below. each_changed (λ j y. j < length kept.core.stripes → get_elem? (set s.homes (slot_place p) home) (slot_place j) ≡ some (home_of (spec_by key) (stripe_at kept.core.stripes j).keeper (y == 0)))
           kept.latches p 0 0 inside
-          (λ b. set_here s.homes p home (let n = kept.shows.slots in omega arith)
+          (λ b. set_here s.homes (slot_place p) home (slot_inside key s kept p lt)
           ∙ sym (λ i. some (home_of (spec_by key) (shared_rows key s kept id a (Some p) at p lt held i) (eq-eqb 0 0 refl i))))
-          (λ j n b. set_else s.homes p j home n ∙ kept.shows.homes j b) q below),
+          (λ j n b. set_else s.homes (slot_place p) (slot_place j) home (λ e. n (omega arith)) ∙ kept.shows.homes j b) q below),
       (refl, refl),
     )

@@ -26,14 +26,14 @@ use Rattle.atomic_table.proofs.Lists.{set_here, set_else}
 use Rattle.rc_row.specs.declared.law.Key.{Key}
 use Rattle.rc_row.specs.declared.law.Standing.{Standing}
 use Rattle.rc_row.specs.declared.law.View.{View}
-use Rattle.rc_row.specs.Law.{Slot, home_of, kept_of, spec_by, stripes_by, stripe_word, writer_mark, pass_view, IsKept}
+use Rattle.rc_row.specs.Law.{Slot, home_of, kept_of, spec_by, stripes_by, slot_place, stripe_word, writer_mark, pass_view, IsKept}
 use Rattle.rc_row.specs.Run.{OfCore, found_at, row_state, refusal_at}
 use Rattle.rc_row.specs.RunLaws.{good_of}
 use Rattle.rc_row.specs.Standings.{KeepsOut, with_core, refused}
 use Rattle.rc_row.specs.Told.{found_in_word, HasLocked, IsLockedOut, LocksOrNot, ToldAtLock, ToldAtUnlock}
 use Rattle.rc_core.specs.ListLaws.{get_set_same}
 use Rattle.rc_row.proofs.MoveLemmas.{its_core, its_known, its_pass, its_place}
-use Rattle.rc_row.proofs.StripeLemmas.{IsMade, by_true, by_false, has_one, home_is, free_word, mark_of_writer, keeps_writer_out, there, made, homes_with, no_latch, no_latch_written, slot_home, moved_stripe, moved_alone, high_fewer, high_unwritten, taken_word, word_tells}
+use Rattle.rc_row.proofs.StripeLemmas.{IsMade, by_true, by_false, has_one, home_is, free_word, mark_of_writer, keeps_writer_out, there, made, homes_with, no_latch, no_latch_written, slot_home, slot_inside, moved_stripe, moved_alone, high_fewer, high_unwritten, taken_word, word_tells}
 
 -- what a lock owes, where the number found in the word becomes n
 abbrev LockOwes : Key → ℕ → ℕ → Standing → List (ℕ × Slot) → State Slot View → ℕ → ℕ → Type 0
@@ -52,15 +52,15 @@ module _ (key : Key) (p id : ℕ) (a : Standing) (carried : List (ℕ × Slot)) 
       let w : PassState = locked a.core p rows in
       let good = lock_keeps (spec_by key) c k p a.core (good_of key s kept) is (there key s kept p lt) high unlocked in (
         pass_view (with_core a w),
-        takes p (Some (kept_of (spec_by key) rows)),
+        takes (slot_place p) (Some (kept_of (spec_by key) rows)),
         slot_home key s kept p rows lt (home_is t.keeper unlocked.0) (no_latch key s kept p unlocked.1),
         moved_stripe key s kept id a at (with_core a w) refl (its_known key s kept id a None at) (event.Lock k p)
             ((its_place key s kept id a None at, there key s kept p lt), subst (λ (u : PassState). IsHigh u p) (sym (its_core key s kept id a None at)) high, unlocked) refl (refl, refl)
             p (suc k) (with_keeper t (Writer k)) lt (let e = ap (λ (xs : List ℕ). length xs) unlocked.1 in omega arith)
             (ap (λ (u : PassState). with_pass c c.history (set c.stripes p (with_keeper t (Writer k))) k (locked u p rows)) (its_core key s kept id a None at))
-            (set s.homes p none) (length-set s.homes p none)
-            (homes_with key s kept p (with_keeper t (Writer k)) (set s.homes p none) lt (λ q n. set_else s.homes p q none n) (set_here s.homes p none (let n = kept.shows.slots in omega arith))),
-        by_true (IsLockedOut key (pass_view a, carried) p found (pass_view (with_core a w), (p, Some (kept_of (spec_by key) rows)) ∷ carried)) (found == 0) (eq-eqb found 0 free) (record {
+            (set s.homes (slot_place p) none) (length-set s.homes (slot_place p) none)
+            (homes_with key s kept p (with_keeper t (Writer k)) (set s.homes (slot_place p) none) lt (λ q n. set_else s.homes (slot_place p) (slot_place q) none (λ e. n (omega arith))) (set_here s.homes (slot_place p) none (slot_inside key s kept p lt))),
+        by_true (IsLockedOut key (pass_view a, carried) p found (pass_view (with_core a w), (slot_place p, Some (kept_of (spec_by key) rows)) ∷ carried)) (found == 0) (eq-eqb found 0 free) (record {
           rows = rows;
           view = refl;
           slots = refl;
@@ -110,8 +110,8 @@ locks key slots p id a carried new lt high new_is s kept wide at small =
 
 -- a fetch-sub on a stripe's word by its writer: the slot that was taken last goes home, with the rows that the view has for it
 pub unlocks : (key : Key) (slots p id : ℕ) (a : Standing) (others : List (ℕ × Slot)) (mark : ℕ) → p < stripes_by key → In p (writes_of a.core) → mark ≡ suc a.core.number
-    → Allows (IsKept key) slots id (pass_view a, (p, Some (kept_of (spec_by key) (rows_of_hold a.core.held p))) ∷ others) (stripe_word p) (λ n. (n + (2 ^ 64 - mark)) % 2 ^ 64)
-    (ToldAtUnlock (step slots (stripe_word p) mark 0 none) (pass_view a, (p, Some (kept_of (spec_by key) (rows_of_hold a.core.held p))) ∷ others))
+    → Allows (IsKept key) slots id (pass_view a, (slot_place p, Some (kept_of (spec_by key) (rows_of_hold a.core.held p))) ∷ others) (stripe_word p) (λ n. (n + (2 ^ 64 - mark)) % 2 ^ 64)
+    (ToldAtUnlock (step slots (stripe_word p) mark 0 none) (pass_view a, (slot_place p, Some (kept_of (spec_by key) (rows_of_hold a.core.held p))) ∷ others))
 unlocks key slots p id a others mark lt held mark_is s kept wide at small =
     let k : ℕ = a.core.number in
     let c : CoreState = kept.core in
@@ -127,9 +127,9 @@ unlocks key slots p id a others mark lt held mark_is s kept wide at small =
           ((its_place key s kept id a None at, there key s kept p lt), subst (λ (u : PassState). In p (writes_of u)) (sym (its_core key s kept id a None at)) held) refl (refl, refl)
           p x t lt left
           (ap (λ (u : PassState). with_pass c c.history (set c.stripes p (with_keeper (stripe_at c.stripes p) (Home (rows_of_hold u.held p)))) k (released u p)) (its_core key s kept id a None at))
-          (set s.homes p home) (length-set s.homes p home)
-          (homes_with key s kept p t (set s.homes p home) lt (λ q n. set_else s.homes p q home n)
-          (set_here s.homes p home (let n = kept.shows.slots in omega arith)
+          (set s.homes (slot_place p) home) (length-set s.homes (slot_place p) home)
+          (homes_with key s kept p t (set s.homes (slot_place p) home) lt (λ q n. set_else s.homes (slot_place p) (slot_place q) home (λ e. n (omega arith)))
+          (set_here s.homes (slot_place p) home (slot_inside key s kept p lt)
           ∙ ap (λ b. some (home_of (spec_by key) (Home rows) b)) (sym (eq-eqb (slice_index kept.latches p) 0 (no_latch_written key s kept p written))))),
       (λ q e. (let same : p ≡ q = omega arith in (ap (λ z. pass_view (with_core a (released a.core z))) same, refl))),
     )

@@ -1,11 +1,11 @@
 -- A new table keeps the rule.
-use Rattle.std.proofs.Common.{◌≡◌, ℕ, zero, suc, ◌+◌, ◌*◌, ◌<◌, ◌≤◌, ◌==◌, List, [], ◌∷◌, length, map, get_or, Some, None, sym, refl, ap, ◌∙◌, subst, inl, inr, arith}
-use Rattle.std.specs.Prelude.{slice_index, replicate, All}
+use Rattle.std.proofs.Common.{◌≡◌, ℕ, zero, suc, ◌+◌, ◌*◌, ◌%◌, ◌<◌, ◌≤◌, ◌==◌, List, [], ◌∷◌, ◌++◌, length, map, get_or, Some, None, sym, refl, ap, ◌∙◌, subst, inl, inr, arith}
+use Rattle.std.specs.Prelude.{slice_index, replicate}
 use Rattle.std.specs.List.{slice_get, range_with_len}
 use Rattle.std.specs.Ordering.{nat_cmp}
 use Rattle.std.specs.Cmp.{nat_cmp_is}
 use Rattle.std.specs.declared.cmp.Ordering.TheVariants.{Less}
-use Rattle.std.proofs.lemmas.Bool.{false≢true, eq-eqb, ne_eqb}
+use Rattle.std.proofs.lemmas.Bool.{cases_eq, false≢true, eq-eqb, ne_eqb}
 use Rattle.std.proofs.lemmas.List.{length-map, length-replicate}
 use Rattle.std.proofs.lemmas.List.FromFn.{length-map-range_with_len}
 use mathlib.Core.Option.{some, some-injective, some-ne-none}
@@ -23,14 +23,15 @@ use Rattle.rc_core.specs.declared.state.PassState.{PassState}
 use Rattle.rc_core.specs.State.{fresh, no_stripe, stripe_at}
 use Rattle.rc_core.specs.Events as events
 use Rattle.atomic_table.specs.Table.{opening}
-use Rattle.atomic_table.proofs.Lists.{at_map, at_index}
+use Rattle.atomic_table.proofs.Lists.{at_last, at_longer, at_map}
 use Rattle.rc_row.specs.declared.law.Key.{Key}
 use Rattle.rc_row.specs.declared.law.Standing.{Standing}
 use Rattle.rc_row.specs.declared.law.View.{View}
 use Rattle.rc_row.specs.declared.row.Row.TheInside.{Inside}
+use Rattle.rc_row.specs.Rooms.{AreEmptySlots}
 use Rattle.rc_row.specs.RowInside.{IsWholeRow}
 use Rattle.rc_row.specs.Standings.{start}
-use Rattle.rc_row.specs.Law.{Slot, kept_of, compiled_by, spec_by, stripes_by, stripe_word, latch_word, word_of, starts, opener, numbers_in, at_first_by, AreSeatedAt, AreTold, HaveLatch, IsTrueView, home_of, HomesAre, IsKept}
+use Rattle.rc_row.specs.Law.{Slot, kept_of, compiled_by, spec_by, stripes_by, slot_place, stripe_word, latch_word, word_of, starts, opener, numbers_in, at_first_by, AreSeatedAt, AreTold, HaveLatch, IsTrueView, home_of, HomesAre, IsKept}
 
 -- each place of a list of equal elements, and each beyond it
 same_there : {A : Type 0} → (n p : ℕ) (a : A) → get_or (replicate n a) p a ≡ a
@@ -71,9 +72,17 @@ starts_told : (numbers : List ℕ) → AreTold [] (λ k. []) (map start numbers)
 starts_told [] = tt
 starts_told (k ∷ numbers) = (record { count = refl; last = refl; known = λ j d lt. absurd (omega arith) }, starts_told numbers)
 
-pub opens : (key : Key) (words : List ℕ) (slots : List Slot) → 1 ≤ key.passes → key.passes ≤ 255 → IsCompiled (spec_by key) (compiled_by key).plans → length slots ≡ stripes_by key
-    → All (λ slot. slot ≡ Some (kept_of (spec_by key) [])) slots → words ≡ replicate (8 * suc (stripes_by key + stripes_by key)) 0 → IsKept key (opening words slots (opener key))
-opens key words slots some_pass few compiled wide empty zeros = record {
+-- one slot more, which has a fragment with no row where it is a stripe's
+pub slots_more : (spec : Spec) (slots more : List Slot) (x : Slot) (i : ℕ) → more ≡ slots ++ x ∷ [] → length slots ≡ i → (i % 4 ≡ 0 → x ≡ Some (kept_of spec []))
+    → ((p : ℕ) → slot_place p < i → get_elem? slots (slot_place p) ≡ some (Some (kept_of spec []))) → (p : ℕ) → slot_place p < i + 1 → get_elem? more (slot_place p) ≡ some (Some (kept_of spec []))
+slots_more spec slots more x i is count first before p lt = ap (λ (l : List Slot). get_elem? l (slot_place p)) is ∙ elim (cases_eq (slot_place p) i) [
+  | inl e ↦ ap (get_elem? (slots ++ x ∷ [])) e ∙ at_last slots x i count ∙ ap some (first (omega (arith, e)))
+  | inr apart ↦ at_longer slots (x ∷ []) (slot_place p) (Some (kept_of spec [])) (before p (omega (arith, lt, apart)))
+]
+
+pub opens : (key : Key) (words : List ℕ) (slots : List Slot) → 1 ≤ key.passes → key.passes ≤ 255 → IsCompiled (spec_by key) (compiled_by key).plans
+    → AreEmptySlots (spec_by key) (stripes_by key) slots → words ≡ replicate (8 * suc (stripes_by key + stripes_by key)) 0 → IsKept key (opening words slots (opener key))
+opens key words slots some_pass few compiled empty zeros = record {
   compiled = compiled;
   some_pass = some_pass;
   few_passes = few;
@@ -89,7 +98,7 @@ opens key words slots some_pass few compiled wide empty zeros = record {
     words = λ p lt. word_there (stripe_word p) ∙ ap word_of (sym (unlocked p));
     latch_words = λ p lt. word_there (latch_word (stripes_by key) p) ∙ sym (same_there (stripes_by key) p 0);
     latch_count = length-replicate (stripes_by key) 0;
-    slots = length-map slots some ∙ wide;
+    slots = length-map slots some ∙ empty.count;
     passes = length-map-range_with_len fresh 0 key.passes;
     homes = homes;
   };
@@ -110,11 +119,10 @@ opens key words slots some_pass few compiled wide empty zeros = record {
 
     homes : HomesAre (spec_by key) (replicate (stripes_by key) no_stripe) (replicate (stripes_by key) 0) (map some slots)
     homes p lt =
-        at_map some slots p (Some (kept_of (spec_by key) []))
-        (at_index slots p (Some (kept_of (spec_by key) [])) inside (sym (empty p (Some (kept_of (spec_by key) [])) inside)))
+        at_map some slots (slot_place p) (Some (kept_of (spec_by key) [])) (empty.empty p inside)
         ∙ sym (λ i. some (home_of (spec_by key) (unlocked p i).keeper (eq-eqb (slice_index (replicate (stripes_by key) 0) p) 0 (same_there (stripes_by key) p 0) i)))
       where
-        inside : p < length slots
+        inside : p < stripes_by key
         inside = let n = length-replicate (stripes_by key) no_stripe in omega arith
 
     views : (id : ℕ) (v : View) → get_elem? (opener key ∷ []) id ≡ some v → IsTrueView (at_first_by key) (λ k. []) (λ k. 0) id v
@@ -141,11 +149,11 @@ stripes_of_key key s accepted spec n told first read count = count ∙ ap stripe
 pub words_of_key : (key : Key) (n : ℕ) → n ≡ stripes_by key → 8 * (2 * n + 1) ≡ 8 * suc (stripes_by key + stripes_by key)
 words_of_key key n is = omega (arith, is)
 
-pub is_whole : (a : Inside) (key : Key) → a.table.shared.key ≡ key → IsCompiled (spec_by key) (compiled_by key).plans → a.table.shared.table_id.slots ≡ stripes_by key
+pub is_whole : (a : Inside) (key : Key) → a.table.shared.key ≡ key → IsCompiled (spec_by key) (compiled_by key).plans → a.table.shared.table_id.slots ≡ 4 * stripes_by key
     → a.table.shared.table_id.words ≡ 8 * suc (stripes_by key + stripes_by key) → 1 ≤ key.passes → key.passes ≤ 255 → IsWholeRow a
 is_whole a key told compiled slots words some_pass few = record {
   compiled = subst (λ (k : Key). IsCompiled (spec_by k) (compiled_by k).plans) (sym told) compiled;
-  slots = slots ∙ ap stripes_by (sym told);
+  slots = slots ∙ ap (λ (k : Key). 4 * stripes_by k) (sym told);
   words = words ∙ ap (λ (k : Key). 8 * suc (stripes_by k + stripes_by k)) (sym told);
   stripes = subst (λ (k : Key). stripes_by k ≤ 256) (sym told) (placed_total (spec_by key) compiled.sealed.accepted.placed);
   some_pass = subst (λ (k : Key). 1 ≤ k.passes) (sym told) some_pass;

@@ -11,7 +11,7 @@ use Rattle.atomic_table.specs.Table.{Me, Step, step, Allows, Splits, Joins, rest
 use Rattle.rc_row.specs.declared.law.Key.{Key}
 use Rattle.rc_row.specs.declared.law.View.{View}
 use Rattle.rc_row.specs.declared.row.Row.TheInside.{Inside}
-use Rattle.rc_row.specs.Law.{Slot, kept_of, stripes_by, stripe_word, latch_word, view_of, pass_view, note_view, passes_view, numbers_in, standing_of, IsKept}
+use Rattle.rc_row.specs.Law.{slot_place, Slot, kept_of, stripes_by, stripe_word, latch_word, view_of, pass_view, note_view, passes_view, numbers_in, standing_of, IsKept}
 use Rattle.rc_row.specs.Passes.{RowSeen, compiled_of, spec_of, stripes_of}
 use Rattle.rc_row.specs.RowInside.{IsWholeRow, row_seen}
 use Rattle.rc_row.specs.Seats.{undealt, dealt, noted, informed, gathered, spent}
@@ -41,6 +41,10 @@ Joining a table id v table' id' me' both =
     (table ≡ a.table.shared.table_id) × (table' ≡ a.table.shared.table_id) × (me'.1 ≡ []) × (0 < a.table.shared.table_id.words)
     × Joins (IsKept a.table.shared.key) id v id' me'.0 both spent
 
+-- how many stripes a row has is seen of it
+pub stripes_seen : (a : Inside) (row : RowSeen) → row_seen a ≡ row → stripes_of row ≡ stripes_by a.table.shared.key
+stripes_seen a row is = sym (ap stripes_of is)
+
 -- the place of a latch, where the count of stripes was read
 pub at_latch : (n stripes p w : ℕ) → w ≡ latch_word n p → n ≡ stripes → w ≡ latch_word stripes p
 at_latch n stripes p w is same = is ∙ ap (λ m. latch_word m p) same
@@ -67,9 +71,9 @@ module _ (a : Inside) (row : RowSeen) (is : row_seen a ≡ row) (whole : IsWhole
 
   module _ (id : ℕ) (me : Me Slot View) (table : TableId) (same : table ≡ row.table) where
     -- the fragment in the slot that was taken last, in the terms of the table's key
-    its_slot : (p : ℕ) → me.1 ≡ (p, Some (kept_of (spec_of row) (rows_of_hold (standing_of me.0).core.held p))) ∷ rest me.1
-        → me.1 ≡ (p, Some (kept_of (spec_of (row_seen a)) (rows_of_hold (standing_of me.0).core.held p))) ∷ rest me.1
-    its_slot p slot = subst (λ (r : RowSeen). me.1 ≡ (p, Some (kept_of (spec_of r) (rows_of_hold (standing_of me.0).core.held p))) ∷ rest me.1) (sym is) slot
+    its_slot : (p : ℕ) → me.1 ≡ (slot_place p, Some (kept_of (spec_of row) (rows_of_hold (standing_of me.0).core.held p))) ∷ rest me.1
+        → me.1 ≡ (slot_place p, Some (kept_of (spec_of (row_seen a)) (rows_of_hold (standing_of me.0).core.held p))) ∷ rest me.1
+    its_slot p slot = subst (λ (r : RowSeen). me.1 ≡ (slot_place p, Some (kept_of (spec_of r) (rows_of_hold (standing_of me.0).core.held p))) ∷ rest me.1) (sym is) slot
 
     pub locks_at : (p w new : ℕ) (told : Option Key) → p < stripes_of row → w ≡ stripe_word p → told ≡ Some row.key → me.0 ≡ pass_view (standing_of me.0) → IsHigh (standing_of me.0).core p → new ≡ suc (standing_of me.0).core.number
         → Requires a table id me w (λ n. either (n == 0) new n) (ToldAtLock told (step_on a w 0 new) me)
@@ -81,7 +85,7 @@ module _ (a : Inside) (row : RowSeen) (is : row_seen a ≡ row) (whole : IsWhole
     )
 
     pub unlocks_at : (p w mark : ℕ) → p < stripes_of row → w ≡ stripe_word p → me.0 ≡ pass_view (standing_of me.0) → In p (writes_of (standing_of me.0).core) → mark ≡ suc (standing_of me.0).core.number
-        → me.1 ≡ (p, Some (kept_of (spec_of row) (rows_of_hold (standing_of me.0).core.held p))) ∷ rest me.1
+        → me.1 ≡ (slot_place p, Some (kept_of (spec_of row) (rows_of_hold (standing_of me.0).core.held p))) ∷ rest me.1
         → Requires a table id me w (λ n. (n + (2 ^ 64 - mark)) % 2 ^ 64) (ToldAtUnlock (step_on a w mark 0) me)
     unlocks_at p w mark lt word view held marked slot = (
       its_table table same,
@@ -128,7 +132,7 @@ module _ (a : Inside) (row : RowSeen) (is : row_seen a ≡ row) (whole : IsWhole
     )
 
     pub unlatches_at : (p w : ℕ) → p < stripes_of row → w ≡ latch_word (stripes_by a.table.shared.key) p → me.0 ≡ view_of (standing_of me.0) (Some p)
-        → me.1 ≡ (p, Some (kept_of (spec_of row) (rows_of_hold (standing_of me.0).core.held p))) ∷ rest me.1
+        → me.1 ≡ (slot_place p, Some (kept_of (spec_of row) (rows_of_hold (standing_of me.0).core.held p))) ∷ rest me.1
         → Requires a table id me w (λ n. 0) (ToldAtUnlatch (step_on a w 0 0) me)
     unlatches_at p w lt word view slot = (
       its_table table same,

@@ -36,7 +36,7 @@ use Rattle.atomic_table.specs.Table.{State}
 use Rattle.rc_row.specs.declared.law.Key.{Key}
 use Rattle.rc_row.specs.declared.law.Standing.{Standing}
 use Rattle.rc_row.specs.declared.law.View.{View}
-use Rattle.rc_row.specs.Law.{Slot, kept_of, spec_by, stripes_by, stripe_word, latch_word, writer_mark, word_of, pass_view, AreKnown, AreSeatedAt, HasLatch, HaveLatch, compiled_by, has_pass, home_of, HomesAre, IsKept}
+use Rattle.rc_row.specs.Law.{Slot, kept_of, spec_by, stripes_by, slot_place, stripe_word, latch_word, writer_mark, word_of, pass_view, AreKnown, AreSeatedAt, HasLatch, HaveLatch, compiled_by, has_pass, home_of, HomesAre, IsKept}
 use Rattle.rc_row.specs.Run.{RowStep, OfCore, CanStep, after_step, found_at, found_by, pass_of, pass_of_event, refusal_of, refusal_of_event, row_state}
 use Rattle.rc_row.specs.RunLaws.{good_of, state_of}
 use Rattle.rc_row.specs.Standings.{KeepsOut, HaveOneRelation}
@@ -185,11 +185,11 @@ module _ (key : Key) (s : State Slot View) (kept : IsKept key s) where
   latches_stay p x lt q below = get_or-set_other s.words (stripe_word p) (latch_word (stripes_by key) q) x 0 (λ e. omega arith) ∙ kept.shows.latch_words q below
 
   -- the slots at home where a stripe changes
-  pub homes_with : (p : ℕ) (t : StripeState) (homes : List Home?) → p < stripes_by key → ((q : ℕ) → q ≢ p → get_elem? homes q ≡ get_elem? s.homes q)
-      → get_elem? homes p ≡ some (home_of (spec_by key) t.keeper (slice_index kept.latches p == 0))
+  pub homes_with : (p : ℕ) (t : StripeState) (homes : List Home?) → p < stripes_by key → ((q : ℕ) → q ≢ p → get_elem? homes (slot_place q) ≡ get_elem? s.homes (slot_place q))
+      → get_elem? homes (slot_place p) ≡ some (home_of (spec_by key) t.keeper (slice_index kept.latches p == 0))
       → HomesAre (spec_by key) (set kept.core.stripes p t) kept.latches homes
   homes_with p t homes lt same here q below =
-      each_changed (λ j y. j < length kept.core.stripes → get_elem? homes j ≡ some (home_of (spec_by key) y.keeper (slice_index kept.latches j == 0)))
+      each_changed (λ j y. j < length kept.core.stripes → get_elem? homes (slot_place j) ≡ some (home_of (spec_by key) y.keeper (slice_index kept.latches j == 0)))
       kept.core.stripes p t no_stripe (there p lt) (λ l. here) (λ j n l. same j n ∙ kept.shows.homes j l) q
       (subst (λ n. q < n) (length-set kept.core.stripes p t) below)
 
@@ -197,8 +197,11 @@ module _ (key : Key) (s : State Slot View) (kept : IsKept key s) where
   pub homes_stay : (p : ℕ) (t : StripeState) → p < stripes_by key → t.keeper ≡ (stripe_at kept.core.stripes p).keeper → HomesAre (spec_by key) (set kept.core.stripes p t) kept.latches s.homes
   homes_stay p t lt same = homes_with p t s.homes lt (λ q n. refl) (kept.shows.homes p (there p lt) ∙ ap (λ (x : Keeper). some (home_of (spec_by key) x (slice_index kept.latches p == 0))) (sym same))
 
+  pub slot_inside : (p : ℕ) → p < stripes_by key → slot_place p < length s.homes
+  slot_inside p lt = let n = kept.shows.slots in omega arith
+
   -- the slot of a stripe that nobody writes or latches
-  pub slot_home : (p : ℕ) (rows : List EdgeRow) → p < stripes_by key → (stripe_at kept.core.stripes p).keeper ≡ Home rows → slice_index kept.latches p ≡ 0 → get_elem? s.homes p ≡ some (some (Some (kept_of (spec_by key) rows)))
+  pub slot_home : (p : ℕ) (rows : List EdgeRow) → p < stripes_by key → (stripe_at kept.core.stripes p).keeper ≡ Home rows → slice_index kept.latches p ≡ 0 → get_elem? s.homes (slot_place p) ≡ some (some (Some (kept_of (spec_by key) rows)))
   slot_home p rows lt is free = kept.shows.homes p (there p lt) ∙ (λ i. some (home_of (spec_by key) (is i) (eq-eqb (slice_index kept.latches p) 0 free i)))
 
   -- a pass that has a latch, by the number in the latch's word

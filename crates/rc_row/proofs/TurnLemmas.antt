@@ -1,7 +1,8 @@
 -- Where the fragment of a held stripe is, and what turning the slots of a seat does.
-use Rattle.std.proofs.Common.{◌≡◌, ℕ, zero, suc, ◌+◌, ◌-◌, ◌<◌, ◌≤◌, List, [], ◌∷◌, ◌++◌, length, get_or, take, drop, None, sym, refl, ap, ◌∙◌, subst, inl, inr, arith, length-append, append_assoc}
+use Rattle.std.proofs.Common.{◌≡◌, ℕ, zero, suc, ◌+◌, ◌<◌, ◌==◌, Bool, List, [], ◌∷◌, ◌++◌, length, get_or, take, drop, None, sym, refl, ap, ◌∙◌, subst, inl, inr, cond, arith, length-append, append_assoc}
 use Rattle.std.specs.declared.cmp.Ordering.TheVariants.{Less}
 use Rattle.std.specs.Ordering.{nat_cmp}
+use Rattle.std.proofs.lemmas.Bool.{cases_eq, eq-eqb, ne_eqb}
 use Rattle.std.proofs.lemmas.Cmp.{ranked}
 use Rattle.std.proofs.lemmas.List.{append-nil, take_more, length-take-le, take-append-drop}
 use Rattle.std.proofs.Math.Seq.{drop-cons, get_or-append_seam}
@@ -12,7 +13,7 @@ use Rattle.rc_core.specs.State.{hold, stripes_in}
 use Rattle.rc_core.specs.ListLaws.{stripes_have}
 use Rattle.atomic_table.specs.Table.{turned}
 use Rattle.rc_row.specs.HeldRows.{HeldRows}
-use Rattle.rc_row.specs.Law.{Slot}
+use Rattle.rc_row.specs.Law.{Slot, slot_place}
 use Rattle.rc_row.specs.PassInside.{hand_of, hands}
 use Rattle.rc_row.specs.Passes.{holds_taken}
 use Rattle.rc_row.specs.Turns.{turned_by_count, IsHeldAt}
@@ -31,6 +32,10 @@ turned-append (x ∷ a) b =
 pub hands-append : (a b : List HeldRows) → hands (a ++ b) ≡ hands b ++ hands a
 hands-append [] b = sym (append-nil (hands b))
 hands-append (h ∷ a) b = ap (λ (slots : List (ℕ × Slot)). slots ++ hand_of h.mode h.stripe) (hands-append a b) ∙ append_assoc (hands b) (hands a) (hand_of h.mode h.stripe)
+
+nothing : (slots : List (ℕ × Slot)) → length slots ≡ 0 → slots ≡ []
+nothing [] e = refl
+nothing (x ∷ slots) e = absurd (omega arith)
 
 -- ---- where a stripe is
 
@@ -63,6 +68,7 @@ is_held_at held p i d lt none stripe is = record {
   stripe = stripe;
   place = length-take-le i held (omega arith);
   took = refl;
+  left = refl;
   first = none;
 }
 
@@ -82,33 +88,30 @@ module _ (held : List HeldRows) (p at : ℕ) (h : IsHeldAt held p at) where
   read_here d = (λ i. get_or (h.is i) (sym h.place i) d) ∙ get_or-append_seam h.before h.here h.after d
 
   module _ (written : h.here.mode ≡ Exclusive) where
-    parted : hands held ≡ hands h.after ++ (p, None) ∷ hands h.before
+    parted : hands held ≡ hands h.after ++ (slot_place p, None) ∷ hands h.before
     parted = ap hands h.is ∙ hands-append h.before (h.here ∷ h.after)
         ∙ (λ i. (hands h.after ++ hand_of (written i) (h.stripe i)) ++ hands h.before)
-        ∙ append_assoc (hands h.after) ((p, None) ∷ []) (hands h.before)
+        ∙ append_assoc (hands h.after) ((slot_place p, None) ∷ []) (hands h.before)
 
-    -- of the slots that are out, those above the stripe
-    pub count_above : length (hands held) - 1 - length (hands (take at held)) ≡ length (hands h.after)
-    count_above =
-        let a = ap length parted ∙ length-append (hands h.after) ((p, None) ∷ hands h.before) in
-        let b = ap (λ (hs : List HeldRows). length (hands hs)) h.took in
-        omega arith
-
-    -- the stripe's slot is one of them
-    pub some_out : 1 + length (hands (take at held)) ≤ length (hands held)
-    some_out =
-        let a = ap length parted ∙ length-append (hands h.after) ((p, None) ∷ hands h.before) in
-        let b = ap (λ (hs : List HeldRows). length (hands hs)) h.took in
-        omega arith
-
-    pub turned_first : (n : ℕ) (slots : List (ℕ × Slot)) → n ≡ length (hands held) - 1 - length (hands (take at held)) → slots ≡ hands held → turned_by_count n slots ≡ (p, None) ∷ hands h.before ++ hands h.after
+    -- turned by those above it, its slot is in front
+    pub turned_first : (n : ℕ) (slots : List (ℕ × Slot)) → n ≡ length (hands (drop (suc at) held)) → slots ≡ hands held → turned_by_count n slots ≡ (slot_place p, None) ∷ hands h.before ++ hands h.after
     turned_first n slots count is =
-        ap (λ (k : ℕ). turned_by_count k slots) (count ∙ count_above) ∙ ap (turned_by_count (length (hands h.after))) (is ∙ parted) ∙ turned-append (hands h.after) ((p, None) ∷ hands h.before)
+        ap (λ (k : ℕ). turned_by_count k slots) (count ∙ ap (λ (hs : List HeldRows). length (hands hs)) h.left)
+        ∙ ap (turned_by_count (length (hands h.after))) (is ∙ parted) ∙ turned-append (hands h.after) ((slot_place p, None) ∷ hands h.before)
 
-  pub turned_last : (n : ℕ) → n ≡ length (hands (take at held)) → turned_by_count n (hands h.before ++ hands h.after) ≡ hands (h.before ++ h.after)
-  turned_last n count =
-      ap (λ (k : ℕ). turned_by_count k (hands h.before ++ hands h.after)) (count ∙ ap (λ (hs : List HeldRows). length (hands hs)) h.took) ∙ turned-append (hands h.before) (hands h.after)
-      ∙ sym (hands-append h.before h.after)
+  -- and those that are left come back into their order: at once where none was above it
+  pub turned_last : (n m : ℕ) → n ≡ length (hands (drop (suc at) held)) → m ≡ cond (n == 0) 0 (length (hands (take at held))) → turned_by_count m (hands h.before ++ hands h.after) ≡ hands (h.before ++ h.after)
+  turned_last n m above below = elim (cases_eq n 0) [
+    | inl e ↦
+        (let none : hands h.after ≡ [] = nothing (hands h.after) (ap (λ (hs : List HeldRows). length (hands hs)) (sym h.left) ∙ sym above ∙ e) in
+        ap (λ (k : ℕ). turned_by_count k (hands h.before ++ hands h.after)) (below ∙ ap (λ (b : Bool). cond b 0 (length (hands (take at held)))) (eq-eqb n 0 e))
+        ∙ ap (λ (slots : List (ℕ × Slot)). hands h.before ++ slots) none ∙ append-nil (hands h.before)
+        ∙ ap (λ (slots : List (ℕ × Slot)). slots ++ hands h.before) (sym none) ∙ sym (hands-append h.before h.after))
+    | inr some ↦
+        ap (λ (k : ℕ). turned_by_count k (hands h.before ++ hands h.after))
+        (below ∙ ap (λ (b : Bool). cond b 0 (length (hands (take at held)))) (ne_eqb n 0 some) ∙ ap (λ (hs : List HeldRows). length (hands hs)) h.took)
+        ∙ turned-append (hands h.before) (hands h.after) ∙ sym (hands-append h.before h.after)
+  ]
 
   -- a shared stripe has no slot out
   pub hands_shared : h.here.mode ≡ Shared → hands held ≡ hands (h.before ++ h.after)

@@ -1,5 +1,5 @@
 -- What a whole pass shows, and when a pass is whole after a change of what it holds.
-use Rattle.std.proofs.Common.{◌≡◌, ℕ, ◌<◌, List, sym, refl, ap, ◌∙◌, subst, arith}
+use Rattle.std.proofs.Common.{◌≡◌, ℕ, ◌*◌, ◌<◌, List, sym, refl, ap, ◌∙◌, subst, arith}
 use Rattle.std.specs.Global.{Vec}
 use Rattle.std.specs.Prelude.{vec_capacity, vec_len, Result, Ok, Err, OnOk, OnErr}
 use Rattle.std.specs.Ordering.{nat_cmp}
@@ -40,8 +40,8 @@ module _ (a : Inside) (whole : IsWholePass a) (seen : PassSeen) (is : pass_seen 
   pub high_there : (p : ℕ) → IsAbove (core_of seen) p → IsHigh (standing_of a.seat.me.0).core p
   high_there p above = high_at a.number a.seat.me a.held.items p whole.agrees (above_there p above)
 
-  -- where the table has so many slots, there is room for the fragment of a stripe above all that is held
-  pub room_there : (p n : ℕ) (table : TableId) → IsAbove (core_of seen) p → p < n → seen.table ≡ table → table.slots ≡ n → vec_len a.held < vec_capacity a.held
+  -- where the table has slots for so many stripes, there is room for the fragment of a stripe above all that is held
+  pub room_there : (p n : ℕ) (table : TableId) → IsAbove (core_of seen) p → p < n → seen.table ≡ table → table.slots ≡ 4 * n → vec_len a.held < vec_capacity a.held
   room_there p n table above lt same slots =
       let few = few_held a.number a.seat.me a.held.items p whole.agrees (above_there p above) in
       let room = whole.room in

@@ -58,6 +58,10 @@ writer_mark (Writer k) = suc k
 abbrev pub word_of : StripeState → ℕ
 word_of s = writer_mark s.keeper + 65536 * length s.counted
 
+-- Slots of stripes stand four slots apart, so that no two share a cache line; the others have nothing, and no step takes them.
+abbrev pub slot_place : ℕ → ℕ
+slot_place p = 4 * p
+
 -- what a slot has: a fragment at rest, or nothing while a pass has it
 abbrev pub Slot : Type 0
 Slot = Option KeptRows
@@ -156,9 +160,9 @@ home_of spec (Home rows) true = some (Some (kept_of spec rows))
 home_of spec (Home rows) false = none
 home_of spec (Writer k) free = none
 
--- so has each slot
+-- so has the slot of each stripe
 abbrev pub HomesAre : Spec → List StripeState → List ℕ → List (mathlib.Core.Option.Option Slot) → Type 0
-HomesAre spec stripes latches homes = (p : ℕ) → p < length stripes → get_elem? homes p ≡ some (home_of spec (stripe_at stripes p).keeper (slice_index latches p == 0))
+HomesAre spec stripes latches homes = (p : ℕ) → p < length stripes → get_elem? homes (slot_place p) ≡ some (home_of spec (stripe_at stripes p).keeper (slice_index latches p == 0))
 
 -- words and homes show the state, with these latches
 pub record Shows (key : Key) (core : CoreState) (latches : List ℕ) (s : State Slot View) : Type 0 where
@@ -167,7 +171,7 @@ pub record Shows (key : Key) (core : CoreState) (latches : List ℕ) (s : State 
   pub words : (p : ℕ) → p < stripes_by key → slice_index s.words (stripe_word p) ≡ word_of (stripe_at core.stripes p)
   pub latch_words : (p : ℕ) → p < stripes_by key → slice_index s.words (latch_word (stripes_by key) p) ≡ slice_index latches p
   pub latch_count : length latches ≡ stripes_by key
-  pub slots : length s.homes ≡ stripes_by key
+  pub slots : length s.homes ≡ 4 * stripes_by key
   pub passes : length core.passes ≡ key.passes
   pub homes : HomesAre (spec_by key) core.stripes latches s.homes
 

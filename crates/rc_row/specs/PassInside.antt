@@ -1,5 +1,5 @@
 -- What a pass keeps.
-use Rattle.std.specs.Prelude.{◌≡◌, ℕ, ◌<◌, ◌≤◌, List, [], ◌∷◌, ◌++◌, length, Option, Some, None, vec_capacity}
+use Rattle.std.specs.Prelude.{◌≡◌, ℕ, ◌*◌, ◌<◌, ◌≤◌, List, [], ◌∷◌, ◌++◌, length, Option, Some, None, vec_capacity}
 use Rattle.std.specs.Ordering.{nat_cmp}
 use Rattle.rc_tuple.specs.RisingSet.{IsRising}
 use Rattle.rc_spec.specs.declared.lock.Mode.{Mode}
@@ -11,12 +11,12 @@ use Rattle.atomic_table.specs.Table.{Me}
 use Rattle.rc_row.specs.declared.law.View.{View}
 use Rattle.rc_row.specs.declared.pass.Pass.TheInside.{Inside}
 use Rattle.rc_row.specs.HeldRows.{HeldRows}
-use Rattle.rc_row.specs.Law.{Slot, standing_of, pass_view}
+use Rattle.rc_row.specs.Law.{Slot, slot_place, standing_of, pass_view}
 use Rattle.rc_row.specs.Passes.{PassSeen, holds_taken}
 
 -- the slot of which a pass has the fragment in its own memory: that of a stripe which it writes
 abbrev pub hand_of : Mode → ℕ → List (ℕ × Slot)
-hand_of Exclusive p = (p, None) ∷ []
+hand_of Exclusive p = (slot_place p, None) ∷ []
 hand_of Shared p = []
 
 -- the slots that a seat has out, the last taken first, each empty
@@ -48,4 +48,4 @@ pub record IsWholePass (a : Inside) : Type 0 where
   pub seen : a.seen ≡ (standing_of a.seat.me.0).core.seen
   pub made : a.made ≡ length (standing_of a.seat.me.0).core.own
   pub entries : AreOwnKept a.entries (standing_of a.seat.me.0).core.own
-  pub room : a.seat.table_id.slots ≤ vec_capacity a.held
+  pub room : a.seat.table_id.slots ≤ 4 * vec_capacity a.held

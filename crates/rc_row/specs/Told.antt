@@ -11,7 +11,7 @@ use Rattle.atomic_table.specs.Table.{Me, Step, rest}
 use Rattle.rc_row.specs.declared.law.Key.{Key}
 use Rattle.rc_row.specs.declared.law.View.{View}
 use Rattle.rc_row.specs.Standings.{with_core, refused, turned_by, latched_out, after_entry, after_look, KeepsOut, IsAtHistory, HaveOneRelation}
-use Rattle.rc_row.specs.Law.{Slot, kept_of, spec_by, compiled_by, stripes_by, stripe_word, latch_word, standing_of, pass_view, view_of}
+use Rattle.rc_row.specs.Law.{Slot, kept_of, spec_by, compiled_by, stripes_by, slot_place, stripe_word, latch_word, standing_of, pass_view, view_of}
 
 -- a seat, as it is seen: its view, and the slots that it has out
 abbrev Who : Type 0
@@ -31,7 +31,7 @@ found_in_latch word = Latch (word - 1)
 pub record HasLocked (key : Key) (m : Who) (p : ℕ) (m' : Who) : Type 0 where
   pub rows : List EdgeRow
   pub view : m'.0 ≡ pass_view (with_core (standing_of m.0) (locked (standing_of m.0).core p rows))
-  pub slots : m'.1 ≡ (p, Some (kept_of (spec_by key) rows)) ∷ m.1
+  pub slots : m'.1 ≡ (slot_place p, Some (kept_of (spec_by key) rows)) ∷ m.1
   pub one : HaveOneRelation (spec_by key) (locked (standing_of m.0).core p rows).held
 
 -- somebody writes it, or is counted in
@@ -94,7 +94,7 @@ ToldAtLeave st m found m' = (p : ℕ) → st.word ≡ stripe_word p → HasLeft 
 
 -- the latch is the pass's, with the slot and the rows with which it shares the stripe
 abbrev pub HasLatched : Key → Who → ℕ → Who → Type 0
-HasLatched key m p m' = (m'.0 ≡ view_of (standing_of m.0) (Some p)) × (m'.1 ≡ (p, Some (kept_of (spec_by key) (rows_of_hold (standing_of m.0).core.held p))) ∷ m.1)
+HasLatched key m p m' = (m'.0 ≡ view_of (standing_of m.0) (Some p)) × (m'.1 ≡ (slot_place p, Some (kept_of (spec_by key) (rows_of_hold (standing_of m.0).core.held p))) ∷ m.1)
 
 -- another pass has it
 pub record IsLatchedOut (key : Key) (m : Who) (p found : ℕ) (m' : Who) : Type 0 where

@@ -1,5 +1,5 @@
 -- The order of the slots that a seat has out, and where a held stripe is.
-use Rattle.std.specs.Prelude.{◌≡◌, ℕ, zero, suc, List, ◌∷◌, ◌++◌, length, take}
+use Rattle.std.specs.Prelude.{◌≡◌, ℕ, zero, suc, List, ◌∷◌, ◌++◌, length, take, drop}
 use Rattle.rc_tuple.specs.RisingSet.{In}
 use Rattle.rc_core.specs.State.{stripes_in}
 use Rattle.atomic_table.specs.Table.{turned}
@@ -20,4 +20,5 @@ pub record IsHeldAt (held : List HeldRows) (p at : ℕ) : Type 0 where
   pub stripe : here.stripe ≡ p
   pub place : length before ≡ at
   pub took : take at held ≡ before
+  pub left : drop (suc at) held ≡ after
   pub first : In p (stripes_in (holds_taken before)) → ⊥

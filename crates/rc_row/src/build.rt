@@ -1,16 +1,16 @@
 //! How a row is made.
 
-ghost use Rattle.std.specs.Prelude.{◌≡◌, ℕ, suc, ◌<◌, ◌≤◌, [], All, IfOk, Some, length};
+ghost use Rattle.std.specs.Prelude.{◌≡◌, ℕ, suc, ◌<◌, ◌≤◌, [], IfOk, length};
 ghost use Rattle.rc_spec.specs.Stripes.{stripe_total};
-ghost use Rattle.rc_row.specs.Law.{kept_of, passes_view, starts};
+ghost use Rattle.rc_row.specs.Law.{passes_view, starts};
 ghost use Rattle.rc_row.specs.Passes.{new_pass, new_passes, stripes_of};
-ghost use Rattle.rc_row.specs.Rooms.{AreRooms};
+ghost use Rattle.rc_row.specs.Rooms.{AreEmptySlots, AreRooms};
 
 use crate::held::HeldFragment;
 use crate::keeping::Keeping;
 use crate::law::{Key, View};
 use crate::pass::Pass;
-use crate::row::{Row, WORDS_OF_A_LINE};
+use crate::row::{Row, SLOTS_OF_A_LINE, WORDS_OF_A_LINE};
 use crate::waiting::Waiting;
 use atomic_table::{Refused, Seat, Table};
 use rc_fragment::{Fragment, Keep};
@@ -123,14 +123,17 @@ fn open(
     }
 }
 
-/// A slot for each stripe, with a fragment that has no row.
+/// A slot for each stripe, with a fragment that has no row, and beside each those that fill its line, with nothing.
 fn empty_slots(alloc: Global, seed: Seed, accepted: &Accepted) -> Result<Vec<Option<Keep>>, Memory>
-    ensures count { IfOk result (λ slots. length slots.items ≡ stripe_total accepted.now) }
-    ensures empty { IfOk result (λ slots. All (λ slot. slot ≡ Some (kept_of accepted.now [])) slots.items) }
+    ensures { IfOk result (λ slots. AreEmptySlots accepted.now (stripe_total accepted.now) slots.items) }
 {
     let stripes = stripe_total(accepted.spec()) as usize;
-    let mut slots = Vec::with_capacity(alloc, stripes)?;
-    for _ in 0..stripes {
+    let mut slots = Vec::with_capacity(alloc, SLOTS_OF_A_LINE * stripes)?;
+    for i in 0..SLOTS_OF_A_LINE * stripes {
+        if i % SLOTS_OF_A_LINE != 0 {
+            slots.push(None)?;
+            continue;
+        }
         let fragment = Fragment::empty(alloc, seed, accepted)?;
         slots.push(Some(Keep::of(fragment)))?;
     }

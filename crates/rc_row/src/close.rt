@@ -1,18 +1,18 @@
 //! How a row is closed.
 
-ghost use Rattle.std.specs.Prelude.{◌≡◌, ℕ, ◌<◌, ◌≤◌, [], All, IfErr, IfOk, None, Some, length, map, vec_capacity};
+ghost use Rattle.std.specs.Prelude.{◌≡◌, ℕ, ◌+◌, ◌*◌, ◌/◌, ◌<◌, ◌≤◌, [], All, IfErr, IfOk, None, Some, length, map, vec_capacity};
 ghost use mathlib.Core.Option.{some};
 ghost use lib.ListN.{get_elem?};
 ghost use Rattle.std.specs.List.{slice_get};
 ghost use Rattle.std.specs.Slots.{IsFull, slots_items, slots_len};
 ghost use Rattle.rc_fragment.specs.Keep.{KeptRows};
 ghost use Rattle.rc_row.specs.Ended.{AreEnded, HasHistory, IsEndedPass};
-ghost use Rattle.rc_row.specs.Law.{pass_view, passes_view};
+ghost use Rattle.rc_row.specs.Law.{pass_view, passes_view, slot_place};
 ghost use Rattle.rc_row.specs.Passes.{AreIdlePasses, core_of, spec_of};
 
 use crate::law::View;
 use crate::pass::Pass;
-use crate::row::Row;
+use crate::row::{Row, SLOTS_OF_A_LINE};
 use atomic_table::{Closed, Seat};
 use rc_fragment::Keep;
 use rc_journal::Part;
@@ -55,7 +55,7 @@ impl Row {
         ensures passes { IfOk result (λ ended. AreEnded passes.items ended.passes.items) }
         ensures err { IfErr result (λ back. (back.row ≡ self) × (back.passes.items ≡ passes.items)) }
     {
-        let stripes = self.table.slot_count();
+        let stripes = self.stripe_count();
         let (Ok(mut fragments), Ok(mut ended)) = (
             Vec::with_capacity(self.alloc, stripes),
             Vec::with_capacity(self.alloc, passes.len()),
@@ -127,18 +127,22 @@ fn unpack(pass: Pass) -> (EndedPass, Seat<Option<Keep>, View>)
     (EndedPass { made, entries }, seat)
 }
 
-/// The fragments of a closed table.
+/// The fragments of a closed table. The slots between those of the stripes are empty.
 fn take_all(closed: Closed<Option<Keep>, Global>, fragments: &mut Vec<Keep>)
     requires full { IsFull closed.slots }
-    requires some { (p : ℕ) → p < slots_len closed.slots → (keep : KeptRows) × (get_elem? (slots_items closed.slots) p ≡ some (Some keep)) }
-    requires room { (fragments.old.items ≡ []) × (slots_len closed.slots ≤ vec_capacity fragments.old) }
-    ensures count { length fragments.new.items ≡ slots_len closed.slots }
-    ensures items { (p : ℕ) (keep : KeptRows) → p < slots_len closed.slots → get_elem? (slots_items closed.slots) p ≡ some (Some keep) → slice_get fragments.new.items p ≡ Some keep }
+    requires some { (p : ℕ) → slot_place p < slots_len closed.slots → (keep : KeptRows) × (get_elem? (slots_items closed.slots) (slot_place p) ≡ some (Some keep)) }
+    requires room { (fragments.old.items ≡ []) × (slots_len closed.slots ≤ 4 * vec_capacity fragments.old) }
+    ensures count { length fragments.new.items ≡ (slots_len closed.slots + 3) / 4 }
+    ensures items { (p : ℕ) (keep : KeptRows) → slot_place p < slots_len closed.slots → get_elem? (slots_items closed.slots) (slot_place p) ≡ some (Some keep) → slice_get fragments.new.items p ≡ Some keep }
 {
     let mut closed = closed;
     let count = closed.slot_count();
     for i in 0..count {
-        match closed.take(i) {
+        let slot = closed.take(i);
+        if i % SLOTS_OF_A_LINE != 0 {
+            continue;
+        }
+        match slot {
             Some(keep) => fragments.push_reserved(keep),
             None => unreachable!(),
         }

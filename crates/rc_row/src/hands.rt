@@ -1,6 +1,6 @@
 //! Which slot a seat can reach, and where a pass has the fragment of a stripe.
 
-ghost use Rattle.std.specs.Prelude.{◌≡◌, ◌/◌, ◌%◌, ◌<◌, ◌≤◌, ◌^◌, length, take, vec_capacity};
+ghost use Rattle.std.specs.Prelude.{◌≡◌, suc, ◌/◌, ◌%◌, ◌<◌, ◌^◌, ◌==◌, cond, drop, length, take, vec_capacity};
 ghost use Rattle.std.specs.List.{remove, slice_index_or};
 ghost use Rattle.std.specs.Ordering.{nat_cmp};
 ghost use Rattle.rc_tuple.specs.RisingSet.{In, IsRising};
@@ -55,14 +55,31 @@ pub(crate) fn take_at(held: &mut Vec<HeldFragment>, at: usize) -> HeldFragment
     last
 }
 
-/// How many of the first are written.
-pub(crate) fn written_among(held: &Vec<HeldFragment>, end: usize) -> usize
-    requires { end ≤ length held.now.items }
-    ensures { result ≡ length (hands (take end held.now.items)) }
+/// By how many turns the slot of a written fragment comes to the front of those that a seat has out, and by how many the others
+/// then come back into their order. What was taken last, and is nearly always given back first, is in front: no turn, and nothing
+/// is counted.
+pub(crate) fn turns_for(held: &Vec<HeldFragment>, at: usize) -> (usize, usize)
+    requires { at < length held.now.items }
+    ensures front { result.0 ≡ length (hands (drop (suc at) held.now.items)) }
+    ensures back { result.1 ≡ cond (result.0 == 0) 0 (length (hands (take at held.now.items))) }
+{
+    let held = held.as_slice();
+    let above = written_among(&held[at + 1..]);
+    let below = if above == 0 {
+        0
+    } else {
+        written_among(&held[..at])
+    };
+    (above, below)
+}
+
+/// How many are written.
+fn written_among(held: &[HeldFragment]) -> usize
+    ensures { result ≡ length (hands held.now) }
 {
     let mut count = 0;
-    for i in 0..end {
-        match held[i].mode {
+    for one in held {
+        match one.mode {
             Mode::Exclusive => count += 1,
             Mode::Shared => {}
         }

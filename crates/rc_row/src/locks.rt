@@ -9,14 +9,15 @@ ghost use Rattle.rc_core.specs.Passes.{IsAbove};
 ghost use Rattle.atomic_table.specs.Table.{rest};
 ghost use Rattle.rc_fragment.specs.Keep.{IsAtRest, KeptRows};
 ghost use Rattle.rc_row.specs.HeldRows.{just_held};
+ghost use Rattle.rc_row.specs.Law.{slot_place};
 ghost use Rattle.rc_row.specs.Passes.{HasWaited, IsPassOf, OfHeld, PassSeen, core_of, spec_of, stripes_of, with_standing, with_taken, without_stripe};
 ghost use Rattle.rc_row.specs.Standings.{HaveOneRelation, KeepsOut, turned_away};
 
-use crate::hands::{found_in, place_of, take_at, turn_by, written_among};
+use crate::hands::{found_in, place_of, take_at, turn_by, turns_for};
 use crate::held::HeldFragment;
 use crate::law::View;
 use crate::pass::Pass;
-use crate::row::{Row, stripe_word};
+use crate::row::{Row, slot_place, stripe_word};
 use crate::waiting::SPINS;
 use atomic_table::Seat;
 use rc_fragment::Keep;
@@ -61,13 +62,13 @@ impl Row {
     )
         requires row { seat.old.table_id ≡ self.now.table }
         requires stripe { stripe < stripes_of self.now }
-        requires slot { (keep : KeptRows) × (seat.old.me.1 ≡ (stripe, Some keep) ∷ rest seat.old.me.1) }
+        requires slot { (keep : KeptRows) × (seat.old.me.1 ≡ (slot_place stripe, Some keep) ∷ rest seat.old.me.1) }
         requires room { vec_len held.old < vec_capacity held.old }
-        ensures seat { (seat.new.table_id ≡ seat.old.table_id) × (seat.new.id ≡ seat.old.id) × (seat.new.me ≡ (seat.old.me.0, (stripe, None) ∷ rest seat.old.me.1)) }
-        ensures held { (keep : KeptRows) → seat.old.me.1 ≡ (stripe, Some keep) ∷ rest seat.old.me.1 → held.new.items ≡ held.old.items ++ just_held stripe Exclusive keep ∷ [] }
+        ensures seat { (seat.new.table_id ≡ seat.old.table_id) × (seat.new.id ≡ seat.old.id) × (seat.new.me ≡ (seat.old.me.0, (slot_place stripe, None) ∷ rest seat.old.me.1)) }
+        ensures held { (keep : KeptRows) → seat.old.me.1 ≡ (slot_place stripe, Some keep) ∷ rest seat.old.me.1 → held.new.items ≡ held.old.items ++ just_held stripe Exclusive keep ∷ [] }
         ensures room { vec_capacity held.new ≡ vec_capacity held.old }
     {
-        match self.table.shared.exchange(seat, stripe as usize, None) {
+        match self.table.shared.exchange(seat, slot_place(stripe), None) {
             Some(keep) => held.push_reserved(HeldFragment::locked(stripe, keep)),
             None => unreachable!(),
         }
@@ -125,8 +126,7 @@ impl Row {
         ensures value { pass.new ≡ without_stripe stripe pass.old }
     {
         let at = place_of(&pass.held, stripe);
-        let below = written_among(&pass.held, at);
-        let above = written_among(&pass.held, pass.held.len()) - 1 - below;
+        let (above, below) = turns_for(&pass.held, at);
         let mark = pass.number as u64 + 1;
         turn_by(&mut pass.seat, above);
         let held = take_at(&mut pass.held, at);
@@ -139,13 +139,13 @@ impl Row {
     pub(crate) fn put_in(&self, seat: &mut Seat<Option<Keep>, View>, stripe: u32, keep: Keep)
         requires row { seat.old.table_id ≡ self.now.table }
         requires stripe { stripe < stripes_of self.now }
-        requires slot { seat.old.me.1 ≡ (stripe, None) ∷ rest seat.old.me.1 }
-        ensures { (seat.new.table_id ≡ seat.old.table_id) × (seat.new.id ≡ seat.old.id) × (seat.new.me ≡ (seat.old.me.0, (stripe, Some keep) ∷ rest seat.old.me.1)) }
+        requires slot { seat.old.me.1 ≡ (slot_place stripe, None) ∷ rest seat.old.me.1 }
+        ensures { (seat.new.table_id ≡ seat.old.table_id) × (seat.new.id ≡ seat.old.id) × (seat.new.me ≡ (seat.old.me.0, (slot_place stripe, Some keep) ∷ rest seat.old.me.1)) }
     {
         match self
             .table
             .shared
-            .exchange(seat, stripe as usize, Some(keep))
+            .exchange(seat, slot_place(stripe), Some(keep))
         {
             None => {}
             Some(_) => unreachable!(),

@@ -9,7 +9,7 @@ ghost use Rattle.rc_core.specs.State.{shares_of};
 ghost use Rattle.rc_core.specs.Passes.{IsAbove, IsHigh, released, rows_of_hold, shared};
 ghost use Rattle.atomic_table.specs.Table.{rest};
 ghost use Rattle.rc_fragment.specs.Keep.{KeptRows};
-ghost use Rattle.rc_row.specs.Law.{kept_of, pass_view, standing_of};
+ghost use Rattle.rc_row.specs.Law.{kept_of, pass_view, slot_place, standing_of};
 ghost use Rattle.rc_row.specs.Passes.{HasWaited, IsPassOf, PassSeen, core_of, spec_of, stripes_of, with_standing, with_taken, without_stripe};
 ghost use Rattle.rc_row.specs.Standings.{HaveOneRelation, KeepsOut, latched_out, turned_away, with_core, without_wish};
 
@@ -17,7 +17,7 @@ use crate::hands::{found_in, place_of, take_at};
 use crate::held::HeldFragment;
 use crate::law::View;
 use crate::pass::Pass;
-use crate::row::{Row, latch_word, stripe_word};
+use crate::row::{Row, latch_word, slot_place, stripe_word};
 use crate::waiting::SPINS;
 use atomic_table::Seat;
 use rc_fragment::Keep;
@@ -32,11 +32,11 @@ impl Row {
     fn share_out(&self, seat: &mut Seat<Option<Keep>, View>, stripe: u32) -> Option<Keep>
         requires row { seat.old.table_id ≡ self.now.table }
         requires stripe { stripe < stripes_of self.now }
-        requires slot { (keep : KeptRows) × (seat.old.me.1 ≡ (stripe, Some keep) ∷ rest seat.old.me.1) }
+        requires slot { (keep : KeptRows) × (seat.old.me.1 ≡ (slot_place stripe, Some keep) ∷ rest seat.old.me.1) }
         ensures seat { (seat.new.table_id ≡ seat.old.table_id) × (seat.new.id ≡ seat.old.id) × (seat.new.me ≡ seat.old.me) }
-        ensures copy { IfSome result (λ copy. seat.old.me.1 ≡ (stripe, Some copy) ∷ rest seat.old.me.1) }
+        ensures copy { IfSome result (λ copy. seat.old.me.1 ≡ (slot_place stripe, Some copy) ∷ rest seat.old.me.1) }
     {
-        match self.table.shared.exchange(seat, stripe as usize, None) {
+        match self.table.shared.exchange(seat, slot_place(stripe), None) {
             Some(keep) => match keep.share(self.alloc) {
                 Ok((keep, copy)) => {
                     self.put_in(seat, stripe, keep);
@@ -217,7 +217,7 @@ impl Row {
         requires { stripe < stripes_of self.now }
     {
         self.wake(stripe);
-        let word = latch_word(self.table.slot_count(), stripe);
+        let word = latch_word(self.stripe_count(), stripe);
         for _ in 0..SPINS {
             if self.table.shared.peek(word) == 0 {
                 return;

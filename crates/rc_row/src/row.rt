@@ -1,7 +1,7 @@
 //! The row.
 
 ghost use Rattle.std.specs.Prelude.{◌≡◌, ◌<◌, ◌≤◌};
-ghost use Rattle.rc_row.specs.Law.{latch_word, stripe_word};
+ghost use Rattle.rc_row.specs.Law.{latch_word, slot_place, stripe_word};
 ghost use Rattle.rc_row.specs.Passes.{stripes_of};
 
 use crate::keeping::Keeping;
@@ -15,6 +15,10 @@ use std::marker::Model;
 /// So many words are 64 bytes.
 pub(crate) const WORDS_OF_A_LINE: usize = 8;
 
+/// So many slots, of three words each, are more than a cache line. Each stripe's slot stands so far behind the one before that
+/// the two share no line, wherever the block begins, since processors that write into one line wait for each other.
+pub(crate) const SLOTS_OF_A_LINE: usize = 4;
+
 /// The place of the commit word.
 pub(crate) const COMMIT_WORD: usize = 0;
 
@@ -23,7 +27,7 @@ pub(crate) const COMMIT_WORD: usize = 0;
 /// history. Threads lock, change, commit and unlock through their passes.
 ///
 /// A stripe's word is its writer's number and one more, and 2^16 times how many readers are counted in. Words stand 64
-/// bytes apart, so that no two of them share a cache line; slots lie side by side.
+/// bytes apart, so that no two of them share a cache line, and the slots of stripes 96. The slots between these stay empty.
 ///
 /// Contracts see which table it is and what that was told. It may be used by many threads at once.
 #[derive(Drop)]
@@ -62,12 +66,28 @@ pub(crate) fn latch_word(stripes: usize, stripe: u32) -> usize
     WORDS_OF_A_LINE * (stripes + stripe as usize + 1)
 }
 
+/// The place of a stripe's slot.
+pub(crate) fn slot_place(stripe: u32) -> usize
+    requires { stripe < 256 }
+    ensures { result ≡ slot_place stripe }
+{
+    SLOTS_OF_A_LINE * stripe as usize
+}
+
 impl Row {
+    /// How many stripes there are, as a count of things in memory.
+    pub(crate) fn stripe_count(&self) -> usize
+        ensures count { result ≡ stripes_of self.now }
+        ensures few { result ≤ 256 }
+    {
+        self.table.slot_count() / SLOTS_OF_A_LINE
+    }
+
     /// How many stripes there are, over all classes.
     pub fn stripes(&self) -> u32
         ensures { result ≡ stripes_of self.now }
     {
-        self.table.slot_count() as u32
+        self.stripe_count() as u32
     }
 
     /// What the passes of this row keep of their entries.

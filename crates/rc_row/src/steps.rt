@@ -5,7 +5,7 @@ ghost use Rattle.rc_tuple.specs.RisingSet.{In};
 ghost use Rattle.rc_core.specs.State.{shares_of, writes_of};
 ghost use Rattle.rc_core.specs.Passes.{IsHigh, MayCommit, rows_of_hold};
 ghost use Rattle.atomic_table.specs.Table.{rest};
-ghost use Rattle.rc_row.specs.Law.{kept_of, note_view, numbers_in, pass_view, passes_view, standing_of, view_of};
+ghost use Rattle.rc_row.specs.Law.{kept_of, note_view, numbers_in, pass_view, passes_view, slot_place, standing_of, view_of};
 ghost use Rattle.rc_row.specs.Passes.{compiled_of, spec_of, stripes_of};
 ghost use Rattle.rc_row.specs.Seats.{dealt, gathered, informed, noted, undealt};
 ghost use Rattle.rc_row.specs.Told.{EntersOrTurns, HasCommitted, HasLeft, HasLooked, HasUnlatched, HasUnlocked, IsBack, LatchesOrNot, LocksOrNot};
@@ -51,7 +51,7 @@ impl Row {
         requires mark { mark ≡ suc (standing_of seat.old.me.0).core.number }
         requires stripe { stripe < stripes_of self.now }
         requires held { In stripe (writes_of (standing_of seat.old.me.0).core) }
-        requires slot { seat.old.me.1 ≡ (stripe, Some (kept_of (spec_of self.now) (rows_of_hold (standing_of seat.old.me.0).core.held stripe))) ∷ rest seat.old.me.1 }
+        requires slot { seat.old.me.1 ≡ (slot_place stripe, Some (kept_of (spec_of self.now) (rows_of_hold (standing_of seat.old.me.0).core.held stripe))) ∷ rest seat.old.me.1 }
         ensures seat { (seat.new.table_id ≡ seat.old.table_id) × (seat.new.id ≡ seat.old.id) }
         ensures told { HasUnlocked seat.old.me stripe seat.new.me }
     {
@@ -124,7 +124,7 @@ impl Row {
         ensures seat { (seat.new.table_id ≡ seat.old.table_id) × (seat.new.id ≡ seat.old.id) }
         ensures told { LatchesOrNot self.now.key seat.old.me stripe result seat.new.me }
     {
-        let word = latch_word(self.table.slot_count(), stripe);
+        let word = latch_word(self.stripe_count(), stripe);
         self.table
             .shared
             .compare_exchange::<Latch<C>>(seat, word, 0, mark)
@@ -135,11 +135,11 @@ impl Row {
         requires row { seat.old.table_id ≡ self.now.table }
         requires latch { seat.old.me.0 ≡ view_of (standing_of seat.old.me.0) (Some stripe) }
         requires stripe { stripe < stripes_of self.now }
-        requires slot { seat.old.me.1 ≡ (stripe, Some (kept_of (spec_of self.now) (rows_of_hold (standing_of seat.old.me.0).core.held stripe))) ∷ rest seat.old.me.1 }
+        requires slot { seat.old.me.1 ≡ (slot_place stripe, Some (kept_of (spec_of self.now) (rows_of_hold (standing_of seat.old.me.0).core.held stripe))) ∷ rest seat.old.me.1 }
         ensures seat { (seat.new.table_id ≡ seat.old.table_id) × (seat.new.id ≡ seat.old.id) }
         ensures told { HasUnlatched seat.old.me seat.new.me }
     {
-        let word = latch_word(self.table.slot_count(), stripe);
+        let word = latch_word(self.stripe_count(), stripe);
         self.table.shared.swap::<Unlatch>(seat, word, 0);
     }
 

@@ -1,7 +1,8 @@
-use Rattle.std.proofs.Common.{◌≡◌, [], Some, length}
-use Rattle.std.specs.Prelude.{All}
-use Rattle.rc_row.specs.Law.{kept_of}
+use Rattle.std.proofs.Common.{◌≡◌, ℕ, ◌<◌, [], Some, length}
+use mathlib.Core.Option.{some}
+use lib.ListN.{get_elem?}
+use Rattle.rc_row.specs.Law.{kept_of, slot_place}
 use Rattle.rc_row.proofs.build.empty_slots.Given as goal
 
-abbrev pub invariant-loop : goal.invariant-loop
-invariant-loop l = (length l.slots.items ≡ l.counter) × All (λ slot. slot ≡ Some (kept_of l.accepted [])) l.slots.items
+abbrev pub invariant-loop-i : goal.invariant-loop-i
+invariant-loop-i l = (length l.slots.items ≡ l.i) × ((p : ℕ) → slot_place p < l.i → get_elem? l.slots.items (slot_place p) ≡ some (Some (kept_of l.accepted [])))

@@ -1,4 +1,4 @@
-use Rattle.std.proofs.Common.{arith, ◌≤◌, sym, ◌∙◌, subst}
+use Rattle.std.proofs.Common.{arith, ◌+◌, ◌/◌, ◌≤◌, sym, ap, ◌∙◌, subst}
 use Rattle.std.specs.Slots.{slots_items}
 use Rattle.rc_row.specs.Passes.{RowSeen}
 use Rattle.rc_row.proofs.ClosingLemmas.{closed_slot, count_of, has_history}
@@ -20,4 +20,4 @@ returns-clause-history c =
     let n = c.close_with.result.slots.ok.0 in
     has_history c.self.inside c.args.self c.self.view_is c.self.invariant c.args.passes.items c.gather-seat.result.id c.gather-seat.result.me.0 _ (slots_items c.close_with.result.slots)
     c.gather-seat.ensures.seat c.close_with.ensures.values.2 c.requires.numbers c.gather-seat.ensures.idle
-    c.take_all.new.fragments.items (c.take_all.ensures.count ∙ n) (sym n ∙ c.close_with.ensures.counts.1) (λ p keep lt at. c.take_all.ensures.items p keep (omega arith) at)
+    c.take_all.new.fragments.items (c.take_all.ensures.count ∙ ap (λ k. (k + 3) / 4) n) (sym n ∙ c.close_with.ensures.counts.1) (λ p keep lt at. c.take_all.ensures.items p keep (omega arith) at)

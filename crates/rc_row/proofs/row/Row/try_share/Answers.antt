@@ -1,4 +1,4 @@
-use Rattle.std.proofs.Common.{◌≡◌, [], ◌∷◌, ◌++◌, sym, refl, ap, ◌∙◌, subst}
+use Rattle.std.proofs.Common.{◌≡◌, ◌*◌, [], ◌∷◌, ◌++◌, sym, refl, ap, ◌∙◌, subst}
 use Rattle.rc_spec.specs.declared.lock.Mode.TheVariants.{Shared}
 use Rattle.rc_row.specs.declared.pass.Pass.TheInside.{Inside}
 use Rattle.rc_row.specs.HeldRows.{HeldRows, just_held}
@@ -14,7 +14,7 @@ enter-requires-clause-high c = high_there c.pass.inside c.pass.invariant c.args.
 pub push_reserved-requires : goal.push_reserved-requires
 push_reserved-requires c =
     room_there c.pass.inside c.pass.invariant c.args.pass.now c.pass.view_is c.args.stripe (stripes_of c.args.self.now) c.args.self.now.table c.requires.above c.requires.stripe c.requires.pass.table
-    (subst (λ (r : RowSeen). r.table.slots ≡ stripes_of r) c.self.view_is c.self.invariant.slots)
+    (subst (λ (r : RowSeen). r.table.slots ≡ 4 * stripes_of r) c.self.view_is c.self.invariant.slots)
 
 -- ---- once the fragment is pushed
 

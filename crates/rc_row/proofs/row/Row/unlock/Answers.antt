@@ -1,17 +1,17 @@
-use Rattle.std.proofs.Common.{◌≡◌, ◌∷◌, ◌++◌, Some, None, sym, refl, ap, ◌∙◌, subst, arith}
+use Rattle.std.proofs.Common.{◌≡◌, ◌∷◌, ◌++◌, Some, None, sym, refl, ap, ◌∙◌, subst}
 use Rattle.rc_fragment.specs.Keep.{KeptRows}
 use Rattle.rc_core.specs.Passes.{released}
 use Rattle.atomic_table.specs.Table.{Me, rest}
 use Rattle.rc_row.specs.declared.law.View.{View}
 use Rattle.rc_row.specs.declared.pass.Pass.TheInside.{Inside}
 use Rattle.rc_row.specs.HeldRows.{HeldRows}
-use Rattle.rc_row.specs.Law.{Slot, pass_view, standing_of}
+use Rattle.rc_row.specs.Law.{Slot, pass_view, slot_place, standing_of}
 use Rattle.rc_row.specs.PassInside.{hands}
 use Rattle.rc_row.specs.Passes.{IsPassOf, spec_of}
 use Rattle.rc_row.specs.Standings.{with_core}
 use Rattle.rc_row.specs.Turns.{turned_by_count}
-use Rattle.rc_row.proofs.TurnLemmas.{read_here, turned_last}
-use Rattle.rc_row.proofs.GiveLemmas.{front_here, front_of, home_here, left_here, some_above}
+use Rattle.rc_row.proofs.TurnLemmas.{place_inside, read_here, turned_last}
+use Rattle.rc_row.proofs.GiveLemmas.{front_here, front_of, home_here, left_here}
 use Rattle.rc_row.proofs.StepLemmas.{KeepsOwn, pass_of_without, seen_without, whole_without}
 use Rattle.rc_row.proofs.WholeLemmas.{rising_there, written_there}
 use Rattle.rc_row.proofs.row.Row.unlock.Goals as goal
@@ -22,24 +22,14 @@ place_of-at-requires-clause-there c = written_there c.pass.inside c.pass.invaria
 pub place_of-at-requires-clause-rising : goal.place_of-at-requires-clause-rising
 place_of-at-requires-clause-rising c = rising_there c.pass.inside c.pass.invariant
 
-pub overflow_sub-above : goal.overflow_sub-above
-overflow_sub-above c =
-    let some = some_above c.pass.inside c.pass.invariant c.args.pass.now c.pass.view_is c.args.stripe c.place_of-at.result c.place_of-at.ensures c.requires.held c.written_among.result c.len.result c.written_among-below.result
-    c.written_among.ensures c.len.ensures c.written_among-below.ensures in
-    omega arith
-
-pub overflow_sub-above-2 : goal.overflow_sub-above-2
-overflow_sub-above-2 c =
-    let some = some_above c.pass.inside c.pass.invariant c.args.pass.now c.pass.view_is c.args.stripe c.place_of-at.result c.place_of-at.ensures c.requires.held c.written_among.result c.len.result c.written_among-below.result
-    c.written_among.ensures c.len.ensures c.written_among-below.ensures in
-    omega arith
+pub turns_for-above-requires : goal.turns_for-above-requires
+turns_for-above-requires c = place_inside c.pass.inside.held.items c.args.stripe c.place_of-at.result c.place_of-at.ensures
 
 pub put_in-requires-clause-slot : goal.put_in-requires-clause-slot
 put_in-requires-clause-slot c =
     let h = c.place_of-at.ensures in
-    front_of c.turn_by.new.seat.me.1 (hands h.before ++ hands h.after) (c.args.stripe, None)
-    (front_here c.pass.inside c.pass.invariant c.args.pass.now c.pass.view_is c.args.stripe c.place_of-at.result h c.requires.held c.written_among.result c.len.result c.written_among-below.result
-    c.written_among.ensures c.len.ensures c.written_among-below.ensures c.turn_by.new.seat.me.1 (ap (λ (m : Me Slot View). m.1) c.turn_by.ensures.2))
+    front_of c.turn_by.new.seat.me.1 (hands h.before ++ hands h.after) (slot_place c.args.stripe, None)
+    (front_here c.pass.inside c.pass.invariant c.args.pass.now c.pass.view_is c.args.stripe c.place_of-at.result h c.requires.held c.turns_for-above.result.0 c.turns_for-above.ensures.front c.turn_by.new.seat.me.1 (ap (λ (m : Me Slot View). m.1) c.turn_by.ensures.2))
 
 pub unlock_step-requires-clause-slot : goal.unlock_step-requires-clause-slot
 unlock_step-requires-clause-slot c =
@@ -51,7 +41,7 @@ unlock_step-requires-clause-slot c =
     let fragment = ap (λ (x : HeldRows). x.fragment) (c.take_at-held.ensures.value ∙ read_here held p at h c.take_at-held.result) in
     let view = ap (λ (m : Me Slot View). m.0) (c.put_in.ensures.2) ∙ ap (λ (m : Me Slot View). m.0) c.turn_by.ensures.2 in
     let kept = c.into_keep.ensures ∙ home_here c.pass.inside c.pass.invariant c.args.pass.now c.pass.view_is p at h spec c.take_at-held.result.fragment c.put_in.new.seat.me.0 fragment c.requires.pass.shapes c.requires.rest view in
-    front_of c.put_in.new.seat.me.1 (rest c.turn_by.new.seat.me.1) (p, Some _) (ap (λ (m : Me Slot View). m.1) c.put_in.ensures.2 ∙ ap (λ (k : KeptRows). (p, Some k) ∷ rest c.turn_by.new.seat.me.1) kept)
+    front_of c.put_in.new.seat.me.1 (rest c.turn_by.new.seat.me.1) (slot_place p, Some _) (ap (λ (m : Me Slot View). m.1) c.put_in.ensures.2 ∙ ap (λ (k : KeptRows). (slot_place p, Some k) ∷ rest c.turn_by.new.seat.me.1) kept)
 
 -- ---- once the stripe is given back
 
@@ -78,11 +68,10 @@ slots c =
     let p = c.args.stripe in
     let at = c.place_of-at.result in
     let h = c.place_of-at.ensures in
-    let front = front_here c.pass.inside c.pass.invariant c.args.pass.now c.pass.view_is p at h c.requires.held c.written_among.result c.len.result c.written_among-below.result
-    c.written_among.ensures c.len.ensures c.written_among-below.ensures c.turn_by.new.seat.me.1 (ap (λ (m : Me Slot View). m.1) c.turn_by.ensures.2) in
+    let front = front_here c.pass.inside c.pass.invariant c.args.pass.now c.pass.view_is p at h c.requires.held c.turns_for-above.result.0 c.turns_for-above.ensures.front c.turn_by.new.seat.me.1 (ap (λ (m : Me Slot View). m.1) c.turn_by.ensures.2) in
     ap (λ (m : Me Slot View). m.1) c.turn_by-2.ensures.2
-    ∙ ap (turned_by_count c.written_among-below.result) (c.unlock_step.ensures.told.1 ∙ ap (λ (m : Me Slot View). rest m.1) c.put_in.ensures.2 ∙ ap rest front)
-    ∙ turned_last c.pass.inside.held.items p at h c.written_among-below.result c.written_among-below.ensures
+    ∙ ap (turned_by_count c.turns_for-above.result.1) (c.unlock_step.ensures.told.1 ∙ ap (λ (m : Me Slot View). rest m.1) c.put_in.ensures.2 ∙ ap rest front)
+    ∙ turned_last c.pass.inside.held.items p at h c.turns_for-above.result.0 c.turns_for-above.result.1 c.turns_for-above.ensures.front c.turns_for-above.ensures.back
     ∙ ap hands (sym (left_here c.pass.inside c.pass.invariant c.args.pass.now c.pass.view_is p at h c.take_at-held.new.held.items c.take_at-held.ensures.items).0)
 
 pub invariant_of-pass : goal.invariant_of-pass
