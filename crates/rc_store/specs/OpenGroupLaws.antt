@@ -53,7 +53,7 @@ use Rattle.rc_store.specs.OpenGroups.{AreUnchangedBut, HasCalledOn, HasGivenBack
 use Rattle.rc_store.specs.Prepared.{HasGoneOn, IsPrepared}
 use Rattle.rc_store.specs.ReleaseLaws.{kept_until, until_keeps}
 use Rattle.rc_store.specs.Running.{calls_of, replies_of}
-use Rattle.rc_store.specs.RunningInside.{HasReplyEach, IsOfPass}
+use Rattle.rc_store.specs.RunningInside.{IsOfPass}
 use Rattle.rc_store.specs.StepLaws.{made_commits, made_so, undone}
 use Rattle.rc_store.specs.Store.{HasMadeEntry, IsAsBefore, IsFree, IsGroupFinished, StoreSeen}
 
@@ -218,11 +218,6 @@ pub decide_needed : (c : SpecWithPlans) (steps : List Step) (took : List StripeL
 decide_needed c [] took p = decide_used c [] p
 decide_needed c (s ∷ []) took p = decide_in p (stripes_of took)
 decide_needed c (s ∷ (t ∷ steps)) took p = decide_used c (calls_of (s ∷ (t ∷ steps))) p
-
-pub needed_one : (c : SpecWithPlans) (steps : List Step) (took : List StripeLock) (p : ℕ) → length steps ≡ 1 → IsNeeded c steps took p ≡ In p (stripes_of took)
-needed_one c [] took p e = absurd (omega (arith, e))
-needed_one c (s ∷ []) took p e = refl
-needed_one c (s ∷ (t ∷ steps)) took p e = absurd (omega (arith, e))
 
 pub needed_others : (c : SpecWithPlans) (steps : List Step) (took : List StripeLock) (p : ℕ) → (length steps ≡ 1 → ⊥) → IsNeeded c steps took p ≡ IsUsedBy c (calls_of steps) p
 needed_others c [] took p e = refl
@@ -498,16 +493,7 @@ call_known store (s ∷ steps) (suc n) call fit l e = call_known store steps n c
 pub calls_counted : (steps : List Step) → length (calls_of steps) ≡ length steps
 calls_counted steps = length-map steps (λ (s : Step). s.call)
 
--- what is to be committed stays the pass's next entry while it gives stripes back
-pub of_pass_holding : (kept : List HeldRows) (pass : PassSeen) (prepared : PreparedGroup) → IsOfPass pass prepared → IsOfPass (holding kept pass) prepared
-of_pass_holding kept pass (prepared.Entry entry) w = w
-of_pass_holding kept pass (prepared.Counted calls replies) w = w
-
-pub reply_each : (pass : PassSeen) (prepared : PreparedGroup) → IsOfPass pass prepared → HasReplyEach prepared
-reply_each pass (prepared.Entry entry) w = tt
-reply_each pass (prepared.Counted calls replies) w = w.1
-
--- and while plans run
+-- what is to be committed stays the pass's next entry while plans run
 pub of_pass_on : (row : RowSeen) (old new : PassSeen) (prepared : PreparedGroup) → IsOnTheWay row old new → IsOfPass old prepared → IsOfPass new prepared
 of_pass_on row old new (prepared.Entry entry) way w = (
   subst (λ (k : Option PartEntries). IsSome k) (sym way.ran.kept) w.0,

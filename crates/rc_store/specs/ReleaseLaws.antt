@@ -226,10 +226,6 @@ module _ (needed : ℕ → Type 0) (decide : (p : ℕ) → needed p ⊎ (needed 
 
 -- ---- the pass
 
--- a pass holds what it holds
-pub holding_all : (pass : PassSeen) → holds_taken pass.held ≡ (core_of pass).held → pass ≡ holding pass.held pass
-holding_all pass agrees = λ i. record pass { standing = with_core pass.standing (record (core_of pass) { held = sym agrees i }) }
-
 taken-without : (p : ℕ) (held : List HeldRows) → holds_taken (held_without held p) ≡ other_holds (holds_taken held) p
 taken-without p [] = refl
 taken-without p (h ∷ held) = go (taken-without p held) (not (h.stripe == p))
