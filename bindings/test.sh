@@ -30,8 +30,11 @@ compile -o "$out/test-shared" "$here/c/test.c" -L"$out" -lrelc -Wl,-rpath,"$out"
 run "$out/test-shared"
 compile -o "$out/wakes" "$here/c/wakes.c" "$out/librelc.a" || exit 1
 run "$out/wakes"
-if has valgrind "the test in C once more, for memory"; then
+compile -o "$out/memory" "$here/c/memory.c" "$out/librelc.a" || exit 1
+run "$out/memory"
+if has valgrind "the tests in C once more, for memory"; then
     run valgrind -q --error-exitcode=1 --leak-check=full "$out/test"
+    run valgrind -q --error-exitcode=1 --leak-check=full "$out/memory"
 fi
 if has cargo "the tests in Rust"; then
     run sh -c "cd '$here/rust' && cargo test --offline --release"

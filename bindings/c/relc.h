@@ -16,6 +16,9 @@
  *             which end an open group; a relc_frame or a relc_operation_frame is as before but for
  *             what RELC_BUSY tells, and a relc_page but for `rows`. Nothing aborts, nothing waits,
  *             and nothing is printed.
+ * Waiting.    Whoever is RELC_BUSY may try again, or call by relc_wait.h. Wait for nothing by another
+ *             session while you have something prepared or open: the wait may have no end, also where
+ *             another thread's does the same.
  * Memory.     Every byte that is lent is initialised: frames and pages (= {0}), and the places that store
  *             and session are written to (= NULL). What is lent is aligned as its type is. What one
  *             call is lent doesn't overlap, and but for a text nobody else reads or writes it
@@ -46,7 +49,7 @@ extern "C" {
 /* how many calls of a group */
 #define RELC_GROUP 16
 
-/* how many values of a row, and of several rows at once */
+/* how many values of a row, which are no more than there are columns, and of several rows at once */
 #define RELC_CELLS 32
 #define RELC_PAGE 1024
 
@@ -115,7 +118,7 @@ typedef struct relc_open_frame {
                                       `refused S3 line 12` or `refused A6 edge e2` */
 } relc_open_frame;
 
-/* Which operation is meant, and what its calls give and are told. */
+/* Which operation is meant, what its calls give and are told, and what it finds tuples by. */
 typedef struct relc_operation_frame {
     uint32_t length;              /* asked: how many bytes the name has, at most RELC_NAME */
     uint32_t op;                  /* told: the number by which it is called */
@@ -127,6 +130,10 @@ typedef struct relc_operation_frame {
     uint8_t columns[RELC_VALUES]; /* told: the columns of a call's values, by their numbers in the
                                      specification; a range column twice, for its least and for
                                      its greatest value */
+    uint64_t pattern_count;       /* told: how many columns its pattern has */
+    uint8_t pattern[RELC_CELLS];  /* told: these columns, in the order in which the pattern is
+                                     written: a frame that declares the operation to
+                                     relc_open_group gives a value of each, in this order */
 } relc_operation_frame;
 
 /* What a session is asked, and what it tells. What isn't told stays as it was. */

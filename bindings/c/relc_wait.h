@@ -24,9 +24,9 @@ void relc_close_waiting(relc_waiting *waiting);
  * it returns. Whatever it answers, stripe, found and who may tell of a try that was refused
  * meanwhile.
  *
- * Wait for nothing by a session while you have something prepared or open on another one: where it is
- * its stripes that are wanted, the wait has no end. Nor has it where two threads do so, and each waits
- * for what the other holds. */
+ * Wait for nothing by another session while you have something prepared or open: the wait may have no
+ * end, also where another thread's does the same. (It has none where the stripes that it has are wanted, nor
+ * where each of two threads waits for what the other one has.) */
 uint32_t relc_call(relc_waiting *waiting, relc_session *session, relc_frame *frame);
 
 /* Prepares a call as relc_begin does, and waits as relc_call does. */

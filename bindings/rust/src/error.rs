@@ -68,8 +68,7 @@ pub enum Error {
     /// A group, or what is declared of a transaction, has no call, or would have more than 16; or a
     /// transaction has made 16 calls and is asked for one more, or is committed and has made none.
     Count,
-    /// What is declared of an operation has another number of values than its pattern has columns, or has
-    /// none.
+    /// What is declared of an operation has another number of values than its pattern has columns.
     Pattern,
     /// What the transaction declared doesn't suffice for the call.
     Uncovered,

@@ -4,10 +4,12 @@ use crate::error::Many;
 use crate::session::{Rows, Session};
 use crate::sys;
 
-/// The number of an operation, and of its store among all that the program opened.
+/// The number of an operation, how many columns its pattern has, and the number of its store among all
+/// that the program opened.
 #[derive(Clone, Copy, Debug)]
 pub struct Number {
     pub(crate) op: u32,
+    pub(crate) pattern: usize,
     pub(crate) store: u64,
 }
 

@@ -328,9 +328,9 @@ impl Session {
     /// Calls the operation, and waits while another session is in the way: the reply, with the
     /// call's place in the history.
     ///
-    /// Wait for nothing by a session while the thread has something prepared, or a transaction open, on
-    /// another one: where it is its stripes that are wanted, the wait has no end. Nor has it where two
-    /// threads do so, and each waits for what the other holds.
+    /// Wait for nothing by another session while the thread has something prepared, or a transaction
+    /// open: the wait may have no end, also where another thread's does the same. (It has none where the
+    /// stripes that it has are wanted, nor where each of two threads waits for what the other one has.)
     pub fn call_placed<const N: usize, O: Operation<N>>(
         &mut self,
         op: O,

@@ -205,13 +205,16 @@ impl Store {
         self.operation(name, sys::QUERY, K, Some(N)).map(Query)
     }
 
-    fn operation(
-        &self,
-        name: &str,
-        kind: u32,
-        count: usize,
-        width: Option<usize>,
-    ) -> Result<Number, Error> {
+    /// The columns of the pattern of the operation with this name, by their numbers in the
+    /// specification, in the order in which the pattern is written: `Declared::at` takes a value of
+    /// each, in this order.
+    pub fn pattern(&self, name: &str) -> Result<Vec<u8>, Error> {
+        let frame = self.look_up(name)?;
+        Ok(frame.pattern[..frame.pattern_count as usize].to_vec())
+    }
+
+    /// Looks the operation with this name up.
+    fn look_up(&self, name: &str) -> Result<sys::OperationFrame, Error> {
         let unknown = || Error::Unknown(name.into());
         let mut frame = sys::OperationFrame {
             length: name.len() as u32,
@@ -221,6 +224,8 @@ impl Store {
             width: 0,
             name: [0; sys::NAME],
             columns: [0; sys::VALUES],
+            pattern_count: 0,
+            pattern: [0; sys::CELLS],
         };
         frame
             .name
@@ -231,9 +236,20 @@ impl Store {
         let code = unsafe {
             sys::relc_operation(locked(&self.shared.store).handle.0.as_ptr(), &mut frame)
         };
-        if code != sys::DONE {
-            return Err(unknown());
+        match code {
+            sys::DONE => Ok(frame),
+            _ => Err(unknown()),
         }
+    }
+
+    fn operation(
+        &self,
+        name: &str,
+        kind: u32,
+        count: usize,
+        width: Option<usize>,
+    ) -> Result<Number, Error> {
+        let frame = self.look_up(name)?;
         if frame.kind != kind {
             return Err(Error::Kind(name.into()));
         }
@@ -245,6 +261,7 @@ impl Store {
         }
         Ok(Number {
             op: frame.op,
+            pattern: frame.pattern_count as usize,
             store: self.shared.number,
         })
     }

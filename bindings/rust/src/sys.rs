@@ -21,7 +21,6 @@ pub const DONE: u32 = 0;
 pub const MEMORY: u32 = 1;
 pub const BUSY: u32 = 2;
 pub const SPENT: u32 = 3;
-pub const VALUE_COUNT: u32 = 5;
 pub const PREPARED: u32 = 6;
 pub const OPTIONS: u32 = 9;
 pub const TOO_LONG: u32 = 10;
@@ -74,6 +73,8 @@ pub struct OperationFrame {
     pub width: u64,
     pub name: [u8; NAME],
     pub columns: [u8; VALUES],
+    pub pattern_count: u64,
+    pub pattern: [u8; CELLS],
 }
 
 #[repr(C)]
@@ -111,7 +112,8 @@ macro_rules! lies {
 // The structs of rc_embed. The numbers are copied from them by hand, and are those of test.c; that
 // what a field is told comes at that place is what the tests see.
 lies!(OpenFrame, 104, passes 0, length 4, limit 8, rows 16, seed 24, refusal 40);
-lies!(OperationFrame, 104, length 0, op 4, kind 8, count 12, width 16, name 24, columns 40);
+lies!(OperationFrame, 144, length 0, op 4, kind 8, count 12, width 16, name 24, columns 40);
+lies!(OperationFrame, 144, pattern_count 104, pattern 112);
 lies!(Frame, 840, op 0, count 4, values 8, kind 520, found 524, stripe 528, who 532);
 lies!(Frame, 840, number 536, place 544, nth 552, seen 560, row 568, width 576, cells 584);
 lies!(Page, 8208, row 0, rows 8, cells 16);

@@ -25,18 +25,15 @@ impl Declared {
     }
 
     /// Declares the calls of the operation that have these values of its pattern's columns, in the order
-    /// in which the pattern is written. `Count` where 16 are declared, and `Foreign` where the others are
-    /// another store's. Another number of values than the pattern has columns is refused by `Pattern`, as
-    /// a transaction is opened; but no values here, where the operation's calls have some: who means all
-    /// calls says `any`, also where the pattern has no columns.
+    /// in which the pattern is written (`Store::pattern`). `Pattern` where it has another number of
+    /// columns, `Count` where 16 are declared, and `Foreign` where the others are another store's.
     pub fn at<const K: usize, const N: usize, O: Operation<N>>(
         &mut self,
         op: O,
         pattern: [u64; K],
     ) -> Result<(), Error> {
-        // to declare no values is below to declare all calls
-        let says_nothing = K == 0 && N > 0;
-        if says_nothing || K > sys::VALUES {
+        // (no values are below to declare all calls: so it is where the pattern has no columns)
+        if K != op.number().pattern {
             return Err(Error::Pattern);
         }
         self.declare(op.number(), &pattern)
@@ -71,7 +68,8 @@ impl Session {
     }
 
     /// Opens a transaction as `try_open` does, and waits while another session is in the way. What
-    /// `call_placed` says of waiting holds here too, and for as long as the transaction is open.
+    /// `call_placed` says of waiting holds here too, and for as long as the transaction is open: wait for
+    /// nothing by another session then.
     pub fn open(&mut self, over: &Declared) -> Result<Transaction<'_>, Error> {
         self.put_all(&over.calls)?;
         let code = self.until_free(|session| session.ask_group(sys::relc_open_group));
@@ -87,10 +85,7 @@ impl Session {
         }
         // a refused group may have stood in another one's way for a moment
         self.ring();
-        Err(match code {
-            sys::VALUE_COUNT => Error::Pattern,
-            code => self.group_error(code),
-        })
+        Err(self.group_error(code))
     }
 }
 

@@ -288,3 +288,56 @@ fn no_circle() {
         assert_eq!(left, Answer::Rows(vec![]));
     }
 }
+
+/// Makes the group, in another way each turn: it waits or tries, at once or prepared first.
+fn make_in_turn(session: &mut Session, turn: u64, group: &Group) {
+    loop {
+        let made = match turn % 4 {
+            0 => session.transaction(group).map(drop),
+            1 => session.try_transaction(group).map(drop),
+            2 => (session.begin_transaction_waiting(group)).map(|prepared| drop(prepared.commit())),
+            _ => (session.begin_transaction(group)).map(|prepared| drop(prepared.commit())),
+        };
+        match made {
+            Ok(()) => break,
+            Err(Error::Busy { .. }) if turn % 2 == 1 => thread::yield_now(),
+            Err(error) => panic!("{error}"),
+        }
+    }
+}
+
+/// Two threads move edges from one node to another, and back: they want the same stripes in another
+/// order. Each edge is at one of both nodes in every state of the history.
+#[test]
+fn moves_that_cross_end() {
+    const EDGES: u64 = 8;
+    const MOVES: u64 = 10_000;
+    let graph = &graph(Options::sessions(2));
+    let other = graph.node_apart();
+    let mut session = graph.store.session().unwrap();
+    for dst in 0..EDGES {
+        assert_eq!(session.call(graph.ins, [1, dst, 0]), Ok(Inserted::Added));
+    }
+    drop(session);
+    thread::scope(|scope| {
+        for [from, to] in [[1, other], [other, 1]] {
+            scope.spawn(move || {
+                let mut session = graph.store.session().unwrap();
+                let mut moved = Group::new();
+                let mut both = Group::new();
+                let edges = [from, to].map(|src| both.add(graph.succ, [src]).unwrap());
+                for turn in 0..MOVES {
+                    moved.clear();
+                    moved.add(graph.del, [from, turn % EDGES]).unwrap();
+                    moved.add(graph.ins, [to, turn % EDGES, turn]).unwrap();
+                    make_in_turn(&mut session, turn, &moved);
+                    let mut done = session.transaction(&both).unwrap();
+                    let edges = edges.map(|slot| done.reply(slot).unwrap().rows().unwrap());
+                    let mut ends: Vec<u64> = edges.concat().iter().map(|[dst, _]| *dst).collect();
+                    ends.sort();
+                    assert!(ends.into_iter().eq(0..EDGES));
+                }
+            });
+        }
+    });
+}

@@ -2,8 +2,8 @@
 
 mod common;
 
-use common::{Random, graph, specification};
-use relc::{Answer, Declared, Error, Found, Inserted, Options, Store};
+use common::{Graph, Random, graph, specification};
+use relc::{Answer, Declared, Error, Found, Inserted, Options, Store, Transaction};
 use std::thread;
 
 /// Each call goes on from what those before it left, and nobody sees it before the commit.
@@ -67,13 +67,16 @@ fn refuses_what_is_not_declared() {
     let mut session = graph.store.session().unwrap();
     let mut over = Declared::new();
     assert_eq!(session.open(&over).err(), Some(Error::Count));
-    // no values would declare all calls: who means these says so
+    // a pattern has as many values as columns: who means all calls says so
+    assert_eq!(graph.store.pattern("ins"), Ok(vec![0, 1]));
+    assert_eq!(
+        graph.store.pattern("put"),
+        Err(Error::Unknown("put".into()))
+    );
     assert_eq!(over.at(graph.del, []), Err(Error::Pattern));
-    assert_eq!(session.open(&over).err(), Some(Error::Count));
-    over.at(graph.ins, [1, 2, 10]).unwrap();
-    assert_eq!(session.open(&over).err(), Some(Error::Pattern));
+    assert_eq!(over.at(graph.ins, [1, 2, 10]), Err(Error::Pattern));
     assert_eq!(over.at(graph.ins, [0; 65]), Err(Error::Pattern));
-    over.clear();
+    assert_eq!(session.open(&over).err(), Some(Error::Count));
     for dst in 0..16 {
         over.at(graph.find, [1, dst]).unwrap();
     }
@@ -175,4 +178,60 @@ fn sums_stay() {
             });
         }
     });
+}
+
+/// Moves some of the weight of one node's edge to another's, where their sum is 200.
+fn transfer(graph: &Graph, mut moves: Transaction, [from, to]: [u64; 2], weight: u64) {
+    let gone = [from, to].map(|src| moves.call(graph.del, [src, 0]).unwrap());
+    let [Some([.., a]), Some([.., b])] = gone else {
+        panic!("each node has its edge")
+    };
+    assert_eq!(a + b, 200);
+    let weight = weight.min(a);
+    for values in [[from, 0, a - weight], [to, 0, b + weight]] {
+        assert_eq!(moves.call(graph.ins, values), Ok(Inserted::Added));
+    }
+    moves.commit().unwrap();
+}
+
+/// Two threads move weights between two edges, one this way and one that way: they declare the same
+/// stripes in another order, and wait for them, or try until they are free.
+#[test]
+fn transfers_that_cross_end() {
+    const MOVES: u64 = 10_000;
+    let graph = &graph(Options::sessions(2));
+    let other = graph.node_apart();
+    let mut session = graph.store.session().unwrap();
+    let before = session.look().unwrap().length();
+    for src in [1, other] {
+        assert_eq!(session.call(graph.ins, [src, 0, 100]), Ok(Inserted::Added));
+    }
+    drop(session);
+    thread::scope(|scope| {
+        for way in [[1, other], [other, 1]] {
+            scope.spawn(move || {
+                let mut session = graph.store.session().unwrap();
+                let mut over = Declared::new();
+                for src in way {
+                    over.at(graph.del, [src, 0]).unwrap();
+                    over.at(graph.ins, [src, 0]).unwrap();
+                }
+                for turn in 0..MOVES {
+                    if turn % 2 == 0 {
+                        transfer(graph, session.open(&over).unwrap(), way, turn % 7);
+                        continue;
+                    }
+                    loop {
+                        match session.try_open(&over) {
+                            Ok(moves) => break transfer(graph, moves, way, turn % 7),
+                            Err(Error::Busy { .. }) => thread::yield_now(),
+                            Err(error) => panic!("{error}"),
+                        }
+                    }
+                }
+            });
+        }
+    });
+    let mut session = graph.store.session().unwrap();
+    assert_eq!(session.look().unwrap().length(), before + 2 + 2 * MOVES);
 }

@@ -56,7 +56,10 @@ impl House {
         let add = store.insert::<2>("add").unwrap();
         let mut session = store.session().unwrap();
         for guest in 0..GUESTS {
-            assert_eq!(session.call(add, [guest, 0]).unwrap(), relc::Inserted::Added);
+            assert_eq!(
+                session.call(add, [guest, 0]).unwrap(),
+                relc::Inserted::Added
+            );
         }
         House {
             to: store.update("move").unwrap(),

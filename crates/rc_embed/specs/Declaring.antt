@@ -1,11 +1,13 @@
 -- What is declared of a group before its calls are known: operations, each with the values of its pattern or with any.
 -- (PLDI 2012, serializable transactions by two-phase locks.)
 use Rattle.std.specs.Prelude.{◌≡◌, ℕ, Bool, ◌==◌, ◌||◌, nat_lt, List, [], ◌∷◌, length, map, if◌then◌else◌}
-use Rattle.std.specs.Prelude.{Option, Some, None}
+use Rattle.std.specs.Prelude.{Option, Some, None, option_map}
+use Rattle.std.specs.List.{slice_get}
 use Rattle.std.specs.Option.{option_or}
 use Rattle.rc_tuple.specs.RisingSet.{In}
 use Rattle.rc_tuple.specs.Tuple.{tuple_of}
 use Rattle.rc_spec.specs.declared.call.Call.{Call}
+use Rattle.rc_spec.specs.declared.items.Op.{Op}
 use Rattle.rc_spec.specs.declared.spec.Spec.{Spec}
 use Rattle.rc_spec.specs.Placement.{op_at}
 use Rattle.rc_row.specs.Passes.{PassSeen, spec_of}
@@ -21,6 +23,10 @@ use Rattle.rc_embed.specs.Session.{SessionSeen}
 -- the columns of an operation's pattern, as they are written
 abbrev pub pattern_at : Spec → ℕ → List ℕ
 pattern_at spec op = (op_at spec op).pattern
+
+-- those of the operation with this number, where there is one
+abbrev pub known_pattern : Spec → ℕ → Option (List ℕ)
+known_pattern spec op = option_map (λ (op : Op). op.pattern) (slice_get spec.ops op)
 
 -- What stands for the calls of an operation with these values of its pattern, and with no values for all of its calls.
 abbrev pub declared_call : Spec → ℕ → List ℕ → Call

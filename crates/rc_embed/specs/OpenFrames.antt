@@ -22,6 +22,7 @@ use Rattle.rc_embed.specs.declared.open_frame.OpenFrame.{OpenFrame}
 use Rattle.rc_embed.specs.declared.open_frame.OperationFrame.{OperationFrame}
 use Rattle.rc_embed.specs.declared.opening.Options as asked
 use Rattle.rc_embed.specs.Codes as codes
+use Rattle.rc_embed.specs.Declaring.{pattern_at}
 use Rattle.rc_embed.specs.Opened.{IsOpened, IsRefusedFor, OpenSeen}
 
 -- ---- stores
@@ -130,6 +131,8 @@ pub record TellsOperation (spec : Spec) (op : ℕ) (frame : OperationFrame) : Ty
   pub count : frame.count ≡ length (written_columns_at spec op)
   pub width : frame.width ≡ row_width spec (op_at spec op).kind
   pub columns : take frame.count frame.columns ≡ written_columns_at spec op
+  pub pattern_count : frame.pattern_count ≡ length (pattern_at spec op)
+  pub pattern : take frame.pattern_count frame.pattern ≡ pattern_at spec op
 
 -- the name that is asked for stays
 pub record KeepsName (before after : OperationFrame) : Type 0 where

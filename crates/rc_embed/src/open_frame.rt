@@ -9,7 +9,7 @@ ghost use Rattle.rc_embed.specs.OpenFrames.{session_code};
 
 use crate::codes::{DONE, LINE, MEMORY, NONE_LEFT, OPERATION, OPTIONS, RULE, TOO_LONG};
 use crate::fault::{OpenFault, SessionFault};
-use crate::frame::MAX_VALUES;
+use crate::frame::{MAX_CELLS, MAX_VALUES};
 use crate::opening::{OpenStore, Options, open};
 use crate::replies::copy_over;
 use rc_maps::Seed;
@@ -154,6 +154,10 @@ pub struct OperationFrame {
     /// Told: the columns of the values that a call gives, by their numbers, in the order in which
     /// it gives them, a range column twice.
     pub columns: [u8; MAX_VALUES],
+    /// Told: how many columns its pattern has.
+    pub pattern_count: u64,
+    /// Told: these columns, in the order in which the pattern is written.
+    pub pattern: [u8; MAX_CELLS],
 }
 
 /// The longest name.
@@ -204,6 +208,10 @@ impl OpenStore {
             unreachable!()
         };
         frame.count = count as u32;
+        let Some(count) = copy_over(self.shared.pattern(number), &mut frame.pattern) else {
+            unreachable!()
+        };
+        frame.pattern_count = count as u64;
         DONE
     }
 }

@@ -9,6 +9,7 @@ ghost use Rattle.rc_reader.specs.Names.{number_among};
 ghost use Rattle.rc_row.specs.Passes.{spec_of};
 ghost use Rattle.rc_store.specs.Store.{IsFree};
 ghost use Rattle.rc_embed.specs.Asked.{columns_of_all, known_columns};
+ghost use Rattle.rc_embed.specs.Declaring.{known_pattern};
 ghost use Rattle.rc_embed.specs.Opened.{AreInBounds, AreRowsInBounds, HasDealt, IsAskedBy};
 ghost use Rattle.rc_embed.specs.Opened.{IsOpened, IsRefusedFor, IsStoreOf, IsUnreadFor, ReadsAccepted};
 ghost use Rattle.rc_embed.specs.Opened.{most_rows_asked, new_session};
@@ -249,6 +250,18 @@ impl OpenStore {
             return None;
         }
         Some(self.shared.columns(op))
+    }
+
+    /// The columns of an operation's pattern, in the order in which it is written: who declares the
+    /// operation for an open group gives a value of each, in this order. `None` exactly where no
+    /// operation has the number.
+    pub fn pattern(&self, op: u32) -> Option<&[u8]>
+        ensures { option_copied result ≡ known_pattern (spec_of self.now.store.row) op }
+    {
+        if op as usize >= self.spec().ops.list().len() {
+            return None;
+        }
+        Some(self.shared.pattern(op))
     }
 
     /// Begins a session, on the heap, with the first pass that no session has: passes of a new

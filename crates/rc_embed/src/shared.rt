@@ -79,6 +79,15 @@ impl Shared {
         self.columns[op as usize].list()
     }
 
+    /// The columns of an operation's pattern, in the order in which it is written.
+    pub(crate) fn pattern(&self, op: u32) -> &[u8]
+        requires { op < length (spec_of self.now.row).ops }
+        ensures value { result.now ≡ pattern_at (spec_of self.now.row) op }
+        ensures few { length result.now ≤ 32 }
+    {
+        self.spec().op(op as u8).pattern.list()
+    }
+
     /// What is wrong with a call of the operation with so many values, if anything: no operation has
     /// this number, or it takes another number of values.
     pub(crate) fn fault_at(&self, op: u32, count: usize) -> Option<CallFault>

@@ -3,9 +3,13 @@
 
 use super::*;
 use crate::{Declared, Group, Insert, Inserted, Options, Query, Store};
+use memory::failing;
 use std::mem::forget;
 use std::thread;
 use std::time::{Duration, Instant};
+
+#[path = "../../tests/common/memory.rs"]
+mod memory;
 
 /// Well below the length of a nap, and more than a busy machine takes to run a thread again.
 const SOON: Duration = Duration::from_secs(30);
@@ -183,6 +187,15 @@ fn a_transaction_wakes() {
     wakes(|graph, holder| {
         commit_silently(holder);
         drop(graph.session().open(&declared(graph, 1)).unwrap());
+    });
+    // want of memory ends it, and it rings then: not as it is dropped
+    wakes(|graph, holder| {
+        commit_silently(holder);
+        let mut session = graph.session();
+        let over = declared(graph, 1);
+        let mut transaction = session.open(&over).unwrap();
+        let wanted = failing(0, || transaction.call(graph.insert, EDGE));
+        assert_eq!(wanted, Err(Error::Memory));
     });
 }
 

@@ -1,4 +1,5 @@
 //! What the tests share.
+#![allow(dead_code, reason = "not each test uses all of it")]
 
 use relc::{Insert, Options, Query, Remove, Store};
 
@@ -14,7 +15,6 @@ pub struct Graph {
     pub ins: Insert<3>,
     pub del: Remove<2, 3>,
     pub succ: Query<1, 2>,
-    #[allow(dead_code, reason = "not each test asks for one edge")]
     pub find: Query<2, 1>,
 }
 
@@ -26,6 +26,18 @@ pub fn graph(options: Options) -> Graph {
         succ: store.query("succ").unwrap(),
         find: store.query("find").unwrap(),
         store,
+    }
+}
+
+impl Graph {
+    /// A node none of whose stripes is one of node 1's, as two sessions of the graph see.
+    pub fn node_apart(&self) -> u64 {
+        let mut holder = self.store.session().unwrap();
+        let mut other = self.store.session().unwrap();
+        let _held = holder.begin(self.ins, [1, 0, 0]).unwrap();
+        (2..100)
+            .find(|node| other.try_call(self.find, [*node, 0]).is_ok())
+            .unwrap()
     }
 }
 
