@@ -1,6 +1,6 @@
 //! A fragment that is copied before the first change, where others may have it.
 
-ghost use Rattle.std.specs.Prelude.{◌≡◌, ◌<◌, ◌^◌, OnErr, OnOk, length};
+ghost use Rattle.std.specs.Prelude.{◌≡◌, ◌<◌, ◌^◌, IfSome, OnErr, OnOk, length};
 ghost use Rattle.rc_spec.specs.CountedRows.{count_at, lowered, raised};
 ghost use Rattle.rc_fragment.specs.Fragment.{HasAlone, HasColumns, HasSingle, IsThere};
 ghost use Rattle.rc_fragment.specs.FragmentRows.{changed, rolled_back, settled, with_promise};
@@ -129,6 +129,16 @@ impl CowFragment {
     {
         if let Possession::Alone(fragment) = &mut self.possession {
             fragment.settle();
+        }
+    }
+
+    /// The kept fragment of a reader, as it was handed out; `None` where the fragment is had by value. Takes no memory.
+    pub fn into_kept(self) -> Option<Keep>
+        ensures { IfSome result (λ keep. self ≡ at_rest keep) }
+    {
+        match self.possession {
+            Possession::Alone(_) => None,
+            Possession::Kept(keep) => Some(keep),
         }
     }
 

@@ -18,10 +18,9 @@ use Rattle.rc_row.specs.declared.law.Standing.{Standing}
 use Rattle.rc_row.specs.declared.law.View.{View}
 use Rattle.rc_row.specs.HeldRows.{HeldRows, just_held}
 use Rattle.rc_row.specs.Law.{Slot, kept_of, pass_view, standing_of}
-use Rattle.rc_row.specs.PassInside.{Agrees, hand_of, hands}
+use Rattle.rc_row.specs.PassInside.{Agrees}
 use Rattle.rc_row.specs.Passes.{holds_taken}
 use Rattle.rc_row.specs.Standings.{with_core}
-use Rattle.rc_row.proofs.TurnLemmas.{hands-append}
 
 -- ---- what is held, as the core has it
 
@@ -40,15 +39,14 @@ high_at number me held p a above = record { above = above; ahead = a.ahead }
 -- ---- a pass and its seat
 
 pub agrees_as : (number : ℕ) (s : Standing) (now : Me Slot View) (held : List HeldRows) → now.0 ≡ pass_view s → number ≡ s.core.number → number < 255 → s.core.turning ≡ None
-    → now.1 ≡ hands held → holds_taken held ≡ s.core.held → IsRising nat_cmp (stripes_in s.core.held) → Agrees number now held
-agrees_as number s now held view number_is small ahead slots taken rising =
+    → holds_taken held ≡ s.core.held → IsRising nat_cmp (stripes_in s.core.held) → Agrees number now held
+agrees_as number s now held view number_is small ahead taken rising =
     let is : standing_of now.0 ≡ s = ap standing_of view in
     record {
       view_is = view ∙ ap pass_view (sym is);
       number_is = number_is ∙ sym (ap (λ (t : Standing). t.core.number) is);
       small = small;
       ahead = ap (λ (t : Standing). t.core.turning) is ∙ ahead;
-      hands_are = slots;
       taken = taken ∙ sym (ap (λ (t : Standing). t.core.held) is);
       rising = subst (λ (t : Standing). IsRising nat_cmp (stripes_in t.core.held)) (sym is) rising;
     }
@@ -56,17 +54,16 @@ agrees_as number s now held view number_is small ahead slots taken rising =
 module _ (number : ℕ) (me : Me Slot View) (held : List HeldRows) (a : Agrees number me held) where
   -- a stripe more, written or shared
   pub agrees_taken : (spec : Spec) (mode : Mode) (p : ℕ) (rows : List EdgeRow) (now : Me Slot View) → IsAbove (standing_of me.0).core p
-      → now.0 ≡ pass_view (with_core (standing_of me.0) (took mode (standing_of me.0).core p rows)) → now.1 ≡ hand_of mode p ++ me.1
+      → now.0 ≡ pass_view (with_core (standing_of me.0) (took mode (standing_of me.0).core p rows))
       → Agrees number now (held ++ just_held p mode (kept_of spec rows) ∷ [])
-  agrees_taken spec mode p rows now above view slots =
+  agrees_taken spec mode p rows now above view =
       agrees_as number (with_core (standing_of me.0) (took mode (standing_of me.0).core p rows)) now (held ++ just_held p mode (kept_of spec rows) ∷ []) view a.number_is a.small a.ahead
-      (slots ∙ ap (λ (xs : List (ℕ × Slot)). hand_of mode p ++ xs) a.hands_are ∙ sym (hands-append held (just_held p mode (kept_of spec rows) ∷ [])))
       (map-append (λ (h : HeldRows). hold h.stripe h.mode h.fragment.taken) held (just_held p mode (kept_of spec rows) ∷ []) ∙ ap (λ (hs : List Hold). hs ++ hold p mode rows ∷ []) a.taken)
       (subst (IsRising nat_cmp) (sym (map-append (λ (h : Hold). h.stripe) (standing_of me.0).core.held (hold p mode rows ∷ [])))
       (rising_end nat_cmp (stripes_in (standing_of me.0).core.held) p a.rising (λ q m. sym (nat_cmp_is q p Less (above q m)))))
 
-  -- the same slots are out, and all else that agreement speaks of is as it was
+  -- all that agreement speaks of is as it was
   pub agrees_same : (s : Standing) (now : Me Slot View) (held' : List HeldRows) → now.0 ≡ pass_view s → s.core.number ≡ (standing_of me.0).core.number → s.core.turning ≡ None
-      → now.1 ≡ me.1 → hands held' ≡ hands held → holds_taken held' ≡ s.core.held → IsRising nat_cmp (stripes_in s.core.held) → Agrees number now held'
-  agrees_same s now held' view number_is ahead slots same taken rising =
-      agrees_as number s now held' view (a.number_is ∙ sym number_is) a.small ahead (slots ∙ a.hands_are ∙ sym same) taken rising
+      → holds_taken held' ≡ s.core.held → IsRising nat_cmp (stripes_in s.core.held) → Agrees number now held'
+  agrees_same s now held' view number_is ahead taken rising =
+      agrees_as number s now held' view (a.number_is ∙ sym number_is) a.small ahead taken rising

@@ -16,7 +16,7 @@ use Rattle.rc_core.specs.State.{hold, stripes_in}
 use Rattle.rc_core.specs.Passes.{other_holds}
 use Rattle.rc_row.specs.HeldRows.{HeldRows}
 use Rattle.rc_row.specs.Law.{Slot}
-use Rattle.rc_row.specs.PassInside.{hand_of, hands}
+use Rattle.rc_row.specs.Own.{hand_out, hands_out}
 use Rattle.rc_row.specs.Passes.{OfHeld, all_with, held_with, held_without, holds_taken, with_fragment}
 use Rattle.rc_row.specs.Turns.{IsHeldAt}
 use Rattle.rc_row.proofs.TurnLemmas.{stripes_of-append}
@@ -86,9 +86,9 @@ module _ (held : List HeldRows) (p at : ℕ) (h : IsHeldAt held p at) where
 
 -- ---- what the core sees of changes
 
-pub hands-with : (g : HeldRows → FragmentRows) (held : List HeldRows) → hands (map (with_fragment g) held) ≡ hands held
-hands-with g [] = refl
-hands-with g (h ∷ held) = ap (λ (slots : List (ℕ × Slot)). slots ++ hand_of h.mode h.stripe) (hands-with g held)
+pub hands-with : (g : HeldRows → FragmentRows) (held : List HeldRows) (n k : ℕ) → hands_out n k (map (with_fragment g) held) ≡ hands_out n k held
+hands-with g [] n k = refl
+hands-with g (h ∷ held) n k = ap (λ (slots : List (ℕ × Slot)). slots ++ hand_out n k h.mode h.stripe) (hands-with g held n k)
 
 pub taken-with : (g : HeldRows → FragmentRows) → ((h : HeldRows) → (g h).taken ≡ h.fragment.taken) → (held : List HeldRows) → holds_taken (map (with_fragment g) held) ≡ holds_taken held
 taken-with g same [] = refl
@@ -101,7 +101,7 @@ taken-held_with p change same held = taken-with (λ (h : HeldRows). cond (h.stri
     either true f = same f
     either false f = refl
 
-pub hands-held_with : (p : ℕ) (change : FragmentRows → FragmentRows) (held : List HeldRows) → hands (held_with p change held) ≡ hands held
+pub hands-held_with : (p : ℕ) (change : FragmentRows → FragmentRows) (held : List HeldRows) (n k : ℕ) → hands_out n k (held_with p change held) ≡ hands_out n k held
 hands-held_with p change held = hands-with (λ (h : HeldRows). cond (h.stripe == p) (change h.fragment) h.fragment) held
 
 pub taken-without : (p : ℕ) (held : List HeldRows) → holds_taken (held_without held p) ≡ other_holds (holds_taken held) p

@@ -1,5 +1,5 @@
 -- A closed row has one history.
-use Rattle.std.proofs.Common.{◌≡◌, ℕ, zero, suc, ◌+◌, ◌*◌, ◌/◌, ◌%◌, ◌<◌, ◌≤◌, ◌^◌, ◌||◌, List, [], ◌∷◌, ◌++◌, length, map, drop, take, get_or, Some, None, sym, refl, ap, ◌∙◌, subst, inl, inr, arith, length-append}
+use Rattle.std.proofs.Common.{◌≡◌, ℕ, zero, suc, ◌+◌, ◌*◌, ◌<◌, ◌≤◌, ◌^◌, ◌||◌, Bool, false, List, [], ◌∷◌, ◌++◌, length, map, drop, take, get_or, Some, None, sym, refl, ap, ◌∙◌, subst, inl, inr, arith, length-append}
 use Rattle.std.specs.Prelude.{All}
 use Rattle.std.proofs.lemmas.Option.{same_Some}
 use Rattle.std.specs.List.{slice_get, range_with_len, remove}
@@ -13,6 +13,7 @@ use Rattle.rc_tuple.specs.RisingSetLaws.{has_in}
 use Rattle.rc_tuple.specs.ColSet.{has}
 use Rattle.rc_spec.specs.Fragments.{fragment_of}
 use Rattle.rc_spec.specs.declared.lock.Mode.TheVariants.{Shared, Exclusive}
+use Rattle.rc_spec.specs.Stripes.{stripe_total}
 use Rattle.rc_spec.specs.declared.spec.Spec.{Spec}
 use Rattle.rc_fragment.specs.Keep.{KeptRows}
 use Rattle.rc_rel.specs.declared.entry.Entry.{Entry}
@@ -32,10 +33,11 @@ use Rattle.rc_row.specs.declared.law.Standing.{Standing}
 use Rattle.rc_row.specs.declared.law.View.{View}
 use Rattle.rc_row.specs.declared.row.Row.TheInside.{Inside}
 use Rattle.rc_row.specs.Ended.{IsEndedPass, HasHistory, AreEnded}
-use Rattle.rc_row.specs.Law.{Slot, kept_of, slot_place, spec_by, stripes_by, numbers_in, passes_view, AreKnown, AreSeatedAt, AreTold, IsKept}
+use Rattle.rc_row.specs.Law.{Slot, kept_in, kept_of, lodged, slot_place, spec_by, stripes_by, numbers_in, passes_view, AreKnown, AreSeatedAt, AreTold, IsKept}
 use Rattle.rc_row.specs.RunLaws.{good_of, refusals_of}
-use Rattle.rc_row.specs.Passes.{PassSeen, RowSeen, core_of, spec_of}
-use Rattle.rc_row.specs.RowInside.{IsWholeRow, row_seen}
+use Rattle.rc_row.specs.Passes.{PassSeen, RowSeen, core_of, spec_of, stripes_of}
+use Rattle.rc_row.specs.RowInside.{row_seen}
+use Rattle.rc_row.proofs.AloneLemmas.{same_kept}
 use Rattle.rc_row.proofs.ListLemmas.{all_at, get_before, get_last}
 use Rattle.rc_row.proofs.StripeLemmas.{there, no_latch, slot_home}
 
@@ -115,7 +117,8 @@ pub record AreClosed (spec : Spec) (passes : List PassSeen) (slots : List Slot) 
   pub known : (k : ℕ) (pass : PassSeen) → slice_get passes k ≡ Some pass → AreKnown history pass.standing.known
   pub short : length history ≤ 255 * 2 ^ 48
   pub small : length (replay spec history) < 2 ^ 60
-  pub rows : (p : ℕ) → slot_place p < length slots → get_elem? slots (slot_place p) ≡ some (Some (kept_of spec (fragment_of spec (replay spec history) p)))
+  pub handed : List Bool
+  pub rows : (p : ℕ) → p < stripe_total spec → get_elem? slots (slot_place p) ≡ some (kept_in (get_or handed p false) (kept_of spec (fragment_of spec (replay spec history) p)))
 
 -- the pass at the place k is that of the number a + k
 seated_at : (all : List PassState) (seat : ℕ → ℕ) (id a : ℕ) (passes : List PassSeen) (k : ℕ) (pass : PassSeen) → AreSeatedAt all seat id (standings_of passes) → numbers_of passes ≡ range_with_len a (length passes)
@@ -183,7 +186,7 @@ module _ (key : Key) (id : ℕ) (passes : List PassSeen) (s : State Slot View) (
       let w = ((good_of key s kept).passes k u.0 u.1).counts p in
       false≢true (sym (λ i. has (stripes_in (held_in Shared (u.2 i))) p || is_at (u.3 i) p) ∙ w ∙ has_in (stripe_at kept.core.stripes p).counted k m))
 
-  pub closed_home : (p : ℕ) → p < stripes_by key → get_elem? s.homes (slot_place p) ≡ some (some (Some (kept_of (spec_by key) (fragment_of (spec_by key) (replay (spec_by key) kept.core.history) p))))
+  pub closed_home : (p : ℕ) → p < stripes_by key → get_elem? s.homes (slot_place p) ≡ some (some (lodged (spec_by key) (get_or kept.handed p false) (fragment_of (spec_by key) (replay (spec_by key) kept.core.history) p)))
   closed_home p lt = slot_home key s kept p (fragment_of (spec_by key) (replay (spec_by key) kept.core.history) p) lt (unwritten p lt) (no_latch key s kept p (uncounted p lt))
 
   pub closed : (slots : List Slot) → length s.homes ≡ length slots → ((k : ℕ) (y : Slot) → get_elem? s.homes k ≡ some (some y) → get_elem? slots k ≡ some y) → AreClosed (spec_by key) passes slots
@@ -194,11 +197,12 @@ module _ (key : Key) (id : ℕ) (passes : List PassSeen) (s : State Slot View) (
     known = λ k pass e. known_at kept.core.history (refusals_of key s kept) passes k pass (kept.views id (passes_view (standings_of passes)) at).histories e;
     short = history_law (spec_by key) kept.core (good_of key s kept);
     small = few_tuples (spec_by key) kept.core (good_of key s kept);
-    rows = λ p lt. homes (slot_place p) (Some (kept_of (spec_by key) (fragment_of (spec_by key) (replay (spec_by key) kept.core.history) p))) (closed_home p (let w = kept.shows.slots in omega (arith, wide)));
+    handed = kept.handed;
+    rows = λ p lt. homes (slot_place p) (lodged (spec_by key) (get_or kept.handed p false) (fragment_of (spec_by key) (replay (spec_by key) kept.core.history) p)) (closed_home p lt);
   }
 
 -- the row's table at the end
-module _ (a : Inside) (row : RowSeen) (is : row_seen a ≡ row) (whole : IsWholeRow a) (passes : List PassSeen) (id : ℕ) (v : View) (words : List ℕ) (slots : List Slot)
+module _ (a : Inside) (row : RowSeen) (is : row_seen a ≡ row) (passes : List PassSeen) (id : ℕ) (v : View) (words : List ℕ) (slots : List Slot)
     (all : v ≡ passes_view (standings_of passes)) (final : Final (Seen (IsKept a.table.shared.key) id v) words slots) (numbers : numbers_of passes ≡ range_with_len 0 row.key.passes) (idle : All IsIdle passes) where
   closed_slots : AreClosed (spec_of (row_seen a)) passes slots
   closed_slots = go final
@@ -207,33 +211,36 @@ module _ (a : Inside) (row : RowSeen) (is : row_seen a ≡ row) (whole : IsWhole
       go (s, (kept, at), same, wide, homes) =
           closed a.table.shared.key id passes s kept (at ∙ ap some all) (numbers ∙ ap (λ (r : RowSeen). range_with_len 0 r.key.passes) (sym is)) (λ k pass e. all_at IsIdle passes k pass idle e) slots wide homes
 
-  -- each slot has a fragment
-  pub closed_slot : (p : ℕ) → slot_place p < length slots → (keep : KeptRows) × (get_elem? slots (slot_place p) ≡ some (Some keep))
-  closed_slot p lt = (kept_of (spec_by a.table.shared.key) (fragment_of (spec_by a.table.shared.key) (replay (spec_by a.table.shared.key) closed_slots.history) p), closed_slots.rows p lt)
+  -- the slot of each stripe has a fragment
+  pub closed_slot : (n p : ℕ) → n ≡ stripes_of row → p < n → (handed : Bool) × (keep : KeptRows) × (get_elem? slots (slot_place p) ≡ some (kept_in handed keep))
+  closed_slot n p count lt =
+      let spec : Spec = spec_by a.table.shared.key in
+      let same = ap stripes_of is in
+      (get_or closed_slots.handed p false, kept_of spec (fragment_of spec (replay spec closed_slots.history) p), closed_slots.rows p (omega arith))
 
   -- and the fragments that were taken out of them are those of one history
-  pub has_history : (fragments : List KeptRows) → length fragments ≡ (length slots + 3) / 4 → length slots ≡ a.table.shared.table_id.slots
-      → ((p : ℕ) (keep : KeptRows) → slot_place p < length slots → get_elem? slots (slot_place p) ≡ some (Some keep) → slice_get fragments p ≡ Some keep) → HasHistory (spec_of row) passes fragments
-  has_history fragments wide count items = subst (λ (r : RowSeen). HasHistory (spec_of r) passes fragments) is (record {
-    history = closed_slots.history;
-    good = closed_slots.good;
-    own = closed_slots.own;
-    known = closed_slots.known;
-    short = closed_slots.short;
-    small = closed_slots.small;
-    count = (let n = whole.slots in omega arith);
-    rows = λ p lt. (let inside : slot_place p < length slots = omega (arith, wide, whole.slots, count) in items p (kept_of (spec_by a.table.shared.key) (fragment_of (spec_by a.table.shared.key) (replay (spec_by a.table.shared.key) closed_slots.history) p)) inside (closed_slots.rows p inside));
-  })
+  pub has_history : (n : ℕ) (fragments : List KeptRows) → n ≡ stripes_of row → length fragments ≡ n
+      → ((p : ℕ) (handed : Bool) (keep : KeptRows) → p < n → get_elem? slots (slot_place p) ≡ some (kept_in handed keep) → slice_get fragments p ≡ Some keep) → HasHistory (spec_of row) passes fragments
+  has_history n fragments count wide items =
+      let spec : Spec = spec_by a.table.shared.key in
+      let same = ap stripes_of is in
+      subst (λ (r : RowSeen). HasHistory (spec_of r) passes fragments) is (record {
+        history = closed_slots.history;
+        good = closed_slots.good;
+        own = closed_slots.own;
+        known = closed_slots.known;
+        short = closed_slots.short;
+        small = closed_slots.small;
+        count = omega arith;
+        rows = λ p lt. items p (get_or closed_slots.handed p false) (kept_of spec (fragment_of spec (replay spec closed_slots.history) p)) (omega arith) (closed_slots.rows p (omega arith));
+      })
 
 -- the fragments that were taken, and one more
-pub taken_more : (slots : List Slot) (taken : List KeptRows) (keep : KeptRows) (i : ℕ) → length taken ≡ (i + 3) / 4 → i % 4 ≡ 0 → get_elem? slots i ≡ some (Some keep)
-    → ((p : ℕ) (k : KeptRows) → slot_place p < i → get_elem? slots (slot_place p) ≡ some (Some k) → slice_get taken p ≡ Some k)
-    → (p : ℕ) (k : KeptRows) → slot_place p < i + 1 → get_elem? slots (slot_place p) ≡ some (Some k) → slice_get (taken ++ keep ∷ []) p ≡ Some k
-taken_more slots taken keep i count first here before p k lt at = elim (cases_eq (slot_place p) i) [
-  | inl e ↦ ap (slice_get (taken ++ keep ∷ [])) (omega (arith, e, count)) ∙ get_last taken keep ∙ some-injective (Some keep) (Some k) (sym here ∙ ap (get_elem? slots) (sym e) ∙ at)
-  | inr apart ↦ get_before taken (keep ∷ []) p k (before p k (omega (arith, lt, apart)) at)
+pub taken_more : (slots : List Slot) (taken : List KeptRows) (handed : Bool) (keep : KeptRows) → get_elem? slots (slot_place (length taken)) ≡ some (kept_in handed keep)
+    → ((p : ℕ) (h : Bool) (k : KeptRows) → p < length taken → get_elem? slots (slot_place p) ≡ some (kept_in h k) → slice_get taken p ≡ Some k)
+    → (p : ℕ) (h : Bool) (k : KeptRows) → p < length taken + 1 → get_elem? slots (slot_place p) ≡ some (kept_in h k) → slice_get (taken ++ keep ∷ []) p ≡ Some k
+taken_more slots taken handed keep here before p h k lt at = elim (cases_eq p (length taken)) [
+  | inl e ↦ ap (slice_get (taken ++ keep ∷ [])) e ∙ get_last taken keep
+      ∙ ap Some (same_kept handed h keep k (some-injective (kept_in handed keep) (kept_in h k) (sym here ∙ ap (λ (i : ℕ). get_elem? slots (slot_place i)) (sym e) ∙ at)))
+  | inr apart ↦ get_before taken (keep ∷ []) p k (before p h k (omega (arith, lt, apart)) at)
 ]
-
--- the slot of a stripe at home isn't empty
-pub slot_clash : (x : Slot) (keep : KeptRows) → x ≡ None → x ≡ Some keep → ⊥
-slot_clash x keep a b = let e : None ≡ Some keep = sym a ∙ b in cc

@@ -1,5 +1,5 @@
 -- A commit keeps the rule, and so does a look at the commit word.
-use Rattle.std.proofs.Common.{◌≡◌, ℕ, ◌*◌, ◌+◌, ◌%◌, ◌^◌, ◌≤◌, List, [], ◌∷◌, ◌++◌, length, set, Some, None, sym, refl, ap, ◌∙◌, subst, arith, length-set, length-append}
+use Rattle.std.proofs.Common.{◌≡◌, ℕ, ◌*◌, ◌+◌, ◌%◌, ◌^◌, ◌≤◌, Bool, true, false, if◌then◌else◌, List, [], ◌∷◌, ◌++◌, length, map, set, Some, None, sym, refl, ap, ◌∙◌, subst, arith, length-set, length-append}
 use Rattle.std.specs.Prelude.{slice_index}
 use Rattle.std.specs.List.{slice_get}
 use Rattle.std.proofs.lemmas.List.{get_or-set_same, get_or-set_other}
@@ -10,7 +10,15 @@ use Rattle.rc_rel.specs.History.{IsPrefix}
 use Rattle.rc_rel.specs.PlaceLaws.{prefix_same}
 use Rattle.rc_core.specs.declared.state.CoreState.{CoreState}
 use Rattle.rc_core.specs.declared.state.PassState.{PassState}
-use Rattle.rc_core.specs.Passes.{MayCommit, committed, learned}
+use Rattle.rc_core.specs.declared.state.Hold.{Hold}
+use Rattle.rc_core.specs.State.{held_in, is_mode, shares_of, stripes_in}
+use Rattle.rc_core.specs.Passes.{MayCommit, committed, learned, renewed, renewed_as, rows_then}
+use Rattle.rc_tuple.specs.ColSet.{has}
+use Rattle.rc_tuple.specs.RisingSet.{In}
+use Rattle.rc_spec.specs.Fragments.{EdgeRow}
+use Rattle.rc_spec.specs.declared.lock.Mode.{Mode}
+use Rattle.rc_spec.specs.declared.lock.Mode.TheVariants.{Shared, Exclusive}
+use Rattle.rc_spec.specs.declared.spec.Spec.{Spec}
 use Rattle.rc_core.specs.declared.event.Event.TheVariants as event
 use Rattle.rc_core.specs.Events.{with_pass}
 use Rattle.rc_core.specs.Good.{IsGood, IsOfHistory}
@@ -29,13 +37,31 @@ use Rattle.rc_row.specs.Standings.{after_entry, after_look}
 use Rattle.rc_row.specs.Told.{ToldAtCommit, ToldAtLook}
 use Rattle.rc_row.proofs.ListLemmas.{all_end}
 use Rattle.rc_row.proofs.MoveLemmas.{moved, its_core, its_known, its_latch, its_pass, its_place, still_known}
-use Rattle.rc_row.proofs.StripeLemmas.{has_one, still_bare}
+use Rattle.rc_row.proofs.StripeLemmas.{has_one, its_handed, still_bare}
+use Rattle.rc_row.proofs.OwnRuleLemmas.{handed_less, owns_alone}
 
 -- the pass of a seat is of the history
 at_history : (key : Key) (s : State Slot View) (kept : IsKept key s) (id : ℕ) (a : Standing) → get_elem? s.views id ≡ some (pass_view a) → IsOfHistory (spec_by key) key.passes kept.core.history a.core
 at_history key s kept id a at =
     subst (λ n. IsOfHistory (spec_by key) n kept.core.history a.core) kept.shows.passes
-    (of_history (spec_by key) kept.core a.core.number a.core (good_of key s kept) (its_pass key s kept id a None at))
+    (of_history (spec_by key) kept.core a.core.number a.core (good_of key s kept) (its_pass key s kept id a None None at))
+
+push_if : (b : Bool) (x : Hold) (holds : List Hold) → stripes_in (if b then x ∷ holds else holds) ≡ (if b then x.stripe ∷ stripes_in holds else stripes_in holds)
+push_if true x holds = refl
+push_if false x holds = refl
+
+mode-renewed : (m : Mode) (spec : Spec) (rows : List EdgeRow) (h : Hold) → ((renewed_as m spec rows h).mode ≡ h.mode) × ((renewed_as m spec rows h).stripe ≡ h.stripe)
+mode-renewed Exclusive spec rows h = (refl, refl)
+mode-renewed Shared spec rows h = (refl, refl)
+
+-- a commit leaves what is shared
+shares-renewed : (spec : Spec) (rows : List EdgeRow) (holds : List Hold) → stripes_in (held_in Shared (map (renewed spec rows) holds)) ≡ stripes_in (held_in Shared holds)
+shares-renewed spec rows [] = refl
+shares-renewed spec rows (h ∷ holds) =
+    let same = mode-renewed h.mode spec rows h in
+    push_if (is_mode Shared (renewed spec rows h).mode) (renewed spec rows h) (held_in Shared (map (renewed spec rows) holds))
+    ∙ (λ i. if is_mode Shared (same.0 i) then same.1 i ∷ shares-renewed spec rows holds i else shares-renewed spec rows holds i)
+    ∙ sym (push_if (is_mode Shared h.mode) h (held_in Shared holds))
 
 -- a fetch-add on the commit word
 pub commits : (key : Key) (slots id : ℕ) (a : Standing) (carried : List (ℕ × Slot)) (e : Entry) → MayCommit (compiled_by key) a.core e
@@ -45,7 +71,7 @@ commits key slots id a carried e may s kept wide at small =
     let c : CoreState = kept.core in
     let found : ℕ = slice_index s.words 0 in
     let read : slice_index s.words 0 ≡ length kept.core.history = kept.shows.commit in
-    let is : slice_get kept.core.passes a.core.number ≡ Some a.core = its_pass key s kept id a None at in
+    let is : slice_get kept.core.passes a.core.number ≡ Some a.core = its_pass key s kept id a None None at in
     let w : PassState = committed (compiled_by key) a.core (length kept.core.history) e in
     let b : Standing = after_entry (compiled_by key) kept.core.history e a in
     let next : CoreState = with_pass c (c.history ++ e ∷ []) c.stripes k w in
@@ -54,19 +80,23 @@ commits key slots id a carried e may s kept wide at small =
       pass_view b,
       keeps,
       tt,
-      moved key s kept id a None at b None refl (OfCore (event.Commit k e))
-          (its_place key s kept id a None at, subst (λ (u : PassState). MayCommit (compiled_by key) u e) (sym (its_core key s kept id a None at)) may) refl (refl, refl)
+      moved key s kept id a None None at b None None refl (OfCore (event.Commit k e))
+          (its_place key s kept id a None None at, subst (λ (u : PassState). MayCommit (compiled_by key) u e) (sym (its_core key s kept id a None None at)) may) refl (refl, refl)
           (c.history ++ e ∷ []) c.stripes kept.latches
-          (ap (λ (u : PassState). row_state (with_pass c (c.history ++ e ∷ []) c.stripes k (committed (compiled_by key) u (length c.history) e)) kept.latches) (its_core key s kept id a None at))
-          (e ∷ [], refl) told_more refl kept.named (still_bare kept.latches a.core w (its_latch key s kept id a None at) refl) (λ j q n. refl)
+          (ap (λ (u : PassState). row_state (with_pass c (c.history ++ e ∷ []) c.stripes k (committed (compiled_by key) u (length c.history) e)) kept.latches) (its_core key s kept id a None None at))
+          (e ∷ [], refl) told_more refl kept.named (still_bare kept.latches a.core w (its_latch key s kept id a None None at) refl) (λ j q n. refl)
           (set s.words 0 x) s.homes (length-set s.words 0 x) (get_or-set_same s.words 0 x 0 (let l = kept.shows.wide in omega arith) ∙ counted)
           (λ q below. get_or-set_other s.words 0 (stripe_word q) x 0 (λ f. omega arith) ∙ kept.shows.words q below)
           (λ q below. get_or-set_other s.words 0 (latch_word (stripes_by key) q) x 0 (λ f. omega arith) ∙ kept.shows.latch_words q below)
-          refl kept.shows.homes,
+          refl kept.handed refl kept.shows.homes
+          (owns_alone (spec_by key) c kept.handed s.homes k w (c.history ++ e ∷ []) (its_place key s kept id a None None at)
+          (λ q. ap (λ (xs : List ℕ). has xs q) (shares-renewed (spec_by key) (rows_then (compiled_by key) a.core e.steps) a.core.held ∙ ap shares_of (sym (its_core key s kept id a None None at)))) kept.shows.owns)
+          (handed_less kept.handed None a.core w (λ q m. subst (In q) (shares-renewed (spec_by key) (rows_then (compiled_by key) a.core e.steps) a.core.held) m) (its_handed key s kept id a None at))
+          (λ j u entering n h x. x),
       record {
         before = c.history;
         place = read;
-        at = record { goes_on = its_known key s kept id a None at; seen = ((good_of key s kept).passes k a.core is).seen; of = at_history key s kept id a at };
+        at = record { goes_on = its_known key s kept id a None None at; seen = ((good_of key s kept).passes k a.core is).seen; of = at_history key s kept id a at };
         after = subst (λ n. IsOfHistory (spec_by key) n (c.history ++ e ∷ []) w) (length-set c.passes k w ∙ kept.shows.passes)
             (of_history (spec_by key) next k w good (get_set_same c.passes k w a.core is));
         one = has_one (spec_by key) next k w good (get_set_same c.passes k w a.core is);
@@ -78,7 +108,7 @@ commits key slots id a carried e may s kept wide at small =
   where
     told_more : AreKnown (kept.core.history ++ e ∷ []) (a.known ++ (kept.core.history ++ e ∷ []) ∷ [])
     told_more = all_end (λ (earlier : List Entry). IsPrefix earlier (kept.core.history ++ e ∷ [])) a.known (kept.core.history ++ e ∷ [])
-        (still_known kept.core.history (kept.core.history ++ e ∷ []) a.known (e ∷ [], refl) (its_known key s kept id a None at)) (prefix_same (kept.core.history ++ e ∷ []))
+        (still_known kept.core.history (kept.core.history ++ e ∷ []) a.known (e ∷ [], refl) (its_known key s kept id a None None at)) (prefix_same (kept.core.history ++ e ∷ []))
 
     longer : length (kept.core.history ++ e ∷ []) ≡ length kept.core.history + 1
     longer = length-append kept.core.history (e ∷ [])
@@ -93,25 +123,28 @@ looks key slots id a carried s kept wide at small =
     let c : CoreState = kept.core in
     let found : ℕ = slice_index s.words 0 in
     let read : slice_index s.words 0 ≡ length kept.core.history = kept.shows.commit in
-    let is : slice_get kept.core.passes a.core.number ≡ Some a.core = its_pass key s kept id a None at in
+    let is : slice_get kept.core.passes a.core.number ≡ Some a.core = its_pass key s kept id a None None at in
     let b : Standing = after_look kept.core.history a in (
       pass_view b,
       keeps,
       tt,
-      moved key s kept id a None at b None refl (OfCore (event.Learn a.core.number (length kept.core.history)))
-          (its_place key s kept id a None at, omega arith) refl (refl, refl) c.history c.stripes kept.latches
-          (ap (λ (u : PassState). row_state (with_pass c c.history c.stripes a.core.number (learned u (length c.history))) kept.latches) (its_core key s kept id a None at))
+      moved key s kept id a None None at b None None refl (OfCore (event.Learn a.core.number (length kept.core.history)))
+          (its_place key s kept id a None None at, omega arith) refl (refl, refl) c.history c.stripes kept.latches
+          (ap (λ (u : PassState). row_state (with_pass c c.history c.stripes a.core.number (learned u (length c.history))) kept.latches) (its_core key s kept id a None None at))
           (prefix_same c.history)
-          (all_end (λ (earlier : List Entry). IsPrefix earlier kept.core.history) a.known kept.core.history (its_known key s kept id a None at) (prefix_same kept.core.history))
-          refl kept.named (still_bare kept.latches a.core b.core (its_latch key s kept id a None at) refl) (λ j q n. refl)
+          (all_end (λ (earlier : List Entry). IsPrefix earlier kept.core.history) a.known kept.core.history (its_known key s kept id a None None at) (prefix_same kept.core.history))
+          refl kept.named (still_bare kept.latches a.core b.core (its_latch key s kept id a None None at) refl) (λ j q n. refl)
           (set s.words 0 found) s.homes (length-set s.words 0 found) (get_or-set_same s.words 0 found 0 (let l = kept.shows.wide in omega arith) ∙ read)
           (λ q below. get_or-set_other s.words 0 (stripe_word q) found 0 (λ f. omega arith) ∙ kept.shows.words q below)
           (λ q below. get_or-set_other s.words 0 (latch_word (stripes_by key) q) found 0 (λ f. omega arith) ∙ kept.shows.latch_words q below)
-          refl kept.shows.homes,
+          refl kept.handed refl kept.shows.homes
+          (owns_alone (spec_by key) c kept.handed s.homes a.core.number b.core c.history (its_place key s kept id a None None at)
+          (λ q. ap (λ (u : PassState). has (shares_of u) q) (sym (its_core key s kept id a None None at))) kept.shows.owns)
+          (its_handed key s kept id a None at) (λ j u entering n h x. x),
       record {
         history = c.history;
         long = read;
-        at = record { goes_on = its_known key s kept id a None at; seen = ((good_of key s kept).passes a.core.number a.core is).seen; of = at_history key s kept id a at };
+        at = record { goes_on = its_known key s kept id a None None at; seen = ((good_of key s kept).passes a.core.number a.core is).seen; of = at_history key s kept id a at };
         view = refl;
         slots = refl;
       },

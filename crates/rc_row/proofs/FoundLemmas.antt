@@ -1,11 +1,13 @@
 -- What a step told, once the number that it found was tested.
-use Rattle.std.proofs.Common.{◌≡◌, ◌≢◌, ℕ, ◌%◌, Bool, subst}
+use Rattle.std.proofs.Common.{◌≡◌, ◌≢◌, ℕ, ◌%◌, Bool, List, ◌∷◌, ◌++◌, ap, ◌∙◌, subst}
 use Rattle.std.specs.Prelude.{MatchBool, Option, Some, None, IfSome, IfNone}
 use Rattle.std.proofs.lemmas.Bool.{eq-eqb, ne_eqb}
 use Rattle.rc_row.specs.declared.law.Key.{Key}
 use Rattle.rc_row.specs.declared.law.View.{View}
 use Rattle.atomic_table.specs.Table.{Me}
-use Rattle.rc_row.specs.Law.{Slot}
+use Rattle.rc_row.specs.HeldRows.{HeldRows}
+use Rattle.rc_row.specs.Law.{Slot, kept_of, lodged, slot_place, spec_by}
+use Rattle.rc_row.specs.Own.{IsLockedWith, hands_out, own_hands}
 use Rattle.rc_row.specs.Told.{EntersOrTurns, HasEntered, HasLatched, HasLocked, HasTurned, IsLatchedOut, IsLockedOut, LatchesOrNot, LocksOrNot}
 
 module _ (key : Key) (m m' : Me Slot View) (p found : ℕ) where
@@ -20,6 +22,14 @@ module _ (key : Key) (m m' : Me Slot View) (p found : ℕ) where
 
   pub is_latched_out : found ≢ 0 → LatchesOrNot key m p found m' → IsLatchedOut key m p found m'
   is_latched_out n t = subst (λ (b : Bool). MatchBool b (HasLatched key m p m') (IsLatchedOut key m p found m')) (ne_eqb found 0 n) t
+
+-- a stripe just locked, of a pass that had these out
+pub locked_with : (key : Key) (m m' : Me Slot View) (p : ℕ) (told : HasLocked key m p m') (k : ℕ) (held : List HeldRows) → m.1 ≡ hands_out key.passes k held
+    → IsLockedWith key.passes p told.handed (kept_of (spec_by key) told.rows) told.owns m'.1 (hands_out key.passes k held)
+locked_with key m m' p told k held out = record {
+  are = told.slots ∙ ap (λ (xs : List (ℕ × Slot)). (slot_place p, lodged (spec_by key) told.handed told.rows) ∷ own_hands key.passes p told.owns ++ xs) out;
+  empty = told.empty;
+}
 
 pub some_of : {A : Type 0} (o : Option A) (x : A) (P : A → Type 0) → o ≡ Some x → IfSome o P → P x
 some_of {A} o x P e t = subst (λ (y : Option A). IfSome y P) e t

@@ -1,5 +1,6 @@
 -- What is known of the fragment of a stripe that is given back.
-use Rattle.std.proofs.Common.{◌≡◌, ℕ, suc, Bool, List, [], ◌∷◌, ◌++◌, length, drop, if◌then◌else◌, None, sym, refl, ap, ◌∙◌, subst, inl, inr}
+use Rattle.std.proofs.Common.{◌≡◌, ℕ, suc, Bool, List, [], ◌∷◌, ◌++◌, Option, Some, None, true, length, drop, if◌then◌else◌, sym, refl, ap, ◌∙◌, subst, inl, inr}
+use Rattle.std.specs.Prelude.{IfSome}
 use Rattle.std.specs.List.{All, remove}
 use Rattle.std.specs.Ordering.{nat_cmp}
 use Rattle.std.proofs.lemmas.Bool.{eq-eqb, ne_eqb}
@@ -8,11 +9,13 @@ use Rattle.std.proofs.lemmas.List.Elements.{All-get_or}
 use Rattle.rc_tuple.specs.RisingSet.{In, IsRising}
 use Rattle.rc_tuple.specs.RisingSetLaws.{in_append}
 use Rattle.rc_spec.specs.declared.lock.Mode.{Mode}
+use Rattle.rc_spec.specs.Fragments.{EdgeRow}
 use Rattle.rc_spec.specs.declared.spec.Spec.{Spec}
 use Rattle.rc_fragment.specs.Fragment.{edge_table}
 use Rattle.rc_fragment.specs.FragmentRows.{FragmentRows}
-use Rattle.rc_fragment.specs.Keep.{IsAtRest, kept_rows}
+use Rattle.rc_fragment.specs.Keep.{IsAtRest, KeptRows, at_rest, kept_rows}
 use Rattle.rc_core.specs.declared.state.Hold.{Hold}
+use Rattle.rc_core.specs.declared.state.PassState.{PassState}
 use Rattle.rc_core.specs.State.{hold, held_in, shares_of, stripes_in, writes_of}
 use Rattle.rc_core.specs.Passes.{rows_of_hold}
 use Rattle.rc_core.specs.ListLaws.{in_stripes_in, stripes_have}
@@ -21,10 +24,15 @@ use Rattle.atomic_table.specs.Table.{rest}
 use Rattle.rc_row.specs.declared.law.View.{View}
 use Rattle.rc_row.specs.declared.pass.Pass.TheInside.{Inside}
 use Rattle.rc_row.specs.HeldRows.{HeldRows}
-use Rattle.rc_row.specs.Law.{Slot, kept_of, slot_place, standing_of}
-use Rattle.rc_row.specs.PassInside.{IsWholePass, hands, pass_seen}
+use Rattle.rc_row.specs.declared.law.Key.{Key}
+use Rattle.rc_row.specs.declared.slot.Slot.TheVariants.{Empty}
+use Rattle.rc_row.specs.Law.{IsOwn, Slot, kept_of, own_place, slot_place, spec_by, standing_of}
+use Rattle.rc_row.specs.Own.{hand_out, hands_out, own_hands, pointer_in, turned_times}
+use Rattle.rc_row.specs.PassInside.{IsWholePass, pass_seen}
 use Rattle.rc_row.specs.Passes.{OfHeld, PassSeen, core_of, held_without, holds_taken}
-use Rattle.rc_row.specs.Turns.{IsHeldAt, turned_by_count}
+use Rattle.rc_row.specs.Told.{MayLeave}
+use Rattle.rc_row.specs.Turns.{IsHeldAt}
+use Rattle.rc_row.proofs.OwnLemmas.{behind_owns}
 use Rattle.rc_row.proofs.TurnLemmas.{place_inside, read_here, turned_first}
 use Rattle.rc_row.proofs.ChangeLemmas.{gone_here, not_after, removed_here}
 use Rattle.rc_row.proofs.WholeLemmas.{rising_there, taken_seen}
@@ -87,11 +95,48 @@ module _ (a : Inside) (whole : IsWholePass a) (seen : PassSeen) (is : pass_seen 
       ap kept_rows same ∙ kept_here a.held.items p at h spec (subst (All (λ (x : HeldRows). x.fragment.table ≡ edge_table spec)) items shapes) (subst (λ (hs : List HeldRows). OfHeld hs p IsAtRest) items rest)
       ∙ ap (λ (hs : List Hold). kept_of spec (rows_of_hold hs p)) (whole.agrees.taken ∙ ap (λ (w : View). (standing_of w).core.held) (sym e))
 
-  -- turned by those above it, its slot is in front
-  pub front_here : In p (writes_of (core_of seen)) → (above : ℕ) → above ≡ length (hands (drop (suc at) a.held.items)) → (slots : List (ℕ × Slot)) → slots ≡ turned_by_count above a.seat.me.1
-      → slots ≡ (slot_place p, None) ∷ hands h.before ++ hands h.after
-  front_here m above above_is slots e = e ∙ turned_first a.held.items p at h (writes_here m) above a.seat.me.1 above_is whole.agrees.hands_are
+  -- a reader's pointer has the rows that the core has
+  pub lent_here : (spec : Spec) (f : FragmentRows) (v : View) (keep : KeptRows) → f ≡ h.here.fragment → f ≡ at_rest keep → All (λ (x : HeldRows). x.fragment.table ≡ edge_table spec) seen.held → v ≡ a.seat.me.0
+      → keep ≡ kept_of spec (rows_of_hold (standing_of v).core.held p)
+  lent_here spec f v keep same lent shapes e =
+      let items = sym (ap (λ (s : PassSeen). s.held) is) in
+      let here : h.here.fragment ≡ at_rest keep = sym same ∙ lent in
+      let shape = each_here a.held.items p at h (λ (x : HeldRows). x.fragment.table ≡ edge_table spec) (subst (All (λ (x : HeldRows). x.fragment.table ≡ edge_table spec)) items shapes) in
+      (λ i. record {
+        table = (sym (ap (λ (g : FragmentRows). g.table) here) ∙ shape) i;
+        rows = (sym (ap (λ (g : FragmentRows). g.taken) here) ∙ sym (rows_here a.held.items p at h)) i;
+      })
+      ∙ ap (λ (hs : List Hold). kept_of spec (rows_of_hold hs p)) (whole.agrees.taken ∙ ap (λ (w : View). (standing_of w).core.held) (sym e))
+
+  -- turned by those above it, what the stripe has out is in front: of n passes, whose slots the pass has out
+  module _ (n : ℕ) (out : a.seat.me.1 ≡ hands_out n a.number a.held.items) (above : ℕ) (count : above ≡ length (hands_out n a.number (drop (suc at) a.held.items))) (slots : List (ℕ × Slot))
+      (turned : slots ≡ turned_times above a.seat.me.1) where
+    abbrev others : List (ℕ × Slot)
+    others = hands_out n a.number h.before ++ hands_out n a.number h.after
+
+    front_here : slots ≡ hand_out n a.number h.here.mode p ++ (hands_out n a.number h.before ++ hands_out n a.number h.after)
+    front_here = turned ∙ turned_first a.held.items p at h n a.number above a.seat.me.1 count out
+
+    pub front_written : In p (writes_of (core_of seen)) → slots ≡ (slot_place p, Empty) ∷ own_hands n p (λ j. Empty) ++ (hands_out n a.number h.before ++ hands_out n a.number h.after)
+    front_written m = front_here ∙ ap (λ (mode : Mode). hand_out n a.number mode p ++ others) (writes_here m)
+
+    pub front_shared : In p (shares_of (core_of seen)) → slots ≡ (own_place a.number p, Empty) ∷ (hands_out n a.number h.before ++ hands_out n a.number h.after)
+    front_shared m = front_here ∙ ap (λ (mode : Mode). hand_out n a.number mode p ++ others) (shares_here m)
+
+-- a pass leaves a stripe of which it lacks no pointer
+pub may_leave : (key : Key) (u : PassState) (p : ℕ) (own : Slot) (slots : List (ℕ × Slot)) → slots ≡ (own_place u.number p, own) ∷ rest slots → IsOwn (spec_by key) true (rows_of_hold u.held p) own → MayLeave key u p None slots
+may_leave key u p own slots front is_own = record { only = λ q apart. refl; own = own; front = front; is_own = is_own }
+
+-- a pointer to these rows, or nothing, may lie in an own slot
+pub own_of : (spec : Spec) (rows : List EdgeRow) (f : FragmentRows) (pointer : Option KeptRows) → ((keep : KeptRows) → f ≡ at_rest keep → keep ≡ kept_of spec rows) → IfSome pointer (λ keep. f ≡ at_rest keep)
+    → IsOwn spec true rows (pointer_in pointer)
+own_of spec rows f None lent is = tt
+own_of spec rows f (Some keep) lent is = (refl, lent keep is)
 
 -- what lies in front, and the rest
 pub front_of : (slots more : List (ℕ × Slot)) (x : ℕ × Slot) → slots ≡ x ∷ more → slots ≡ x ∷ rest slots
 front_of slots more x e = e ∙ ap (λ (xs : List (ℕ × Slot)). x ∷ xs) (sym (ap rest e))
+
+-- what lies behind a stripe's slot and the own slots there
+pub behind_front : (n p : ℕ) (x : Slot) (slots more : List (ℕ × Slot)) → slots ≡ (slot_place p, x) ∷ own_hands n p (λ j. Empty) ++ more → slots ≡ (slot_place p, x) ∷ own_hands n p (λ j. Empty) ++ drop (suc n) slots
+behind_front n p x slots more e = e ∙ ap (λ (xs : List (ℕ × Slot)). (slot_place p, x) ∷ own_hands n p (λ j. Empty) ++ xs) (sym (ap (drop (suc n)) e ∙ behind_owns n p (λ j. Empty) more))

@@ -9,6 +9,10 @@ pub mod SeatLemmas
 pub mod SeatStepLemmas
 pub mod OpeningLemmas
 pub mod ClosingLemmas
+pub mod OwnLemmas
+pub mod OwnRuleLemmas
+pub mod OwnHandsLemmas
+pub mod AloneLemmas
 pub mod TurnLemmas
 pub mod AgreeLemmas
 pub mod ChangeLemmas

@@ -1,5 +1,5 @@
 -- One pass changes, at its own seat, and the rule is kept.
-use Rattle.std.proofs.Common.{◌≡◌, ◌≢◌, ℕ, suc, ◌<◌, ◌≤◌, ◌==◌, ◌||◌, true, false, List, [], ◌∷◌, ◌++◌, length, set, Option, Some, None, sym, ap, ◌∙◌, refl, subst, inl, inr, arith, length-set, length-append}
+use Rattle.std.proofs.Common.{◌≡◌, ◌≢◌, ℕ, suc, ◌<◌, ◌≤◌, ◌==◌, ◌||◌, Bool, true, false, List, [], ◌∷◌, ◌++◌, length, set, Option, Some, None, sym, ap, ◌∙◌, refl, subst, inl, inr, arith, length-set, length-append}
 use Rattle.std.specs.Prelude.{slice_index, slice_index_or}
 use Rattle.std.specs.List.{slice_get}
 use Rattle.std.proofs.lemmas.Bool.{cases_eq}
@@ -23,7 +23,7 @@ use Rattle.rc_row.specs.declared.law.Key.{Key}
 use Rattle.rc_row.specs.declared.law.Refusal.{Refusal}
 use Rattle.rc_row.specs.declared.law.Standing.{Standing}
 use Rattle.rc_row.specs.declared.law.View.{View}
-use Rattle.rc_row.specs.Law.{Slot, compiled_by, spec_by, stripes_by, stripe_word, latch_word, word_of, view_of, at_first_by, AreKnown, AreSeatedAt, AreTold, HasLatch, HaveLatch, IsTold, IsTrueView, has_pass, HasSeat, HomesAre, IsKept}
+use Rattle.rc_row.specs.Law.{Slot, compiled_by, spec_by, stripes_by, stripe_word, latch_word, word_of, view_of, at_first_by, AreKnown, AreSeatedAt, AreTold, HasHanded, HasLatch, HaveHanded, HaveLatch, IsTold, IsTrueView, has_pass, HasSeat, HomesAre, IsKept, OwnsAre}
 use Rattle.rc_row.specs.Run.{RowStep, CanStep, after_step, last_of, pass_of, refusal_of, refusal_where, refusals_in, row_state}
 use Rattle.rc_row.specs.RunLaws.{can_go_on, goes_on, others_refusals, own_refusals, refusals_last, refusals_length, refusals_of, state_of}
 use Rattle.rc_row.proofs.ListLemmas.{set_there}
@@ -50,6 +50,15 @@ others_latched passes seat id other k latches now latch [] is apart same f a = t
 others_latched passes seat id other k latches now latch (s ∷ more) is apart same f a = (
   record { at = λ p. a.0.at p ∙ sym (same s.core.number p (λ e. apart (sym f.0.1 ∙ ap seat e ∙ is))); shares = a.0.shares; idle = a.0.idle },
   others_latched passes seat id other k latches now latch more is apart same f.1 a.1,
+)
+
+-- and what they share, where this is handed out
+others_handed : (passes : List PassState) (seat : ℕ → ℕ) (id other k : ℕ) (handed now : List Bool) (entering : Option ℕ) (more : List Standing) → seat k ≡ id → other ≢ id
+    → ((j : ℕ) (u : PassState) (e : Option ℕ) → j ≢ k → slice_get passes j ≡ Some u → HasHanded handed e u → HasHanded now e u) → AreSeatedAt passes seat other more → HaveHanded handed entering more → HaveHanded now entering more
+others_handed passes seat id other k handed now entering [] is apart same f a = tt
+others_handed passes seat id other k handed now entering (s ∷ more) is apart same f a = (
+  same s.core.number s.core entering (λ e. apart (sym f.0.1 ∙ ap seat e ∙ is)) f.0.0 a.0,
+  others_handed passes seat id other k handed now entering more is apart same f.1 a.1,
 )
 
 -- and what they were told of, where the history goes on and only the pass k makes the step
@@ -92,9 +101,9 @@ with_passes c passes = record c { passes = passes }
 abbrev pub Home? : Type 0
 Home? = mathlib.Core.Option.Option Slot
 
-module _ (key : Key) (s : State Slot View) (kept : IsKept key s) (id : ℕ) (a : Standing) (l : Option ℕ) (at : get_elem? s.views id ≡ some (view_of a l)) where
-  pub its_view : IsTrueView (state_of key s kept) (refusals_of key s kept) kept.seat id (view_of a l)
-  its_view = kept.views id (view_of a l) at
+module _ (key : Key) (s : State Slot View) (kept : IsKept key s) (id : ℕ) (a : Standing) (l f : Option ℕ) (at : get_elem? s.views id ≡ some (view_of a l f)) where
+  pub its_view : IsTrueView (state_of key s kept) (refusals_of key s kept) kept.seat id (view_of a l f)
+  its_view = kept.views id (view_of a l f) at
 
   -- the pass of the seat is the core's
   pub its_pass : slice_get kept.core.passes a.core.number ≡ Some a.core
@@ -117,20 +126,20 @@ module _ (key : Key) (s : State Slot View) (kept : IsKept key s) (id : ℕ) (a :
   still_core = ap (with_passes kept.core) (sym (set-get_or kept.core.passes a.core.number no_pass) ∙ ap (set kept.core.passes a.core.number) its_core)
 
   -- each pass has its seat as before
-  still_seated : (v : View) → ((k : ℕ) → has_pass (view_of a l).passes k ≡ true → has_pass v.passes k ≡ true) → (k : ℕ) → HasSeat s.views kept.seat k → HasSeat (set s.views id v) kept.seat k
+  still_seated : (v : View) → ((k : ℕ) → has_pass (view_of a l f).passes k ≡ true → has_pass v.passes k ≡ true) → (k : ℕ) → HasSeat s.views kept.seat k → HasSeat (set s.views id v) kept.seat k
   still_seated v more k x = elim (cases_eq (kept.seat k) id) [
     | inl e ↦
-        (let is : x.view ≡ view_of a l = some-injective x.view (view_of a l) (sym x.at ∙ ap (get_elem? s.views) e ∙ at) in
+        (let is : x.view ≡ view_of a l f = some-injective x.view (view_of a l f) (sym x.at ∙ ap (get_elem? s.views) e ∙ at) in
         record {
           view = v;
-          at = ap (get_elem? (set s.views id v)) e ∙ set_there s.views id v (view_of a l) at;
+          at = ap (get_elem? (set s.views id v)) e ∙ set_there s.views id v (view_of a l f) at;
           has = more k (ap (λ (y : View). has_pass y.passes k) (sym is) ∙ x.has);
         })
     | inr apart ↦ record { view = x.view; at = set_else s.views id (kept.seat k) v apart ∙ x.at; has = x.has }
   ]
 
   -- one pass makes a step, by which it changes, with its latch
-  pub moved : (b : Standing) (m : Option ℕ) → b.core.number ≡ a.core.number
+  pub moved : (b : Standing) (m g : Option ℕ) → b.core.number ≡ a.core.number
       → (x : RowStep) → CanStep (compiled_by key) (state_of key s kept) x → pass_of x ≡ a.core.number → Refuses (refusal_of (state_of key s kept) x) a b
       → (history : List Entry) (stripes : List StripeState) (latches : List ℕ)
       → after_step (compiled_by key) (state_of key s kept) x ≡ row_state (with_pass kept.core history stripes a.core.number b.core) latches
@@ -140,9 +149,11 @@ module _ (key : Key) (s : State Slot View) (kept : IsKept key s) (id : ℕ) (a :
       → (words : List ℕ) (homes : List Home?) → length words ≡ length s.words → slice_index words 0 ≡ length history
       → ((p : ℕ) → p < stripes_by key → slice_index words (stripe_word p) ≡ word_of (stripe_at stripes p))
       → ((p : ℕ) → p < stripes_by key → slice_index words (latch_word (stripes_by key) p) ≡ slice_index latches p)
-      → length homes ≡ length s.homes → HomesAre (spec_by key) stripes latches homes
-      → IsKept key (record { words = words; homes = homes; views = set s.views id (view_of b m) })
-  moved b m number x can mine refuses history stripes latches leads grows known many named its others words homes wide commit stripe_words latch_words width right = record {
+      → length homes ≡ length s.homes → (handed : List Bool) → length handed ≡ length kept.handed → HomesAre (spec_by key) stripes latches handed homes
+      → OwnsAre (spec_by key) (with_pass kept.core history stripes a.core.number b.core) handed homes → HasHanded handed g b.core
+      → ((j : ℕ) (u : PassState) (entering : Option ℕ) → j ≢ a.core.number → slice_get kept.core.passes j ≡ Some u → HasHanded kept.handed entering u → HasHanded handed entering u)
+      → IsKept key (record { words = words; homes = homes; views = set s.views id (view_of b m g) })
+  moved b m g number x can mine refuses history stripes latches leads grows known many named its others words homes wide commit stripe_words latch_words width handed count right owned shared readers = record {
     compiled = kept.compiled;
     some_pass = kept.some_pass;
     few_passes = kept.few_passes;
@@ -152,6 +163,11 @@ module _ (key : Key) (s : State Slot View) (kept : IsKept key s) (id : ℕ) (a :
     latches = latches;
     reached = goes_on key s kept x ∙ leads;
     seat = kept.seat;
+    handed = handed;
+    readers = λ j v e. elim (at_set s.views id j (view_of b m g) v e) [
+      | inl t ↦ subst (λ (w : View). HaveHanded handed w.entering w.passes) t.1 (shared, tt)
+      | inr t ↦ others_handed kept.core.passes kept.seat id j a.core.number kept.handed handed v.entering v.passes its_view.passes.0.1 t.0 readers (kept.views j v t.1).passes (kept.readers j v t.1)
+    ];
     shows = record {
       wide = wide ∙ kept.shows.wide;
       commit = commit;
@@ -161,10 +177,12 @@ module _ (key : Key) (s : State Slot View) (kept : IsKept key s) (id : ℕ) (a :
       slots = width ∙ kept.shows.slots;
       passes = length-set kept.core.passes a.core.number b.core ∙ kept.shows.passes;
       homes = right;
+      handed_count = count ∙ kept.shows.handed_count;
+      owns = owned;
     };
     named = λ p. (let n = length-set kept.core.passes a.core.number b.core in let x = named p in omega arith);
-    seated = λ k lt. still_seated (view_of b m) (λ j has. ap (λ n. (n == j) || false) number ∙ has) k (kept.seated k (let n = length-set kept.core.passes a.core.number b.core in omega arith));
-    views = λ j v e. elim (at_set s.views id j (view_of b m) v e) [
+    seated = λ k lt. still_seated (view_of b m g) (λ j has. ap (λ n. (n == j) || false) number ∙ has) k (kept.seated k (let n = length-set kept.core.passes a.core.number b.core in omega arith));
+    views = λ j v e. elim (at_set s.views id j (view_of b m g) v e) [
       | inl t ↦ subst (λ (z : ℕ × View). IsTrueView (row_state (with_pass kept.core history stripes a.core.number b.core) latches) later kept.seat z.0 z.1) (λ i. (sym t.0 i, t.1 i)) own
       | inr t ↦ (let f = kept.views j v t.1 in record {
         passes = others_seated kept.core.passes kept.seat id j a.core.number b.core v.passes its_view.passes.0.1 t.0 f.passes;
@@ -181,7 +199,7 @@ module _ (key : Key) (s : State Slot View) (kept : IsKept key s) (id : ℕ) (a :
       later : ℕ → List Refusal
       later = refusals_in (compiled_by key) (at_first_by key) (kept.run ++ x ∷ [])
 
-      own : IsTrueView (row_state (with_pass kept.core history stripes a.core.number b.core) latches) later kept.seat id (view_of b m)
+      own : IsTrueView (row_state (with_pass kept.core history stripes a.core.number b.core) latches) later kept.seat id (view_of b m g)
       own = record {
         passes = ((subst (λ n. slice_get (set kept.core.passes a.core.number b.core) n ≡ Some b.core) (sym number) (get_set_same kept.core.passes a.core.number b.core a.core its_pass), ap kept.seat number ∙ its_view.passes.0.1), tt);
         rising = ((λ y m. absurd m), tt);

@@ -1,5 +1,5 @@
 -- Splitting and joining seats keep the rule.
-use Rattle.std.proofs.Common.{◌≡◌, ◌≢◌, ℕ, zero, suc, ◌<◌, ◌≤◌, ◌==◌, ◌||◌, ◌⊎◌, false, List, [], ◌∷◌, ◌++◌, length, set, Some, None, if◌then◌else◌, sym, refl, ap, ◌∙◌, subst, inl, inr, arith}
+use Rattle.std.proofs.Common.{◌≡◌, ◌≢◌, ℕ, zero, suc, ◌<◌, ◌≤◌, ◌==◌, ◌||◌, ◌⊎◌, Bool, false, List, [], ◌∷◌, ◌++◌, length, set, Some, None, if◌then◌else◌, sym, refl, ap, ◌∙◌, subst, inl, inr, arith}
 use Rattle.std.specs.List.{slice_get}
 use Rattle.std.specs.Ordering.{nat_cmp}
 use Rattle.std.specs.declared.cmp.Ordering.TheVariants.{Less}
@@ -25,7 +25,7 @@ use Rattle.rc_row.specs.declared.law.Key.{Key}
 use Rattle.rc_row.specs.declared.law.Refusal.{Refusal}
 use Rattle.rc_row.specs.declared.law.Standing.{Standing}
 use Rattle.rc_row.specs.declared.law.View.{View}
-use Rattle.rc_row.specs.Law.{Slot, pass_view, note_view, passes_view, numbers_in, AreKnown, AreSeatedAt, AreTold, HasLatch, HaveLatch, IsTold, IsTrueView, has_pass, HasSeat, IsKept}
+use Rattle.rc_row.specs.Law.{Slot, pass_view, note_view, passes_view, numbers_in, AreKnown, AreSeatedAt, AreTold, HasHanded, HasLatch, HaveHanded, HaveLatch, IsTold, IsTrueView, has_pass, HasSeat, IsKept}
 use Rattle.rc_row.specs.Run.{RowState, OfCore, row_state}
 use Rattle.rc_row.specs.RunLaws.{good_of, refusals_of, state_of}
 use Rattle.rc_row.specs.Standings.{after_learn}
@@ -50,8 +50,9 @@ less_to k y lt = sym (nat_cmp_is k y Less lt)
 reseated : (key : Key) (s : State Slot View) (kept : IsKept key s) (seat : ℕ → ℕ) (views : List View)
     → ((k : ℕ) → HasSeat s.views kept.seat k → HasSeat views seat k)
     → ((j : ℕ) (v : View) → get_elem? views j ≡ some v → IsTrueView (state_of key s kept) (refusals_of key s kept) seat j v)
+    → ((j : ℕ) (v : View) → get_elem? views j ≡ some v → HaveHanded kept.handed v.entering v.passes)
     → IsKept key (record { words = s.words; homes = s.homes; views = views })
-reseated key s kept seat views still true_views = record {
+reseated key s kept seat views still true_views readers = record {
   compiled = kept.compiled;
   some_pass = kept.some_pass;
   few_passes = kept.few_passes;
@@ -61,7 +62,9 @@ reseated key s kept seat views still true_views = record {
   latches = kept.latches;
   reached = kept.reached;
   seat = seat;
-  shows = record { wide = kept.shows.wide; commit = kept.shows.commit; words = kept.shows.words; latch_words = kept.shows.latch_words; latch_count = kept.shows.latch_count; slots = kept.shows.slots; passes = kept.shows.passes; homes = kept.shows.homes };
+  shows = record { wide = kept.shows.wide; commit = kept.shows.commit; words = kept.shows.words; latch_words = kept.shows.latch_words; latch_count = kept.shows.latch_count; slots = kept.shows.slots; passes = kept.shows.passes; homes = kept.shows.homes; handed_count = kept.shows.handed_count; owns = kept.shows.owns };
+  handed = kept.handed;
+  readers = readers;
   named = kept.named;
   seated = λ k lt. still k (kept.seated k lt);
   views = true_views;
@@ -82,7 +85,11 @@ notes key id a s kept at =
     (λ j v e. elim (at_end (set s.views id (pass_view a)) (note_view a.core.seen a.known) v j e) [
       | inl was ↦ kept.views j v (subst (λ (l : List View). get_elem? l j ≡ some v) (set_again s.views id (pass_view a) at) was)
       | inr t ↦ subst (IsTrueView (state_of key s kept) (refusals_of key s kept) kept.seat j) t.1
-          (true_note (state_of key s kept) (refusals_of key s kept) kept.seat j a.core.seen a.known ((good_of key s kept).passes a.core.number a.core (its_pass key s kept id a None at)).seen (its_known key s kept id a None at))
+          (true_note (state_of key s kept) (refusals_of key s kept) kept.seat j a.core.seen a.known ((good_of key s kept).passes a.core.number a.core (its_pass key s kept id a None None at)).seen (its_known key s kept id a None None at))
+    ])
+    (λ j v e. elim (at_end (set s.views id (pass_view a)) (note_view a.core.seen a.known) v j e) [
+      | inl was ↦ kept.readers j v (subst (λ (l : List View). get_elem? l j ≡ some v) (set_again s.views id (pass_view a) at) was)
+      | inr t ↦ subst (λ (w : View). HaveHanded kept.handed w.entering w.passes) t.1 tt
     ])
 
 -- ---- a pass moves to another seat
@@ -158,6 +165,13 @@ deals key id a more s kept at =
       | inr t ↦ subst (λ (z : ℕ × View). IsTrueView (state_of key s kept) (refusals_of key s kept) now z.0 z.1) (λ i. (sym t.0 i, t.1 i))
           (record { passes = ((mine.passes.0.0, seat_here kept.seat a.core.number new), tt); rising = ((λ y m. absurd m), tt); latch = (mine.latch.0, tt); histories = (mine.histories.0, tt); told = omega arith; known = none_known kept.core.history })
     ])
+    (λ j v e. elim (at_end (set s.views id (passes_view more)) (pass_view a) v j e) [
+      | inl was ↦ elim (at_set s.views id j (passes_view more) v was) [
+        | inl t ↦ subst (λ (w : View). HaveHanded kept.handed w.entering w.passes) t.1 (kept.readers id (passes_view (a ∷ more)) at).1
+        | inr t ↦ kept.readers j v t.1
+      ]
+      | inr t ↦ subst (λ (w : View). HaveHanded kept.handed w.entering w.passes) t.1 ((kept.readers id (passes_view (a ∷ more)) at).0, tt)
+    ])
 
 -- ---- a seat is joined away
 
@@ -175,6 +189,10 @@ spends key s kept other n known note =
       | inl t ↦ subst (IsTrueView (state_of key s kept) (refusals_of key s kept) kept.seat j) t.1 (true_note (state_of key s kept) (refusals_of key s kept) kept.seat j 0 [] (omega arith) (none_known kept.core.history))
       | inr t ↦ kept.views j v t.1
     ])
+    (λ j v e. elim (at_set s.views other j spent v e) [
+      | inl t ↦ subst (λ (w : View). HaveHanded kept.handed w.entering w.passes) t.1 tt
+      | inr t ↦ kept.readers j v t.1
+    ])
 
 -- a pass learns a note
 pub learns : (key : Key) (id other : ℕ) (a : Standing) (n : ℕ) (known : List (List Entry))
@@ -184,10 +202,10 @@ learns key id other a n known s kept at apart there =
     let note : get_elem? s.views other ≡ some (note_view n known) = sym (set_else s.views id other (pass_view b) apart) ∙ there in
     let its : IsTrueView (state_of key s kept) (refusals_of key s kept) kept.seat other (note_view n known) = kept.views other (note_view n known) note in
     spends key (record { words = s.words; homes = s.homes; views = set s.views id (pass_view b) })
-    (moved_alone key s kept id a at b refl
-    (All-append (λ (earlier : List Entry). IsPrefix earlier kept.core.history) a.known known (its_known key s kept id a None at) its.known)
-    (OfCore (event.Learn a.core.number n)) (its_place key s kept id a None at, its.told) refl (refl, refl)
-    (ap (λ (u : PassState). row_state (with_pass kept.core kept.core.history kept.core.stripes a.core.number (learned u n)) kept.latches) (its_core key s kept id a None at)))
+    (moved_alone key s kept id a None at b refl refl
+    (All-append (λ (earlier : List Entry). IsPrefix earlier kept.core.history) a.known known (its_known key s kept id a None None at) its.known)
+    (OfCore (event.Learn a.core.number n)) (its_place key s kept id a None None at, its.told) refl (refl, refl)
+    (ap (λ (u : PassState). row_state (with_pass kept.core kept.core.history kept.core.stripes a.core.number (learned u n)) kept.latches) (its_core key s kept id a None None at)))
     other n known there
 
 seated_end : (passes : List PassState) (seat : ℕ → ℕ) (id : ℕ) (more : List Standing) (b : Standing) → AreSeatedAt passes seat id more → slice_get passes b.core.number ≡ Some b.core → seat b.core.number ≡ id → AreSeatedAt passes seat id (more ++ b ∷ [])
@@ -197,6 +215,10 @@ seated_end passes seat id (x ∷ more) b f at is = (f.0, seated_end passes seat 
 latch_end : (latches : List ℕ) (more : List Standing) (b : Standing) → HaveLatch latches None more → HasLatch latches None b.core → HaveLatch latches None (more ++ b ∷ [])
 latch_end latches [] b f its = (its, tt)
 latch_end latches (x ∷ more) b f its = (f.0, latch_end latches more b f.1 its)
+
+handed_end : (handed : List Bool) (more : List Standing) (b : Standing) → HaveHanded handed None more → HasHanded handed None b.core → HaveHanded handed None (more ++ b ∷ [])
+handed_end handed [] b f its = (its, tt)
+handed_end handed (x ∷ more) b f its = (f.0, handed_end handed more b f.1 its)
 
 told_end : (history : List Entry) (refusals : ℕ → List Refusal) (more : List Standing) (b : Standing) → AreTold history refusals more → IsTold history (refusals b.core.number) b → AreTold history refusals (more ++ b ∷ [])
 told_end history refusals [] b f its = (its, tt)
@@ -255,6 +277,13 @@ gathers key id other more b below s kept at apart there =
               known = none_known kept.core.history;
             })
         | inr q ↦ others_stay (state_of key s kept) (refusals_of key s kept) kept.seat b.core.number id j other v theirs.passes.0.1 t.0 (kept.views j v q.1)
+      ]
+    ])
+    (λ j v e. elim (at_set (set s.views id all) other j spent v e) [
+      | inl t ↦ subst (λ (w : View). HaveHanded kept.handed w.entering w.passes) t.1 tt
+      | inr t ↦ elim (at_set s.views id j all v t.1) [
+        | inl q ↦ subst (λ (w : View). HaveHanded kept.handed w.entering w.passes) q.1 (handed_end kept.handed more b (kept.readers id (passes_view more) at) (kept.readers other (pass_view b) there_was).0)
+        | inr q ↦ kept.readers j v q.1
       ]
     ])
   where

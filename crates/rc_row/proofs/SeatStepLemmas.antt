@@ -1,5 +1,5 @@
 -- What a row's steps require of its table, at a seat that is known to be a pass's.
-use Rattle.std.proofs.Common.{◌≡◌, ℕ, suc, ◌+◌, ◌-◌, ◌%◌, ◌^◌, ◌<◌, ◌==◌, [], ◌∷◌, Option, Some, None, sym, ap, ◌∙◌, subst, arith}
+use Rattle.std.proofs.Common.{◌≡◌, ℕ, suc, ◌+◌, ◌-◌, ◌%◌, ◌^◌, ◌<◌, ◌==◌, List, [], ◌∷◌, ◌++◌, drop, Option, Some, None, sym, ap, ◌∙◌, subst, arith}
 use mathlib.Core.Option.{none}
 use prog.Atomic.{either}
 use Rattle.rc_tuple.specs.RisingSet.{In}
@@ -11,11 +11,13 @@ use Rattle.atomic_table.specs.Table.{Me, Step, step, Allows, Splits, Joins, rest
 use Rattle.rc_row.specs.declared.law.Key.{Key}
 use Rattle.rc_row.specs.declared.law.View.{View}
 use Rattle.rc_row.specs.declared.row.Row.TheInside.{Inside}
+use Rattle.rc_row.specs.declared.slot.Slot.TheVariants.{Apart, Empty, Handed}
+use Rattle.rc_row.specs.Own.{own_hands}
 use Rattle.rc_row.specs.Law.{slot_place, Slot, kept_of, stripes_by, stripe_word, latch_word, view_of, pass_view, note_view, passes_view, numbers_in, standing_of, IsKept}
 use Rattle.rc_row.specs.Passes.{RowSeen, compiled_of, spec_of, stripes_of}
 use Rattle.rc_row.specs.RowInside.{IsWholeRow, row_seen}
 use Rattle.rc_row.specs.Seats.{undealt, dealt, noted, informed, gathered, spent}
-use Rattle.rc_row.specs.Told.{ToldAtLock, ToldAtUnlock, ToldAtEnter, ToldAtBack, ToldAtLeave, ToldAtLatch, ToldAtUnlatch, ToldAtCommit, ToldAtLook}
+use Rattle.rc_row.specs.Told.{MayLeave, ToldAtLock, ToldAtUnlock, ToldAtEnter, ToldAtBack, ToldAtLeave, ToldAtLatch, ToldAtUnlatch, ToldAtCommit, ToldAtLook}
 use Rattle.rc_row.proofs.LockLemmas.{locks, unlocks}
 use Rattle.rc_row.proofs.ReaderLemmas.{enters, backs, leaves}
 use Rattle.rc_row.proofs.LatchLemmas.{latches, unlatches}
@@ -70,11 +72,6 @@ module _ (a : Inside) (row : RowSeen) (is : row_seen a ≡ row) (whole : IsWhole
   latch_is_there p w lt word = let b = below p lt in let many = whole.words in omega arith
 
   module _ (id : ℕ) (me : Me Slot View) (table : TableId) (same : table ≡ row.table) where
-    -- the fragment in the slot that was taken last, in the terms of the table's key
-    its_slot : (p : ℕ) → me.1 ≡ (slot_place p, Some (kept_of (spec_of row) (rows_of_hold (standing_of me.0).core.held p))) ∷ rest me.1
-        → me.1 ≡ (slot_place p, Some (kept_of (spec_of (row_seen a)) (rows_of_hold (standing_of me.0).core.held p))) ∷ rest me.1
-    its_slot p slot = subst (λ (r : RowSeen). me.1 ≡ (slot_place p, Some (kept_of (spec_of r) (rows_of_hold (standing_of me.0).core.held p))) ∷ rest me.1) (sym is) slot
-
     pub locks_at : (p w new : ℕ) (told : Option Key) → p < stripes_of row → w ≡ stripe_word p → told ≡ Some row.key → me.0 ≡ pass_view (standing_of me.0) → IsHigh (standing_of me.0).core p → new ≡ suc (standing_of me.0).core.number
         → Requires a table id me w (λ n. either (n == 0) new n) (ToldAtLock told (step_on a w 0 new) me)
     locks_at p w new told lt word known view high mark = (
@@ -84,14 +81,18 @@ module _ (a : Inside) (row : RowSeen) (is : row_seen a ≡ row) (whole : IsWhole
           (λ i. (sym word i, sym (its_key told known) i, (sym view i, me.1))) (locks a.table.shared.key a.table.shared.table_id.slots p id (standing_of me.0) me.1 new (below p lt) high mark),
     )
 
+    -- the slots of a pass that gives the stripe p back, which it wrote: the stripe's with the fragment, the own slots there, and the others
+    abbrev written : RowSeen → ℕ → List (ℕ × Slot)
+    written r p = (slot_place p, Apart (kept_of (spec_of r) (rows_of_hold (standing_of me.0).core.held p))) ∷ own_hands r.key.passes p (λ j. Empty) ++ drop (suc r.key.passes) me.1
+
     pub unlocks_at : (p w mark : ℕ) → p < stripes_of row → w ≡ stripe_word p → me.0 ≡ pass_view (standing_of me.0) → In p (writes_of (standing_of me.0).core) → mark ≡ suc (standing_of me.0).core.number
-        → me.1 ≡ (slot_place p, Some (kept_of (spec_of row) (rows_of_hold (standing_of me.0).core.held p))) ∷ rest me.1
-        → Requires a table id me w (λ n. (n + (2 ^ 64 - mark)) % 2 ^ 64) (ToldAtUnlock (step_on a w mark 0) me)
-    unlocks_at p w mark lt word view held marked slot = (
+        → me.1 ≡ written row p → Requires a table id me w (λ n. (n + (2 ^ 64 - mark)) % 2 ^ 64) (ToldAtUnlock (step_on a w mark 0) me)
+    unlocks_at p w mark lt word view held marked slots = (
       its_table table same,
       word_is_there p w lt word,
       subst (λ (t : ℕ × Me Slot View). Keeps a id t.1 t.0 (λ n. (n + (2 ^ 64 - mark)) % 2 ^ 64) (ToldAtUnlock (step_on a t.0 mark 0) t.1))
-          (λ i. (sym word i, (sym view i, sym (its_slot p slot) i))) (unlocks a.table.shared.key a.table.shared.table_id.slots p id (standing_of me.0) (rest me.1) mark (below p lt) held marked),
+          (λ i. (sym word i, (sym view i, sym (slots ∙ ap (λ (r : RowSeen). written r p) (sym is)) i)))
+          (unlocks a.table.shared.key a.table.shared.table_id.slots p id (standing_of me.0) (drop (suc a.table.shared.key.passes) me.1) mark (below p lt) held marked whole.slots),
     )
 
     pub enters_at : (p w : ℕ) (told : Option Key) → p < stripes_of row → w ≡ stripe_word p → told ≡ Some row.key → me.0 ≡ pass_view (standing_of me.0) → IsHigh (standing_of me.0).core p
@@ -112,16 +113,18 @@ module _ (a : Inside) (row : RowSeen) (is : row_seen a ≡ row) (whole : IsWhole
           (λ i. (sym word i, (sym view i, me.1))) (backs a.table.shared.key a.table.shared.table_id.slots p id (standing_of me.0) me.1 (below p lt) here),
     )
 
-    pub leaves_at : (p w : ℕ) → p < stripes_of row → w ≡ stripe_word p → me.0 ≡ pass_view (standing_of me.0) → In p (shares_of (standing_of me.0).core)
+    pub leaves_at : (p w : ℕ) (lacks : Option ℕ) → p < stripes_of row → w ≡ stripe_word p → me.0 ≡ view_of (standing_of me.0) None lacks → MayLeave row.key (standing_of me.0).core p lacks me.1 → In p (shares_of (standing_of me.0).core)
         → Requires a table id me w (λ n. (n + (2 ^ 64 - 65536)) % 2 ^ 64) (ToldAtLeave (step_on a w 65536 0) me)
-    leaves_at p w lt word view held = (
-      its_table table same,
-      word_is_there p w lt word,
-      subst (λ (t : ℕ × Me Slot View). Keeps a id t.1 t.0 (λ n. (n + (2 ^ 64 - 65536)) % 2 ^ 64) (ToldAtLeave (step_on a t.0 65536 0) t.1))
-          (λ i. (sym word i, (sym view i, me.1))) (leaves a.table.shared.key a.table.shared.table_id.slots p id (standing_of me.0) me.1 (below p lt) held),
-    )
+    leaves_at p w lacks lt word view may held =
+        let its : MayLeave a.table.shared.key (standing_of me.0).core p lacks me.1 = subst (λ (r : RowSeen). MayLeave r.key (standing_of me.0).core p lacks me.1) (sym is) may in (
+          its_table table same,
+          word_is_there p w lt word,
+          subst (λ (t : ℕ × Me Slot View). Keeps a id t.1 t.0 (λ n. (n + (2 ^ 64 - 65536)) % 2 ^ 64) (ToldAtLeave (step_on a t.0 65536 0) t.1))
+              (λ i. (sym word i, (sym view i, sym its.front i)))
+              (leaves a.table.shared.key a.table.shared.table_id.slots p id (standing_of me.0) lacks its.own (rest me.1) (below p lt) held its.only its.is_own),
+        )
 
-    pub latches_at : (p w new : ℕ) (told : Option Key) → p < stripes_of row → w ≡ latch_word (stripes_by a.table.shared.key) p → told ≡ Some row.key → me.0 ≡ pass_view (standing_of me.0) → In p (shares_of (standing_of me.0).core) → (standing_of me.0).core.wish ≡ None
+    pub latches_at : (p w new : ℕ) (told : Option Key) → p < stripes_of row → w ≡ latch_word (stripes_by a.table.shared.key) p → told ≡ Some row.key → me.0 ≡ view_of (standing_of me.0) None (Some p) → In p (shares_of (standing_of me.0).core) → (standing_of me.0).core.wish ≡ None
         → new ≡ suc (standing_of me.0).core.number
         → Requires a table id me w (λ n. either (n == 0) new n) (ToldAtLatch told (step_on a w 0 new) me)
     latches_at p w new told lt word known view held content mark = (
@@ -131,14 +134,17 @@ module _ (a : Inside) (row : RowSeen) (is : row_seen a ≡ row) (whole : IsWhole
           (λ i. (sym word i, sym (its_key told known) i, (sym view i, me.1))) (latches a.table.shared.key a.table.shared.table_id.slots p id (standing_of me.0) me.1 new (below p lt) held content mark),
     )
 
-    pub unlatches_at : (p w : ℕ) → p < stripes_of row → w ≡ latch_word (stripes_by a.table.shared.key) p → me.0 ≡ view_of (standing_of me.0) (Some p)
-        → me.1 ≡ (slot_place p, Some (kept_of (spec_of row) (rows_of_hold (standing_of me.0).core.held p))) ∷ rest me.1
+    -- the slots of a pass that frees the latch of the stripe p: the stripe's with the fragment, of which pointers are handed out, and the others
+    abbrev latched : RowSeen → ℕ → List (ℕ × Slot)
+    latched r p = (slot_place p, Handed (kept_of (spec_of r) (rows_of_hold (standing_of me.0).core.held p))) ∷ rest me.1
+
+    pub unlatches_at : (p w : ℕ) → p < stripes_of row → w ≡ latch_word (stripes_by a.table.shared.key) p → me.0 ≡ view_of (standing_of me.0) (Some p) (Some p) → me.1 ≡ latched row p
         → Requires a table id me w (λ n. 0) (ToldAtUnlatch (step_on a w 0 0) me)
-    unlatches_at p w lt word view slot = (
+    unlatches_at p w lt word view slots = (
       its_table table same,
       latch_is_there p w lt word,
       subst (λ (t : ℕ × Me Slot View). Keeps a id t.1 t.0 (λ n. 0) (ToldAtUnlatch (step_on a t.0 0 0) t.1))
-          (λ i. (sym word i, (sym view i, sym (its_slot p slot) i))) (unlatches a.table.shared.key a.table.shared.table_id.slots p id (standing_of me.0) (rest me.1) (below p lt)),
+          (λ i. (sym word i, (sym view i, sym (slots ∙ ap (λ (r : RowSeen). latched r p) (sym is)) i))) (unlatches a.table.shared.key a.table.shared.table_id.slots p id (standing_of me.0) (rest me.1) (below p lt)),
     )
 
     pub commits_at : (told : Option Key) (e : Entry) → told ≡ Some row.key → me.0 ≡ pass_view (standing_of me.0) → MayCommit (compiled_of row) (standing_of me.0).core e

@@ -27,10 +27,11 @@ use Rattle.rc_row.specs.declared.pass.Pass.TheInside.{Inside}
 use Rattle.rc_row.specs.HeldRows.{HeldRows}
 use Rattle.rc_row.specs.declared.law.View.{View}
 use Rattle.rc_row.specs.Law.{Slot, pass_view, standing_of}
-use Rattle.rc_row.specs.PassInside.{AreOwnKept, IsWholePass, hands, pass_seen}
+use Rattle.rc_row.specs.Own.{hands_out}
+use Rattle.rc_row.specs.PassInside.{AreOwnKept, IsWholePass, pass_seen}
 use Rattle.rc_row.specs.Passes.{HasAdded, IsPassOf, compiled_of, KeepsAs, PassSeen, RowSeen, all_with, core_of, holds_now, holds_taken, spec_of, stripes_of, with_commit, with_entry, with_fragment}
 use Rattle.rc_row.specs.Standings.{HaveOneRelation, IsAtHistory, after_entry}
-use Rattle.rc_row.specs.Told.{HasCommitted}
+use Rattle.rc_row.specs.Told.{HasCommitted, passes_in}
 use Rattle.rc_row.proofs.AgreeLemmas.{agrees_as}
 use Rattle.rc_row.proofs.ChangeLemmas.{hands-with}
 
@@ -76,13 +77,14 @@ module _ (compiled : SpecWithPlans) (before : List Entry) (e : Entry) (a b : Ins
       let own : (standing_of b.seat.me.0).core.own ≡ (standing_of a.seat.me.0).core.own ++ placed (length before) e ∷ [] = ap (λ (t : Standing). t.core.own) now in
       record {
         agrees = agrees_as b.number s b.seat.me b.held.items h.view (h.number ∙ whole.agrees.number_is) (let n = h.number in let l = whole.agrees.small in omega arith) whole.agrees.ahead
-            (h.slots ∙ whole.agrees.hands_are ∙ sym (hands-with (λ (x : HeldRows). settled x.fragment) a.held.items) ∙ ap hands (sym h.held))
             (ap holds_taken h.held ∙ taken-settled a.held.items ∙ ap (λ (t : PassSeen). holds_now t.held) is ∙ left ∙ ap (λ (t : PassSeen). (committed compiled (core_of t) 0 e).held) (sym is))
             (subst (IsRising nat_cmp) (sym (stripes-renewed compiled.spec (rows_then compiled (standing_of a.seat.me.0).core e.steps) (standing_of a.seat.me.0).core.held)) whole.agrees.rising);
+        hands_are = h.slots ∙ whole.hands_are ∙ sym (hands-with (λ (x : HeldRows). settled x.fragment) a.held.items (passes_in a.seat.table_id.slots) a.number)
+            ∙ (λ i. hands_out (passes_in (sym h.table i).slots) (sym h.number i) (sym h.held i));
         seen = h.seen ∙ add-one (length before) ∙ sym (ap (λ (t : Standing). t.core.seen) now);
         made = h.made ∙ ap (λ (n : ℕ). n + 1) whole.made ∙ sym (ap (λ (xs : List Placed). length xs) own ∙ length-append (standing_of a.seat.me.0).core.own (placed (length before) e ∷ []));
         entries = subst (λ (z : Option PartEntries × List Placed). AreOwnKept z.0 z.1) (λ i. (sym h.entries i, sym own i)) (own_kept a.entries (standing_of a.seat.me.0).core.own (placed (length before) e) whole.entries);
-        room = let r = whole.room in let c = h.room in let t = ap (λ (t : TableId). t.slots) h.table in omega arith;
+        room = let r = whole.room in let c = h.room in let t = ap (λ (t : TableId). t.words) h.table in omega arith;
       }
 
   pub seen_committed : pass_seen b ≡ with_commit compiled before e pass

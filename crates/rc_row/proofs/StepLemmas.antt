@@ -20,11 +20,14 @@ use Rattle.rc_row.specs.declared.law.Standing.{Standing}
 use Rattle.rc_row.specs.declared.pass.Pass.TheInside.{Inside}
 use Rattle.rc_row.specs.HeldRows.{HeldRows, just_held}
 use Rattle.rc_row.specs.Law.{kept_of, pass_view, standing_of}
-use Rattle.rc_row.specs.PassInside.{AreOwnKept, IsWholePass, hand_of, hands, pass_seen}
+use Rattle.rc_row.specs.PassInside.{AreOwnKept, IsWholePass, pass_seen}
+use Rattle.rc_row.specs.Own.{hand_out, hands_out}
+use Rattle.rc_row.specs.Told.{passes_in}
 use Rattle.rc_row.specs.Passes.{IsPassOf, PassSeen, RowSeen, held_without, holds_taken, spec_of, stripes_of, with_taken, without_stripe}
 use Rattle.rc_row.specs.Standings.{with_core}
 use Rattle.rc_row.proofs.AgreeLemmas.{agrees_as, agrees_taken}
 use Rattle.rc_row.proofs.ChangeLemmas.{taken-without}
+use Rattle.rc_row.proofs.OwnHandsLemmas.{hands_out-append}
 
 -- a pass keeps its number, what it has seen and its entries
 pub record KeepsOwn (a b : Inside) : Type 0 where
@@ -35,30 +38,33 @@ pub record KeepsOwn (a b : Inside) : Type 0 where
   pub table : b.seat.table_id ≡ a.seat.table_id
   pub room : vec_capacity b.held ≡ vec_capacity a.held
 
-module _ (a b : Inside) (whole : IsWholePass a) (keeps : KeepsOwn a b) where
+module _ (a b : Inside) (whole : IsWholePass a) (keeps : KeepsOwn a b) {n : ℕ} (many : passes_in a.seat.table_id.slots ≡ n) where
   -- the rest of a pass is whole where its own entries and what it has seen are as they were
   pub whole_as : (s : Standing) → b.seat.me.0 ≡ pass_view s → s.core.seen ≡ (standing_of a.seat.me.0).core.seen → s.core.own ≡ (standing_of a.seat.me.0).core.own
-      → s.core.number ≡ (standing_of a.seat.me.0).core.number → s.core.turning ≡ None → b.seat.me.1 ≡ hands b.held.items → holds_taken b.held.items ≡ s.core.held
+      → s.core.number ≡ (standing_of a.seat.me.0).core.number → s.core.turning ≡ None → b.seat.me.1 ≡ hands_out n a.number b.held.items → holds_taken b.held.items ≡ s.core.held
       → IsRising nat_cmp (stripes_in s.core.held) → IsWholePass b
   whole_as s view seen own number ahead slots taken rising =
       let is : standing_of b.seat.me.0 ≡ s = ap standing_of view in
+      let count : passes_in b.seat.table_id.slots ≡ n = ap (λ (t : TableId). passes_in t.slots) keeps.table ∙ many in
       let same_own : (standing_of b.seat.me.0).core.own ≡ (standing_of a.seat.me.0).core.own = ap (λ (t : Standing). t.core.own) is ∙ own in
       record {
-        agrees = agrees_as b.number s b.seat.me b.held.items view (keeps.number ∙ whole.agrees.number_is ∙ sym number) (let n = keeps.number in let l = whole.agrees.small in omega arith) ahead slots taken rising;
+        agrees = agrees_as b.number s b.seat.me b.held.items view (keeps.number ∙ whole.agrees.number_is ∙ sym number) (let m = keeps.number in let l = whole.agrees.small in omega arith) ahead taken rising;
+        hands_are = slots ∙ (λ i. hands_out (sym count i) (sym keeps.number i) b.held.items);
         seen = keeps.seen ∙ whole.seen ∙ sym seen ∙ sym (ap (λ (t : Standing). t.core.seen) is);
         made = keeps.made ∙ whole.made ∙ ap (λ (xs : List Placed). length xs) (sym same_own);
         entries = subst (λ (z : Option PartEntries × List Placed). AreOwnKept z.0 z.1) (λ i. (sym keeps.entries i, sym same_own i)) whole.entries;
-        room = let r = whole.room in let c = keeps.room in let t = ap (λ (t : TableId). t.slots) keeps.table in omega arith;
+        room = let r = whole.room in let c = keeps.room in let t = ap (λ (t : TableId). t.words) keeps.table in omega arith;
       }
 
   pub whole_taken : (spec : Spec) (mode : Mode) (p : ℕ) (rows : List EdgeRow) → IsAbove (standing_of a.seat.me.0).core p
-      → b.seat.me.0 ≡ pass_view (with_core (standing_of a.seat.me.0) (took mode (standing_of a.seat.me.0).core p rows)) → b.seat.me.1 ≡ hand_of mode p ++ a.seat.me.1
+      → b.seat.me.0 ≡ pass_view (with_core (standing_of a.seat.me.0) (took mode (standing_of a.seat.me.0).core p rows)) → b.seat.me.1 ≡ hand_out n a.number mode p ++ a.seat.me.1
       → b.held.items ≡ a.held.items ++ just_held p mode (kept_of spec rows) ∷ [] → IsWholePass b
   whole_taken spec mode p rows above view slots held =
-      let g = agrees_taken a.number a.seat.me a.held.items whole.agrees spec mode p rows b.seat.me above view slots in
+      let g = agrees_taken a.number a.seat.me a.held.items whole.agrees spec mode p rows b.seat.me above view in
       let is : standing_of b.seat.me.0 ≡ with_core (standing_of a.seat.me.0) (took mode (standing_of a.seat.me.0).core p rows) = ap standing_of view in
       whole_as (with_core (standing_of a.seat.me.0) (took mode (standing_of a.seat.me.0).core p rows)) view refl refl refl whole.agrees.ahead
-      (g.hands_are ∙ ap hands (sym held)) (ap holds_taken held ∙ g.taken ∙ ap (λ (t : Standing). t.core.held) is)
+      (slots ∙ (λ i. hand_out n a.number mode p ++ (whole.hands_are ∙ ap (λ (m : ℕ). hands_out m a.number a.held.items) many) i)
+      ∙ sym (hands_out-append n a.number a.held.items (just_held p mode (kept_of spec rows) ∷ [])) ∙ ap (hands_out n a.number) (sym held)) (ap holds_taken held ∙ g.taken ∙ ap (λ (t : Standing). t.core.held) is)
       (subst (λ (t : Standing). IsRising nat_cmp (stripes_in t.core.held)) is g.rising)
 
   pub seen_taken : (spec : Spec) (mode : Mode) (p : ℕ) (rows : List EdgeRow) (seen : PassSeen) → pass_seen a ≡ seen
@@ -68,7 +74,7 @@ module _ (a b : Inside) (whole : IsWholePass a) (keeps : KeepsOwn a b) where
       (λ i. record { table = keeps.table i; standing = standing_of (view i); held = held i; kept = keeps.entries i }) ∙ ap (with_taken spec mode p rows) is
 
   -- a stripe given back
-  pub whole_without : (p : ℕ) → b.seat.me.0 ≡ pass_view (with_core (standing_of a.seat.me.0) (released (standing_of a.seat.me.0).core p)) → b.seat.me.1 ≡ hands b.held.items
+  pub whole_without : (p : ℕ) → b.seat.me.0 ≡ pass_view (with_core (standing_of a.seat.me.0) (released (standing_of a.seat.me.0).core p)) → b.seat.me.1 ≡ hands_out n a.number b.held.items
       → b.held.items ≡ held_without a.held.items p → IsWholePass b
   whole_without p view slots held =
       whole_as (with_core (standing_of a.seat.me.0) (released (standing_of a.seat.me.0).core p)) view refl refl refl whole.agrees.ahead slots

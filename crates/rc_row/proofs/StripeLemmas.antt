@@ -1,5 +1,5 @@
 -- What the table shows of a stripe, and the changes of one pass that leave the latches alone.
-use Rattle.std.proofs.Common.{◌≡◌, ◌≢◌, ℕ, suc, ◌*◌, ◌+◌, ◌-◌, ◌/◌, ◌%◌, ◌<◌, ◌≤◌, ◌==◌, ◌||◌, ◌⊎◌, Bool, true, false, List, [], ◌∷◌, length, set, Option, Some, None, if◌then◌else◌, sym, refl, ap, ◌∙◌, subst, inl, inr, arith, length-set}
+use Rattle.std.proofs.Common.{◌≡◌, ◌≢◌, ℕ, zero, suc, ◌*◌, ◌+◌, ◌-◌, ◌/◌, ◌%◌, ◌<◌, ◌≤◌, ◌==◌, ◌||◌, ◌⊎◌, Bool, true, false, List, [], ◌∷◌, length, get_or, set, Option, Some, None, if◌then◌else◌, sym, refl, ap, ◌∙◌, subst, inl, inr, arith, length-set}
 use Rattle.std.specs.Prelude.{slice_index, MatchBool}
 use Rattle.std.specs.List.{slice_get}
 use Rattle.std.proofs.lemmas.Bool.{cases_eq, false≢true, eq-eqb, ne_eqb, eqb-true, eqb-false}
@@ -10,6 +10,7 @@ use Rattle.rc_tuple.specs.RisingSet.{In, put}
 use Rattle.rc_tuple.specs.RisingSetLaws.{in_put, nat_order, rising_put}
 use Rattle.rc_tuple.specs.ColSet.{has}
 use Rattle.rc_spec.specs.Fragments.{EdgeRow}
+use Rattle.rc_spec.specs.PlacementLaws.{placed_total}
 use Rattle.rc_spec.specs.declared.lock.Found.TheVariants.{Pass, Readers}
 use Rattle.rc_spec.specs.declared.lock.Mode.TheVariants.{Shared, Exclusive}
 use Rattle.rc_spec.specs.declared.spec.Spec.{Spec}
@@ -22,7 +23,7 @@ use Rattle.rc_core.specs.declared.state.Keeper.{Keeper}
 use Rattle.rc_core.specs.declared.state.Keeper.TheVariants.{Home, Writer}
 use Rattle.rc_core.specs.declared.state.PassState.{PassState}
 use Rattle.rc_core.specs.declared.state.StripeState.{StripeState}
-use Rattle.rc_core.specs.State.{stripe_at, no_stripe, has_writer, is_writer, home_rows, writes_of, is_at}
+use Rattle.rc_core.specs.State.{stripe_at, no_stripe, has_writer, is_writer, home_rows, pass_at, shares_of, writes_of, is_at}
 use Rattle.rc_core.specs.Passes.{IsHigh}
 use Rattle.rc_core.specs.declared.event.Event.{Event}
 use Rattle.rc_core.specs.Events.{after, with_pass, IsAllowed, IsTaken, IsUnlocked}
@@ -36,12 +37,13 @@ use Rattle.atomic_table.specs.Table.{State}
 use Rattle.rc_row.specs.declared.law.Key.{Key}
 use Rattle.rc_row.specs.declared.law.Standing.{Standing}
 use Rattle.rc_row.specs.declared.law.View.{View}
-use Rattle.rc_row.specs.Law.{Slot, kept_of, spec_by, stripes_by, slot_place, stripe_word, latch_word, writer_mark, word_of, pass_view, AreKnown, AreSeatedAt, HasLatch, HaveLatch, compiled_by, has_pass, home_of, HomesAre, IsKept}
+use Rattle.rc_row.specs.Law.{Slot, spec_by, stripes_by, slot_place, stripe_word, latch_word, writer_mark, word_of, pass_view, view_of, lodged, own_place, AreKnown, HasHanded, OwnsAre, AreSeatedAt, HasLatch, HaveLatch, compiled_by, has_pass, home_of, HomesAre, IsKept}
 use Rattle.rc_row.specs.Run.{RowStep, OfCore, CanStep, after_step, found_at, found_by, pass_of, pass_of_event, refusal_of, refusal_of_event, row_state}
 use Rattle.rc_row.specs.RunLaws.{good_of, state_of}
 use Rattle.rc_row.specs.Standings.{KeepsOut, HaveOneRelation}
 use Rattle.rc_row.specs.Told.{found_in_word}
-use Rattle.rc_row.proofs.MoveLemmas.{Home?, Refuses, moved, its_pass, its_latch}
+use Rattle.rc_row.proofs.MoveLemmas.{Home?, Refuses, moved, its_core, its_pass, its_place, its_latch}
+use Rattle.rc_row.proofs.OwnRuleLemmas.{handed_less, owns_alone}
 
 -- ---- choices by a test
 
@@ -184,25 +186,56 @@ module _ (key : Key) (s : State Slot View) (kept : IsKept key s) where
   pub latches_stay : (p x : ℕ) → p < stripes_by key → (q : ℕ) → q < stripes_by key → slice_index (set s.words (stripe_word p) x) (latch_word (stripes_by key) q) ≡ slice_index kept.latches q
   latches_stay p x lt q below = get_or-set_other s.words (stripe_word p) (latch_word (stripes_by key) q) x 0 (λ e. omega arith) ∙ kept.shows.latch_words q below
 
+  -- there are so few stripes that each has its place
+  pub few_stripes : stripes_by key ≤ 256
+  few_stripes = placed_total (spec_by key) kept.compiled.sealed.accepted.placed
+
+  pub low : (p : ℕ) → p < length kept.core.stripes → p < 256
+  low p lt = let n = few_stripes in let m = (good_of key s kept).all_stripes in omega arith
+
   -- the slots at home where a stripe changes
-  pub homes_with : (p : ℕ) (t : StripeState) (homes : List Home?) → p < stripes_by key → ((q : ℕ) → q ≢ p → get_elem? homes (slot_place q) ≡ get_elem? s.homes (slot_place q))
-      → get_elem? homes (slot_place p) ≡ some (home_of (spec_by key) t.keeper (slice_index kept.latches p == 0))
-      → HomesAre (spec_by key) (set kept.core.stripes p t) kept.latches homes
-  homes_with p t homes lt same here q below =
-      each_changed (λ j y. j < length kept.core.stripes → get_elem? homes (slot_place j) ≡ some (home_of (spec_by key) y.keeper (slice_index kept.latches j == 0)))
-      kept.core.stripes p t no_stripe (there p lt) (λ l. here) (λ j n l. same j n ∙ kept.shows.homes j l) q
+  pub homes_with : (p : ℕ) (t : StripeState) (handed : List Bool) (homes : List Home?) → p < stripes_by key
+      → ((q : ℕ) → q < length kept.core.stripes → q ≢ p → get_elem? homes (slot_place q) ≡ get_elem? s.homes (slot_place q)) → ((q : ℕ) → q ≢ p → get_or handed q false ≡ get_or kept.handed q false)
+      → get_elem? homes (slot_place p) ≡ some (home_of (spec_by key) t.keeper (get_or handed p false) (slice_index kept.latches p == 0))
+      → HomesAre (spec_by key) (set kept.core.stripes p t) kept.latches handed homes
+  homes_with p t handed homes lt same flags here q below =
+      each_changed (λ j y. j < length kept.core.stripes → get_elem? homes (slot_place j) ≡ some (home_of (spec_by key) y.keeper (get_or handed j false) (slice_index kept.latches j == 0)))
+      kept.core.stripes p t no_stripe (there p lt) (λ l. here)
+      (λ j n l. same j l n ∙ kept.shows.homes j l ∙ ap (λ b. some (home_of (spec_by key) (stripe_at kept.core.stripes j).keeper b (slice_index kept.latches j == 0))) (sym (flags j n))) q
       (subst (λ n. q < n) (length-set kept.core.stripes p t) below)
 
-  -- where the keeper stays, they stay
-  pub homes_stay : (p : ℕ) (t : StripeState) → p < stripes_by key → t.keeper ≡ (stripe_at kept.core.stripes p).keeper → HomesAre (spec_by key) (set kept.core.stripes p t) kept.latches s.homes
-  homes_stay p t lt same = homes_with p t s.homes lt (λ q n. refl) (kept.shows.homes p (there p lt) ∙ ap (λ (x : Keeper). some (home_of (spec_by key) x (slice_index kept.latches p == 0))) (sym same))
+  -- where the keeper stays, and the slots of stripes, they stay
+  pub homes_stay : (p : ℕ) (t : StripeState) (homes : List Home?) → p < stripes_by key → ((q : ℕ) → q < length kept.core.stripes → get_elem? homes (slot_place q) ≡ get_elem? s.homes (slot_place q))
+      → t.keeper ≡ (stripe_at kept.core.stripes p).keeper → HomesAre (spec_by key) (set kept.core.stripes p t) kept.latches kept.handed homes
+  homes_stay p t homes lt still same =
+      homes_with p t kept.handed homes lt (λ q l n. still q l) (λ q n. refl)
+      (still p (there p lt) ∙ kept.shows.homes p (there p lt) ∙ ap (λ (x : Keeper). some (home_of (spec_by key) x (get_or kept.handed p false) (slice_index kept.latches p == 0))) (sym same))
 
   pub slot_inside : (p : ℕ) → p < stripes_by key → slot_place p < length s.homes
-  slot_inside p lt = let n = kept.shows.slots in omega arith
+  slot_inside p lt = let n = kept.shows.slots in let m = few_stripes in omega arith
+
+  pub own_inside : (k p : ℕ) → k < length kept.core.passes → p < stripes_by key → own_place k p < length s.homes
+  own_inside k p known lt = let n = kept.shows.slots in let m = few_stripes in let c = kept.shows.passes in omega arith
 
   -- the slot of a stripe that nobody writes or latches
-  pub slot_home : (p : ℕ) (rows : List EdgeRow) → p < stripes_by key → (stripe_at kept.core.stripes p).keeper ≡ Home rows → slice_index kept.latches p ≡ 0 → get_elem? s.homes (slot_place p) ≡ some (some (Some (kept_of (spec_by key) rows)))
-  slot_home p rows lt is free = kept.shows.homes p (there p lt) ∙ (λ i. some (home_of (spec_by key) (is i) (eq-eqb (slice_index kept.latches p) 0 free i)))
+  pub slot_home : (p : ℕ) (rows : List EdgeRow) → p < stripes_by key → (stripe_at kept.core.stripes p).keeper ≡ Home rows → slice_index kept.latches p ≡ 0
+      → get_elem? s.homes (slot_place p) ≡ some (some (lodged (spec_by key) (get_or kept.handed p false) rows))
+  slot_home p rows lt is free = kept.shows.homes p (there p lt) ∙ (λ i. some (home_of (spec_by key) (is i) (get_or kept.handed p false) (eq-eqb (slice_index kept.latches p) 0 free i)))
+
+  pub pass_there : (passes : List PassState) (k : ℕ) → k < length passes → slice_get passes k ≡ Some (pass_at passes k)
+  pass_there [] k lt = absurd (omega arith)
+  pass_there (u ∷ passes) zero lt = refl
+  pass_there (u ∷ passes) (suc k) lt = pass_there passes k (omega arith)
+
+  -- where nobody is counted in, nobody shares the stripe
+  pub unshared : (p : ℕ) → (stripe_at kept.core.stripes p).counted ≡ [] → (k : ℕ) → k < length kept.core.passes → has (shares_of (pass_at kept.core.passes k)) p ≡ false
+  unshared p none_in k lt =
+      not_has (shares_of (pass_at kept.core.passes k)) p
+      (λ m. subst (In k) none_in (sharing_counted (spec_by key) kept.core (good_of key s kept) p k (pass_at kept.core.passes k) (pass_there kept.core.passes k lt) m))
+
+  -- nor where somebody writes it
+  pub unshared_written : (p : ℕ) → has_writer (stripe_at kept.core.stripes p).keeper ≡ true → (k : ℕ) (u : PassState) → slice_get kept.core.passes k ≡ Some u → In p (shares_of u) → ⊥
+  unshared_written p written k u is m = false≢true (sym (((good_of key s kept).passes k u is).beside p m) ∙ written)
 
   -- a pass that has a latch, by the number in the latch's word
   latched_pass : (seat : ℕ → ℕ) (id k : ℕ) (latch : Option ℕ) (more : List Standing) → AreSeatedAt kept.core.passes seat id more → HaveLatch kept.latches latch more → has_pass more k ≡ true
@@ -244,9 +277,9 @@ module _ (key : Key) (s : State Slot View) (kept : IsKept key s) where
   ]
 
 -- what a slot has where its stripe is latched
-pub out_where : (spec : Spec) (x : Keeper) → home_of spec x false ≡ none
-out_where spec (Home rows) = refl
-out_where spec (Writer k) = refl
+pub out_where : (spec : Spec) (x : Keeper) (handed : Bool) → home_of spec x handed false ≡ none
+out_where spec (Home rows) handed = refl
+out_where spec (Writer k) handed = refl
 
 -- ---- a pass with no latch changes
 
@@ -258,35 +291,45 @@ still_bare latches u w a number = record {
   idle = λ p has. absurd (false≢true has);
 }
 
-module _ (key : Key) (s : State Slot View) (kept : IsKept key s) (id : ℕ) (a : Standing) (at : get_elem? s.views id ≡ some (pass_view a)) where
+module _ (key : Key) (s : State Slot View) (kept : IsKept key s) (id : ℕ) (a : Standing) (f : Option ℕ) (at : get_elem? s.views id ≡ some (view_of a None f)) where
+  -- what it shares is handed out
+  pub its_handed : HasHanded kept.handed f a.core
+  its_handed = (kept.readers id (view_of a None f) at).0
+
   -- it makes an event, by which it changes with a stripe and its word
-  pub moved_stripe : (b : Standing) → b.core.number ≡ a.core.number → AreKnown kept.core.history b.known
+  pub moved_stripe : (b : Standing) (g : Option ℕ) → b.core.number ≡ a.core.number → AreKnown kept.core.history b.known
       → (x : Event) → IsAllowed (compiled_by key) kept.core x → pass_of_event x ≡ a.core.number → Refuses (refusal_of_event kept.core x) a b
       → (p word : ℕ) (t : StripeState) → p < stripes_by key → word ≡ word_of t
       → after (compiled_by key) kept.core x ≡ with_pass kept.core kept.core.history (set kept.core.stripes p t) a.core.number b.core
-      → (homes : List Home?) → length homes ≡ length s.homes → HomesAre (spec_by key) (set kept.core.stripes p t) kept.latches homes
-      → IsKept key (record { words = set s.words (stripe_word p) word; homes = homes; views = set s.views id (pass_view b) })
-  moved_stripe b number known x can mine refuses p word t lt is leads homes width right =
-      moved key s kept id a None at b None number (OfCore x) can mine refuses kept.core.history (set kept.core.stripes p t) kept.latches
+      → (homes : List Home?) → length homes ≡ length s.homes → (handed : List Bool) → length handed ≡ length kept.handed → HomesAre (spec_by key) (set kept.core.stripes p t) kept.latches handed homes
+      → OwnsAre (spec_by key) (with_pass kept.core kept.core.history (set kept.core.stripes p t) a.core.number b.core) handed homes → HasHanded handed g b.core
+      → ((j : ℕ) (u : PassState) (entering : Option ℕ) → j ≢ a.core.number → slice_get kept.core.passes j ≡ Some u → HasHanded kept.handed entering u → HasHanded handed entering u)
+      → IsKept key (record { words = set s.words (stripe_word p) word; homes = homes; views = set s.views id (view_of b None g) })
+  moved_stripe b g number known x can mine refuses p word t lt is leads homes width handed count right owned shared readers =
+      moved key s kept id a None f at b None g number (OfCore x) can mine refuses kept.core.history (set kept.core.stripes p t) kept.latches
       (ap (λ (c : CoreState). row_state c kept.latches) leads) (prefix_same kept.core.history) known
-      refl kept.named (still_bare kept.latches a.core b.core (its_latch key s kept id a None at) number) (λ j q n. refl)
+      refl kept.named (still_bare kept.latches a.core b.core (its_latch key s kept id a None f at) number) (λ j q n. refl)
       (set s.words (stripe_word p) word) homes (length-set s.words (stripe_word p) word) (commit_stays key s kept (stripe_word p) word (λ e. omega arith))
-      (words_with key s kept p word t lt is) (latches_stay key s kept p word lt) width right
+      (words_with key s kept p word t lt is) (latches_stay key s kept p word lt) width handed count right owned shared readers
 
-  -- it makes a step, by which it changes alone
-  pub moved_alone : (b : Standing) → b.core.number ≡ a.core.number → AreKnown kept.core.history b.known
+  -- it makes a step, by which it changes alone, and shares what it did
+  pub moved_alone : (b : Standing) → b.core.number ≡ a.core.number → shares_of b.core ≡ shares_of a.core → AreKnown kept.core.history b.known
       → (x : RowStep) → CanStep (compiled_by key) (state_of key s kept) x → pass_of x ≡ a.core.number → Refuses (refusal_of (state_of key s kept) x) a b
       → after_step (compiled_by key) (state_of key s kept) x ≡ row_state (with_pass kept.core kept.core.history kept.core.stripes a.core.number b.core) kept.latches
-      → IsKept key (record { words = s.words; homes = s.homes; views = set s.views id (pass_view b) })
-  moved_alone b number known x can mine refuses leads =
-      moved key s kept id a None at b None number x can mine refuses kept.core.history kept.core.stripes kept.latches leads (prefix_same kept.core.history) known
-      refl kept.named (still_bare kept.latches a.core b.core (its_latch key s kept id a None at) number) (λ j q n. refl)
-      s.words s.homes refl kept.shows.commit kept.shows.words kept.shows.latch_words refl kept.shows.homes
+      → IsKept key (record { words = s.words; homes = s.homes; views = set s.views id (view_of b None f) })
+  moved_alone b number same known x can mine refuses leads =
+      moved key s kept id a None f at b None f number x can mine refuses kept.core.history kept.core.stripes kept.latches leads (prefix_same kept.core.history) known
+      refl kept.named (still_bare kept.latches a.core b.core (its_latch key s kept id a None f at) number) (λ j q n. refl)
+      s.words s.homes refl kept.shows.commit kept.shows.words kept.shows.latch_words refl kept.handed refl kept.shows.homes
+      (owns_alone (spec_by key) kept.core kept.handed s.homes a.core.number b.core kept.core.history (its_place key s kept id a None f at)
+      (λ q. ap (λ (xs : List ℕ). has xs q) (same ∙ ap shares_of (sym (its_core key s kept id a None f at)))) kept.shows.owns)
+      (handed_less kept.handed f a.core b.core (λ q m. subst (In q) same m) its_handed) (λ j u e n is h. h)
 
+module _ (key : Key) (s : State Slot View) (kept : IsKept key s) (id : ℕ) (a : Standing) (at : get_elem? s.views id ≡ some (pass_view a)) where
   -- who is counted in there are others, and so fewer than all
   pub high_fewer : (p : ℕ) → p < stripes_by key → IsHigh a.core p → length (stripe_at kept.core.stripes p).counted < key.passes
   high_fewer p lt high =
-      let is : slice_get kept.core.passes a.core.number ≡ Some a.core = its_pass key s kept id a None at in
+      let is : slice_get kept.core.passes a.core.number ≡ Some a.core = its_pass key s kept id a None None at in
       let counted : List ℕ = (stripe_at kept.core.stripes p).counted in
       let stripe = (good_of key s kept).stripes p (there key s kept p lt) in
       let more = length-put_new a.core.number (stripe_at kept.core.stripes p).counted (high_uncounted (spec_by key) kept.core (good_of key s kept) p a.core.number a.core is high) in
@@ -304,4 +347,4 @@ module _ (key : Key) (s : State Slot View) (kept : IsKept key s) (id : ℕ) (a :
 
   -- a pass for which the stripe is high doesn't write it
   pub high_unwritten : (p : ℕ) → IsHigh a.core p → is_writer (stripe_at kept.core.stripes p).keeper a.core.number ≡ false
-  high_unwritten p high = sym (((good_of key s kept).passes a.core.number a.core (its_pass key s kept id a None at)).writes p) ∙ not_has (writes_of a.core) p (λ m. above_itself a.core p high.above (writes_held a.core p m))
+  high_unwritten p high = sym (((good_of key s kept).passes a.core.number a.core (its_pass key s kept id a None None at)).writes p) ∙ not_has (writes_of a.core) p (λ m. above_itself a.core p high.above (writes_held a.core p m))

@@ -1,5 +1,5 @@
 -- Where the fragment of a held stripe is, and what turning the slots of a seat does.
-use Rattle.std.proofs.Common.{◌≡◌, ℕ, zero, suc, ◌+◌, ◌<◌, ◌==◌, Bool, List, [], ◌∷◌, ◌++◌, length, get_or, take, drop, None, sym, refl, ap, ◌∙◌, subst, inl, inr, cond, arith, length-append, append_assoc}
+use Rattle.std.proofs.Common.{◌≡◌, ℕ, zero, suc, ◌+◌, ◌<◌, ◌==◌, Bool, List, [], ◌∷◌, ◌++◌, length, get_or, take, drop, sym, refl, ap, ◌∙◌, subst, inl, inr, cond, arith, length-append}
 use Rattle.std.specs.declared.cmp.Ordering.TheVariants.{Less}
 use Rattle.std.specs.Ordering.{nat_cmp}
 use Rattle.std.proofs.lemmas.Bool.{cases_eq, eq-eqb, ne_eqb}
@@ -8,30 +8,16 @@ use Rattle.std.proofs.lemmas.List.{append-nil, take_more, length-take-le, take-a
 use Rattle.std.proofs.Math.Seq.{drop-cons, get_or-append_seam}
 use Rattle.rc_tuple.specs.RisingSet.{In, IsRising}
 use Rattle.rc_tuple.specs.RisingSetLaws.{get_or_in, map_in}
-use Rattle.rc_spec.specs.declared.lock.Mode.TheVariants.{Shared, Exclusive}
+use Rattle.rc_spec.specs.declared.lock.Mode.TheVariants.{Exclusive}
 use Rattle.rc_core.specs.State.{hold, stripes_in}
 use Rattle.rc_core.specs.ListLaws.{stripes_have}
-use Rattle.atomic_table.specs.Table.{turned}
 use Rattle.rc_row.specs.HeldRows.{HeldRows}
-use Rattle.rc_row.specs.Law.{Slot, slot_place}
-use Rattle.rc_row.specs.PassInside.{hand_of, hands}
+use Rattle.rc_row.specs.declared.slot.Slot.TheVariants.{Empty}
+use Rattle.rc_row.specs.Law.{Slot}
+use Rattle.rc_row.specs.Own.{hand_out, hands_out, own_hands, turned_times}
 use Rattle.rc_row.specs.Passes.{holds_taken}
-use Rattle.rc_row.specs.Turns.{turned_by_count, IsHeldAt}
-
--- ---- turning
-
-turned-first : (k : ℕ) (slots : List (ℕ × Slot)) → turned_by_count (suc k) slots ≡ turned_by_count k (turned slots)
-turned-first zero slots = refl
-turned-first (suc k) slots = ap turned (turned-first k slots)
-
-pub turned-append : (a b : List (ℕ × Slot)) → turned_by_count (length a) (a ++ b) ≡ b ++ a
-turned-append [] b = sym (append-nil b)
-turned-append (x ∷ a) b =
-    turned-first (length a) (x ∷ a ++ b) ∙ ap (turned_by_count (length a)) (append_assoc a b (x ∷ [])) ∙ turned-append a (b ++ x ∷ []) ∙ append_assoc b (x ∷ []) a
-
-pub hands-append : (a b : List HeldRows) → hands (a ++ b) ≡ hands b ++ hands a
-hands-append [] b = sym (append-nil (hands b))
-hands-append (h ∷ a) b = ap (λ (slots : List (ℕ × Slot)). slots ++ hand_of h.mode h.stripe) (hands-append a b) ∙ append_assoc (hands b) (hands a) (hand_of h.mode h.stripe)
+use Rattle.rc_row.specs.Turns.{IsHeldAt}
+use Rattle.rc_row.proofs.OwnHandsLemmas.{hands_out-append, out_first, out_last}
 
 nothing : (slots : List (ℕ × Slot)) → length slots ≡ 0 → slots ≡ []
 nothing [] e = refl
@@ -72,12 +58,28 @@ is_held_at held p i d lt none stripe is = record {
   first = none;
 }
 
--- ---- what an unlock does to the slots of a seat
+-- ---- what giving a stripe back does to the slots of a seat
 
-pub hands_more : (held : List HeldRows) (i : ℕ) (d : HeldRows) → i < length held → d ≡ get_or held i d → length (hands (take (i + 1) held)) ≡ length (hand_of d.mode d.stripe) + length (hands (take i held))
-hands_more held i d lt is =
-    ap (λ (hs : List HeldRows). length (hands hs)) (take_more held i d lt ∙ ap (λ (x : HeldRows). take i held ++ x ∷ []) (sym is))
-    ∙ ap length (hands-append (take i held) (d ∷ [])) ∙ length-append (hand_of d.mode d.stripe) (hands (take i held))
+length-own_hands : (n p : ℕ) (x : ℕ → Slot) → length (own_hands n p x) ≡ n
+length-own_hands zero p x = refl
+length-own_hands (suc n) p x = ap suc (length-own_hands n p x)
+
+-- how many slots one held stripe counts for
+pub length-written : (n k p : ℕ) → length (hand_out n k Exclusive p) ≡ suc n
+length-written n k p = ap suc (length-own_hands n p (λ j. Empty))
+
+-- counted for the same number of passes
+pub count_as : (n m k x : ℕ) (held : List HeldRows) → n ≡ m → x ≡ length (hands_out n k held) → x ≡ length (hands_out m k held)
+count_as n m k x held same is = is ∙ ap (λ (j : ℕ). length (hands_out j k held)) same
+
+pub back_as : (n m k above x : ℕ) (held : List HeldRows) → n ≡ m → x ≡ cond (above == 0) 0 (length (hands_out n k held)) → x ≡ cond (above == 0) 0 (length (hands_out m k held))
+back_as n m k above x held same is = is ∙ ap (λ (j : ℕ). cond (above == 0) 0 (length (hands_out j k held))) same
+
+pub hands_more : (n k : ℕ) (held : List HeldRows) (i : ℕ) (d : HeldRows) → i < length held → d ≡ get_or held i d
+    → length (hands_out n k (take (i + 1) held)) ≡ length (hand_out n k d.mode d.stripe) + length (hands_out n k (take i held))
+hands_more n k held i d lt is =
+    ap (λ (hs : List HeldRows). length (hands_out n k hs)) (take_more held i d lt ∙ ap (λ (x : HeldRows). take i held ++ x ∷ []) (sym is))
+    ∙ ap length (hands_out-append n k (take i held) (d ∷ [])) ∙ length-append (hand_out n k d.mode d.stripe) (hands_out n k (take i held))
 
 module _ (held : List HeldRows) (p at : ℕ) (h : IsHeldAt held p at) where
   pub place_inside : at < length held
@@ -87,34 +89,25 @@ module _ (held : List HeldRows) (p at : ℕ) (h : IsHeldAt held p at) where
   pub read_here : (d : HeldRows) → get_or held at d ≡ h.here
   read_here d = (λ i. get_or (h.is i) (sym h.place i) d) ∙ get_or-append_seam h.before h.here h.after d
 
-  module _ (written : h.here.mode ≡ Exclusive) where
-    parted : hands held ≡ hands h.after ++ (slot_place p, None) ∷ hands h.before
-    parted = ap hands h.is ∙ hands-append h.before (h.here ∷ h.after)
-        ∙ (λ i. (hands h.after ++ hand_of (written i) (h.stripe i)) ++ hands h.before)
-        ∙ append_assoc (hands h.after) ((slot_place p, None) ∷ []) (hands h.before)
+  module _ (n k : ℕ) where
+    -- turned by those above it, what the stripe has out is in front
+    pub turned_first : (above : ℕ) (slots : List (ℕ × Slot)) → above ≡ length (hands_out n k (drop (suc at) held)) → slots ≡ hands_out n k held
+        → turned_times above slots ≡ hand_out n k h.here.mode p ++ (hands_out n k h.before ++ hands_out n k h.after)
+    turned_first above slots count is =
+        ap (λ (m : ℕ). turned_times m slots) (count ∙ ap (λ (hs : List HeldRows). length (hands_out n k hs)) h.left)
+        ∙ ap (turned_times (length (hands_out n k h.after))) is ∙ out_first n k held p at h
 
-    -- turned by those above it, its slot is in front
-    pub turned_first : (n : ℕ) (slots : List (ℕ × Slot)) → n ≡ length (hands (drop (suc at) held)) → slots ≡ hands held → turned_by_count n slots ≡ (slot_place p, None) ∷ hands h.before ++ hands h.after
-    turned_first n slots count is =
-        ap (λ (k : ℕ). turned_by_count k slots) (count ∙ ap (λ (hs : List HeldRows). length (hands hs)) h.left)
-        ∙ ap (turned_by_count (length (hands h.after))) (is ∙ parted) ∙ turned-append (hands h.after) ((slot_place p, None) ∷ hands h.before)
-
-  -- and those that are left come back into their order: at once where none was above it
-  pub turned_last : (n m : ℕ) → n ≡ length (hands (drop (suc at) held)) → m ≡ cond (n == 0) 0 (length (hands (take at held))) → turned_by_count m (hands h.before ++ hands h.after) ≡ hands (h.before ++ h.after)
-  turned_last n m above below = elim (cases_eq n 0) [
-    | inl e ↦
-        (let none : hands h.after ≡ [] = nothing (hands h.after) (ap (λ (hs : List HeldRows). length (hands hs)) (sym h.left) ∙ sym above ∙ e) in
-        ap (λ (k : ℕ). turned_by_count k (hands h.before ++ hands h.after)) (below ∙ ap (λ (b : Bool). cond b 0 (length (hands (take at held)))) (eq-eqb n 0 e))
-        ∙ ap (λ (slots : List (ℕ × Slot)). hands h.before ++ slots) none ∙ append-nil (hands h.before)
-        ∙ ap (λ (slots : List (ℕ × Slot)). slots ++ hands h.before) (sym none) ∙ sym (hands-append h.before h.after))
-    | inr some ↦
-        ap (λ (k : ℕ). turned_by_count k (hands h.before ++ hands h.after))
-        (below ∙ ap (λ (b : Bool). cond b 0 (length (hands (take at held)))) (ne_eqb n 0 some) ∙ ap (λ (hs : List HeldRows). length (hands hs)) h.took)
-        ∙ turned-append (hands h.before) (hands h.after) ∙ sym (hands-append h.before h.after)
-  ]
-
-  -- a shared stripe has no slot out
-  pub hands_shared : h.here.mode ≡ Shared → hands held ≡ hands (h.before ++ h.after)
-  hands_shared shared = ap hands h.is ∙ hands-append h.before (h.here ∷ h.after)
-      ∙ (λ i. (hands h.after ++ hand_of (shared i) h.here.stripe) ++ hands h.before)
-      ∙ ap (λ (slots : List (ℕ × Slot)). slots ++ hands h.before) (append-nil (hands h.after)) ∙ sym (hands-append h.before h.after)
+    -- and those that are left come back into their order: at once where none was above it
+    pub turned_last : (above below : ℕ) → above ≡ length (hands_out n k (drop (suc at) held)) → below ≡ cond (above == 0) 0 (length (hands_out n k (take at held)))
+        → turned_times below (hands_out n k h.before ++ hands_out n k h.after) ≡ hands_out n k (h.before ++ h.after)
+    turned_last above below up down = elim (cases_eq above 0) [
+      | inl e ↦
+          (let none : hands_out n k h.after ≡ [] = nothing (hands_out n k h.after) (ap (λ (hs : List HeldRows). length (hands_out n k hs)) (sym h.left) ∙ sym up ∙ e) in
+          ap (λ (m : ℕ). turned_times m (hands_out n k h.before ++ hands_out n k h.after)) (down ∙ ap (λ (b : Bool). cond b 0 (length (hands_out n k (take at held)))) (eq-eqb above 0 e))
+          ∙ ap (λ (slots : List (ℕ × Slot)). hands_out n k h.before ++ slots) none ∙ append-nil (hands_out n k h.before)
+          ∙ ap (λ (slots : List (ℕ × Slot)). slots ++ hands_out n k h.before) (sym none) ∙ sym (hands_out-append n k h.before h.after))
+      | inr some ↦
+          ap (λ (m : ℕ). turned_times m (hands_out n k h.before ++ hands_out n k h.after))
+          (down ∙ ap (λ (b : Bool). cond b 0 (length (hands_out n k (take at held)))) (ne_eqb above 0 some) ∙ ap (λ (hs : List HeldRows). length (hands_out n k hs)) h.took)
+          ∙ out_last n k held p at h
+    ]

@@ -1,11 +1,13 @@
 -- What a whole pass shows, and when a pass is whole after a change of what it holds.
-use Rattle.std.proofs.Common.{◌≡◌, ℕ, ◌*◌, ◌<◌, List, sym, refl, ap, ◌∙◌, subst, arith}
+use Rattle.std.proofs.Common.{◌≡◌, ℕ, suc, ◌+◌, ◌*◌, ◌<◌, ◌≤◌, List, [], ◌∷◌, length, sym, refl, ap, ◌∙◌, subst, inl, inr, arith}
+use Rattle.std.proofs.lemmas.List.{length-map}
+use Rattle.rc_core.specs.SizeLaws.{length-rising}
 use Rattle.std.specs.Global.{Vec}
-use Rattle.std.specs.Prelude.{vec_capacity, vec_len, Result, Ok, Err, OnOk, OnErr}
+use Rattle.std.specs.Prelude.{All, vec_capacity, vec_len, Result, Ok, Err, OnOk, OnErr}
 use Rattle.std.specs.Ordering.{nat_cmp}
 use Rattle.rc_tuple.specs.RisingSet.{In, IsRising}
 use Rattle.rc_core.specs.declared.state.Hold.{Hold}
-use Rattle.rc_core.specs.State.{stripes_in, writes_of, shares_of}
+use Rattle.rc_core.specs.State.{hold, stripes_in, writes_of, shares_of}
 use Rattle.rc_core.specs.Passes.{IsAbove, IsHigh}
 use Rattle.rc_core.specs.KeepsLaws.{writes_held, shares_held}
 use Rattle.atomic_table.specs.Seated.{TableId}
@@ -13,10 +15,24 @@ use Rattle.rc_row.specs.declared.held.HeldFragment.{HeldFragment}
 use Rattle.rc_row.specs.declared.pass.Pass.TheInside.{Inside}
 use Rattle.rc_row.specs.HeldRows.{HeldRows}
 use Rattle.rc_row.specs.Law.{standing_of}
-use Rattle.rc_row.specs.PassInside.{IsWholePass, hands, pass_seen}
-use Rattle.rc_row.specs.Passes.{OfHeld, PassSeen, core_of, holds_taken}
+use Rattle.rc_row.specs.Own.{hands_out}
+use Rattle.rc_row.specs.PassInside.{IsWholePass, pass_seen}
+use Rattle.rc_row.specs.RowInside.{IsWholeRow, row_seen}
+use Rattle.rc_row.specs.Told.{passes_in}
+use Rattle.rc_row.specs.declared.row.Row.TheInside.{Inside as RowInside}
+use Rattle.rc_row.specs.Passes.{IsPassOf, OfHeld, PassSeen, RowSeen, core_of, holds_taken, stripes_of}
 use Rattle.rc_fragment.specs.FragmentRows.{FragmentRows}
 use Rattle.rc_row.proofs.AgreeLemmas.{agrees_same, few_held, high_at}
+
+-- how many passes a row has, by its slots
+pub passes_seen : (b : RowInside) (row : RowSeen) → row_seen b ≡ row → IsWholeRow b → passes_in b.table.shared.table_id.slots ≡ row.key.passes
+passes_seen b row is whole = (let n = whole.slots in omega arith) ∙ ap (λ (r : RowSeen). r.key.passes) is
+
+-- each stripe that is held is one of the row's
+all_inside : (n : ℕ) (held : List HeldRows) → All (λ (h : HeldRows). h.stripe < n) held → (q : ℕ) → In q (stripes_in (holds_taken held)) → q < n
+all_inside n [] all q m = absurd m
+all_inside n (h ∷ held) all q (inl e) = let first = all 0 h (omega arith) in subst (λ (k : ℕ). k < n) (sym e) first
+all_inside n (h ∷ held) all q (inr m) = all_inside n held (λ k d lt. all (suc k) d (omega arith)) q m
 
 module _ (a : Inside) (whole : IsWholePass a) (seen : PassSeen) (is : pass_seen a ≡ seen) where
   pub taken_seen : holds_taken a.held.items ≡ (core_of seen).held
@@ -40,23 +56,47 @@ module _ (a : Inside) (whole : IsWholePass a) (seen : PassSeen) (is : pass_seen 
   pub high_there : (p : ℕ) → IsAbove (core_of seen) p → IsHigh (standing_of a.seat.me.0).core p
   high_there p above = high_at a.number a.seat.me a.held.items p whole.agrees (above_there p above)
 
-  -- where the table has slots for so many stripes, there is room for the fragment of a stripe above all that is held
-  pub room_there : (p n : ℕ) (table : TableId) → IsAbove (core_of seen) p → p < n → seen.table ≡ table → table.slots ≡ 4 * n → vec_len a.held < vec_capacity a.held
-  room_there p n table above lt same slots =
+  -- where the table has words for so many stripes, there is room for the fragment of a stripe above all that is held
+  pub room_there : (p n : ℕ) (table : TableId) → IsAbove (core_of seen) p → p < n → seen.table ≡ table → table.words ≡ 8 * suc (n + n) → vec_len a.held < vec_capacity a.held
+  room_there p n table above lt same words =
       let few = few_held a.number a.seat.me a.held.items p whole.agrees (above_there p above) in
       let room = whole.room in
-      let e = ap (λ (t : TableId). t.slots) (ap (λ (s : PassSeen). s.table) is ∙ same) in
+      let e = ap (λ (t : TableId). t.words) (ap (λ (s : PassSeen). s.table) is ∙ same) in
       omega arith
+
+  -- it holds no more than there are stripes
+  pub few_there : (p : ℕ) → IsAbove (core_of seen) p → length a.held.items ≤ p
+  few_there p above = few_held a.number a.seat.me a.held.items p whole.agrees (above_there p above)
+
+  module _ (b : RowInside) (row : RowSeen) (whole_row : IsWholeRow b) (row_is : row_seen b ≡ row) (of : IsPassOf row seen) where
+    -- how many passes its row has, by the slots of its table
+    pub passes_there : passes_in a.seat.table_id.slots ≡ row.key.passes
+    passes_there = ap (λ (t : TableId). passes_in t.slots) (ap (λ (s : PassSeen). s.table) is ∙ of.table ∙ sym (ap (λ (r : RowSeen). r.table) row_is)) ∙ passes_seen b row row_is whole_row
+
+    -- the slots that it has out
+    pub out_there : a.seat.me.1 ≡ hands_out row.key.passes a.number a.held.items
+    out_there = whole.hands_are ∙ ap (λ (m : ℕ). hands_out m a.number a.held.items) passes_there
+
+    pub few_all : length a.held.items ≤ 256
+    few_all =
+        let low = subst (λ (r : RowSeen). stripes_of r ≤ 256) row_is whole_row.stripes in
+        let inside = subst (λ (s : PassSeen). All (λ (h : HeldRows). h.stripe < stripes_of row) s.held) (sym is) of.inside in
+        let n = length-rising 0 (stripes_of row) (stripes_in (holds_taken a.held.items)) (omega arith) (subst (λ (hs : List Hold). IsRising nat_cmp (stripes_in hs)) (sym whole.agrees.taken) whole.agrees.rising)
+        (λ q m. (omega arith, all_inside (stripes_of row) a.held.items inside q m)) in
+        let k = length-map (holds_taken a.held.items) (λ (h : Hold). h.stripe) in
+        let m = length-map a.held.items (λ (h : HeldRows). hold h.stripe h.mode h.fragment.taken) in
+        omega arith
 
 pub rising_there : (a : Inside) → IsWholePass a → IsRising nat_cmp (stripes_in (holds_taken a.held.items))
 rising_there a whole = subst (λ (hs : List Hold). IsRising nat_cmp (stripes_in hs)) (sym whole.agrees.taken) whole.agrees.rising
 
 -- other fragments, of the same stripes with the same rows as taken
-pub whole_with : (a : Inside) (held : Vec HeldFragment) (items : List HeldRows) → IsWholePass a → held.items ≡ items → hands items ≡ hands a.held.items → holds_taken items ≡ holds_taken a.held.items
+pub whole_with : (a : Inside) (held : Vec HeldFragment) (items : List HeldRows) → IsWholePass a → held.items ≡ items → ((n k : ℕ) → hands_out n k items ≡ hands_out n k a.held.items) → holds_taken items ≡ holds_taken a.held.items
     → held.cap ≡ a.held.cap → IsWholePass record a { held = held }
 whole_with a held items whole is same taken room = record {
-  agrees = agrees_same a.number a.seat.me a.held.items whole.agrees (standing_of a.seat.me.0) a.seat.me held.items whole.agrees.view_is refl whole.agrees.ahead refl (ap hands is ∙ same)
+  agrees = agrees_same a.number a.seat.me a.held.items whole.agrees (standing_of a.seat.me.0) a.seat.me held.items whole.agrees.view_is refl whole.agrees.ahead
       (ap holds_taken is ∙ taken ∙ whole.agrees.taken) whole.agrees.rising;
+  hands_are = whole.hands_are ∙ sym (ap (hands_out (passes_in a.seat.table_id.slots) a.number) is ∙ same (passes_in a.seat.table_id.slots) a.number);
   seen = whole.seen;
   made = whole.made;
   entries = whole.entries;
@@ -65,6 +105,6 @@ whole_with a held items whole is same taken room = record {
 
 -- the same, where it may have failed and changed nothing
 pub whole_if : {T E : Type 0} (r : Result T E) (a : Inside) (held : Vec HeldFragment) (items : List HeldRows) → IsWholePass a → OnOk r (held.items ≡ items) → OnErr r (held.items ≡ a.held.items)
-    → hands items ≡ hands a.held.items → holds_taken items ≡ holds_taken a.held.items → held.cap ≡ a.held.cap → IsWholePass record a { held = held }
+    → ((n k : ℕ) → hands_out n k items ≡ hands_out n k a.held.items) → holds_taken items ≡ holds_taken a.held.items → held.cap ≡ a.held.cap → IsWholePass record a { held = held }
 whole_if (Ok x) a held items whole is not same taken room = whole_with a held items whole is same taken room
-whole_if (Err e) a held items whole is not same taken room = whole_with a held a.held.items whole not refl refl room
+whole_if (Err e) a held items whole is not same taken room = whole_with a held a.held.items whole not (λ n k. refl) refl room

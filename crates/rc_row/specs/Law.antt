@@ -1,9 +1,10 @@
 -- The rule of the table: words, latches, homes and views show a run of the core, and the state that it leads to.
-use Rattle.std.specs.Prelude.{◌≡◌, ℕ, suc, ◌+◌, ◌*◌, ◌<◌, ◌≤◌, ◌==◌, Bool, true, false, List, [], ◌∷◌, length, map, slice_index, Option, Some, None, All}
+use Rattle.std.specs.Prelude.{◌≡◌, ℕ, suc, ◌+◌, ◌*◌, ◌<◌, ◌≤◌, ◌==◌, Bool, true, false, List, [], ◌∷◌, length, map, slice_index, get_or, Option, Some, None, All}
 use Rattle.std.specs.List.{slice_get, list_any, range_with_len}
 use Rattle.std.specs.Ordering.{nat_cmp}
 use mathlib.Core.Option.{some, none}
 use lib.ListN.{get_elem?}
+use Rattle.rc_tuple.specs.ColSet.{has}
 use Rattle.rc_tuple.specs.RisingSet.{In, IsRising}
 use Rattle.rc_spec.specs.Fragments.{EdgeRow}
 use Rattle.rc_spec.specs.Stripes.{stripe_total}
@@ -18,12 +19,14 @@ use Rattle.rc_core.specs.declared.state.Keeper.{Keeper}
 use Rattle.rc_core.specs.declared.state.Keeper.TheVariants.{Home, Writer}
 use Rattle.rc_core.specs.declared.state.PassState.{PassState}
 use Rattle.rc_core.specs.declared.state.StripeState.{StripeState}
-use Rattle.rc_core.specs.State.{stripe_at, shares_of, is_at}
+use Rattle.rc_core.specs.State.{stripe_at, pass_at, shares_of, is_at}
 use Rattle.atomic_table.specs.Table.{State}
 use Rattle.rc_row.specs.declared.law.Key.{Key}
 use Rattle.rc_row.specs.declared.law.Refusal.{Refusal}
 use Rattle.rc_row.specs.declared.law.Standing.{Standing}
 use Rattle.rc_row.specs.declared.law.View.{View}
+use Rattle.rc_row.specs.declared.slot.Slot.{Slot as SlotDeclared}
+use Rattle.rc_row.specs.declared.slot.Slot.TheVariants.{Empty, Apart, Handed}
 use Rattle.rc_row.specs.Run.{RowState, RowStep, CanRun, after_run, at_first, last_of, refusals_in, row_state}
 use Rattle.rc_row.specs.Standings.{start}
 
@@ -62,30 +65,50 @@ word_of s = writer_mark s.keeper + 65536 * length s.counted
 abbrev pub slot_place : ℕ → ℕ
 slot_place p = 4 * p
 
+-- Behind the slots of stripes, for which 1024 are kept, come the own slots of the pass 0, one for each stripe, then those of the pass 1, and so
+-- on. Four slots lie between the last of a pass and the first of the next, so that no two passes share a cache line.
+abbrev pub own_place : ℕ → ℕ → ℕ
+own_place k p = 1024 + 260 * k + p
+
 -- what a slot has: a fragment at rest, or nothing while a pass has it
 abbrev pub Slot : Type 0
-Slot = Option KeptRows
+Slot = SlotDeclared
 
 -- the fragment of the specification with these rows, as a slot keeps it
 abbrev pub kept_of : Spec → List EdgeRow → KeptRows
 kept_of spec rows = record { table = edge_table spec; rows = rows }
 
+-- a fragment, to which pointers were handed out or not
+abbrev pub kept_in : Bool → KeptRows → Slot
+kept_in true keep = Handed keep
+kept_in false keep = Apart keep
+
+-- the slot of a stripe at home, with or without pointers handed out
+abbrev pub lodged : Spec → Bool → List EdgeRow → Slot
+lodged spec handed rows = kept_in handed (kept_of spec rows)
+
+-- what a pass's own slot may have, of a stripe with these rows
+abbrev pub IsOwn : Spec → Bool → List EdgeRow → Slot → Type 0
+IsOwn spec handed rows Empty = Unit {0}
+IsOwn spec handed rows (Apart kept) = ⊥
+IsOwn spec handed rows (Handed kept) = (handed ≡ true) × (kept ≡ kept_of spec rows)
+
 -- ---- views
 
--- a pass, which may have the latch of a stripe
-abbrev pub view_of : Standing → Option ℕ → View
-view_of s latch = record { passes = s ∷ []; latch = latch; told = 0; known = [] }
+-- a pass, which may have the latch of a stripe, and may just have come to share one
+abbrev pub view_of : Standing → Option ℕ → Option ℕ → View
+view_of s latch entering = record { passes = s ∷ []; latch = latch; entering = entering; told = 0; known = [] }
 
 abbrev pub pass_view : Standing → View
-pass_view s = view_of s None
+pass_view s = view_of s None None
 
 -- a note: no pass, the length of a history, and the histories that were told
 abbrev pub note_view : ℕ → List (List Entry) → View
-note_view n known = record { passes = []; latch = None; told = n; known = known }
+note_view n known = record { passes = []; latch = None; entering = None; told = n; known = known }
 
 -- passes that have no seat of their own
 abbrev pub passes_view : List Standing → View
-passes_view passes = record { passes = passes; latch = None; told = 0; known = [] }
+passes_view passes = record { passes = passes; latch = None; entering = None; told = 0; known = [] }
 
 abbrev pub first_of : List Standing → Standing
 first_of [] = start 0
@@ -155,25 +178,50 @@ pub record HasSeat (views : List View) (seat : ℕ → ℕ) (k : ℕ) : Type 0 w
 -- ---- the rule
 
 -- what the slot of a stripe has: the stripe's rows where nobody writes it and its latch is free; else it is out
-abbrev pub home_of : Spec → Keeper → Bool → mathlib.Core.Option.Option Slot
-home_of spec (Home rows) true = some (Some (kept_of spec rows))
-home_of spec (Home rows) false = none
-home_of spec (Writer k) free = none
+abbrev pub home_of : Spec → Keeper → Bool → Bool → mathlib.Core.Option.Option Slot
+home_of spec (Home rows) handed true = some (lodged spec handed rows)
+home_of spec (Home rows) handed false = none
+home_of spec (Writer k) handed free = none
 
 -- so has the slot of each stripe
-abbrev pub HomesAre : Spec → List StripeState → List ℕ → List (mathlib.Core.Option.Option Slot) → Type 0
-HomesAre spec stripes latches homes = (p : ℕ) → p < length stripes → get_elem? homes (slot_place p) ≡ some (home_of spec (stripe_at stripes p).keeper (slice_index latches p == 0))
+abbrev pub HomesAre : Spec → List StripeState → List ℕ → List Bool → List (mathlib.Core.Option.Option Slot) → Type 0
+HomesAre spec stripes latches handed homes =
+    (p : ℕ) → p < length stripes → get_elem? homes (slot_place p) ≡ some (home_of spec (stripe_at stripes p).keeper (get_or handed p false) (slice_index latches p == 0))
 
--- words and homes show the state, with these latches
-pub record Shows (key : Key) (core : CoreState) (latches : List ℕ) (s : State Slot View) : Type 0 where
+-- What stands in the place of a pass's own slot. It is out while the pass shares the stripe, and while somebody writes it; else it has nothing,
+-- or a pointer to the rows that lie at home.
+abbrev pub IsOwnHome : Spec → Keeper → Bool → Bool → mathlib.Core.Option.Option (mathlib.Core.Option.Option Slot) → Type 0
+IsOwnHome spec (Writer j) handed shares home = home ≡ some none
+IsOwnHome spec (Home rows) handed true home = home ≡ some none
+IsOwnHome spec (Home rows) handed false home = (x : Slot) × IsOwn spec handed rows x × (home ≡ some (some x))
+
+-- so does each own slot
+abbrev pub OwnsAre : Spec → CoreState → List Bool → List (mathlib.Core.Option.Option Slot) → Type 0
+OwnsAre spec c handed homes =
+    (k p : ℕ) → k < length c.passes → p < length c.stripes
+    → IsOwnHome spec (stripe_at c.stripes p).keeper (get_or handed p false) (has (shares_of (pass_at c.passes k)) p) (get_elem? homes (own_place k p))
+
+-- What a pass shares may have been handed out: so it can put its pointer into its own slot when it leaves. Not so of the stripe that it has
+-- just entered, of which it has no pointer yet.
+abbrev pub HasHanded : List Bool → Option ℕ → PassState → Type 0
+HasHanded handed entering u = (q : ℕ) → In q (shares_of u) → is_at entering q ≡ false → get_or handed q false ≡ true
+
+abbrev pub HaveHanded : List Bool → Option ℕ → List Standing → Type 0
+HaveHanded handed entering [] = Unit {0}
+HaveHanded handed entering (s ∷ more) = HasHanded handed entering s.core × HaveHanded handed entering more
+
+-- words and homes show the state, with these latches, and where these are the stripes of which pointers may have been handed out
+pub record Shows (key : Key) (core : CoreState) (latches : List ℕ) (handed : List Bool) (s : State Slot View) : Type 0 where
   pub wide : length s.words ≡ 8 * suc (stripes_by key + stripes_by key)
   pub commit : slice_index s.words 0 ≡ length core.history
   pub words : (p : ℕ) → p < stripes_by key → slice_index s.words (stripe_word p) ≡ word_of (stripe_at core.stripes p)
   pub latch_words : (p : ℕ) → p < stripes_by key → slice_index s.words (latch_word (stripes_by key) p) ≡ slice_index latches p
   pub latch_count : length latches ≡ stripes_by key
-  pub slots : length s.homes ≡ 4 * stripes_by key
+  pub slots : length s.homes ≡ 1024 + 260 * key.passes
   pub passes : length core.passes ≡ key.passes
-  pub homes : HomesAre (spec_by key) core.stripes latches s.homes
+  pub homes : HomesAre (spec_by key) core.stripes latches handed s.homes
+  pub handed_count : length handed ≡ stripes_by key
+  pub owns : OwnsAre (spec_by key) core handed s.homes
 
 -- nothing has happened in the row
 abbrev pub at_first_by : Key → RowState
@@ -191,7 +239,9 @@ pub record IsKept (key : Key) (s : State Slot View) : Type 0 where
   pub latches : List ℕ
   pub reached : after_run (compiled_by key) (at_first_by key) run ≡ row_state core latches
   pub seat : ℕ → ℕ
-  pub shows : Shows key core latches s
+  pub handed : List Bool
+  pub shows : Shows key core latches handed s
+  pub readers : (id : ℕ) (v : View) → get_elem? s.views id ≡ some v → HaveHanded handed v.entering v.passes
   pub named : (p : ℕ) → slice_index latches p ≤ length core.passes
   pub seated : (k : ℕ) → k < length core.passes → HasSeat s.views seat k
   pub views : (id : ℕ) (v : View) → get_elem? s.views id ≡ some v

@@ -7,6 +7,7 @@ pub mod Seats
 pub mod Told
 pub mod HeldRows
 pub mod Passes
+pub mod Own
 pub mod PassInside
 pub mod NoteInside
 pub mod RowInside

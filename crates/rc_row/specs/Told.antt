@@ -1,17 +1,21 @@
 -- What each step on the table tells the pass that makes it.
-use Rattle.std.specs.Prelude.{◌≡◌, ℕ, ◌*◌, ◌-◌, ◌/◌, ◌%◌, ◌<◌, ◌^◌, ◌==◌, if◌then◌else◌, List, [], ◌∷◌, ◌++◌, length, Option, Some, None, MatchBool}
+use Rattle.std.specs.Prelude.{◌≡◌, ◌≢◌, ℕ, not, ◌*◌, ◌-◌, ◌/◌, ◌%◌, ◌<◌, ◌^◌, ◌==◌, if◌then◌else◌, Bool, false, true, suc, drop, List, [], ◌∷◌, ◌++◌, length, Option, Some, None, MatchBool}
 use Rattle.rc_spec.specs.Fragments.{EdgeRow}
 use Rattle.rc_spec.specs.declared.lock.Found.{Found}
 use Rattle.rc_spec.specs.declared.lock.Found.TheVariants.{Pass, Readers, Latch}
 use Rattle.rc_spec.specs.declared.lock.Mode.TheVariants.{Shared, Exclusive}
 use Rattle.rc_rel.specs.declared.entry.Entry.{Entry}
+use Rattle.rc_core.specs.declared.state.PassState.{PassState}
+use Rattle.rc_core.specs.State.{is_at}
 use Rattle.rc_core.specs.Good.{IsOfHistory}
 use Rattle.rc_core.specs.Passes.{locked, blocked, shared, back, released, rows_of_hold}
 use Rattle.atomic_table.specs.Table.{Me, Step, rest}
 use Rattle.rc_row.specs.declared.law.Key.{Key}
 use Rattle.rc_row.specs.declared.law.View.{View}
 use Rattle.rc_row.specs.Standings.{with_core, refused, turned_by, latched_out, after_entry, after_look, KeepsOut, IsAtHistory, HaveOneRelation}
-use Rattle.rc_row.specs.Law.{Slot, kept_of, spec_by, compiled_by, stripes_by, slot_place, stripe_word, latch_word, standing_of, pass_view, view_of}
+use Rattle.rc_row.specs.declared.slot.Slot.TheVariants.{Empty, Apart, Handed}
+use Rattle.rc_row.specs.Own.{own_hands}
+use Rattle.rc_row.specs.Law.{IsOwn, Slot, lodged, own_place, spec_by, compiled_by, stripes_by, slot_place, stripe_word, latch_word, standing_of, pass_view, view_of}
 
 -- a seat, as it is seen: its view, and the slots that it has out
 abbrev Who : Type 0
@@ -27,11 +31,15 @@ found_in_latch word = Latch (word - 1)
 
 -- ---- lock and unlock
 
--- the pass writes the stripe p, and has its slot with the rows that lay home
+-- The pass writes the stripe p, and has its slot with the rows that lay home, and the own slots of all passes, which are empty where no
+-- pointer was handed out.
 pub record HasLocked (key : Key) (m : Who) (p : ℕ) (m' : Who) : Type 0 where
   pub rows : List EdgeRow
+  pub handed : Bool
+  pub owns : ℕ → Slot
+  pub empty : handed ≡ false → (j : ℕ) → j < key.passes → owns j ≡ Empty
   pub view : m'.0 ≡ pass_view (with_core (standing_of m.0) (locked (standing_of m.0).core p rows))
-  pub slots : m'.1 ≡ (slot_place p, Some (kept_of (spec_by key) rows)) ∷ m.1
+  pub slots : m'.1 ≡ (slot_place p, lodged (spec_by key) handed rows) ∷ own_hands key.passes p owns ++ m.1
   pub one : HaveOneRelation (spec_by key) (locked (standing_of m.0).core p rows).held
 
 -- somebody writes it, or is counted in
@@ -47,20 +55,32 @@ abbrev pub ToldAtLock : Option Key → Step Slot → Who → ℕ → Who → Typ
 ToldAtLock None st m found m' = Unit {0}
 ToldAtLock (Some key) st m found m' = (p : ℕ) → st.word ≡ stripe_word p → LocksOrNot key m p found m'
 
--- the pass holds the stripe p no more, and its slot is home
-abbrev pub HasUnlocked : Who → ℕ → Who → Type 0
-HasUnlocked m p m' = (m'.0 ≡ pass_view (with_core (standing_of m.0) (released (standing_of m.0).core p))) × (m'.1 ≡ rest m.1)
+-- the pass holds the stripe p no more, and its slot and the own slots of all n passes are home
+abbrev pub HasUnlocked : ℕ → Who → ℕ → Who → Type 0
+HasUnlocked n m p m' = (m'.0 ≡ pass_view (with_core (standing_of m.0) (released (standing_of m.0).core p))) × (m'.1 ≡ drop (suc n) m.1)
+
+-- how many passes there are, by the number of slots
+abbrev pub passes_in : ℕ → ℕ
+passes_in slots = (slots - 1024) / 260
 
 abbrev pub ToldAtUnlock : Step Slot → Who → ℕ → Who → Type 0
-ToldAtUnlock st m found m' = (p : ℕ) → st.word ≡ stripe_word p → HasUnlocked m p m'
+ToldAtUnlock st m found m' = (p : ℕ) → st.word ≡ stripe_word p → HasUnlocked (passes_in st.slots) m p m'
 
 -- ---- readers
 
--- the pass shares the stripe, whose rows stay as long as it does
+-- what a pass still lacks that found this in its own slot: a pointer to the fragment of the stripe
+abbrev pub lacking : ℕ → Slot → Option ℕ
+lacking p Empty = Some p
+lacking p (Apart kept) = Some p
+lacking p (Handed kept) = None
+
+-- The pass shares the stripe, whose rows stay as long as it does, and has its own slot with nothing or a pointer to them.
 pub record HasEntered (key : Key) (m : Who) (p : ℕ) (m' : Who) : Type 0 where
   pub rows : List EdgeRow
-  pub view : m'.0 ≡ pass_view (with_core (standing_of m.0) (shared (standing_of m.0).core p rows))
-  pub slots : m'.1 ≡ m.1
+  pub own : Slot
+  pub is_own : IsOwn (spec_by key) true rows own
+  pub view : m'.0 ≡ view_of (with_core (standing_of m.0) (shared (standing_of m.0).core p rows)) None (lacking p own)
+  pub slots : m'.1 ≡ (own_place (standing_of m.0).core.number p, own) ∷ m.1
   pub one : HaveOneRelation (spec_by key) (shared (standing_of m.0).core p rows).held
 
 -- a writer was found, and the pass turns back
@@ -83,9 +103,17 @@ IsBack m m' = (m'.0 ≡ pass_view (with_core (standing_of m.0) (back (standing_o
 abbrev pub ToldAtBack : Step Slot → Who → ℕ → Who → Type 0
 ToldAtBack st m found m' = IsBack m m'
 
--- the pass shares the stripe p no more
+-- A pass may leave the stripe p with nothing in its own slot, or with a pointer to the rows that it shares, where it doesn't lack one. It
+-- lacks no pointer to another.
+pub record MayLeave (key : Key) (u : PassState) (p : ℕ) (lacks : Option ℕ) (slots : List (ℕ × Slot)) : Type 0 where
+  pub only : (q : ℕ) → q ≢ p → is_at lacks q ≡ false
+  pub own : Slot
+  pub front : slots ≡ (own_place u.number p, own) ∷ rest slots
+  pub is_own : IsOwn (spec_by key) (not (is_at lacks p)) (rows_of_hold u.held p) own
+
+-- the pass shares the stripe p no more, and its own slot is home
 abbrev pub HasLeft : Who → ℕ → Who → Type 0
-HasLeft m p m' = (m'.0 ≡ pass_view (with_core (standing_of m.0) (released (standing_of m.0).core p))) × (m'.1 ≡ m.1)
+HasLeft m p m' = (m'.0 ≡ pass_view (with_core (standing_of m.0) (released (standing_of m.0).core p))) × (m'.1 ≡ rest m.1)
 
 abbrev pub ToldAtLeave : Step Slot → Who → ℕ → Who → Type 0
 ToldAtLeave st m found m' = (p : ℕ) → st.word ≡ stripe_word p → HasLeft m p m'
@@ -93,13 +121,15 @@ ToldAtLeave st m found m' = (p : ℕ) → st.word ≡ stripe_word p → HasLeft 
 -- ---- latches
 
 -- the latch is the pass's, with the slot and the rows with which it shares the stripe
-abbrev pub HasLatched : Key → Who → ℕ → Who → Type 0
-HasLatched key m p m' = (m'.0 ≡ view_of (standing_of m.0) (Some p)) × (m'.1 ≡ (slot_place p, Some (kept_of (spec_by key) (rows_of_hold (standing_of m.0).core.held p))) ∷ m.1)
+pub record HasLatched (key : Key) (m : Who) (p : ℕ) (m' : Who) : Type 0 where
+  pub handed : Bool
+  pub view : m'.0 ≡ view_of (standing_of m.0) (Some p) (Some p)
+  pub slots : m'.1 ≡ (slot_place p, lodged (spec_by key) handed (rows_of_hold (standing_of m.0).core.held p)) ∷ m.1
 
 -- another pass has it
 pub record IsLatchedOut (key : Key) (m : Who) (p found : ℕ) (m' : Who) : Type 0 where
   pub keeps_out : KeepsOut Shared key.passes (standing_of m.0).core.number (found_in_latch found)
-  pub view : m'.0 ≡ pass_view (latched_out (standing_of m.0) p (found_in_latch found))
+  pub view : m'.0 ≡ view_of (latched_out (standing_of m.0) p (found_in_latch found)) None (Some p)
   pub slots : m'.1 ≡ m.1
 
 abbrev pub LatchesOrNot : Key → Who → ℕ → ℕ → Who → Type 0
@@ -109,7 +139,7 @@ abbrev pub ToldAtLatch : Option Key → Step Slot → Who → ℕ → Who → Ty
 ToldAtLatch None st m found m' = Unit {0}
 ToldAtLatch (Some key) st m found m' = (p : ℕ) → st.word ≡ latch_word (stripes_by key) p → LatchesOrNot key m p found m'
 
--- the latch is free, and the slot home
+-- the latch is free, and the slot home, of which pointers are handed out: so the pass has its own
 abbrev pub HasUnlatched : Who → Who → Type 0
 HasUnlatched m m' = (m'.0 ≡ pass_view (standing_of m.0)) × (m'.1 ≡ rest m.1)
 

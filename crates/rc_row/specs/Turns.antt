@@ -1,15 +1,9 @@
--- The order of the slots that a seat has out, and where a held stripe is.
-use Rattle.std.specs.Prelude.{◌≡◌, ℕ, zero, suc, List, ◌∷◌, ◌++◌, length, take, drop}
+-- Where a held stripe is.
+use Rattle.std.specs.Prelude.{◌≡◌, ℕ, suc, List, ◌∷◌, ◌++◌, length, take, drop}
 use Rattle.rc_tuple.specs.RisingSet.{In}
 use Rattle.rc_core.specs.State.{stripes_in}
-use Rattle.atomic_table.specs.Table.{turned}
 use Rattle.rc_row.specs.HeldRows.{HeldRows}
-use Rattle.rc_row.specs.Law.{Slot}
 use Rattle.rc_row.specs.Passes.{holds_taken}
-
-abbrev pub turned_by_count : ℕ → List (ℕ × Slot) → List (ℕ × Slot)
-turned_by_count zero slots = slots
-turned_by_count (suc k) slots = turned (turned_by_count k slots)
 
 -- the first that is held at the stripe p, with those before and after it
 pub record IsHeldAt (held : List HeldRows) (p at : ℕ) : Type 0 where

@@ -10,7 +10,8 @@ use crate::held::HeldFragment;
 use crate::keeping::Keeping;
 use crate::law::{Key, View};
 use crate::pass::Pass;
-use crate::row::{Row, SLOTS_OF_A_LINE, WORDS_OF_A_LINE};
+use crate::row::{FIRST_OWN, Row, SLOTS_OF_A_PASS, WORDS_OF_A_LINE, is_of_stripe};
+use crate::slot::Slot;
 use crate::waiting::Waiting;
 use atomic_table::{Refused, Seat, Table};
 use rc_fragment::{Fragment, Keep};
@@ -56,12 +57,7 @@ impl Row {
     }
 
     /// The next pass.
-    fn deal(
-        &self,
-        seat: &mut Seat<Option<Keep>, View>,
-        number: u32,
-        held: Vec<HeldFragment>,
-    ) -> Pass
+    fn deal(&self, seat: &mut Seat<Slot, View>, number: u32, held: Vec<HeldFragment>) -> Pass
         requires row { seat.old.table_id ≡ self.now.table }
         requires number { number < 255 }
         requires some { (n : ℕ) × (seat.old.me.0 ≡ passes_view (starts number (suc n))) }
@@ -95,7 +91,7 @@ fn open(
     compiled: &Compiled,
     passes: u32,
     keeping: Keeping,
-) -> Result<(Row, Seat<Option<Keep>, View>), Memory>
+) -> Result<(Row, Seat<Slot, View>), Memory>
     requires { (1 ≤ passes) × (passes ≤ 255) }
     ensures row { IfOk result (λ r. (r.0.key.compiled.value ≡ compiled.now) × (r.0.key.passes ≡ passes) × (r.0.key.seed ≡ seed) × (r.0.keeping ≡ keeping)) }
     ensures seat { IfOk result (λ r. (r.1.table_id ≡ r.0.table) × (r.1.me ≡ (passes_view (starts 0 passes), []))) }
@@ -108,7 +104,7 @@ fn open(
         seed,
     };
     let words = vec![in alloc; 0u64; WORDS_OF_A_LINE * (2 * stripes + 1)]?;
-    let slots = empty_slots(alloc, key.seed, compiled.accepted())?;
+    let slots = empty_slots(alloc, key.seed, compiled.accepted(), passes)?;
     match Table::new(alloc, words.as_slice(), slots, &key) {
         Ok((table, seat)) => Ok((
             Row {
@@ -123,19 +119,26 @@ fn open(
     }
 }
 
-/// A slot for each stripe, with a fragment that has no row, and beside each those that fill its line, with nothing.
-fn empty_slots(alloc: Global, seed: Seed, accepted: &Accepted) -> Result<Vec<Option<Keep>>, Memory>
-    ensures { IfOk result (λ slots. AreEmptySlots accepted.now (stripe_total accepted.now) slots.items) }
+/// The slots of a row: that of each stripe has a fragment with no row, and all others have nothing.
+fn empty_slots(
+    alloc: Global,
+    seed: Seed,
+    accepted: &Accepted,
+    passes: u32,
+) -> Result<Vec<Slot>, Memory>
+    requires { passes ≤ 255 }
+    ensures { IfOk result (λ slots. AreEmptySlots accepted.now (stripe_total accepted.now) passes slots.items) }
 {
     let stripes = stripe_total(accepted.spec()) as usize;
-    let mut slots = Vec::with_capacity(alloc, SLOTS_OF_A_LINE * stripes)?;
-    for i in 0..SLOTS_OF_A_LINE * stripes {
-        if i % SLOTS_OF_A_LINE != 0 {
-            slots.push(None)?;
+    let count = FIRST_OWN + SLOTS_OF_A_PASS * passes as usize;
+    let mut slots = Vec::with_capacity(alloc, count)?;
+    for i in 0..count {
+        if !is_of_stripe(i, stripes) {
+            slots.push(Slot::Empty)?;
             continue;
         }
         let fragment = Fragment::empty(alloc, seed, accepted)?;
-        slots.push(Some(Keep::of(fragment)))?;
+        slots.push(Slot::Apart(Keep::of(fragment)))?;
     }
     Ok(slots)
 }

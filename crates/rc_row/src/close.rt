@@ -1,18 +1,19 @@
 //! How a row is closed.
 
-ghost use Rattle.std.specs.Prelude.{◌≡◌, ℕ, ◌+◌, ◌*◌, ◌/◌, ◌<◌, ◌≤◌, [], All, IfErr, IfOk, None, Some, length, map, vec_capacity};
+ghost use Rattle.std.specs.Prelude.{◌≡◌, ℕ, ◌<◌, ◌≤◌, Bool, [], All, IfErr, IfOk, None, Some, length, map, vec_capacity};
 ghost use mathlib.Core.Option.{some};
 ghost use lib.ListN.{get_elem?};
 ghost use Rattle.std.specs.List.{slice_get};
 ghost use Rattle.std.specs.Slots.{IsFull, slots_items, slots_len};
 ghost use Rattle.rc_fragment.specs.Keep.{KeptRows};
 ghost use Rattle.rc_row.specs.Ended.{AreEnded, HasHistory, IsEndedPass};
-ghost use Rattle.rc_row.specs.Law.{pass_view, passes_view, slot_place};
+ghost use Rattle.rc_row.specs.Law.{kept_in, pass_view, passes_view, slot_place};
 ghost use Rattle.rc_row.specs.Passes.{AreIdlePasses, core_of, spec_of};
 
 use crate::law::View;
 use crate::pass::Pass;
-use crate::row::{Row, SLOTS_OF_A_LINE};
+use crate::row::{Row, is_of_stripe};
+use crate::slot::Slot;
 use atomic_table::{Closed, Seat};
 use rc_fragment::Keep;
 use rc_journal::Part;
@@ -69,7 +70,7 @@ impl Row {
             keeping: _,
             alloc: _,
         } = self;
-        take_all(table.close_with(seat), &mut fragments);
+        take_all(table.close_with(seat), stripes, &mut fragments);
         Ok(EndedRow {
             fragments,
             passes: ended,
@@ -85,7 +86,7 @@ impl Row {
     }
 
     /// One seat with all passes, and what they leave.
-    fn gather(&self, mut passes: Vec<Pass>, ended: &mut Vec<EndedPass>) -> Seat<Option<Keep>, View>
+    fn gather(&self, mut passes: Vec<Pass>, ended: &mut Vec<EndedPass>) -> Seat<Slot, View>
         requires passes { AreIdlePasses self.now passes.items × (0 < length passes.items) }
         requires room { (ended.old.items ≡ []) × (length passes.items ≤ vec_capacity ended.old) }
         ensures row { result.table_id ≡ self.now.table }
@@ -106,7 +107,7 @@ impl Row {
 }
 
 /// What a pass that holds nothing leaves, and its seat.
-fn unpack(pass: Pass) -> (EndedPass, Seat<Option<Keep>, View>)
+fn unpack(pass: Pass) -> (EndedPass, Seat<Slot, View>)
     requires { pass.held ≡ [] }
     ensures ended { IsEndedPass (core_of pass).own pass.kept result.0 }
     ensures row { result.1.table_id ≡ pass.table }
@@ -127,25 +128,23 @@ fn unpack(pass: Pass) -> (EndedPass, Seat<Option<Keep>, View>)
     (EndedPass { made, entries }, seat)
 }
 
-/// The fragments of a closed table. The slots between those of the stripes are empty.
-fn take_all(closed: Closed<Option<Keep>, Global>, fragments: &mut Vec<Keep>)
+/// The fragments of a closed table, of so many stripes. The pointers that passes have kept are dropped, and all other slots are empty.
+fn take_all(closed: Closed<Slot, Global>, stripes: usize, fragments: &mut Vec<Keep>)
     requires full { IsFull closed.slots }
-    requires some { (p : ℕ) → slot_place p < slots_len closed.slots → (keep : KeptRows) × (get_elem? (slots_items closed.slots) (slot_place p) ≡ some (Some keep)) }
-    requires room { (fragments.old.items ≡ []) × (slots_len closed.slots ≤ 4 * vec_capacity fragments.old) }
-    ensures count { length fragments.new.items ≡ (slots_len closed.slots + 3) / 4 }
-    ensures items { (p : ℕ) (keep : KeptRows) → slot_place p < slots_len closed.slots → get_elem? (slots_items closed.slots) (slot_place p) ≡ some (Some keep) → slice_get fragments.new.items p ≡ Some keep }
+    requires inside { slot_place stripes ≤ slots_len closed.slots }
+    requires some { (p : ℕ) → p < stripes → (handed : Bool) × (keep : KeptRows) × (get_elem? (slots_items closed.slots) (slot_place p) ≡ some (kept_in handed keep)) }
+    requires room { (fragments.old.items ≡ []) × (stripes ≤ vec_capacity fragments.old) }
+    ensures count { length fragments.new.items ≡ stripes }
+    ensures items { (p : ℕ) (handed : Bool) (keep : KeptRows) → p < stripes → get_elem? (slots_items closed.slots) (slot_place p) ≡ some (kept_in handed keep) → slice_get fragments.new.items p ≡ Some keep }
 {
     let mut closed = closed;
     let count = closed.slot_count();
     for i in 0..count {
         let slot = closed.take(i);
-        if i % SLOTS_OF_A_LINE != 0 {
+        if !is_of_stripe(i, stripes) {
             continue;
         }
-        match slot {
-            Some(keep) => fragments.push_reserved(keep),
-            None => unreachable!(),
-        }
+        fragments.push_reserved(slot.into_keep());
     }
     closed.free();
 }

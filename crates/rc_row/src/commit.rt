@@ -13,8 +13,8 @@ use crate::law::View;
 use crate::pass::{Note, Pass};
 use crate::plays::Carries;
 use crate::row::Row;
+use crate::slot::Slot;
 use atomic_table::Seat;
-use rc_fragment::Keep;
 use rc_journal::Part;
 use rc_rel::{Entry, Placed};
 use rc_spec::{Call, Reply};
@@ -58,7 +58,7 @@ impl Row {
     }
 
     /// The step that commits this entry, which a call picks by it.
-    fn commit_entry<E: Carries>(&self, seat: &mut Seat<Option<Keep>, View>, entry: &Entry) -> u64
+    fn commit_entry<E: Carries>(&self, seat: &mut Seat<Slot, View>, entry: &Entry) -> u64
         requires entry { E.entry ≡ entry.now }
         requires key { E.told ≡ Some self.now.key }
         requires row { seat.old.table_id ≡ self.now.table }
@@ -74,7 +74,7 @@ impl Row {
     /// The step that commits these calls with their replies as the pass's next entry, which a call picks by them.
     fn commit_next<E: Carries>(
         &self,
-        seat: &mut Seat<Option<Keep>, View>,
+        seat: &mut Seat<Slot, View>,
         calls: &[Call],
         replies: &[Reply],
     ) -> u64

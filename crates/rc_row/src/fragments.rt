@@ -27,7 +27,7 @@ impl Pass {
 
     /// Makes room for so many changes of a stripe that the pass writes; it may be called again. Takes memory for the notes
     /// of the changes, and for a copy where another pass still has the fragment. By the order of steps that doesn't happen,
-    /// since a reader lets its pointer go before it is counted out; no contract sees it. Where memory is wanted nothing changes.
+    /// since a lock drops the pointers that readers have kept; no contract sees it. Where memory is wanted nothing changes.
     pub fn own(&mut self, stripe: u32, changes: u16) -> Result<(), Memory>
         requires { In stripe (writes_of (core_of self.old)) }
         ensures ok { OnOk result (self.new ≡ with_held stripe (with_promise changes) self.old) }

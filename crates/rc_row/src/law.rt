@@ -1,8 +1,8 @@
 //! The rule of the table that a row is: at every moment words, slots and views show a run of the core.
 
+use crate::slot::Slot;
 use atomic_table::TableRule;
 use rc_core::{Hold, PassState};
-use rc_fragment::Keep;
 use rc_maps::Seed;
 use rc_plan::Compiled;
 use rc_rel::Entry;
@@ -54,6 +54,8 @@ pub struct View {
     pub passes: SmallList<Standing>,
     /// The stripe whose latch the pass has.
     pub latch: Option<u32>,
+    /// The stripe that the pass has just come to share, and has no pointer of yet.
+    pub entering: Option<u32>,
     /// The length of the history that a note tells.
     pub told: u64,
     /// The histories that the note's pass was told of.
@@ -64,7 +66,7 @@ pub struct View {
 /// whose refused steps are those that the views count.
 pub struct Law;
 
-impl TableRule<Option<Keep>, View, Key> for Law {
+impl TableRule<Slot, View, Key> for Law {
     ghost use Rattle.rc_row.specs.Law.{IsKept, opener};
 
     ghost holds = { IsKept };

@@ -18,6 +18,7 @@ mod plays;
 mod readers;
 mod release;
 mod row;
+mod slot;
 mod steps;
 mod waiting;
 
@@ -30,3 +31,4 @@ pub use laws::{
 };
 pub use pass::{Note, Pass};
 pub use row::Row;
+pub use slot::Slot;

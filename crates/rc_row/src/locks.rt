@@ -1,6 +1,6 @@
 //! The calls of a writer.
 
-ghost use Rattle.std.specs.Prelude.{◌≡◌, List, ◌<◌, [], ◌∷◌, ◌++◌, IfNone, IfSome, None, Some, vec_capacity, vec_len};
+ghost use Rattle.std.specs.Prelude.{◌≡◌, ℕ, Bool, List, ◌<◌, ◌≤◌, [], ◌∷◌, ◌++◌, IfNone, IfSome, None, Some, length};
 ghost use Rattle.rc_tuple.specs.RisingSet.{In};
 ghost use Rattle.rc_spec.specs.Fragments.{EdgeRow};
 ghost use Rattle.rc_spec.specs.declared.lock.Mode.TheVariants.{Exclusive};
@@ -8,16 +8,18 @@ ghost use Rattle.rc_core.specs.State.{writes_of};
 ghost use Rattle.rc_core.specs.Passes.{IsAbove};
 ghost use Rattle.atomic_table.specs.Table.{rest};
 ghost use Rattle.rc_fragment.specs.Keep.{IsAtRest, KeptRows};
-ghost use Rattle.rc_row.specs.HeldRows.{just_held};
-ghost use Rattle.rc_row.specs.Law.{slot_place};
+ghost use Rattle.rc_row.specs.declared.slot.Slot.TheVariants.{Empty};
+ghost use Rattle.rc_row.specs.Law.{Slot, slot_place};
+ghost use Rattle.rc_row.specs.Own.{IsLockedWith, hand_out, hands_out, own_hands};
 ghost use Rattle.rc_row.specs.Passes.{HasWaited, IsPassOf, OfHeld, PassSeen, core_of, spec_of, stripes_of, with_standing, with_taken, without_stripe};
 ghost use Rattle.rc_row.specs.Standings.{HaveOneRelation, KeepsOut, turned_away};
 
-use crate::hands::{found_in, place_of, take_at, turn_by, turns_for};
+use crate::hands::{found_in, place_of, slots_out, take_at, turn_by, turns_for};
 use crate::held::HeldFragment;
 use crate::law::View;
 use crate::pass::Pass;
-use crate::row::{Row, slot_place, stripe_word};
+use crate::row::{Row, own_place, slot_place, stripe_word};
+use crate::slot::Slot;
 use crate::waiting::SPINS;
 use atomic_table::Seat;
 use rc_fragment::Keep;
@@ -49,29 +51,51 @@ impl Row {
         if found != 0 {
             return Some(found_in(found));
         }
-        self.take_out(&mut pass.seat, &mut pass.held, stripe);
+        let keep = self.take_alone(&mut pass.seat, &pass.held, stripe);
+        pass.held.push_reserved(HeldFragment::locked(stripe, keep));
         None
     }
 
-    /// The fragment in the slot that was taken last goes to the pass.
-    fn take_out(
-        &self,
-        seat: &mut Seat<Option<Keep>, View>,
-        held: &mut Vec<HeldFragment>,
-        stripe: u32,
-    )
+    /// The fragment in the slot that was taken last, with the own slots of its stripe. Where pointers to it were handed out, they are
+    /// dropped, so that the pass has it alone.
+    fn take_alone(&self, seat: &mut Seat<Slot, View>, held: &Vec<HeldFragment>, stripe: u32) -> Keep
         requires row { seat.old.table_id ≡ self.now.table }
         requires stripe { stripe < stripes_of self.now }
-        requires slot { (keep : KeptRows) × (seat.old.me.1 ≡ (slot_place stripe, Some keep) ∷ rest seat.old.me.1) }
-        requires room { vec_len held.old < vec_capacity held.old }
-        ensures seat { (seat.new.table_id ≡ seat.old.table_id) × (seat.new.id ≡ seat.old.id) × (seat.new.me ≡ (seat.old.me.0, (slot_place stripe, None) ∷ rest seat.old.me.1)) }
-        ensures held { (keep : KeptRows) → seat.old.me.1 ≡ (slot_place stripe, Some keep) ∷ rest seat.old.me.1 → held.new.items ≡ held.old.items ++ just_held stripe Exclusive keep ∷ [] }
-        ensures room { vec_capacity held.new ≡ vec_capacity held.old }
+        requires few { length held.now.items ≤ 256 }
+        requires slots { (k : ℕ) × (handed : Bool) × (keep : KeptRows) × (owns : ℕ → Slot) × IsLockedWith self.now.key.passes stripe handed keep owns seat.old.me.1 (hands_out self.now.key.passes k held.now.items) }
+        ensures seat { (seat.new.table_id ≡ seat.old.table_id) × (seat.new.id ≡ seat.old.id) × (seat.new.me.0 ≡ seat.old.me.0) }
+        ensures alone { (k : ℕ) (handed : Bool) (keep : KeptRows) (owns : ℕ → Slot) → IsLockedWith self.now.key.passes stripe handed keep owns seat.old.me.1 (hands_out self.now.key.passes k held.now.items) → (result ≡ keep) × (seat.new.me.1 ≡ hand_out self.now.key.passes k Exclusive stripe ++ hands_out self.now.key.passes k held.now.items) }
     {
-        match self.table.shared.exchange(seat, slot_place(stripe), None) {
-            Some(keep) => held.push_reserved(HeldFragment::locked(stripe, keep)),
-            None => unreachable!(),
+        match self
+            .table
+            .shared
+            .exchange(seat, slot_place(stripe), Slot::Empty)
+        {
+            Slot::Apart(keep) => keep,
+            Slot::Handed(keep) => {
+                let others = slots_out(held.as_slice(), self.pass_count());
+                self.drop_pointers(seat, stripe, others);
+                keep
+            }
+            Slot::Empty => unreachable!(),
         }
+    }
+
+    /// Empties the own slots of a stripe just locked, which lie behind its slot and before so many others. Costs the passes.
+    fn drop_pointers(&self, seat: &mut Seat<Slot, View>, stripe: u32, others: usize)
+        requires row { seat.old.table_id ≡ self.now.table }
+        requires stripe { stripe < stripes_of self.now }
+        requires slots { (owns : ℕ → Slot) × (more : List (ℕ × Slot)) × (seat.old.me.1 ≡ (slot_place stripe, Empty) ∷ own_hands self.now.key.passes stripe owns ++ more) }
+        ensures seat { (seat.new.table_id ≡ seat.old.table_id) × (seat.new.id ≡ seat.old.id) × (seat.new.me.0 ≡ seat.old.me.0) }
+        ensures slots { (owns : ℕ → Slot) (more : List (ℕ × Slot)) → others ≡ length more → seat.old.me.1 ≡ (slot_place stripe, Empty) ∷ own_hands self.now.key.passes stripe owns ++ more → seat.new.me.1 ≡ (slot_place stripe, Empty) ∷ own_hands self.now.key.passes stripe (λ _. Empty) ++ more }
+    {
+        seat.turn();
+        for pass in (0..self.pass_count()).rev() {
+            let own = own_place(pass, stripe);
+            drop(self.table.shared.exchange(seat, own, Slot::Empty));
+            seat.turn();
+        }
+        turn_by(seat, others);
     }
 
     /// Locks the stripe as `try_lock` does, and waits where something is in the way. If it returns, the stripe is
@@ -125,30 +149,28 @@ impl Row {
         ensures pass { IsPassOf self.now pass.new }
         ensures value { pass.new ≡ without_stripe stripe pass.old }
     {
+        // The table tells how many passes and stripes there are.
+        let _ = &self.table;
         let at = place_of(&pass.held, stripe);
-        let (above, below) = turns_for(&pass.held, at);
+        let (above, below) = turns_for(&pass.held, at, self.pass_count());
         let mark = pass.number as u64 + 1;
         turn_by(&mut pass.seat, above);
         let held = take_at(&mut pass.held, at);
-        self.put_in(&mut pass.seat, stripe, held.fragment.into_keep());
+        let home = Slot::Apart(held.fragment.into_keep());
+        self.put_in(&mut pass.seat, slot_place(stripe), home);
         self.unlock_step(&mut pass.seat, mark, stripe);
         turn_by(&mut pass.seat, below);
     }
 
-    /// The fragment goes into its slot, which is at the front.
-    pub(crate) fn put_in(&self, seat: &mut Seat<Option<Keep>, View>, stripe: u32, keep: Keep)
+    /// A value goes into the slot at the front, which is empty.
+    pub(crate) fn put_in(&self, seat: &mut Seat<Slot, View>, place: usize, value: Slot)
         requires row { seat.old.table_id ≡ self.now.table }
-        requires stripe { stripe < stripes_of self.now }
-        requires slot { seat.old.me.1 ≡ (slot_place stripe, None) ∷ rest seat.old.me.1 }
-        ensures { (seat.new.table_id ≡ seat.old.table_id) × (seat.new.id ≡ seat.old.id) × (seat.new.me ≡ (seat.old.me.0, (slot_place stripe, Some keep) ∷ rest seat.old.me.1)) }
+        requires slot { seat.old.me.1 ≡ (place, Empty) ∷ rest seat.old.me.1 }
+        ensures { (seat.new.table_id ≡ seat.old.table_id) × (seat.new.id ≡ seat.old.id) × (seat.new.me ≡ (seat.old.me.0, (place, value) ∷ rest seat.old.me.1)) }
     {
-        match self
-            .table
-            .shared
-            .exchange(seat, slot_place(stripe), Some(keep))
-        {
-            None => {}
-            Some(_) => unreachable!(),
+        match self.table.shared.exchange(seat, place, value) {
+            Slot::Empty => {}
+            Slot::Apart(_) | Slot::Handed(_) => unreachable!(),
         }
     }
 

@@ -6,8 +6,8 @@ ghost use Rattle.rc_row.specs.Passes.{AreEntriesOf, HasReserved};
 
 use crate::held::HeldFragment;
 use crate::law::View;
+use crate::slot::Slot;
 use atomic_table::Seat;
-use rc_fragment::Keep;
 use rc_journal::Part;
 use rc_machine::Workspace;
 use rc_rel::Placed;
@@ -29,7 +29,7 @@ pub struct Pass {
     pub(crate) entries: Option<Part>,
     pub(crate) space: Option<Box<Workspace>>,
     pub(crate) alloc: Global,
-    pub(crate) seat: Seat<Option<Keep>, View>,
+    pub(crate) seat: Seat<Slot, View>,
 }
 
 impl Model for Pass {
@@ -119,7 +119,7 @@ impl Pass {
 #[derive(Drop)]
 pub struct Note {
     pub(crate) told: u64,
-    pub(crate) seat: Seat<Option<Keep>, View>,
+    pub(crate) seat: Seat<Slot, View>,
 }
 
 impl Model for Note {

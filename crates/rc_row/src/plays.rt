@@ -3,8 +3,8 @@
 ghost use Rattle.rc_row.specs.Told.{ToldAtBack, ToldAtCommit, ToldAtEnter, ToldAtLatch, ToldAtLeave, ToldAtLock, ToldAtLook, ToldAtUnlatch, ToldAtUnlock};
 
 use crate::law::View;
+use crate::slot::Slot;
 use atomic_table::{Join, Play, Split};
-use rc_fragment::Keep;
 use std::marker::{Brand, PhantomData};
 
 /// What the table was told. Each call picks it, since a play can't read the table's key.
@@ -45,14 +45,14 @@ pub struct Lock<C> {
     key: PhantomData<C>,
 }
 
-impl<C: Knows> Play<Option<Keep>, View> for Lock<C> {
+impl<C: Knows> Play<Slot, View> for Lock<C> {
     ghost then = { ToldAtLock C.key };
 }
 
 /// A fetch-sub on a stripe's word, by its writer.
 pub struct Unlock;
 
-impl Play<Option<Keep>, View> for Unlock {
+impl Play<Slot, View> for Unlock {
     ghost then = { ToldAtUnlock };
 }
 
@@ -61,21 +61,21 @@ pub struct Enter<C> {
     key: PhantomData<C>,
 }
 
-impl<C: Knows> Play<Option<Keep>, View> for Enter<C> {
+impl<C: Knows> Play<Slot, View> for Enter<C> {
     ghost then = { ToldAtEnter C.key };
 }
 
 /// A fetch-sub on a stripe's word, by a reader that found a writer.
 pub struct Back;
 
-impl Play<Option<Keep>, View> for Back {
+impl Play<Slot, View> for Back {
     ghost then = { ToldAtBack };
 }
 
 /// A fetch-sub on a stripe's word, by a reader that is done.
 pub struct Leave;
 
-impl Play<Option<Keep>, View> for Leave {
+impl Play<Slot, View> for Leave {
     ghost then = { ToldAtLeave };
 }
 
@@ -84,14 +84,14 @@ pub struct Latch<C> {
     key: PhantomData<C>,
 }
 
-impl<C: Knows> Play<Option<Keep>, View> for Latch<C> {
+impl<C: Knows> Play<Slot, View> for Latch<C> {
     ghost then = { ToldAtLatch C.key };
 }
 
 /// A swap on a latch that frees it.
 pub struct Unlatch;
 
-impl Play<Option<Keep>, View> for Unlatch {
+impl Play<Slot, View> for Unlatch {
     ghost then = { ToldAtUnlatch };
 }
 
@@ -100,7 +100,7 @@ pub struct Commit<E> {
     entry: PhantomData<E>,
 }
 
-impl<E: Carries> Play<Option<Keep>, View> for Commit<E> {
+impl<E: Carries> Play<Slot, View> for Commit<E> {
     ghost then = { ToldAtCommit E.told E.entry };
 }
 
@@ -109,7 +109,7 @@ pub struct Look<C> {
     key: PhantomData<C>,
 }
 
-impl<C: Knows> Play<Option<Keep>, View> for Look<C> {
+impl<C: Knows> Play<Slot, View> for Look<C> {
     ghost then = { ToldAtLook C.key };
 }
 

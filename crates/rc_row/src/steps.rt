@@ -1,14 +1,16 @@
 //! The atomic steps of a row, each of one kind, on a seat.
 
-ghost use Rattle.std.specs.Prelude.{◌≡◌, ℕ, suc, ◌<◌, [], ◌∷◌, None, Some};
+ghost use Rattle.std.specs.Prelude.{◌≡◌, ℕ, suc, Option, ◌<◌, [], ◌∷◌, ◌++◌, None, Some, drop};
 ghost use Rattle.rc_tuple.specs.RisingSet.{In};
 ghost use Rattle.rc_core.specs.State.{shares_of, writes_of};
 ghost use Rattle.rc_core.specs.Passes.{IsHigh, MayCommit, rows_of_hold};
 ghost use Rattle.atomic_table.specs.Table.{rest};
+ghost use Rattle.rc_row.specs.declared.slot.Slot.TheVariants.{Apart, Empty, Handed};
+ghost use Rattle.rc_row.specs.Own.{own_hands};
 ghost use Rattle.rc_row.specs.Law.{kept_of, note_view, numbers_in, pass_view, passes_view, slot_place, standing_of, view_of};
 ghost use Rattle.rc_row.specs.Passes.{compiled_of, spec_of, stripes_of};
 ghost use Rattle.rc_row.specs.Seats.{dealt, gathered, informed, noted, undealt};
-ghost use Rattle.rc_row.specs.Told.{EntersOrTurns, HasCommitted, HasLeft, HasLooked, HasUnlatched, HasUnlocked, IsBack, LatchesOrNot, LocksOrNot};
+ghost use Rattle.rc_row.specs.Told.{EntersOrTurns, HasCommitted, HasLeft, HasLooked, HasUnlatched, HasUnlocked, IsBack, LatchesOrNot, LocksOrNot, MayLeave};
 
 use crate::law::View;
 use crate::plays::{
@@ -16,17 +18,17 @@ use crate::plays::{
     Unlock,
 };
 use crate::row::{COMMIT_WORD, Row, latch_word, stripe_word};
+use crate::slot::Slot;
 use atomic_table::Seat;
-use rc_fragment::Keep;
 
 /// What one reader adds to a stripe's word.
 const READER: u64 = 1 << 16;
 
 impl Row {
-    /// Locks the stripe, where nobody has it, and takes its slot.
+    /// Locks the stripe, where nobody has it, and takes its slot and the own slots of all passes there.
     pub(crate) fn lock_step<C: Knows>(
         &self,
-        seat: &mut Seat<Option<Keep>, View>,
+        seat: &mut Seat<Slot, View>,
         mark: u64,
         stripe: u32,
     ) -> u64
@@ -44,28 +46,24 @@ impl Row {
             .compare_exchange::<Lock<C>>(seat, stripe_word(stripe), 0, mark)
     }
 
-    /// Unlocks the stripe, and puts the slot that was taken last home.
-    pub(crate) fn unlock_step(&self, seat: &mut Seat<Option<Keep>, View>, mark: u64, stripe: u32)
+    /// Unlocks the stripe, and puts its slot, which was taken last, and the own slots there home.
+    pub(crate) fn unlock_step(&self, seat: &mut Seat<Slot, View>, mark: u64, stripe: u32)
         requires row { seat.old.table_id ≡ self.now.table }
         requires pass { seat.old.me.0 ≡ pass_view (standing_of seat.old.me.0) }
         requires mark { mark ≡ suc (standing_of seat.old.me.0).core.number }
         requires stripe { stripe < stripes_of self.now }
         requires held { In stripe (writes_of (standing_of seat.old.me.0).core) }
-        requires slot { seat.old.me.1 ≡ (slot_place stripe, Some (kept_of (spec_of self.now) (rows_of_hold (standing_of seat.old.me.0).core.held stripe))) ∷ rest seat.old.me.1 }
+        requires slots { seat.old.me.1 ≡ (slot_place stripe, Apart (kept_of (spec_of self.now) (rows_of_hold (standing_of seat.old.me.0).core.held stripe))) ∷ own_hands self.now.key.passes stripe (λ _. Empty) ++ drop (suc self.now.key.passes) seat.old.me.1 }
         ensures seat { (seat.new.table_id ≡ seat.old.table_id) × (seat.new.id ≡ seat.old.id) }
-        ensures told { HasUnlocked seat.old.me stripe seat.new.me }
+        ensures told { HasUnlocked self.now.key.passes seat.old.me stripe seat.new.me }
     {
         self.table
             .shared
             .fetch_sub::<Unlock>(seat, stripe_word(stripe), mark);
     }
 
-    /// Counts a reader in.
-    pub(crate) fn enter_step<C: Knows>(
-        &self,
-        seat: &mut Seat<Option<Keep>, View>,
-        stripe: u32,
-    ) -> u64
+    /// Counts a reader in, and takes its own slot of the stripe.
+    pub(crate) fn enter_step<C: Knows>(&self, seat: &mut Seat<Slot, View>, stripe: u32) -> u64
         requires row { seat.old.table_id ≡ self.now.table }
         requires pass { seat.old.me.0 ≡ pass_view (standing_of seat.old.me.0) }
         requires key { C.key ≡ Some self.now.key }
@@ -80,7 +78,7 @@ impl Row {
     }
 
     /// Counts a reader out that found a writer.
-    pub(crate) fn back_step(&self, seat: &mut Seat<Option<Keep>, View>, stripe: u32)
+    pub(crate) fn back_step(&self, seat: &mut Seat<Slot, View>, stripe: u32)
         requires row { seat.old.table_id ≡ self.now.table }
         requires pass { seat.old.me.0 ≡ pass_view (standing_of seat.old.me.0) }
         requires stripe { stripe < stripes_of self.now }
@@ -93,10 +91,10 @@ impl Row {
             .fetch_sub::<Back>(seat, stripe_word(stripe), READER);
     }
 
-    /// Counts a reader out that shared the stripe.
-    pub(crate) fn leave_step(&self, seat: &mut Seat<Option<Keep>, View>, stripe: u32)
+    /// Counts a reader out that shared the stripe, and puts its own slot home, with its pointer where it has one.
+    pub(crate) fn leave_step(&self, seat: &mut Seat<Slot, View>, stripe: u32)
         requires row { seat.old.table_id ≡ self.now.table }
-        requires pass { seat.old.me.0 ≡ pass_view (standing_of seat.old.me.0) }
+        requires pass { (lacks : Option ℕ) × (seat.old.me.0 ≡ view_of (standing_of seat.old.me.0) None lacks) × MayLeave self.now.key (standing_of seat.old.me.0).core stripe lacks seat.old.me.1 }
         requires stripe { stripe < stripes_of self.now }
         requires held { In stripe (shares_of (standing_of seat.old.me.0).core) }
         ensures seat { (seat.new.table_id ≡ seat.old.table_id) × (seat.new.id ≡ seat.old.id) }
@@ -110,12 +108,12 @@ impl Row {
     /// Takes the latch, where it is free, with the slot.
     pub(crate) fn latch_step<C: Knows>(
         &self,
-        seat: &mut Seat<Option<Keep>, View>,
+        seat: &mut Seat<Slot, View>,
         mark: u64,
         stripe: u32,
     ) -> u64
         requires row { seat.old.table_id ≡ self.now.table }
-        requires pass { seat.old.me.0 ≡ pass_view (standing_of seat.old.me.0) }
+        requires pass { seat.old.me.0 ≡ view_of (standing_of seat.old.me.0) None (Some stripe) }
         requires key { C.key ≡ Some self.now.key }
         requires mark { mark ≡ suc (standing_of seat.old.me.0).core.number }
         requires stripe { stripe < stripes_of self.now }
@@ -131,11 +129,11 @@ impl Row {
     }
 
     /// Frees the latch, and puts the slot home.
-    pub(crate) fn unlatch_step(&self, seat: &mut Seat<Option<Keep>, View>, stripe: u32)
+    pub(crate) fn unlatch_step(&self, seat: &mut Seat<Slot, View>, stripe: u32)
         requires row { seat.old.table_id ≡ self.now.table }
-        requires latch { seat.old.me.0 ≡ view_of (standing_of seat.old.me.0) (Some stripe) }
+        requires latch { seat.old.me.0 ≡ view_of (standing_of seat.old.me.0) (Some stripe) (Some stripe) }
         requires stripe { stripe < stripes_of self.now }
-        requires slot { seat.old.me.1 ≡ (slot_place stripe, Some (kept_of (spec_of self.now) (rows_of_hold (standing_of seat.old.me.0).core.held stripe))) ∷ rest seat.old.me.1 }
+        requires slot { seat.old.me.1 ≡ (slot_place stripe, Handed (kept_of (spec_of self.now) (rows_of_hold (standing_of seat.old.me.0).core.held stripe))) ∷ rest seat.old.me.1 }
         ensures seat { (seat.new.table_id ≡ seat.old.table_id) × (seat.new.id ≡ seat.old.id) }
         ensures told { HasUnlatched seat.old.me seat.new.me }
     {
@@ -144,7 +142,7 @@ impl Row {
     }
 
     /// Commits the entry that the call picks, and answers its place.
-    pub(crate) fn commit_step<E: Carries>(&self, seat: &mut Seat<Option<Keep>, View>) -> u64
+    pub(crate) fn commit_step<E: Carries>(&self, seat: &mut Seat<Slot, View>) -> u64
         requires key { E.told ≡ Some self.now.key }
         requires row { seat.old.table_id ≡ self.now.table }
         requires pass { seat.old.me.0 ≡ pass_view (standing_of seat.old.me.0) }
@@ -158,7 +156,7 @@ impl Row {
     }
 
     /// Reads how long the history is.
-    pub(crate) fn look_step<C: Knows>(&self, seat: &mut Seat<Option<Keep>, View>) -> u64
+    pub(crate) fn look_step<C: Knows>(&self, seat: &mut Seat<Slot, View>) -> u64
         requires key { C.key ≡ Some self.now.key }
         requires row { seat.old.table_id ≡ self.now.table }
         requires pass { seat.old.me.0 ≡ pass_view (standing_of seat.old.me.0) }
@@ -169,7 +167,7 @@ impl Row {
     }
 
     /// Makes a note.
-    pub(crate) fn note_step(&self, seat: &mut Seat<Option<Keep>, View>) -> Seat<Option<Keep>, View>
+    pub(crate) fn note_step(&self, seat: &mut Seat<Slot, View>) -> Seat<Slot, View>
         requires row { seat.old.table_id ≡ self.now.table }
         requires pass { seat.old.me.0 ≡ pass_view (standing_of seat.old.me.0) }
         ensures seat { (seat.new.table_id ≡ seat.old.table_id) × (seat.new.id ≡ seat.old.id) × (seat.new.me ≡ seat.old.me) }
@@ -179,11 +177,7 @@ impl Row {
     }
 
     /// Learns a note.
-    pub(crate) fn learn_step(
-        &self,
-        seat: &mut Seat<Option<Keep>, View>,
-        note: Seat<Option<Keep>, View>,
-    )
+    pub(crate) fn learn_step(&self, seat: &mut Seat<Slot, View>, note: Seat<Slot, View>)
         requires row { (seat.old.table_id ≡ self.now.table) × (note.table_id ≡ self.now.table) }
         requires pass { seat.old.me.0 ≡ pass_view (standing_of seat.old.me.0) }
         requires note { (note.me.0 ≡ note_view note.me.0.told note.me.0.known) × (note.me.1 ≡ []) }
@@ -194,7 +188,7 @@ impl Row {
     }
 
     /// Deals the first pass of the opener.
-    pub(crate) fn deal_step(&self, seat: &mut Seat<Option<Keep>, View>) -> Seat<Option<Keep>, View>
+    pub(crate) fn deal_step(&self, seat: &mut Seat<Slot, View>) -> Seat<Slot, View>
         requires row { seat.old.table_id ≡ self.now.table }
         requires some { seat.old.me.0 ≡ passes_view (standing_of seat.old.me.0 ∷ (undealt seat.old.me.0).passes) }
         ensures seat { (seat.new.table_id ≡ seat.old.table_id) × (seat.new.id ≡ seat.old.id) × (seat.new.me ≡ (undealt seat.old.me.0, seat.old.me.1)) }
@@ -204,11 +198,7 @@ impl Row {
     }
 
     /// Gathers a pass into those before it.
-    pub(crate) fn gather_step(
-        &self,
-        seat: &mut Seat<Option<Keep>, View>,
-        other: Seat<Option<Keep>, View>,
-    )
+    pub(crate) fn gather_step(&self, seat: &mut Seat<Slot, View>, other: Seat<Slot, View>)
         requires row { (seat.old.table_id ≡ self.now.table) × (other.table_id ≡ self.now.table) }
         requires all { seat.old.me.0 ≡ passes_view seat.old.me.0.passes }
         requires pass { (other.me.0 ≡ pass_view (standing_of other.me.0)) × (other.me.1 ≡ []) }

@@ -27,8 +27,8 @@ enum Trial {
     Noted,
     /// A writer that is dropped keeps its stripe.
     DroppedWriter,
-    /// Of two readers that come at once one finds the other at its latch. Nothing holds a reader there, so that it is met by
-    /// chance, in a few turns where both run.
+    /// Of two readers that come at once, after a write, one finds the other at its latch. Nothing holds a reader there, so that
+    /// it is met by chance, in a few turns where both run.
     Latched,
 }
 
@@ -311,7 +311,8 @@ fn finds_latch(row: &Row, pass: &mut Pass) -> bool
     }
 }
 
-/// Comes to the first stripe over and over, until this reader or the other has found a latch there.
+/// Comes to the first stripe over and over, until this reader or the other has found a latch there. A reader goes to the latch
+/// only where the stripe was written since it was there: so each tries to write it first.
 fn look_for_latch(row: &Row, mut pass: Pass, found: &AtomicU64)
     requires { IsFreePass row.now pass }
 {
@@ -319,6 +320,7 @@ fn look_for_latch(row: &Row, mut pass: Pass, found: &AtomicU64)
         if found.load(SeqCst) == 1 {
             return;
         }
+        let _ = writer_finds(row, &mut pass);
         if finds_latch(row, &mut pass) {
             found.store(1, SeqCst);
         }

@@ -1,4 +1,4 @@
-use Rattle.std.proofs.Common.{rules, ◌≡◌, ◌*◌, ◌≤◌, ℕ, sym, ap, ◌∙◌, subst, arith}
+use Rattle.std.proofs.Common.{rules, ◌≡◌, ◌≤◌, ℕ, sym, ap, ◌∙◌, subst, arith}
 use Rattle.std.specs.Prelude.{replicate}
 use Rattle.rc_spec.specs.PlacementLaws.{placed_total}
 use Rattle.rc_spec.specs.Stripes.{stripe_total}
@@ -26,7 +26,7 @@ new-requires-2 c =
     let spec : c.accepted-2.result.now ≡ spec_by key = c.accepted-2.ensures.value ∙ ap (λ (s : SpecWithPlans). s.spec) (sym c.of.ensures) in
     let slots = c.in_ok-slots.ensures in
     opens key c.as_slice.result.now c.in_ok-slots.slots.items c.requires.0 c.requires.1 (compiled_key key c.args.compiled.now c.of.ensures c.accepted.ensures.sealed c.accepted.ensures.planned)
-    (subst (λ (s : Spec). AreEmptySlots s (stripe_total s) c.in_ok-slots.slots.items) spec slots)
+    (subst (λ (s : Spec). AreEmptySlots s (stripe_total s) c.args.passes c.in_ok-slots.slots.items) spec slots)
     (c.as_slice.ensures.value ∙ c.in_ok-words.ensures.items_if_clones_equal (λ y e. search rules) ∙ ap (λ (k : ℕ). replicate k 0) (words_of_key key c.stripe_total-stripes.result stripes))
 
 pub invariant_of-result : goal.invariant_of-result
@@ -36,6 +36,6 @@ invariant_of-result c =
     let made = c.in-Ok.ensures.ok in
     is_whole (record { table = c.in-Ok.table; waiting = c.in_ok-waiting.waiting; keeping = c.args.keeping; alloc = c.args.alloc }) key made.5
     (compiled_key key c.args.compiled.now c.of.ensures c.accepted.ensures.sealed c.accepted.ensures.planned)
-    (made.1 ∙ c.in_ok-slots.ensures.count ∙ ap (λ (s : Spec). 4 * stripe_total s) (c.accepted-2.ensures.value ∙ ap (λ (s : SpecWithPlans). s.spec) (sym c.of.ensures)))
+    (made.1 ∙ c.in_ok-slots.ensures.count)
     (made.0 ∙ c.as_slice.ensures.len ∙ c.in_ok-words.ensures.len ∙ words_of_key key c.stripe_total-stripes.result stripes)
     c.requires.0 c.requires.1
