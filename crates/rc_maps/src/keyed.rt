@@ -41,9 +41,12 @@ fn push_rows(all: &[Keyed<'_, Entry>], out: &mut Vec<u64>) -> Result<(), Memory>
     ensures ok { OnOk result (out.new.items ≡ out.old.items ++ values_of_walk all.now) }
     ensures err { OnErr result (take (length out.old.items) out.new.items ≡ out.old.items) }
 {
-    // An entry with a row adds its key, which has a value at least, but for the only one of an edge
-    // with none. One without a row adds nothing: for it the room is more than is needed.
-    out.reserve(all.len())?;
+    // All rows of a table are as wide as the first, so that one block takes them all. An entry
+    // without a row adds nothing: for it the room is more than is needed.
+    if let Some(first) = all.first() {
+        let extra = first.value.extra().map_or(0, |extra| extra.len());
+        out.reserve(all.len().saturating_mul(first.key.len() + extra))?;
+    }
     for keyed in all {
         keyed.value.push_row(keyed.key, out)?;
     }
