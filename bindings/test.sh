@@ -32,6 +32,7 @@ compile -o "$out/wakes" "$here/c/wakes.c" "$out/librelc.a" || exit 1
 run "$out/wakes"
 compile -o "$out/memory" "$here/c/memory.c" "$out/librelc.a" || exit 1
 run "$out/memory"
+run env CALLS=1000 SEEDS=1 sh "$here/../bench/agree.sh"
 if has valgrind "the tests in C once more, for memory"; then
     run valgrind -q --error-exitcode=1 --leak-check=full "$out/test"
     run valgrind -q --error-exitcode=1 --leak-check=full "$out/memory"

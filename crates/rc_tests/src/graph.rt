@@ -67,12 +67,6 @@ pub(crate) fn fill_successors(call: &mut Call, from: u64) -> Result<(), Memory> 
     call.args.refill(&[0], &[from])
 }
 
-/// Makes it the call that finds the weight of an edge.
-pub(crate) fn fill_find(call: &mut Call, from: u64, to: u64) -> Result<(), Memory> {
-    call.op = 3;
-    call.args.refill(&[0, 1], &[from, to])
-}
-
 /// Calls about the edges of one source, and about those of two others.
 #[derive(Drop)]
 pub(crate) struct Calls {

@@ -8,10 +8,6 @@ mod gates;
 #[cfg(test)]
 mod graph;
 #[cfg(test)]
-mod group_tests;
-#[cfg(test)]
-mod open_group_tests;
-#[cfg(test)]
 mod outcome;
 #[cfg(test)]
 mod plan_tests;
