@@ -30,6 +30,8 @@ compile -o "$out/test-shared" "$here/c/test.c" -L"$out" -lrelc -Wl,-rpath,"$out"
 run "$out/test-shared"
 compile -o "$out/wakes" "$here/c/wakes.c" "$out/librelc.a" || exit 1
 run "$out/wakes"
+compile -o "$out/patience" "$here/c/patience.c" "$out/librelc.a" || exit 1
+run "$out/patience"
 compile -o "$out/memory" "$here/c/memory.c" "$out/librelc.a" || exit 1
 run "$out/memory"
 run env CALLS=1000 SEEDS=1 sh "$here/../bench/agree.sh"

@@ -1,4 +1,4 @@
-/* Tests what wants memory: while a group is made, prepared or open the N-th allocation fails, alone or
+/* Tests what wants memory: while a call or a group is made, prepared or open the N-th allocation fails, alone or
  * with all behind it, for N from 1 until none fails. Whatever is refused so leaves all as before, its
  * stripes are free at once, and all memory is given back at last. Prints one line and ends with 0
  * where all is as it should be. */
@@ -320,15 +320,50 @@ static uint32_t open_and_call_another(void)
     return end_by(relc_cancel);
 }
 
+/* One of the calls alone. */
+static uint32_t make_alone(uint32_t (*export)(relc_session *, relc_frame *), size_t which)
+{
+    frames[0] = CALLS[which].asked;
+    uint32_t code = export(session, frames);
+    CHECK(code == RELC_DONE ? frames[0].kind == CALLS[which].kind
+                            : memcmp(frames, &CALLS[which].asked, sizeof *frames) == 0);
+    return code;
+}
+
+static uint32_t insert_alone(void)
+{
+    return make_alone(relc_try_call, 7);
+}
+
+static uint32_t remove_alone(void)
+{
+    return make_alone(relc_try_call, 1);
+}
+
+static uint32_t update_alone(void)
+{
+    return make_alone(relc_try_call, 2);
+}
+
+static uint32_t begin_one_and_commit(void)
+{
+    uint32_t code = make_alone(relc_begin, 7);
+    return code == RELC_DONE ? end_by(relc_commit) : code;
+}
+
 static const struct trial {
     uint32_t (*run)(void);
-    int makes_entry;
+    size_t calls; /* how many calls the entry has that it makes, 0 where it makes none */
 } TRIALS[] = {
-    {try_group, 1},
-    {begin_and_commit, 1},
+    {insert_alone, 1},
+    {remove_alone, 1},
+    {update_alone, 1},
+    {begin_one_and_commit, 1},
+    {try_group, COUNT},
+    {begin_and_commit, COUNT},
     {begin_and_cancel, 0},
-    {open_and_commit, 1},
-    {open_any_and_commit, 1},
+    {open_and_commit, COUNT},
+    {open_any_and_commit, COUNT},
     {open_and_cancel, 0},
     {open_and_call_nothing, 0},
     {open_and_call_another, 0},
@@ -362,12 +397,20 @@ static void check_free(void)
     CHECK(relc_learn(other, &look) == RELC_DONE && look.seen == entries);
 }
 
-/* What was made stands in the history, as one. */
-static void count_entry(void)
+/* What was made stands in the history, as one, and has a reply to each of so many calls. */
+static void count_entry(size_t calls)
 {
     CHECK(frames[0].place == entries && frames[0].nth == own);
     entries++;
     own++;
+    relc_frame pick = {.row = calls};
+    CHECK(relc_pick(session, &pick) == RELC_NO_ROW);
+    pick.row = 1;
+    if (calls > 1) {
+        relc_frame row = {.row = 0};
+        CHECK(relc_pick(session, &pick) == RELC_DONE);
+        CHECK(relc_row(session, &row) == RELC_DONE && row.width == 3 && row.cells[2] == 20);
+    }
 }
 
 /* Runs it with the allocation of this number failing, 0 for none, and again with none where it is
@@ -387,17 +430,13 @@ static int run_failing(const struct trial *trial, unsigned number, int fails_on,
         CHECK(memcmp(&before, &now, sizeof now) == 0);
         CHECK(trial->run() == RELC_DONE);
     }
-    if (trial->makes_entry) {
-        count_entry();
-        relc_frame row = {.row = 0};
-        CHECK(relc_pick(session, &(relc_frame){.row = 1}) == RELC_DONE);
-        CHECK(relc_row(session, &row) == RELC_DONE && row.width == 3 && row.cells[2] == 20);
-    } else {
+    if (trial->calls > 0)
+        count_entry(trial->calls);
+    else
         check_idle();
-    }
     check_free();
     *after = edges_now();
-    CHECK(trial->makes_entry == (memcmp(&before, after, sizeof before) != 0));
+    CHECK((trial->calls > 0) == (memcmp(&before, after, sizeof before) != 0));
     close_sessions();
     return has_failed;
 }

@@ -26,7 +26,10 @@ void relc_close_waiting(relc_waiting *waiting);
  *
  * Wait for nothing by another session while you have something prepared or open: the wait may have no
  * end, also where another thread's does the same. (It has none where the stripes that it has are wanted, nor
- * where each of two threads waits for what the other one has.) */
+ * where each of two threads waits for what the other one has.)
+ *
+ * Where some calls come so thick that another one finds no gap between them, it gets the right of way once it has waited
+ * for some milliseconds: the calls of this header stand back then before they try, for some milliseconds at most. Those of relc.h don't. */
 uint32_t relc_call(relc_waiting *waiting, relc_session *session, relc_frame *frame);
 
 /* Prepares a call as relc_begin does, and waits as relc_call does. */
@@ -40,6 +43,20 @@ uint32_t relc_begin_group_waiting(
     relc_waiting *waiting, relc_session *session, relc_frame *frames, size_t count);
 uint32_t relc_open_group_waiting(
     relc_waiting *waiting, relc_session *session, relc_frame *frames, size_t count);
+
+/* The same with an end: what is still in the way so many nanoseconds from now on, or somewhat later, is
+ * answered as RELC_BUSY, and stripe, found and who of the first frame tell what it was at the last try. With 0 it tries, and
+ * doesn't sleep. */
+uint32_t relc_call_until(
+    relc_waiting *waiting, relc_session *session, relc_frame *frame, uint64_t nanoseconds);
+uint32_t relc_begin_waiting_until(
+    relc_waiting *waiting, relc_session *session, relc_frame *frame, uint64_t nanoseconds);
+uint32_t relc_call_group_until(relc_waiting *waiting, relc_session *session, relc_frame *frames,
+    size_t count, uint64_t nanoseconds);
+uint32_t relc_begin_group_waiting_until(relc_waiting *waiting, relc_session *session,
+    relc_frame *frames, size_t count, uint64_t nanoseconds);
+uint32_t relc_open_group_waiting_until(relc_waiting *waiting, relc_session *session,
+    relc_frame *frames, size_t count, uint64_t nanoseconds);
 
 /* Wakes those that wait: to be called after each relc_try_call, relc_try_group, relc_commit (also
  * where it answers RELC_NO_CALL), relc_cancel or relc_close_session that stands alone, after each relc_begin, relc_begin_group or

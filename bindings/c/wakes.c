@@ -2,6 +2,7 @@
  * here, so that whoever is back soon was woken. Prints one line and ends with 0 where all is as it
  * should be. */
 #define RELC_NAP 60000000000L
+#define RELC_PATIENCE RELC_NAP
 #include "relc_wait.c"
 
 #include <stdio.h>

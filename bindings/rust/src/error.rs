@@ -53,7 +53,8 @@ pub enum Error {
     NoneLeft,
     /// The operation, or what was seen, is another store's.
     Foreign,
-    /// Another session was in the way at this stripe. Only calls that don't wait are told so.
+    /// Another session was in the way at this stripe. Only calls that don't wait, or not without an
+    /// end, are told so.
     Busy {
         /// The stripe, over all classes.
         stripe: u32,

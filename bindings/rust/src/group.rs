@@ -2,10 +2,11 @@
 
 use crate::error::Error;
 use crate::operation::{Number, Operation, Reading, Told};
-use crate::session::{Position, Session};
+use crate::session::{Position, Session, end_of};
 use crate::sys::{self, Frame};
 use std::marker::PhantomData;
 use std::sync::atomic::{AtomicU64, Ordering::Relaxed};
+use std::time::Duration;
 
 /// Up to 16 calls of one store that are to be made as one, in their order. It may be made again and
 /// again, also by other sessions, and with other values.
@@ -175,7 +176,20 @@ impl Session {
     /// the way. What `call_placed` says of waiting holds here too.
     pub fn transaction(&mut self, group: &Group) -> Result<Done<'_>, Error> {
         self.put_all(&group.calls)?;
-        let code = self.until_free(|session| session.ask_group(sys::relc_try_group));
+        let code = self.until_free(None, |session| session.ask_group(sys::relc_try_group));
+        self.done(group, code)
+    }
+
+    /// Makes the group's calls as `transaction` does, and waits no longer than so: `Busy` where another
+    /// session is in the way still.
+    pub fn transaction_timeout(
+        &mut self,
+        group: &Group,
+        timeout: Duration,
+    ) -> Result<Done<'_>, Error> {
+        self.put_all(&group.calls)?;
+        let asks = |session: &mut Session| session.ask_group(sys::relc_try_group);
+        let code = self.until_free(end_of(timeout), asks);
         self.done(group, code)
     }
 
@@ -191,7 +205,20 @@ impl Session {
     /// the way. What `call_placed` says of waiting holds here too.
     pub fn begin_transaction_waiting(&mut self, group: &Group) -> Result<PreparedGroup<'_>, Error> {
         self.put_all(&group.calls)?;
-        let code = self.until_free(|session| session.ask_group(sys::relc_begin_group));
+        let code = self.until_free(None, |session| session.ask_group(sys::relc_begin_group));
+        self.prepared_group(group, code)
+    }
+
+    /// Prepares the group's calls as `begin_transaction_waiting` does, and waits no longer than so: `Busy`
+    /// where another session is in the way still.
+    pub fn begin_transaction_timeout(
+        &mut self,
+        group: &Group,
+        timeout: Duration,
+    ) -> Result<PreparedGroup<'_>, Error> {
+        self.put_all(&group.calls)?;
+        let asks = |session: &mut Session| session.ask_group(sys::relc_begin_group);
+        let code = self.until_free(end_of(timeout), asks);
         self.prepared_group(group, code)
     }
 }

@@ -7,6 +7,7 @@ use crate::sys::{self, Frame, Page};
 use std::ffi::c_void;
 use std::mem::ManuallyDrop;
 use std::sync::Arc;
+use std::time::{Duration, Instant};
 
 #[cfg(test)]
 mod tests;
@@ -55,6 +56,11 @@ impl Seen {
     pub fn length(&self) -> u64 {
         self.length
     }
+}
+
+/// The end of a wait that lasts so long; `None` where it lies too far for the clock.
+pub(crate) fn end_of(timeout: Duration) -> Option<Instant> {
+    Instant::now().checked_add(timeout)
 }
 
 /// What the frame tells of a stripe that was busy.
@@ -136,23 +142,30 @@ impl Session {
         }
     }
 
-    /// Asks until no other session is in the way.
-    pub(crate) fn until_free(&mut self, ask: impl Fn(&mut Session) -> u32) -> u32 {
+    /// Asks until no other session is in the way, or until the end, which is the moment `None` where
+    /// it never comes.
+    pub(crate) fn until_free(
+        &mut self,
+        end: Option<Instant>,
+        ask: impl Fn(&mut Session) -> u32,
+    ) -> u32 {
+        let shared = self.shared.clone();
+        shared.events.stand_back(end);
         for _ in 0..TRIES {
             match ask(self) {
                 sys::BUSY => std::hint::spin_loop(),
                 code => return code,
             }
         }
-        let shared = self.shared.clone();
-        shared.events.wait(|| match ask(self) {
+        let code = shared.events.wait(end, || match ask(self) {
             sys::BUSY => None,
             code => Some(code),
-        })
+        });
+        code.unwrap_or(sys::BUSY)
     }
 
-    fn ask_waiting(&mut self, export: Export) -> u32 {
-        self.until_free(|session| session.ask(export))
+    fn ask_waiting(&mut self, end: Option<Instant>, export: Export) -> u32 {
+        self.until_free(end, |session| session.ask(export))
     }
 
     /// Wakes those that wait.
@@ -291,7 +304,7 @@ impl Session {
         values: [u64; K],
     ) -> Result<Rows<'_, N>, Error> {
         self.put(&query, values)?;
-        let code = self.ask_waiting(sys::relc_try_call);
+        let code = self.ask_waiting(None, sys::relc_try_call);
         self.ring();
         if code != sys::DONE {
             return Err(self.error(code));
@@ -331,13 +344,37 @@ impl Session {
     /// Wait for nothing by another session while the thread has something prepared, or a transaction
     /// open: the wait may have no end, also where another thread's does the same. (It has none where the
     /// stripes that it has are wanted, nor where each of two threads waits for what the other one has.)
+    ///
+    /// Where some calls come so thick that another one finds no gap between them, it gets the right of
+    /// way once it has waited for some milliseconds: calls that wait stand back then before they try,
+    /// for some milliseconds at most.
     pub fn call_placed<const N: usize, O: Operation<N>>(
         &mut self,
         op: O,
         values: [u64; N],
     ) -> Result<(O::Reply, Position), Error> {
+        self.call_by(None, op, values)
+    }
+
+    /// Calls the operation as `call_placed` does, and waits no longer than so: `Busy` where another
+    /// session is in the way still.
+    pub fn call_placed_timeout<const N: usize, O: Operation<N>>(
+        &mut self,
+        op: O,
+        values: [u64; N],
+        timeout: Duration,
+    ) -> Result<(O::Reply, Position), Error> {
+        self.call_by(end_of(timeout), op, values)
+    }
+
+    fn call_by<const N: usize, O: Operation<N>>(
+        &mut self,
+        end: Option<Instant>,
+        op: O,
+        values: [u64; N],
+    ) -> Result<(O::Reply, Position), Error> {
         self.put(&op, values)?;
-        let code = self.ask_waiting(sys::relc_try_call);
+        let code = self.ask_waiting(end, sys::relc_try_call);
         self.ring();
         self.made::<N, O>(code)
     }
@@ -349,6 +386,18 @@ impl Session {
         values: [u64; N],
     ) -> Result<O::Reply, Error> {
         self.call_placed(op, values).map(|answer| answer.0)
+    }
+
+    /// Calls the operation as `call` does, and waits no longer than so: `Busy` where another session is
+    /// in the way still.
+    pub fn call_timeout<const N: usize, O: Operation<N>>(
+        &mut self,
+        op: O,
+        values: [u64; N],
+        timeout: Duration,
+    ) -> Result<O::Reply, Error> {
+        let answer = self.call_placed_timeout(op, values, timeout);
+        answer.map(|answer| answer.0)
     }
 
     /// Prepares a call, and waits for nobody: it has its reply, and holds its stripes until it is
@@ -371,7 +420,20 @@ impl Session {
         values: [u64; N],
     ) -> Result<Prepared<'_, O::Reply>, Error> {
         self.put(&op, values)?;
-        let code = self.ask_waiting(sys::relc_begin);
+        let code = self.ask_waiting(None, sys::relc_begin);
+        self.prepared::<N, O>(code)
+    }
+
+    /// Prepares a call as `begin_waiting` does, and waits no longer than so: `Busy` where another session
+    /// is in the way still.
+    pub fn begin_timeout<const N: usize, O: Operation<N>>(
+        &mut self,
+        op: O,
+        values: [u64; N],
+        timeout: Duration,
+    ) -> Result<Prepared<'_, O::Reply>, Error> {
+        self.put(&op, values)?;
+        let code = self.ask_waiting(end_of(timeout), sys::relc_begin);
         self.prepared::<N, O>(code)
     }
 

@@ -3,8 +3,9 @@
 use crate::error::Error;
 use crate::group::Call;
 use crate::operation::{Number, Operation};
-use crate::session::{Position, Session};
+use crate::session::{Position, Session, end_of};
 use crate::sys;
+use std::time::Duration;
 
 /// Up to 16 operations of one store that a transaction may call, each with the values of its pattern or
 /// with any. Transactions may be opened over it again and again, also by other sessions.
@@ -72,7 +73,20 @@ impl Session {
     /// nothing by another session then.
     pub fn open(&mut self, over: &Declared) -> Result<Transaction<'_>, Error> {
         self.put_all(&over.calls)?;
-        let code = self.until_free(|session| session.ask_group(sys::relc_open_group));
+        let code = self.until_free(None, |session| session.ask_group(sys::relc_open_group));
+        self.opened(code)
+    }
+
+    /// Opens a transaction as `open` does, and waits no longer than so: `Busy` where another session is in
+    /// the way still.
+    pub fn open_timeout(
+        &mut self,
+        over: &Declared,
+        timeout: Duration,
+    ) -> Result<Transaction<'_>, Error> {
+        self.put_all(&over.calls)?;
+        let asks = |session: &mut Session| session.ask_group(sys::relc_open_group);
+        let code = self.until_free(end_of(timeout), asks);
         self.opened(code)
     }
 
