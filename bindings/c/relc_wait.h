@@ -28,8 +28,9 @@ void relc_close_waiting(relc_waiting *waiting);
  * end, also where another thread's does the same. (It has none where the stripes that it has are wanted, nor
  * where each of two threads waits for what the other one has.)
  *
- * Where some calls come so thick that another one finds no gap between them, it gets the right of way once it has waited
- * for some milliseconds: the calls of this header stand back then before they try, for some milliseconds at most. Those of relc.h don't. */
+ * Where some calls come so thick that another one finds no gap between them, it gets the right of
+ * way once it has waited for some milliseconds: the calls of this header stand back then before
+ * they try, for some milliseconds at most. Those of relc.h don't. */
 uint32_t relc_call(relc_waiting *waiting, relc_session *session, relc_frame *frame);
 
 /* Prepares a call as relc_begin does, and waits as relc_call does. */
@@ -44,9 +45,9 @@ uint32_t relc_begin_group_waiting(
 uint32_t relc_open_group_waiting(
     relc_waiting *waiting, relc_session *session, relc_frame *frames, size_t count);
 
-/* The same with an end: what is still in the way so many nanoseconds from now on, or somewhat later, is
- * answered as RELC_BUSY, and stripe, found and who of the first frame tell what it was at the last try. With 0 it tries, and
- * doesn't sleep. */
+/* The same with an end: what is still in the way so many nanoseconds from now on, or somewhat
+ * later, is answered as RELC_BUSY, and stripe, found and who of the first frame tell what it was at
+ * the last try. With 0 it tries, and doesn't sleep. */
 uint32_t relc_call_until(
     relc_waiting *waiting, relc_session *session, relc_frame *frame, uint64_t nanoseconds);
 uint32_t relc_begin_waiting_until(
