@@ -5,14 +5,19 @@ ghost use Rattle.rc_spec.specs.RowLists.{rows_of_width};
 
 use crate::row_ends::RowEnds;
 use rc_tuple::Memory;
+use smallvec::SmallVec;
 use std::alloc::Global;
 use std::marker::Model;
 
-/// Rows of values, each in the order of a query's outputs. The values of all rows stand one behind the other in one block, so
-/// that no row takes memory of its own. Where the rows differ in length, a second block has where each ends.
+/// The most values that a list keeps without a block: most queries for one row ask for no more.
+const FEW: usize = 3;
+
+/// Rows of values, each in the order of a query's outputs. The values of all rows stand one behind the other, up to three in the
+/// list itself and more in one block, so that no row takes memory of its own. Where the rows differ in length, a second block has
+/// where each ends.
 #[derive(Drop, Debug)]
 pub struct RowList {
-    values: Vec<u64>,
+    values: SmallVec<u64, FEW>,
     ends: RowEnds,
 }
 
@@ -33,7 +38,7 @@ impl RowList {
         ensures { result ≡ [] }
     {
         RowList {
-            values: Vec::new(alloc),
+            values: SmallVec::new(alloc),
             ends: RowEnds::new(),
         }
     }
@@ -44,9 +49,19 @@ impl RowList {
         ensures { result ≡ rows_of_width width rows values.items }
     {
         RowList {
-            values,
+            values: SmallVec::from_vec(values),
             ends: RowEnds::of_width(rows, width),
         }
+    }
+
+    /// The list of one row. Takes memory where the row has more than three values.
+    pub fn of_row(alloc: Global, row: &[u64]) -> Result<RowList, Memory>
+        ensures { IfOk result (λ list. list ≡ row.now ∷ []) }
+    {
+        Ok(RowList {
+            values: SmallVec::from_slice(alloc, row)?,
+            ends: RowEnds::of_width(1, row.len()),
+        })
     }
 
     /// How many rows there are.
@@ -68,7 +83,11 @@ impl RowList {
         requires { at < length self.now }
         ensures { result.now ≡ get_or self.now at [] }
     {
-        part(&self.values, self.ends.start_of(at), self.ends.end_of(at))
+        part(
+            self.values.as_slice(),
+            self.ends.start_of(at),
+            self.ends.end_of(at),
+        )
     }
 
     /// The values of the row with this number, from 0; `None` exactly where there is no such row. The cost is constant.
@@ -82,27 +101,32 @@ impl RowList {
         }
     }
 
-    /// Adds a row at the end. Where memory is wanted the list stays. Costs the row, and memory that the rows that follow share;
-    /// the first row of another length than those before it costs as much as there are rows.
+    /// Adds a row at the end. Where memory is wanted the list stays. Costs the row, and memory that the rows that follow share, once
+    /// the values are more than three; the first row of another length than those before it costs as much as there are rows.
     pub fn push(&mut self, row: &[u64]) -> Result<(), Memory>
         ensures ok { OnOk result (self.new ≡ self.old ++ row.now ∷ []) }
         ensures err { OnErr result (self.new ≡ self.old) }
     {
         let alloc = *self.values.allocator();
-        self.values.reserve(row.len())?;
-        self.ends.push(alloc, self.values.len() + row.len())?;
-        // There is room: this can't fail, now that the end stands.
+        let start = self.values.len();
         self.values.extend_from_slice(row)?;
-        Ok(())
+        match self.ends.push(alloc, self.values.len()) {
+            Ok(()) => Ok(()),
+            Err(memory) => {
+                self.values.truncate(start);
+                Err(memory)
+            }
+        }
     }
 
-    /// Another list of the same rows, in one block, or in two where the rows differ in length. Costs all values.
+    /// Another list of the same rows. Costs all values, and a block where they are more than three, and one where the rows differ in
+    /// length.
     pub fn copy(&self) -> Result<RowList, Memory>
         ensures { IfOk result (λ copy. copy ≡ self.now) }
     {
         let alloc = *self.values.allocator();
         Ok(RowList {
-            values: Vec::from_slice(alloc, &self.values)?,
+            values: SmallVec::from_slice(alloc, self.values.as_slice())?,
             ends: self.ends.copy(alloc)?,
         })
     }

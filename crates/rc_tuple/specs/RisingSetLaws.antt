@@ -333,6 +333,21 @@ module _ {A : Type 0} (R : A → A → Ordering) (o : IsOrder R) where
       (λ _ h. let k : x ≡ y = cc in absurd (not_below_itself R o x y l (subst (λ w. R y w ≡ Less) (sym k) (subst (λ w. R w y ≡ Less) k l))))
       (λ _ h. absurd (not_below_itself R o x y l (rising_places R xs j i y x r f e h)))
 
+  -- what is above the last element of a rising list is put behind it
+  pub put_behind : (x y : A) (xs : List A) (i : ℕ) → IsRising R xs → slice_get xs i ≡ Some y → i + 1 ≡ length xs → R x y ≡ Greater → put R x xs ≡ xs ++ x ∷ []
+  put_behind x y [] i r e l g = refl
+  put_behind x y (z ∷ []) zero r e l g =
+      let k : z ≡ y = cc in
+      let b : R x z ≡ Greater = subst (λ w. R x w ≡ Greater) (sym k) g in
+      ap (λ a. match_ordering a (x ∷ (z ∷ [])) (z ∷ []) (z ∷ put R x [])) b
+  put_behind x y (z ∷ w ∷ ws) zero r e l g = absurd (omega (arith, l))
+  put_behind x y (z ∷ zs) (suc i) r e l g =
+      let under : R z y ≡ Less = r.0 y (slice_get_in zs i y e) in
+      let over : R y x ≡ Less = o.total.antisymm y x ∙ ap ordering_reverse g in
+      let b : R x z ≡ Greater = o.total.antisymm x z ∙ ap ordering_reverse (o.total.trans z y x under over) in
+      ap (λ a. match_ordering a (x ∷ (z ∷ zs)) (z ∷ zs) (z ∷ put R x zs)) b
+      ∙ ap (λ l. z ∷ l) (put_behind x y zs i r.1 e (omega (arith, l)) g)
+
   -- an element of a rising list stands at one place
   pub one_place : (xs : List A) (i j : ℕ) (x : A) → IsRising R xs → slice_get xs i ≡ Some x → slice_get xs j ≡ Some x → i ≡ j
   one_place xs i j x r e f =

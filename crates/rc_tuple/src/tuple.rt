@@ -307,8 +307,15 @@ fn merged_pairs(
 
 /// Where the pair goes among rising pairs; `None` where it is there.
 fn place_of_pair(pairs: &[(u8, u64)], pair: &(u8, u64)) -> Option<usize>
+    requires { IsRising pair_cmp pairs.now }
     ensures { IsPlace pair_cmp pair.now pairs.now result }
 {
+    // Columns mostly come in their order: then the pair goes behind all others.
+    if let Some(last) = pairs.last() {
+        if let Ordering::Greater = pair.cmp(last) {
+            return Some(pairs.len());
+        }
+    }
     for (at, other) in pairs.iter().enumerate() {
         match pair.cmp(other) {
             Ordering::Less => return Some(at),
@@ -321,14 +328,17 @@ fn place_of_pair(pairs: &[(u8, u64)], pair: &(u8, u64)) -> Option<usize>
 
 /// Puts the pair at its place. Memory is taken, and wanted, only where there is no room for one more.
 fn put_pair(pairs: &mut Vec<(u8, u64)>, pair: (u8, u64)) -> Result<(), Memory>
+    requires { IsRising pair_cmp pairs.old.items }
     ensures ok { OnOk result (pairs.new.items ≡ put pair_cmp pair pairs.old.items) }
     ensures err { OnErr result (pairs.new.items ≡ pairs.old.items) }
     ensures len { vec_len pairs.new ≤ vec_len pairs.old + 1 }
     ensures capacity { vec_capacity pairs.old ≤ vec_capacity pairs.new }
     ensures full { OnErr result (vec_capacity pairs.old ≤ vec_len pairs.old) }
 {
-    if let Some(at) = place_of_pair(pairs, &pair) {
-        pairs.insert(at, pair)?;
+    match place_of_pair(pairs, &pair) {
+        Some(at) if at == pairs.len() => pairs.push(pair)?,
+        Some(at) => pairs.insert(at, pair)?,
+        None => {}
     }
     Ok(())
 }

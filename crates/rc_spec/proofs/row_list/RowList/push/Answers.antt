@@ -5,50 +5,35 @@ use Rattle.rc_spec.specs.RowListsLaws.{AreEnds-push, last_end, rows_from-push}
 use Rattle.rc_spec.proofs.row_list.RowList.push.Goals as goal
 use Rattle.rc_spec.proofs.row_list.RowList.push.Goals.{After-len}
 
--- where the new row ends
-abbrev end : (c : After-len) → ℕ
-end c = c.len.result + length c.args.row.now
+-- the new row ends where the values do that have its own
+whole : (c : After-len) → c.len.result ≡ length (c.self.inside.values.items ++ c.args.row.now)
+whole c = c.len.ensures.value ∙ ap length c.in_ok-extend_from_slice.ensures.ok
 
--- the new row begins where the values end
-start : (c : After-len) → c.len.result ≡ length c.self.inside.values.items
-start c =
-    let len = c.len.ensures in
-    let kept = c.in_ok-reserve.ensures.len in
-    let items = c.self.inside.values.ok.0 in
-    omega (arith, len, kept, items)
-
--- it ends where the values do that have its own
-whole : (c : After-len) → end c ≡ length (c.self.inside.values.items ++ c.args.row.now)
-whole c =
-    let first = start c in
-    let parts = length-append c.self.inside.values.items c.args.row.now in
-    omega (arith, first, parts)
+-- which is behind the values of before
+longer : (c : After-len) → c.len.result ≡ length c.self.inside.values.items + length c.args.row.now
+longer c = whole c ∙ length-append c.self.inside.values.items c.args.row.now
 
 pub push-requires : goal.push-requires
 push-requires c =
     let before = last_end 0 c.self.inside.ends (length c.self.inside.values.items) c.self.invariant in
-    let same = start (goal.at.push-requires c).After-len in
+    let same = longer (goal.at.push-requires c).After-len in
     omega (arith, before, same)
 
-pub invariant_of-self-2 : goal.invariant_of-self-2
-invariant_of-self-2 c =
-    let d = (goal.at.invariant_of-self-2 c).After-len in
-    let values : c.extend_from_slice.new.self.items ≡ c.self.inside.values.items ++ c.args.row.now =
-    c.in_ok-extend_from_slice.ensures.items ∙ ap (λ l. l ++ c.args.row.now) c.in_ok-reserve.ensures.items in
-    let ends : c.push.new.self ≡ c.self.inside.ends ++ end d ∷ [] = c.in_ok-push.ensures.ok in
-    let first = start d in
+pub invariant_of-self-in-Ok : goal.invariant_of-self-in-Ok
+invariant_of-self-in-Ok c =
+    let d = (goal.at.invariant_of-self-in-Ok c).After-len in
+    let ends : c.push.new.self ≡ c.self.inside.ends ++ c.len.result ∷ [] = c.in-Ok.ensures.ok in
+    let behind = longer d in
     subst (λ l. AreEnds 0 l (length c.extend_from_slice.new.self.items)) (sym ends)
-    (subst (AreEnds 0 (c.self.inside.ends ++ end d ∷ [])) (whole d ∙ sym (ap length values))
-    (AreEnds-push 0 c.self.inside.ends (length c.self.inside.values.items) (end d) c.self.invariant (omega (arith, first))))
+    (subst (AreEnds 0 (c.self.inside.ends ++ c.len.result ∷ [])) c.len.ensures.value
+    (AreEnds-push 0 c.self.inside.ends (length c.self.inside.values.items) c.len.result c.self.invariant (omega (arith, behind))))
 
-pub returns-clause-ok : goal.returns-clause-ok
-returns-clause-ok c =
-    let d = (goal.at.returns-clause-ok c).After-len in
-    let values : c.extend_from_slice.new.self.items ≡ c.self.inside.values.items ++ c.args.row.now =
-    c.in_ok-extend_from_slice.ensures.items ∙ ap (λ l. l ++ c.args.row.now) c.in_ok-reserve.ensures.items in
-    let ends : c.push.new.self ≡ c.self.inside.ends ++ end d ∷ [] = c.in_ok-push.ensures.ok in
-    let first = start d in
+pub returns-in-Ok-clause-ok : goal.returns-in-Ok-clause-ok
+returns-in-Ok-clause-ok c =
+    let d = (goal.at.returns-in-Ok-clause-ok c).After-len in
+    let ends : c.push.new.self ≡ c.self.inside.ends ++ c.len.result ∷ [] = c.in-Ok.ensures.ok in
+    let behind = longer d in
     ap (λ l. rows_from 0 l c.extend_from_slice.new.self.items) ends
-    ∙ ap (rows_from 0 (c.self.inside.ends ++ end d ∷ [])) values
-    ∙ rows_from-push 0 c.self.inside.ends c.self.inside.values.items c.args.row.now (end d) c.self.invariant (omega (arith, first))
+    ∙ ap (rows_from 0 (c.self.inside.ends ++ c.len.result ∷ [])) c.in_ok-extend_from_slice.ensures.ok
+    ∙ rows_from-push 0 c.self.inside.ends c.self.inside.values.items c.args.row.now c.len.result c.self.invariant (omega (arith, behind))
     ∙ ap (λ rows. rows ++ c.args.row.now ∷ []) c.self.view_is

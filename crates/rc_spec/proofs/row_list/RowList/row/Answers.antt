@@ -28,14 +28,14 @@ part-requires-clause-order c =
 pub part-requires-clause-within : goal.part-requires-clause-within
 part-requires-clause-within c =
     let within = end_within 0 c.self.inside.ends (length c.self.inside.values.items) c.args.at c.self.invariant (below (goal.at.part-requires-clause-within c).After-self) in
-    let len = ap length c.deref.ensures.value in
+    let len = ap length c.as_slice.ensures in
     let e = c.end_of.ensures in
     omega (arith, within, len, e)
 
 pub returns : goal.returns
 returns c =
     c.part.ensures
-    ∙ ap (λ l. take (c.end_of.result - c.start_of.result) (drop c.start_of.result l)) c.deref.ensures.value
+    ∙ ap (λ l. take (c.end_of.result - c.start_of.result) (drop c.start_of.result l)) c.as_slice.ensures
     ∙ ap (λ n. take (n - c.start_of.result) (drop c.start_of.result c.self.inside.values.items)) c.end_of.ensures
     ∙ ap (λ n. take (get_or c.self.inside.ends c.args.at 0 - n) (drop n c.self.inside.values.items)) c.start_of.ensures
     ∙ sym (row_at 0 c.self.inside.ends c.self.inside.values.items c.args.at (below (goal.at.returns c).After-self))

@@ -1,10 +1,16 @@
 use Rattle.std.proofs.Common.{◌≡◌, ◌<◌, ◌^◌, take, sym, ◌∙◌, ap, subst, arith}
+use Rattle.std.specs.List.{zip}
 use Rattle.std.proofs.lemmas.List.{take_all}
-use Rattle.rc_tuple.specs.RisingSet.{put}
-use Rattle.rc_tuple.specs.RisingSetLaws.{in_from_places}
+use Rattle.rc_tuple.specs.RisingSet.{IsRising, put}
+use Rattle.rc_tuple.specs.RisingSetLaws.{in_from_places, rising_gather}
 use Rattle.rc_tuple.specs.Tuple.{IsTuple, pair_cmp, tuple_of}
-use Rattle.rc_tuple.specs.TupleLaws.{IsTuple-tuple_of, tuple_of_next}
+use Rattle.rc_tuple.specs.TupleLaws.{IsTuple-tuple_of, pair_order, tuple_of_next}
 use Rattle.rc_tuple.proofs.tuple.Tuple.refill.Goals as goal
+
+pub put_pair-requires : goal.put_pair-requires
+put_pair-requires c =
+    subst (IsRising pair_cmp) (sym c.loop-place.invariant.items)
+    (rising_gather pair_cmp pair_order (zip (take c.loop-place.place c.args.cols.now) (take c.loop-place.place c.args.vals.now)))
 
 pub loop-place-preserved : goal.loop-place-preserved
 loop-place-preserved c = record {

@@ -1,0 +1,19 @@
+use Rattle.std.proofs.Common.{◌≡◌, ◌≤◌, ◌-◌, ◌∙◌, Some, length, sym, ap, subst, arith}
+use Rattle.std.specs.List.{slice_get}
+use Rattle.std.specs.Option.{option_copied}
+use Rattle.std.proofs.lemmas.List.Edits.{insert_end}
+use Rattle.std.proofs.lemmas.Option.{slice_get_within}
+use Rattle.rc_tuple.specs.RisingSetLaws.{put_behind}
+use Rattle.rc_tuple.specs.Tuple.{pair_cmp}
+use Rattle.rc_tuple.specs.TupleLaws.{pair_order}
+use Rattle.rc_tuple.proofs.tuple.place_of_pair.Goals as goal
+
+pub returns-in-Greater : goal.returns-in-Greater
+returns-in-Greater c =
+    let last : slice_get c.args.pairs.now (length c.args.pairs.now - 1) ≡ Some c.in-Some.last.now =
+    sym c.last.ensures.value ∙ ap option_copied c.in-Some.is in
+    let within = slice_get_within c.args.pairs.now (length c.args.pairs.now - 1) c.in-Some.last.now last in (
+      omega arith,
+      put_behind pair_cmp pair_order c.args.pair.now c.in-Some.last.now c.args.pairs.now (length c.args.pairs.now - 1) c.requires last (omega (arith, within)) (sym c.cmp.ensures ∙ c.in-Greater.is)
+          ∙ sym (insert_end c.args.pairs.now c.args.pair.now),
+    )
