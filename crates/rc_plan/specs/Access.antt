@@ -36,19 +36,19 @@ is_lock Emit = false
 is_lock Commit = false
 is_lock (Release c) = false
 
--- a Lock of the stripe on which a tuple with these columns falls
-abbrev pub is_tuple_lock : Spec → List ℕ → Statement → Bool
-is_tuple_lock spec cols (Lock c which.Keyed mode) = is_within (class_at spec c).cols cols
-is_tuple_lock spec cols (Lock c which.All mode) = false
-is_tuple_lock spec cols (Probe others) = false
-is_tuple_lock spec cols (Read e mode) = false
-is_tuple_lock spec cols CheckAbsent = false
-is_tuple_lock spec cols CheckFound = false
-is_tuple_lock spec cols (CheckDep dep) = false
-is_tuple_lock spec cols Apply = false
-is_tuple_lock spec cols Emit = false
-is_tuple_lock spec cols Commit = false
-is_tuple_lock spec cols (Release c) = false
+-- a Lock that a tuple with these columns alone tells: of the stripe on which it falls, or of all stripes of the class
+abbrev pub is_given_lock : Spec → List ℕ → Statement → Bool
+is_given_lock spec cols (Lock c which.Keyed mode) = is_within (class_at spec c).cols cols
+is_given_lock spec cols (Lock c which.All mode) = true
+is_given_lock spec cols (Probe others) = false
+is_given_lock spec cols (Read e mode) = false
+is_given_lock spec cols CheckAbsent = false
+is_given_lock spec cols CheckFound = false
+is_given_lock spec cols (CheckDep dep) = false
+is_given_lock spec cols Apply = false
+is_given_lock spec cols Emit = false
+is_given_lock spec cols Commit = false
+is_given_lock spec cols (Release c) = false
 
 -- a Lock of the class
 abbrev pub is_lock_of : ℕ → Statement → Bool
@@ -78,11 +78,11 @@ is_dep_check (Release c) = false
 
 -- ---- paths
 
--- The plan begins with so many Locks of the stripe of a call's tuple, among them one of the edge's class, and has no other Lock; the tuple's values at the pattern tell the stripe of that class.
+-- The plan begins with so many Locks that a call's tuple alone tells, among them one of the edge's class, and has no other Lock; the tuple's values at the pattern tell the stripe of that class.
 pub record IsLockedFirst (spec : Spec) (op : Op) (plan : List Statement) (p : AccessPath) : Type 0 where
   pub edge : p.edge < length spec.edges
   pub within : p.locks ≤ length plan
-  pub first : list_all (is_tuple_lock spec (given_columns spec op)) (take p.locks plan) ≡ true
+  pub first : list_all (is_given_lock spec (given_columns spec op)) (take p.locks plan) ≡ true
   pub others : list_any is_lock (drop p.locks plan) ≡ false
   pub locked : list_any (is_lock_of (class_of spec p.edge)) (take p.locks plan) ≡ true
   pub striped : Within (class_at spec (class_of spec p.edge)).cols (pattern_columns op)
@@ -120,6 +120,12 @@ pub record RemovesRow (spec : Spec) (op : Op) (e : Edge) : Type 0 where
   pub given : pattern_columns op ≡ source_and_key spec e
   pub whole : bound spec e.to ≡ all_columns spec
 
+-- An update's pattern is source and key of the edge, whose target has all columns, and its plan checks no dependency: the row is the tuple that is there before.
+pub record UpdatesRow (spec : Spec) (op : Op) (plan : List Statement) (e : Edge) : Type 0 where
+  pub given : pattern_columns op ≡ source_and_key spec e
+  pub whole : bound spec e.to ≡ all_columns spec
+  pub unchecked : list_any is_dep_check plan ≡ false
+
 -- what an operation of this kind asks of the edge, whose rows are found so
 abbrev pub Asks : OpKind → ReadMode → Spec → Op → List Statement → Edge → Type 0
 Asks (Query outs ranges) mode spec op plan e = AsksQuery mode spec op e
@@ -127,7 +133,8 @@ Asks Insert Lookup spec op plan e = InsertsRow spec op plan e
 Asks Insert Scan spec op plan e = ⊥
 Asks Remove Lookup spec op plan e = RemovesRow spec op e
 Asks Remove Scan spec op plan e = ⊥
-Asks Update mode spec op plan e = ⊥
+Asks Update Lookup spec op plan e = UpdatesRow spec op plan e
+Asks Update Scan spec op plan e = ⊥
 
 -- the operation's calls are answered by the edge's rows, which lie on the arguments' stripe, which the plan locks first
 pub record IsAccessPath (spec : Spec) (op : Op) (plan : List Statement) (p : AccessPath) : Type 0 where

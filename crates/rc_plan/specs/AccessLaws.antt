@@ -28,15 +28,16 @@ use Rattle.rc_spec.specs.HeathLaws.{AreProjections, IsSeen, reached_more}
 use Rattle.rc_spec.specs.InRange.{IsInRange}
 use Rattle.rc_spec.specs.Placement.{class_at, class_of, IsPlaced}
 use Rattle.rc_spec.specs.Stripes.{physical_stripe}
-use Rattle.rc_plan.specs.Access.{is_lock, is_tuple_lock}
+use Rattle.rc_plan.specs.Access.{is_given_lock, is_lock}
 use Rattle.rc_plan.specs.declared.statement.Statement.{Statement}
 use Rattle.rc_plan.specs.declared.statement.Which.{Which}
 use Rattle.rc_plan.specs.declared.statement.Which.TheVariants as which
 use Rattle.rc_plan.specs.declared.statement.Statement.TheVariants.{Lock, Probe, Read, CheckAbsent, CheckFound, CheckDep, Apply, Emit, Commit, Release}
-use Rattle.rc_plan.specs.Evaluation.{RunState, run, run_next, run_one}
+use Rattle.rc_plan.specs.Evaluation.{RunState, run, run_next, run_one, stripes_locked}
 use Rattle.rc_plan.specs.MatchLaws.{matching_agrees}
+use Rattle.rc_plan.specs.PlanRules.{IsKeyBound}
 use Rattle.rc_plan.specs.RunLaws.{AreProjections-all_rows, cols_of-project, edge_of_fragments, fragments_of_edge, join_same, named-apply, named-check_absent, named-check_dep, named-emit, named-keep_least}
-use Rattle.rc_plan.specs.StripeLocksLaws.{physical_stripe-agreeing, striping_in_target}
+use Rattle.rc_plan.specs.StripeLocksLaws.{physical_stripe-agreeing, physical_stripe-in_band, striping_in_target}
 
 -- ---- statements that are no Locks name no stripe
 
@@ -121,23 +122,28 @@ module _ (spec : Spec) (range : IsInRange spec) (ok : IsAdequate spec) (placed :
 
 -- ---- the first Locks
 
--- such a Lock takes the stripes of the bindings
-pub keyed_lock : (spec : Spec) (cols : List ℕ) (x : Statement) (c : ℕ) (choice : Which) (mode : Mode) → x ≡ Lock c choice mode → is_tuple_lock spec cols x ≡ true → x ≡ Lock c which.Keyed mode
-keyed_lock spec cols x c which.Keyed mode is first = is
-keyed_lock spec cols x c which.All mode is first = absurd (false≢true (subst (λ z. is_tuple_lock spec cols z ≡ true) is first))
+-- a Lock that a tuple tells is a Lock
+pub given_lock_locks : (spec : Spec) (cols : List ℕ) (x : Statement) → is_given_lock spec cols x ≡ true → ((c : ℕ) (choice : Which) (mode : Mode) → x ≡ Lock c choice mode → ⊥) → ⊥
+given_lock_locks spec cols (Lock c choice mode) first n = n c choice mode refl
+given_lock_locks spec cols (Probe others) first n = false≢true first
+given_lock_locks spec cols (Read e mode) first n = false≢true first
+given_lock_locks spec cols CheckAbsent first n = false≢true first
+given_lock_locks spec cols CheckFound first n = false≢true first
+given_lock_locks spec cols (CheckDep dep) first n = false≢true first
+given_lock_locks spec cols Apply first n = false≢true first
+given_lock_locks spec cols Emit first n = false≢true first
+given_lock_locks spec cols Commit first n = false≢true first
+given_lock_locks spec cols (Release c) first n = false≢true first
 
--- and is a Lock
-pub tuple_lock_locks : (spec : Spec) (cols : List ℕ) (x : Statement) → is_tuple_lock spec cols x ≡ true → ((c : ℕ) (choice : Which) (mode : Mode) → x ≡ Lock c choice mode → ⊥) → ⊥
-tuple_lock_locks spec cols (Lock c choice mode) first n = n c choice mode refl
-tuple_lock_locks spec cols (Probe others) first n = false≢true first
-tuple_lock_locks spec cols (Read e mode) first n = false≢true first
-tuple_lock_locks spec cols CheckAbsent first n = false≢true first
-tuple_lock_locks spec cols CheckFound first n = false≢true first
-tuple_lock_locks spec cols (CheckDep dep) first n = false≢true first
-tuple_lock_locks spec cols Apply first n = false≢true first
-tuple_lock_locks spec cols Emit first n = false≢true first
-tuple_lock_locks spec cols Commit first n = false≢true first
-tuple_lock_locks spec cols (Release c) first n = false≢true first
+-- what chooses its stripe is bound where more columns are
+pub key_bound_more : (spec : Spec) (c : ℕ) (choice : Which) (cols more : List ℕ) → Within cols more → IsKeyBound spec c choice cols → IsKeyBound spec c choice more
+key_bound_more spec c which.Keyed cols more within bound = λ k m. within k (bound k m)
+key_bound_more spec c which.All cols more within bound = bound
+
+-- the tuple's stripe is among those that it takes where the tuple is the one binding
+pub given_lock_falls : (spec : Spec) → IsPlaced spec → (c : ℕ) (choice : Which) (t : Pairs) → c < length spec.classes → In (physical_stripe spec c t) (stripes_locked spec c choice (t ∷ []))
+given_lock_falls spec placed c which.Keyed t l = inl refl
+given_lock_falls spec placed c which.All t l = physical_stripe-in_band spec placed c t l
 
 -- each of the first statements passes the test of all
 pub first_at : (f : Statement → Bool) (plan : List Statement) (n at : ℕ) (d : Statement) → n ≤ length plan → list_all f (take n plan) ≡ true → at < n → f (get_or plan at d) ≡ true

@@ -8,7 +8,7 @@ ghost use Rattle.rc_spec.specs.Decomposition.{edge_at};
 ghost use Rattle.rc_spec.specs.InRange.{AreBelow};
 ghost use Rattle.rc_spec.specs.Placement.{class_at};
 ghost use Rattle.rc_spec.specs.declared.items.OpKind.TheVariants.{Query};
-ghost use Rattle.rc_plan.specs.Access.{AreAccessPaths, Asks, AsksQuery, InsertsRow, IsAccessPath, IsLockedFirst, IsPathOf, RemovesRow, is_dep_check, is_lock, is_lock_of, is_tuple_lock};
+ghost use Rattle.rc_plan.specs.Access.{AreAccessPaths, Asks, AsksQuery, InsertsRow, IsAccessPath, IsLockedFirst, IsPathOf, RemovesRow, UpdatesRow, is_dep_check, is_given_lock, is_lock, is_lock_of};
 ghost use Rattle.rc_plan.specs.Compiled.{ArePlansOf};
 ghost use Rattle.rc_plan.specs.PlanRules.{AreKnown, IsKnown, given_columns, pattern_columns};
 ghost use Rattle.rc_plan.specs.Resolved.{AreResolvedEdges};
@@ -29,7 +29,8 @@ pub struct AccessPath {
     /// How its rows are found: by a look-up, where the operation's pattern is its source and key, or by a scan, where the
     /// pattern is its source and a query asks for key and extra columns.
     pub mode: ReadMode,
-    /// With how many Locks the plan begins: each takes the stripe on which the arguments fall, and no other follows.
+    /// With how many Locks the plan begins: each takes the stripe on which the arguments fall, or all stripes of its class,
+    /// and no other follows.
     pub locks: usize,
 }
 
@@ -122,6 +123,7 @@ fn read_mode(
         OpKind::Query { .. } => query_mode(spec, edges, op, edge),
         OpKind::Insert if inserts_row(spec, edges, op, plan, edge) => Some(ReadMode::Lookup),
         OpKind::Remove if removes_row(spec, edges, op, edge) => Some(ReadMode::Lookup),
+        OpKind::Update if updates_row(spec, edges, op, plan, edge) => Some(ReadMode::Lookup),
         OpKind::Insert | OpKind::Remove | OpKind::Update => None,
     }
 }
@@ -152,6 +154,25 @@ fn removes_row(spec: &Spec, edges: &[ResolvedEdge; MAX_EDGES], op: &Op, edge: u8
 {
     let edge = &edges[edge as usize];
     is_given(edge, op) && edge.target.equals(spec.all_columns())
+}
+
+/// Whether an update's pattern is source and key of the edge, whose target has all columns, and its plan checks no
+/// dependency.
+fn updates_row(
+    spec: &Spec,
+    edges: &[ResolvedEdge; MAX_EDGES],
+    op: &Op,
+    plan: &[Statement],
+    edge: u8,
+) -> bool
+    requires sealed { IsSealed spec.now }
+    requires resolved { AreResolvedEdges spec.now edges.now }
+    requires pattern { AreBelow 32 op.now.pattern }
+    requires edge { edge < length spec.now.edges }
+    ensures { IsTrue result ↔ UpdatesRow spec.now op.now plan.now (edge_at spec.now edge) }
+{
+    // An update asks of the edge what a remove does.
+    removes_row(spec, edges, op, edge) && !checks_dependency(plan)
 }
 
 /// Whether the pattern is source and key of the edge.
@@ -188,8 +209,8 @@ fn query_mode(spec: &Spec, edges: &[ResolvedEdge; MAX_EDGES], op: &Op, edge: u8)
     }
 }
 
-/// Whether the Locks of the path come first, each of the stripe on which a call's tuple falls, and one of them of the class
-/// of its edge, whose stripe the values at the pattern tell.
+/// Whether the Locks of the path come first, each told by a call's tuple alone, and one of them of the class of its edge,
+/// whose stripe the values at the pattern tell.
 fn is_locked_first(spec: &Spec, op: &Op, plan: &[Statement], path: AccessPath) -> bool
     requires sealed { IsSealed spec.now }
     requires pattern { AreBelow 32 op.now.pattern }
@@ -204,7 +225,7 @@ fn is_locked_first(spec: &Spec, op: &Op, plan: &[Statement], path: AccessPath) -
     }
     let given = given_columns(spec, op);
     let (first, others) = plan.split_at(path.locks);
-    are_tuple_locks(spec, given, first) && has_lock_of(class, first) && !has_lock(others)
+    are_given_locks(spec, given, first) && has_lock_of(class, first) && !has_lock(others)
 }
 
 /// Whether the values at the pattern tell a stripe of the class.
@@ -230,13 +251,13 @@ fn given_columns(spec: &Spec, op: &Op) -> ColSet
     }
 }
 
-/// Whether each is a Lock of the stripe on which a tuple with these columns falls.
-fn are_tuple_locks(spec: &Spec, cols: ColSet, statements: &[Statement]) -> bool
+/// Whether each is a Lock that a tuple with these columns alone tells.
+fn are_given_locks(spec: &Spec, cols: ColSet, statements: &[Statement]) -> bool
     requires { AreKnown spec.now statements.now }
-    ensures { result ≡ list_all (is_tuple_lock spec.now cols) statements.now }
+    ensures { result ≡ list_all (is_given_lock spec.now cols) statements.now }
 {
     for statement in statements {
-        if !is_tuple_lock(spec, cols, statement) {
+        if !is_given_lock(spec, cols, statement) {
             return false;
         }
     }
@@ -323,10 +344,10 @@ fn is_lock(statement: &Statement) -> bool
     matches!(statement, Statement::Lock { .. })
 }
 
-/// Whether it is a Lock of the stripe on which a tuple with these columns falls.
-fn is_tuple_lock(spec: &Spec, cols: ColSet, statement: &Statement) -> bool
+/// Whether it is a Lock that a tuple with these columns alone tells: of the stripe on which it falls, or of all stripes.
+fn is_given_lock(spec: &Spec, cols: ColSet, statement: &Statement) -> bool
     requires { IsKnown spec.now statement.now }
-    ensures { result ≡ is_tuple_lock spec.now cols statement.now }
+    ensures { result ≡ is_given_lock spec.now cols statement.now }
 {
     match statement {
         Statement::Lock {
@@ -334,6 +355,10 @@ fn is_tuple_lock(spec: &Spec, cols: ColSet, statement: &Statement) -> bool
             which: Which::Keyed,
             ..
         } => spec.class(*class).cols.within(cols),
+        Statement::Lock {
+            which: Which::All,
+            ..
+        } => true,
         _ => false,
     }
 }

@@ -7,14 +7,14 @@ use Rattle.rc_tuple.specs.RisingSet.{In}
 use Rattle.rc_tuple.specs.RisingSetLaws.{append_in_left}
 use Rattle.rc_spec.specs.Placement.{class_at, class_of}
 use Rattle.rc_spec.specs.PlacementLaws.{class_of_known}
-use Rattle.rc_plan.specs.Access.{is_lock, is_lock_of, is_tuple_lock}
+use Rattle.rc_plan.specs.Access.{is_given_lock, is_lock, is_lock_of}
 use Rattle.rc_plan.specs.PlanRules.{given_columns, pattern_columns}
 use Rattle.rc_plan.specs.declared.statement.Statement.{Statement}
 use Rattle.rc_plan.proofs.access.is_locked_first.Goals as goal
-use Rattle.rc_plan.proofs.access.is_locked_first.Goals.{then-are_tuple_locks, else-are_tuple_locks}
+use Rattle.rc_plan.proofs.access.is_locked_first.Goals.{then-are_given_locks, else-are_given_locks}
 
-pub are_tuple_locks-requires : goal.are_tuple_locks-requires
-are_tuple_locks-requires c x m =
+pub are_given_locks-requires : goal.are_given_locks-requires
+are_given_locks-requires c x m =
     let plan = c.args.plan.now in
     let locks = c.args.path.locks in
     let here = subst (λ (xs : List Statement). In x xs) c.split_at.ensures.front m in
@@ -39,13 +39,13 @@ returns-then-has_lock_of c =
     let given = given_columns spec c.args.op.now in
     let class = class_of spec c.args.path.edge in
     let others : c.has_lock.result ≡ list_any is_lock (drop c.args.path.locks plan) = c.has_lock.ensures ∙ ap (list_any is_lock) c.split_at.ensures.back in
-    elim c.if-are_tuple_locks.branch [
-      | then-are_tuple_locks w ↦ (
+    elim c.if-are_given_locks.branch [
+      | then-are_given_locks w ↦ (
         (λ e. record {
           edge = c.requires.edge;
           within = c.requires.within;
-          first = ap (λ cols. list_all (is_tuple_lock spec cols) (take c.args.path.locks plan)) (sym c.given_columns-given.ensures)
-              ∙ ap (list_all (is_tuple_lock spec c.given_columns-given.result)) (sym c.split_at.ensures.front) ∙ sym c.are_tuple_locks.ensures ∙ w.if-are_tuple_locks.true;
+          first = ap (λ cols. list_all (is_given_lock spec cols) (take c.args.path.locks plan)) (sym c.given_columns-given.ensures)
+              ∙ ap (list_all (is_given_lock spec c.given_columns-given.result)) (sym c.split_at.ensures.front) ∙ sym c.are_given_locks.ensures ∙ w.if-are_given_locks.true;
           others = sym others ∙ not-true c.has_lock.result e;
           locked = ap (λ k. list_any (is_lock_of k) (take c.args.path.locks plan)) (sym c.class_of-class.ensures)
               ∙ ap (list_any (is_lock_of c.class_of-class.result)) (sym c.split_at.ensures.front) ∙ sym w.has_lock_of.ensures ∙ sym w.value-is ∙ c.if-has_lock_of.true;
@@ -53,5 +53,5 @@ returns-then-has_lock_of c =
         }),
         (λ locks. ap not (others ∙ locks.others)),
       )
-      | else-are_tuple_locks w ↦ absurd (false≢true (sym w.if-are_tuple_locks.false ∙ sym w.value-is ∙ c.if-has_lock_of.true))
+      | else-are_given_locks w ↦ absurd (false≢true (sym w.if-are_given_locks.false ∙ sym w.value-is ∙ c.if-has_lock_of.true))
     ]
