@@ -1,11 +1,12 @@
 -- Places in a list of entries that rises by its keys.
-use Rattle.std.specs.Prelude.{◌≡◌, ℕ, zero, suc, List, [], ◌∷◌, T, ◌++◌, length}
+use Rattle.std.specs.Prelude.{◌≡◌, ℕ, zero, suc, Bool, not, List, [], ◌∷◌, T, ◌++◌, length}
 use Rattle.std.specs.List.{flat_map}
 use Rattle.std.specs.declared.cmp.Ordering.TheVariants.{Less}
 use Rattle.std.specs.FinMap as fin
 use Rattle.std.specs.FinMap.{is_sorted}
 use Rattle.rc_edges.specs.Values.{Values, values_cmp}
 use Rattle.rc_edges.specs.EdgeMap.{Counted, Rows, parts, present}
+use Rattle.rc_edges.specs.Entry.{is_tombstone}
 
 abbrev pub Items : Type 0
 Items = List (Values × Counted)
@@ -37,3 +38,7 @@ values_in items = flat_map (λ e. e.0 ++ e.1.0) (parts present items)
 -- how many of the items' rows are there
 abbrev pub count_in : Items → ℕ
 count_in items = length (parts present items)
+
+-- whether the item has a row, and not its tombstone
+abbrev pub is_filled : Values × Counted → Bool
+is_filled i = not (is_tombstone i.1)

@@ -1,6 +1,7 @@
 -- Laws of a list of entries that rises by its keys: its places, and what a change at a place is to its rows.
-use Rattle.std.specs.Prelude.{◌≡◌, ℕ, zero, suc, ◌+◌, ◌<◌, ◌≤◌, Bool, true, false, cond, not, T, ◌==◌, ◌&&◌, ◌↔◌, Option, None, Some, is_some, [], ◌∷◌, ◌++◌, length, slice_set, slice_index_or, take, drop, insert, remove}
-use Rattle.std.specs.List.{cons_option, flat_map}
+use Rattle.std.specs.Prelude.{◌≡◌, ℕ, zero, suc, ◌+◌, ◌<◌, ◌≤◌, Bool, true, false, cond, nat_lt, not, T, ◌==◌, ◌&&◌, ◌||◌, ◌↔◌, List, Option, None, Some, is_some, [], ◌∷◌, ◌++◌, length, slice_set, slice_index_or, take, drop, insert, remove}
+use Rattle.std.specs.Bool.{IsTrue}
+use Rattle.std.specs.List.{cons_option, flat_map, list_any}
 use Rattle.std.specs.Option.{option_map, option_and_then}
 use Rattle.std.specs.declared.cmp.Ordering.{Ordering}
 use Rattle.std.specs.declared.cmp.Ordering.TheVariants.{Less, Equal, Greater}
@@ -10,13 +11,13 @@ use Rattle.std.specs.FinMap as fin
 use Rattle.std.specs.FinMap.{find, put, entries_sorted, get-entries, get-from_entries, len-entries, get-empty}
 use Rattle.std.specs.FinMap.Entries.{below_all, where_key, is_sorted-put, find-put, is_sorted-where_key, find-where_key, same_entries, by_order}
 use Rattle.std.proofs.Common.{refl, sym, ap, subst, ◌∙◌, arith}
-use Rattle.std.proofs.lemmas.Bool.{false≢true, eqb-true}
+use Rattle.std.proofs.lemmas.Bool.{false≢true, eqb-true, lt-ltb, ltb-true}
 use Rattle.std.proofs.lemmas.List.{drop_more, take_more, append_assoc}
 use Rattle.rc_edges.specs.Values.{Values, values_cmp, values_eq}
 use Rattle.rc_edges.specs.ValuesLaws.{values_order, same_from_test, test_from_same}
 use Rattle.rc_edges.specs.EdgeMap.{Counted, Rows, current, extra_of, found, listed, parts, present, swept, written}
 use Rattle.rc_edges.specs.Entry.{is_tombstone}
-use Rattle.rc_edges.specs.ListMap.{Items, IsKeyed, IsAt, IsGap, count_in, rows_in, values_in}
+use Rattle.rc_edges.specs.ListMap.{Items, IsKeyed, IsAt, IsGap, count_in, is_filled, rows_in, values_in}
 use Rattle.rc_edges.specs.RowsLaws.{total, same_answers, get-written, written_again, entries-keep, head_below, tail_sorted, below_more, find_below, tombstone_absent, filled_present}
 
 abbrev pub whole : Items → Rows
@@ -236,6 +237,32 @@ count_one i o h = go (present i.1) h
         → length {A = Values × Counted} (cons_option (option_map (λ y. (i.0, y)) n) []) ≡ cond (is_some o) 1 0
     go None h = ap (λ (z : Option Values). cond (is_some z) 1 0) (sym h)
     go (Some c) h = ap (λ (z : Option Values). cond (is_some z) 1 0) (sym h)
+
+-- whether a row is there, by a walk over the items
+some_filled : (items : Items) → nat_lt 0 (count_in items) ≡ list_any is_filled items
+some_filled [] = refl
+some_filled (i ∷ items) = go (is_tombstone i.1) refl (some_filled items)
+  where
+    more : Option Counted → List (Values × Counted)
+    more o = cons_option (option_map (λ y. (i.0, y)) o) (parts present items)
+
+    go : (b : Bool) → is_tombstone i.1 ≡ b → nat_lt 0 (length (parts present items)) ≡ list_any is_filled items
+        → nat_lt 0 (length (more (present i.1))) ≡ (not (is_tombstone i.1) || list_any is_filled items)
+    go true t ih =
+        ap (λ o. nat_lt 0 (length (more o))) (tombstone_absent i.1 t) ∙ ih ∙ ap (λ b. not b || list_any is_filled items) (sym t)
+    go false t ih =
+        ap (λ o. nat_lt 0 (length (more o))) (filled_present i.1 t) ∙ lt-ltb 0 (suc (length (parts present items))) (omega arith)
+        ∙ ap (λ b. not b || list_any is_filled items) (sym t)
+
+pub has_row-items : (items : Items) → IsKeyed items → (b : Bool) → b ≡ list_any is_filled items
+    → IsTrue b ↔ (0 < fin.len (current (rows_in items)))
+has_row-items items k b e = ((λ t. ltb-true 0 n (sym is ∙ t)), (λ l. is ∙ lt-ltb 0 n l))
+  where
+    n : ℕ
+    n = fin.len (current (rows_in items))
+
+    is : b ≡ nat_lt 0 n
+    is = e ∙ sym (some_filled items) ∙ ap (nat_lt 0) (sym (len-rows items k))
 
 rows_next : (items : Items) (n : ℕ) (i : Values × Counted) → n < length items → i ≡ slice_index_or items n i
     → values_in (take (n + 1) items) ≡ values_in (take n items) ++ values_in (i ∷ [])

@@ -13,7 +13,7 @@ use Rattle.std.proofs.Common.{refl, sym, ap, subst, ◌∙◌, arith}
 use Rattle.std.proofs.lemmas.Bool.{false≢true, eqb-true, eq-eqb, ltb-true, ltb-false}
 use Rattle.rc_edges.specs.Values.{Values, values_cmp, values_eq}
 use Rattle.rc_edges.specs.ValuesLaws.{values_order, same_from_test}
-use Rattle.rc_edges.specs.EdgeMap.{Counted, Rows, HasNoOther, current, found, keep, parts, present, written}
+use Rattle.rc_edges.specs.EdgeMap.{Counted, Rows, current, found, keep, parts, present, written}
 use Rattle.rc_edges.specs.Entry.{is_tombstone}
 
 abbrev pub total : IsTotalOrder values_cmp

@@ -69,9 +69,13 @@ pub trait EdgeMap: Sized {
         ensures ok { OnOk result (out.new.items ≡ out.old.items ++ listed (rows self.now)) }
         ensures err { OnErr result (out.new.items ≡ out.old.items) };
 
-    /// How many rows are there.
+    /// How many rows are there. Costs a step for each, and for each tombstone.
     fn len(&self) -> u64
         ensures { result ≡ fin.len (current (rows self.now)) };
+
+    /// Whether a row is there. Costs a step for each tombstone met before one.
+    fn has_row(&self) -> bool
+        ensures { IsTrue result ↔ (0 < fin.len (current (rows self.now))) };
 
     /// Whether nothing is kept, not even a tombstone.
     fn is_gone(&self) -> bool

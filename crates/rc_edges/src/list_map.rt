@@ -1,9 +1,10 @@
 //! The container of kind list.
 
 ghost use Rattle.std.specs.Prelude.{◌≡◌, ◌<◌, ◌≤◌, ◌++◌, false, length, take, IfOk, IfErr, IfSome, IfNone, OnOk, OnErr, [], ◌∷◌};
+ghost use Rattle.std.specs.List.{list_any};
 ghost use Rattle.std.specs.FinMap as fin;
 ghost use Rattle.rc_edges.specs.Values.{values_cmp};
-ghost use Rattle.rc_edges.specs.ListMap.{IsAt, IsGap, count_in, rows_in, values_in};
+ghost use Rattle.rc_edges.specs.ListMap.{IsAt, IsGap, count_in, is_filled, rows_in, values_in};
 
 use crate::{EdgeMap, Entry, Key};
 use rc_tuple::Memory;
@@ -138,6 +139,10 @@ impl EdgeMap for ListMap {
         count_rows(&self.items)
     }
 
+    fn has_row(&self) -> bool {
+        has_filled(&self.items)
+    }
+
     fn is_gone(&self) -> bool {
         self.items.as_slice().is_empty()
     }
@@ -195,6 +200,13 @@ fn count_rows(items: &[(Key, Entry)]) -> u64
         count += 1;
     }
     count
+}
+
+/// Whether one of the items has a row.
+fn has_filled(items: &[(Key, Entry)]) -> bool
+    ensures { result ≡ list_any is_filled items.now }
+{
+    items.iter().any(|item| !item.1.is_tombstone())
 }
 
 /// A copy of each item.

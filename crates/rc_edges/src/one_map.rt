@@ -164,6 +164,16 @@ impl EdgeMap for OneMap {
         }
     }
 
+    fn has_row(&self) -> bool {
+        match &self.place {
+            Place::Several(list) => list.has_row(),
+            Place::One(one) => match one {
+                Some((_, entry)) => !entry.is_tombstone(),
+                None => false,
+            },
+        }
+    }
+
     fn is_gone(&self) -> bool {
         match &self.place {
             Place::Several(list) => list.is_gone(),

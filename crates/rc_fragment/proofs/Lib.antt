@@ -12,4 +12,9 @@ mod RevertLemmas
 mod NotedLemmas
 mod LookupLemmas
 mod CopyLemmas
+mod ShapeLemmas
+mod TupleLemmas
+mod SourceReadLemmas
 mod WalkLemmas
+mod OverLemmas
+mod FullReadLemmas

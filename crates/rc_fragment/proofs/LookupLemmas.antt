@@ -26,7 +26,7 @@ use Rattle.rc_fragment.proofs.ChangeLemmas.{found_there}
 use Rattle.rc_fragment.proofs.ListingLemmas.{entry_get, get_entry, extra_in, key_in, source_in, t_first, t_second, below_in}
 use Rattle.rc_fragment.proofs.RowLemmas.{shape_there, there_found, there_whole, found_row, found_values}
 
-is_less : (o : Ordering) → T (is_lt o) → o ≡ Less
+pub is_less : (o : Ordering) → T (is_lt o) → o ≡ Less
 is_less Less h = refl
 is_less Equal h = absurd h
 is_less Greater h = absurd h

@@ -1,15 +1,18 @@
 -- What a fragment's calls promise.
-use Rattle.std.specs.Prelude.{◌≡◌, ℕ, ◌<◌, ◌≤◌, ◌++◌, true, List, [], ◌∷◌, Option, None, Some, IsSome, length, map}
-use Rattle.std.specs.List.{flat_map, slice_get}
+use Rattle.std.specs.Prelude.{◌≡◌, ℕ, ◌<◌, ◌≤◌, ◌==◌, ◌&&◌, ◌++◌, Bool, true, false, cond, not, List, [], ◌∷◌, Option, None, Some, IsSome, length, map}
+use Rattle.std.specs.List.{find, flat_map, slice_get}
+use Rattle.std.specs.Option.{option_map_or}
 use Rattle.rc_tuple.specs.RisingSet.{In, IsRising}
 use Rattle.rc_tuple.specs.Tuple.{Pairs, cols_of, project}
-use Rattle.rc_edges.specs.Values.{Values, values_cmp}
+use Rattle.rc_edges.specs.Values.{Values, values_cmp, values_eq}
 use Rattle.rc_edges.specs.EdgeMap.{Counted}
 use Rattle.rc_spec.specs.CountedRowsLaws.{AreCountedRows}
-use Rattle.rc_spec.specs.Decomposition.{bound}
-use Rattle.rc_spec.specs.Fragments.{EdgeRow}
+use Rattle.rc_spec.specs.Decomposition.{bound, edge_at}
+use Rattle.rc_spec.specs.Fragments.{EdgeRow, edge_numbers}
+use Rattle.rc_spec.specs.Placement.{class_of}
 use Rattle.rc_spec.specs.declared.items.Edge.{Edge}
-use Rattle.rc_spec.specs.declared.items.EdgeKind.TheVariants.{Singleton}
+use Rattle.rc_spec.specs.declared.items.EdgeKind.{EdgeKind}
+use Rattle.rc_spec.specs.declared.items.EdgeKind.TheVariants.{Hash, Ordered, List as ListKind, Singleton}
 use Rattle.rc_spec.specs.declared.spec.Spec.{Spec}
 use Rattle.rc_fragment.specs.Container.{now_in}
 use Rattle.rc_fragment.specs.FragmentRows.{FragmentRows}
@@ -17,25 +20,58 @@ use Rattle.rc_fragment.specs.Listing.{AreStored, listing, shapes}
 use Rattle.rc_fragment.specs.Notes.{HasRowValues, IsEmptiedAt, IsWithin, Place, changes_of, is_swept, kept_at_place, key_of, noted_extra, place_of, room_in, source_of, taken_rows, undone}
 use Rattle.rc_fragment.specs.RowValues.{extra_columns, values_at}
 use Rattle.rc_fragment.specs.declared.edge_rows.EdgeRows.{EdgeRows}
-use Rattle.rc_fragment.specs.declared.fragment.Fragment.TheInside.{Inside}
-use Rattle.rc_fragment.specs.declared.fragment.Parts.{Parts}
+use Rattle.rc_fragment.specs.declared.stored.Stored.TheInside.{Inside}
+use Rattle.rc_fragment.specs.declared.stored.Parts.{Parts}
 use Rattle.rc_fragment.specs.declared.note.Note.{Note}
 use Rattle.rc_fragment.specs.declared.note.NotedRow.{NotedRow}
 use Rattle.rc_fragment.specs.declared.note.Sweep.{Sweep}
 use Rattle.rc_fragment.specs.declared.note.Sweep.TheVariants.{Committed}
 use Rattle.rc_fragment.specs.declared.shape.EdgeShape.{EdgeShape}
 
--- the shape of an edge
-abbrev pub shape_of : Spec → Edge → EdgeShape
-shape_of spec e = record { source = bound spec e.from; key = e.key; target = bound spec e.to; kind = e.kind }
+abbrev pub is_hash : EdgeKind → Bool
+is_hash Hash = true
+is_hash Ordered = false
+is_hash ListKind = false
+is_hash Singleton = false
+
+-- the edge, of kind hash, leads from a node without columns, and its key has all columns of its target, of which there are some
+abbrev pub may_be_implied : Spec → Edge → Bool
+may_be_implied spec e = values_eq (bound spec e.from) [] && (values_eq e.key (bound spec e.to) && (not (values_eq e.key []) && is_hash e.kind))
+
+-- of an edge and one below it: they are of one class, and the columns of the lower one's source are those of the upper one's target
+abbrev pub is_below : Spec → ℕ → ℕ → Bool
+is_below spec upper lower = class_of spec lower == class_of spec upper && values_eq (bound spec (edge_at spec lower).from) (bound spec (edge_at spec upper).to)
+
+-- The edge whose rows tell those of this one, if there is one: the first below it. Each row of this one is the source of some of its rows, and no other is; so it is with any other edge below it, which would do as well.
+abbrev pub lower_of : Spec → ℕ → Option ℕ
+lower_of spec n = cond (may_be_implied spec (edge_at spec n)) (find (is_below spec n) (edge_numbers spec)) None
+
+-- the shape of the edge with this number
+abbrev pub shape_of : Spec → ℕ → EdgeShape
+shape_of spec n = record {
+  source = bound spec (edge_at spec n).from;
+  key = (edge_at spec n).key;
+  target = bound spec (edge_at spec n).to;
+  kind = (edge_at spec n).kind;
+  class = class_of spec n;
+  lower = lower_of spec n;
+}
 
 -- the edge table of a specification
 abbrev pub edge_table : Spec → List EdgeShape
-edge_table spec = map (shape_of spec) spec.edges
+edge_table spec = map (shape_of spec) (edge_numbers spec)
 
 -- the table has the shape at the number of the edge
 abbrev pub HasShape : List EdgeShape → ℕ → EdgeShape → Type 0
 HasShape table e shape = slice_get table e ≡ Some shape
+
+-- the columns of the target of the edge with this number
+abbrev pub target_at : List EdgeShape → ℕ → List ℕ
+target_at table e = option_map_or (λ (shape : EdgeShape). shape.target) (slice_get table e) []
+
+-- a tuple's row of the edge: its projection on the columns of the edge's target
+abbrev pub edge_row : List EdgeShape → ℕ → Pairs → Pairs
+edge_row table e t = project (target_at table e) t
 
 -- the row has the columns of its edge's target
 abbrev pub HasColumns : List EdgeShape → ℕ → Pairs → Type 0

@@ -1,10 +1,9 @@
 -- What a holder lends a plan: the stripes that it holds, with their rows, and what it offers of the others. (PLDI 2012, two-phase plans over striped locks.)
-use Rattle.std.specs.Prelude.{◌≡◌, ℕ, pred, max, ◌+◌, ◌<◌, ◌^◌, ◌++◌, List, [], ◌∷◌, ◌⊎◌, Option, None, Some, IsSome, Result, Ok, Err, map, length, get_or, cond, ◌==◌}
+use Rattle.std.specs.Prelude.{◌≡◌, ℕ, max, ◌+◌, ◌-◌, ◌<◌, ◌≤◌, ◌^◌, ◌++◌, List, [], ◌∷◌, ◌⊎◌, Option, None, Some, IsSome, Result, Ok, Err, map, length, get_or, cond, ◌==◌}
 use Rattle.rc_tuple.specs.RisingSet.{In}
 use Rattle.rc_tuple.specs.Tuple.{Pairs, cols_of, project}
 use Rattle.rc_tuple.specs.Relation.{IsRelation, Satisfies}
 use Rattle.rc_spec.specs.Calls.{all_columns}
-use Rattle.rc_spec.specs.CountedRows.{count_at}
 use Rattle.rc_spec.specs.Decomposition.{bound, edge_at}
 use Rattle.rc_spec.specs.Fragments.{EdgeRow, row_stripe, fragment_of}
 use Rattle.rc_spec.specs.declared.items.EdgeKind.TheVariants.{Singleton}
@@ -12,8 +11,10 @@ use Rattle.rc_spec.specs.Locks.{StripeLock, Suffices}
 use Rattle.rc_spec.specs.declared.lock.Mode.{Mode}
 use Rattle.rc_spec.specs.declared.lock.Mode.TheVariants.{Exclusive}
 use Rattle.rc_spec.specs.declared.spec.Spec.{Spec}
-use Rattle.rc_fragment.specs.Fragment.{HasAlone, HasColumns, HasSingle, IsThere}
 use Rattle.rc_fragment.specs.FragmentRows.{FragmentRows}
+use Rattle.rc_fragment.specs.Implied.{lowered_all, raised_all}
+use Rattle.rc_fragment.specs.ImpliedTables.{class_rows}
+use Rattle.rc_fragment.specs.Tuples.{ArePartlyAdded, CanAddTuple, HasTuple, changes_of_class}
 use Rattle.rc_fragment.specs.declared.held.Held.{Held}
 use Rattle.rc_fragment.specs.declared.held.TakeStop.{TakeStop}
 use Rattle.rc_fragment.specs.declared.held.TakeStop.TheVariants as stop
@@ -87,9 +88,11 @@ held_of s = map (λ (l : LentStripe). l.held) s.lent
 abbrev pub offered_at : Holding → ℕ → Option (List EdgeRow)
 offered_at s stripe = get_or s.offered stripe None
 
--- the stripe is held, and there is room for a change of it
-abbrev pub HasRoom : Holding → ℕ → Type 0
-HasRoom s stripe = (l : LentStripe) → In l s.lent → l.held.stripe ≡ stripe → 0 < l.room
+-- Where the stripe is held there is room for the changes of a tuple of the class, and for one at least: a fragment that others may have has no room, and so isn't changed. That asks for more only of a class without edges:
+-- one that has edges has one whose rows are kept.
+pub record HasRoomFor (s : Holding) (stripe class : ℕ) : Type 0 where
+  pub some : (l : LentStripe) → In l s.lent → l.held.stripe ≡ stripe → 0 < l.room
+  pub all : (l : LentStripe) → In l s.lent → l.held.stripe ≡ stripe → changes_of_class s.table class ≤ l.room
 
 -- ---- changes of held stripes
 
@@ -101,13 +104,28 @@ with_room stripe changes l = record { held = l.held; room = cond (l.held.stripe 
 abbrev pub with_room_at : ℕ → ℕ → Holding → Holding
 with_room_at stripe changes s = record s { lent = map (with_room stripe changes) s.lent }
 
--- the lent stripe with its rows now changed and room for one change less, where it is this one
-abbrev pub with_change : ℕ → (List EdgeRow → List EdgeRow) → LentStripe → LentStripe
-with_change stripe change l = record { held = with_now stripe change l.held; room = cond (l.held.stripe == stripe) (pred l.room) l.room }
+-- the lent stripe with its rows now changed and room for so many changes less, where it is this one
+abbrev pub with_changes : ℕ → ℕ → (List EdgeRow → List EdgeRow) → LentStripe → LentStripe
+with_changes stripe n change l = record { held = with_now stripe change l.held; room = cond (l.held.stripe == stripe) (l.room - n) l.room }
 
--- a change of the rows of the stripe
-abbrev pub with_change_at : ℕ → (List EdgeRow → List EdgeRow) → Holding → Holding
-with_change_at stripe change s = record s { lent = map (with_change stripe change) s.lent }
+-- so many changes of the rows of the stripe
+abbrev pub with_changes_at : ℕ → ℕ → (List EdgeRow → List EdgeRow) → Holding → Holding
+with_changes_at stripe n change s = record s { lent = map (with_changes stripe n change) s.lent }
+
+-- the tuple's row of each edge of the class once more on the stripe, and once less
+abbrev pub with_tuple_at : ℕ → ℕ → Pairs → Holding → Holding
+with_tuple_at stripe class t s = with_changes_at stripe (changes_of_class s.table class) (raised_all (class_rows s.table class t)) s
+
+abbrev pub without_tuple_at : ℕ → ℕ → Pairs → Holding → Holding
+without_tuple_at stripe class t s = with_changes_at stripe (changes_of_class s.table class) (lowered_all (class_rows s.table class t)) s
+
+-- some of the tuple's rows were added to the stripe, by no more changes than the whole tuple takes, for which there was room
+pub record IsPartlyAddedAt (stripe class : ℕ) (t : Pairs) (old new : Holding) : Type 0 where
+  pub changes : ℕ
+  pub few : changes ≤ changes_of_class old.table class
+  pub change : List EdgeRow → List EdgeRow
+  pub added : (h : HeldStripe) → In h (held_of old) → h.stripe ≡ stripe → ArePartlyAdded old.table class t h.now (change h.now)
+  pub value : new ≡ with_changes_at stripe changes change old
 
 abbrev pub lent_reverted : LentStripe → LentStripe
 lent_reverted l = record { held = reverted l.held; room = l.room }
@@ -116,18 +134,13 @@ lent_reverted l = record { held = reverted l.held; room = l.room }
 abbrev pub all_reverted : Holding → Holding
 all_reverted s = record s { lent = map lent_reverted s.lent }
 
--- The row can be added to the edge on the stripe, or its count raised: its count is small, it has the columns of the edge's target, no other row has its source and key, and in a singleton none with its source has another key.
-pub record CanRaise (s : Holding) (stripe e : ℕ) (row : Pairs) : Type 0 where
-  pub known : e < length s.table
-  pub columns : HasColumns s.table e row
-  pub small : (h : HeldStripe) → In h (held_of s) → h.stripe ≡ stripe → count_at e row h.now < 2 ^ 63
-  pub alone : (h : HeldStripe) → In h (held_of s) → h.stripe ≡ stripe → HasAlone s.table h.now e row
-  pub single : (h : HeldStripe) → In h (held_of s) → h.stripe ≡ stripe → HasSingle s.table h.now e row
+-- the tuple's row can be added to each edge of the class on the stripe, or its count raised
+abbrev pub CanRaise : Holding → ℕ → ℕ → Pairs → Type 0
+CanRaise s stripe class t = (h : HeldStripe) → In h (held_of s) → h.stripe ≡ stripe → CanAddTuple s.table h.now class t
 
--- the edge has the row on the stripe
-pub record CanLower (s : Holding) (stripe e : ℕ) (row : Pairs) : Type 0 where
-  pub known : e < length s.table
-  pub there : (h : HeldStripe) → In h (held_of s) → h.stripe ≡ stripe → IsThere h.now e row
+-- each edge of the class has the tuple's row on the stripe
+abbrev pub CanLower : Holding → ℕ → ℕ → Pairs → Type 0
+CanLower s stripe class t = (h : HeldStripe) → In h (held_of s) → h.stripe ≡ stripe → HasTuple s.table h.now class t
 
 -- the fragment has the rows of the held stripe, and the edge table
 pub record IsLent (s : Holding) (stripe : ℕ) (fragment : FragmentRows) : Type 0 where

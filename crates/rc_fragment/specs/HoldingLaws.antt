@@ -1,9 +1,10 @@
 -- What calls leave of the stripes that a holder tells, and one call after another.
 use Rattle.std.specs.Prelude.{◌≡◌, ℕ, ◌++◌, IsSome, List, [], ◌∷◌, map}
 use Rattle.std.proofs.Common.{refl, sym, ap, subst, ◌∙◌, inl, inr, arith}
+use Rattle.rc_tuple.specs.Tuple.{Pairs}
 use Rattle.rc_spec.specs.Fragments.{EdgeRow}
 use Rattle.rc_spec.specs.declared.lock.Mode.{Mode}
-use Rattle.rc_fragment.specs.Holder.{AreRefusedAfter, GoesOn, HasRisen, HasTaken, HeldStripe, Holding, LentStripe, all_reverted, changed_at, held_of, just_taken, lent_reverted, reverted, with_change, with_change_at, with_now, with_room, with_room_at}
+use Rattle.rc_fragment.specs.Holder.{AreRefusedAfter, GoesOn, HasRisen, HasTaken, HeldStripe, Holding, IsPartlyAddedAt, LentStripe, all_reverted, changed_at, held_of, just_taken, lent_reverted, reverted, with_changes, with_changes_at, with_now, with_room, with_room_at}
 
 -- ---- the stripes held after a call
 
@@ -20,8 +21,8 @@ held-room stripe changes s = go s.lent
     go [] = refl
     go (l ∷ ls) = λ i. l.held ∷ go ls i
 
-pub held-change : (stripe : ℕ) (change : List EdgeRow → List EdgeRow) (s : Holding) → held_of (with_change_at stripe change s) ≡ changed_at stripe change (held_of s)
-held-change stripe change s = held-each (with_change stripe change) (with_now stripe change) (λ l. refl) s.lent
+pub held-change : (stripe n : ℕ) (change : List EdgeRow → List EdgeRow) (s : Holding) → held_of (with_changes_at stripe n change s) ≡ changed_at stripe change (held_of s)
+held-change stripe n change s = held-each (with_changes stripe n change) (with_now stripe change) (λ l. refl) s.lent
 
 pub held-reverted : (s : Holding) → held_of (all_reverted s) ≡ map reverted (held_of s)
 held-reverted s = held-each lent_reverted reverted (λ l. refl) s.lent
@@ -33,6 +34,13 @@ held-append (x ∷ xs) ys = λ i. x.held ∷ held-append xs ys i
 pub held-taken : (old new : Holding) (stripe : ℕ) (mode : Mode) → (t : HasTaken old new stripe mode) → held_of new ≡ held_of old ++ just_taken stripe mode t.rows ∷ []
 held-taken old new stripe mode t =
     ap (map (λ (l : LentStripe). l.held)) t.lent ∙ held-append old.lent (record { held = just_taken stripe mode t.rows; room = t.room } ∷ [])
+
+-- after some changes of the rows of the stripe, whichever they are
+abbrev pub IsChangedAt : ℕ → Holding → Holding → Type 0
+IsChangedAt stripe old new = (n : ℕ) × (change : List EdgeRow → List EdgeRow) × (new ≡ with_changes_at stripe n change old)
+
+pub partly_changed : (stripe class : ℕ) (t : Pairs) (old new : Holding) → IsPartlyAddedAt stripe class t old new → IsChangedAt stripe old new
+partly_changed stripe class t old new p = (p.changes, p.change, p.value)
 
 -- ---- one call after another
 

@@ -6,6 +6,12 @@ pub mod FragmentRows
 pub mod Holder
 pub mod HolderLaws
 pub mod HoldingLaws
+pub mod Implied
+pub mod ImpliedLaws
+pub mod ImpliedTables
+pub mod ImpliedTablesLaws
+pub mod ImpliedReads
+pub mod ImpliedReadsLaws
 pub mod Keep
 pub mod Listing
 pub mod Notes
@@ -13,3 +19,5 @@ pub mod RowValues
 pub mod RowValuesLaws
 pub mod SourceTable
 pub mod Sources
+pub mod Tuples
+pub mod TuplesLaws

@@ -1,5 +1,5 @@
 -- A row by its values: those at the columns of its edge's source, of its key, and of the target's other columns.
-use Rattle.std.specs.Prelude.{◌≡◌, ℕ, List, map}
+use Rattle.std.specs.Prelude.{◌≡◌, ℕ, List, length, map}
 use Rattle.std.specs.List.{zip}
 use Rattle.rc_tuple.specs.RisingSet.{In}
 use Rattle.rc_tuple.specs.ColSet.{IsColSet, Within, union, minus}
@@ -33,3 +33,7 @@ pub record IsParted (shape : EdgeShape) : Type 0 where
   pub apart : (c : ℕ) → In c shape.key → In c shape.source → ⊥
   pub source_within : Within shape.source shape.target
   pub key_within : Within shape.key shape.target
+
+-- each list has this length
+abbrev pub HaveWidth : ℕ → List (List ℕ) → Type 0
+HaveWidth n lists = (s : List ℕ) → In s lists → length s ≡ n

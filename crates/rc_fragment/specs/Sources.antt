@@ -1,11 +1,14 @@
 -- The rows of one edge, kept by the values of their source and then by those of their key.
-use Rattle.std.specs.Prelude.{◌≡◌, cond, ◌&&◌, ◌==◌, [], Option, None, Some, IsSome, length}
+use Rattle.std.specs.Prelude.{◌≡◌, ◌<◌, ◌++◌, Bool, true, List, cond, ◌&&◌, ◌==◌, [], Option, None, Some, IsSome, filter, length, map, nat_lt}
+use Rattle.std.specs.List.{flat_map}
 use Rattle.std.specs.Option.{option_map}
 use Rattle.std.specs.FinMap as fin
 use Rattle.std.specs.FinMap.{FinMap}
+use Rattle.rc_tuple.specs.RisingSet.{In, IsRising}
 use Rattle.rc_tuple.specs.Tuple.{Pairs}
 use Rattle.rc_edges.specs.Values.{Values, values_cmp, values_eq}
 use Rattle.rc_edges.specs.EdgeMap.{Counted, Rows, listed}
+use Rattle.rc_maps.specs.declared.keyed.Keyed.{Keyed}
 use Rattle.rc_spec.specs.declared.items.EdgeKind.TheVariants.{Singleton}
 use Rattle.rc_fragment.specs.Container.{Form, kept_in, now_in, form_in, takes_one}
 use Rattle.rc_fragment.specs.RowValues.{row_from}
@@ -99,3 +102,28 @@ seen_container c = (kept_in c, form_in c)
 -- two maps of containers that answer alike, by what is seen of them
 abbrev pub AreSeenAlike : Sources → Sources → Type 0
 AreSeenAlike old new = (s : Values) → option_map seen_container (fin.get new s) ≡ option_map seen_container (fin.get old s)
+
+-- no tombstone is kept, and no container without an entry
+pub record IsClean (rows : EdgeRows) : Type 0 where
+  pub counts : (source key : Values) (c : Counted) → kept_at rows source key ≡ Some c → 0 < c.1
+  pub emptied : (source : Values) → IsEmptied (sources_of rows) source → ⊥
+
+-- the source has a row
+abbrev pub HasRowAt : EdgeRows → Values → Type 0
+HasRowAt rows source = (key : Values) × IsSome (now_at rows source key)
+
+-- whether a source's container is taken to have a row: it has one, or no tombstone is kept
+abbrev pub is_shown : Bool → Keyed Container → Bool
+is_shown tombstones k = cond tombstones (nat_lt 0 (fin.len (now_in k.value.now))) true
+
+-- the sources of the containers that are taken to have a row
+abbrev pub shown_sources : Bool → List (Keyed Container) → List Values
+shown_sources tombstones all = map (λ k. k.key.now) (filter (is_shown tombstones) all)
+
+-- the list has the values of each source that has a row, rising, at its end
+pub record HasPushed (rows : EdgeRows) (old new : Values) : Type 0 where
+  pub sources : List Values
+  pub pushed : new ≡ old ++ flat_map (λ s. s) sources
+  pub rising : IsRising values_cmp sources
+  pub only : (s : Values) → In s sources → HasRowAt rows s
+  pub each : (s : Values) → HasRowAt rows s → In s sources

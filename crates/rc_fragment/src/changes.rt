@@ -1,34 +1,32 @@
 //! Changes of a fragment's parts, each noted.
 
-ghost use Rattle.std.specs.Prelude.{◌≡◌, ◌+◌, ◌<◌, ◌≤◌, ◌^◌, [], length, OnOk, OnErr};
+ghost use Rattle.std.specs.Prelude.{◌≡◌, ◌+◌, ◌<◌, ◌≤◌, [], length, OnOk, OnErr};
 ghost use Rattle.rc_fragment.specs.Container.{now_in};
-ghost use Rattle.rc_spec.specs.CountedRows.{count_at, lowered, raised};
-ghost use Rattle.rc_fragment.specs.Fragment.{HasAlone, HasColumns, HasSingle, IsFragment, IsThere};
+ghost use Rattle.rc_spec.specs.CountedRows.{lowered, raised};
+ghost use Rattle.rc_fragment.specs.Fragment.{edge_row, IsFragment, IsThere};
 ghost use Rattle.rc_fragment.specs.Listing.{listing, shapes};
 ghost use Rattle.rc_fragment.specs.Notes.{room_in, taken_rows};
+ghost use Rattle.rc_fragment.specs.Tuples.{CanAddRow};
 
 use crate::edge_rows::EdgeRows;
 use crate::note::{Note, Sweep, note_row};
 use crate::places::{add_place, put_back_places, sub_place, sweep_places};
 use rc_tuple::{Memory, Tuple};
 
-/// Adds the row of the edge with the count 1, or raises its count by 1.
+/// Adds the tuple's row of the edge with the count 1, or raises its count by 1.
 pub fn add_noted(
     edges: &mut Vec<EdgeRows>,
     notes: &mut Vec<Note>,
     values: &mut Vec<u64>,
     edge: u8,
-    row: &Tuple,
+    tuple: &Tuple,
 ) -> Result<(), Memory>
     requires fragment { IsFragment edges.old.items notes.old.items values.old.items }
     requires known { edge < length edges.old.items }
     requires owned { 0 < room_in notes.old values.old }
-    requires room { count_at edge row.now (listing now_in edges.old.items) < 2 ^ 63 }
-    requires columns { HasColumns (shapes edges.old.items) edge row.now }
-    requires alone { HasAlone (shapes edges.old.items) (listing now_in edges.old.items) edge row.now }
-    requires single { HasSingle (shapes edges.old.items) (listing now_in edges.old.items) edge row.now }
+    requires can { CanAddRow (shapes edges.old.items) (listing now_in edges.old.items) edge (edge_row (shapes edges.old.items) edge tuple.now) }
     ensures fragment { IsFragment edges.new.items notes.new.items values.new.items }
-    ensures ok { OnOk result (listing now_in edges.new.items ≡ raised edge row.now (listing now_in edges.old.items)) }
+    ensures ok { OnOk result (listing now_in edges.new.items ≡ raised edge (edge_row (shapes edges.old.items) edge tuple.now) (listing now_in edges.old.items)) }
     ensures err { OnErr result (listing now_in edges.new.items ≡ listing now_in edges.old.items) }
     ensures kept { OnErr result (room_in notes.old values.old ≤ room_in notes.new values.new) }
     ensures taken { taken_rows edges.new.items notes.new.items values.new.items ≡ taken_rows edges.old.items notes.old.items values.old.items }
@@ -38,44 +36,40 @@ pub fn add_noted(
     ensures same { OnErr result ((notes.new.items ≡ notes.old.items) × (values.new.items ≡ values.old.items)) }
 {
     let shape = edges[edge as usize].shape;
-    let noted = note_row(values, edge, row, &shape);
-    match add_place(edges, &noted, values) {
-        Ok(before) => {
-            notes.push_reserved(Note {
-                row: noted,
-                took_out: false,
-                count: before,
-            });
-            Ok(())
-        }
-        Err(memory) => {
-            values.truncate(noted.start);
-            Err(memory)
-        }
-    }
+    let noted = note_row(values, edge, tuple, &shape);
+    let Ok(before) = add_place(edges, &noted, values) else {
+        values.truncate(noted.start);
+        return Err(Memory);
+    };
+    notes.push_reserved(Note {
+        row: noted,
+        took_out: false,
+        count: before,
+    });
+    Ok(())
 }
 
-/// Lowers the count of the row of the edge by 1, and takes it out at 0.
+/// Lowers the count of the tuple's row of the edge by 1, and takes it out at 0.
 pub fn sub_noted(
     edges: &mut Vec<EdgeRows>,
     notes: &mut Vec<Note>,
     values: &mut Vec<u64>,
     edge: u8,
-    row: &Tuple,
+    tuple: &Tuple,
 )
     requires fragment { IsFragment edges.old.items notes.old.items values.old.items }
     requires known { edge < length edges.old.items }
     requires owned { 0 < room_in notes.old values.old }
-    requires there { IsThere (listing now_in edges.old.items) edge row.now }
+    requires there { IsThere (listing now_in edges.old.items) edge (edge_row (shapes edges.old.items) edge tuple.now) }
     ensures fragment { IsFragment edges.new.items notes.new.items values.new.items }
-    ensures now { listing now_in edges.new.items ≡ lowered edge row.now (listing now_in edges.old.items) }
+    ensures now { listing now_in edges.new.items ≡ lowered edge (edge_row (shapes edges.old.items) edge tuple.now) (listing now_in edges.old.items) }
     ensures taken { taken_rows edges.new.items notes.new.items values.new.items ≡ taken_rows edges.old.items notes.old.items values.old.items }
     ensures shapes { shapes edges.new.items ≡ shapes edges.old.items }
     ensures left { room_in notes.old values.old ≤ room_in notes.new values.new + 1 }
     ensures noted { length notes.new.items ≡ length notes.old.items + 1 }
 {
     let shape = edges[edge as usize].shape;
-    let noted = note_row(values, edge, row, &shape);
+    let noted = note_row(values, edge, tuple, &shape);
     let before = sub_place(edges, &noted, values);
     notes.push_reserved(Note {
         row: noted,

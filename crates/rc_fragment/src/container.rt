@@ -137,6 +137,18 @@ impl Container {
         }
     }
 
+    /// Whether there is a row. Costs a step for each tombstone met before one.
+    pub fn has_row(&self) -> bool
+        ensures { IsTrue result ↔ (0 < fin.len (now_in self.now)) }
+    {
+        match self {
+            Container::Hash(map) => map.has_row(),
+            Container::Ordered(map) => map.has_row(),
+            Container::List(map) => map.has_row(),
+            Container::Singleton(map) => map.has_row(),
+        }
+    }
+
     /// Whether nothing is kept, not even a tombstone.
     pub fn is_gone(&self) -> bool
         ensures { IsTrue result ↔ (kept_in self.now ≡ fin.empty) }

@@ -1,10 +1,9 @@
 //! A fragment that is copied before the first change, where others may have it.
 
-ghost use Rattle.std.specs.Prelude.{◌≡◌, ◌<◌, ◌^◌, IfSome, OnErr, OnOk, length};
-ghost use Rattle.rc_spec.specs.CountedRows.{count_at, lowered, raised};
-ghost use Rattle.rc_fragment.specs.Fragment.{HasAlone, HasColumns, HasSingle, IsThere};
-ghost use Rattle.rc_fragment.specs.FragmentRows.{changed, rolled_back, settled, with_promise};
+ghost use Rattle.std.specs.Prelude.{◌≡◌, ◌<◌, ◌≤◌, IfSome, OnErr, OnOk};
+ghost use Rattle.rc_fragment.specs.FragmentRows.{rolled_back, settled, with_promise};
 ghost use Rattle.rc_fragment.specs.Keep.{IsAtRest, at_rest, kept_rows};
+ghost use Rattle.rc_fragment.specs.Tuples.{CanAddTuple, HasTuple, IsPartlyAdded, changes_of_class, with_tuple, without_tuple};
 
 use crate::{Fragment, Keep};
 use rc_tuple::{Memory, Tuple};
@@ -84,32 +83,29 @@ impl CowFragment {
         }
     }
 
-    /// Does on the fragment what `Fragment::add_row` does.
-    pub fn add_row(&mut self, edge: u8, row: &Tuple) -> Result<(), Memory>
-        requires known { edge < length self.old.table }
-        requires owned { 0 < self.old.room }
-        requires room { count_at edge row.now self.old.now < 2 ^ 63 }
-        requires columns { HasColumns self.old.table edge row.now }
-        requires alone { HasAlone self.old.table self.old.now edge row.now }
-        requires single { HasSingle self.old.table self.old.now edge row.now }
-        ensures ok { OnOk result (self.new ≡ changed (raised edge row.now) self.old) }
-        ensures err { OnErr result (self.new ≡ self.old) }
+    /// Does on the fragment what `Fragment::add_tuple` does.
+    pub fn add_tuple(&mut self, class: u8, tuple: &Tuple) -> Result<(), Memory>
+        requires owned { changes_of_class self.old.table class ≤ self.old.room }
+        requires some { 0 < self.old.room }
+        requires can { CanAddTuple self.old.table self.old.now class tuple.now }
+        ensures ok { OnOk result (self.new ≡ with_tuple class tuple.now self.old) }
+        ensures err { OnErr result (IsPartlyAdded class tuple.now self.old self.new) }
     {
         match &mut self.possession {
-            Possession::Alone(fragment) => fragment.add_row(edge, row),
+            Possession::Alone(fragment) => fragment.add_tuple(class, tuple),
             Possession::Kept(_) => unreachable!(),
         }
     }
 
-    /// Does on the fragment what `Fragment::sub_row` does.
-    pub fn sub_row(&mut self, edge: u8, row: &Tuple)
-        requires known { edge < length self.old.table }
-        requires owned { 0 < self.old.room }
-        requires there { IsThere self.old.now edge row.now }
-        ensures { self.new ≡ changed (lowered edge row.now) self.old }
+    /// Does on the fragment what `Fragment::sub_tuple` does.
+    pub fn sub_tuple(&mut self, class: u8, tuple: &Tuple)
+        requires owned { changes_of_class self.old.table class ≤ self.old.room }
+        requires some { 0 < self.old.room }
+        requires there { HasTuple self.old.table self.old.now class tuple.now }
+        ensures { self.new ≡ without_tuple class tuple.now self.old }
     {
         match &mut self.possession {
-            Possession::Alone(fragment) => fragment.sub_row(edge, row),
+            Possession::Alone(fragment) => fragment.sub_tuple(class, tuple),
             Possession::Kept(_) => unreachable!(),
         }
     }

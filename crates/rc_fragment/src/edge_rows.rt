@@ -1,6 +1,7 @@
 //! The rows of one edge.
 
-ghost use Rattle.std.specs.Prelude.{◌≡◌, ◌+◌, ◌<◌, ◌^◌, ◌++◌, Some, OnOk, OnErr, IfOk, IsSome, option_copied};
+ghost use Rattle.std.specs.Prelude.{◌≡◌, ◌+◌, ◌<◌, ◌^◌, ◌++◌, ◌↔◌, IsTrue, false, Some, OnOk, OnErr, IfOk, IsSome, length, option_copied, take};
+ghost use Rattle.std.specs.List.{flat_map};
 ghost use Rattle.std.specs.FinMap as fin;
 ghost use Rattle.rc_tuple.specs.RisingSet.{In};
 ghost use Rattle.rc_tuple.specs.Tuple.{Pairs};
@@ -8,13 +9,13 @@ ghost use Rattle.rc_edges.specs.EdgeMap.{HasAsMany, HasExtra, count_of, extra_of
 ghost use Rattle.rc_fragment.specs.Container.{now_in};
 ghost use Rattle.rc_fragment.specs.Listing.{IsFiled, row_found, source_rows};
 ghost use Rattle.rc_fragment.specs.RowValues.{IsParted};
-ghost use Rattle.rc_fragment.specs.Sources.{AreOfShape, AreOfWidth, AreSame, Becomes, IsStoredRow, IsSingle, kept_at, sources_of, listed_in, now_at};
+ghost use Rattle.rc_fragment.specs.Sources.{AreOfShape, AreOfWidth, AreSame, Becomes, HasPushed, HasRowAt, IsClean, IsStoredRow, IsSingle, kept_at, sources_of, listed_in, now_at, shown_sources};
 
 use crate::EdgeShape;
 use crate::container::Container;
 use crate::rows::{push_rows, row_of};
 use crate::source_table::SourceTable;
-use rc_maps::Seed;
+use rc_maps::{Keyed, Seed};
 use rc_tuple::{Memory, Tuple, Tuples};
 use std::alloc::Global;
 
@@ -126,6 +127,37 @@ impl EdgeRows {
         }
     }
 
+    /// Whether the source has a row. Costs a look-up, and where tombstones may be kept a step for each of
+    /// those that is met before a row.
+    pub fn has_source(&self, source: &[u64], tombstones: bool) -> bool
+        requires clean { tombstones ≡ false → IsClean self.now }
+        ensures { IsTrue result ↔ HasRowAt self.now source.now }
+    {
+        match self.sources.get(source) {
+            Some(container) => !tombstones || container.has_row(),
+            None => false,
+        }
+    }
+
+    /// Adds the values of each source that has a row at the end of the list, rising. Costs a list of all sources, which is
+    /// sorted, and where tombstones may be kept a step for each of those. Where memory is wanted the list stays as it was.
+    pub fn push_sources(&self, tombstones: bool, out: &mut Vec<u64>) -> Result<(), Memory>
+        requires clean { tombstones ≡ false → IsClean self.now }
+        ensures ok { OnOk result (HasPushed self.now out.old.items out.new.items) }
+        ensures err { OnErr result (out.new.items ≡ out.old.items) }
+    {
+        let mut all = self.sources.keyed(self.alloc)?;
+        all.sort_unstable_by(|keyed, other| keyed.key.cmp(&other.key));
+        let len = out.len();
+        match push_shown(&all, tombstones, out) {
+            Ok(()) => Ok(()),
+            Err(memory) => {
+                out.truncate(len);
+                Err(memory)
+            }
+        }
+    }
+
     /// The row at the source and the key, if there is one.
     pub fn row_at(&self, source: &[u64], key: &[u64]) -> Result<Option<Tuple>, Memory>
         requires filed { IsFiled now_in self.now }
@@ -188,4 +220,22 @@ impl EdgeRows {
             alloc: self.alloc,
         })
     }
+}
+
+/// Adds the values of each source whose container has a row at the end of the list, in their order, and where no tombstones
+/// are kept those of all. Where memory is wanted some may have been added.
+fn push_shown(
+    all: &[Keyed<'_, Container>],
+    tombstones: bool,
+    out: &mut Vec<u64>,
+) -> Result<(), Memory>
+    ensures ok { OnOk result (out.new.items ≡ out.old.items ++ flat_map (λ s. s) (shown_sources tombstones all.now)) }
+    ensures err { OnErr result (take (length out.old.items) out.new.items ≡ out.old.items) }
+{
+    for keyed in all {
+        if !tombstones || keyed.value.has_row() {
+            out.extend_from_slice(keyed.key)?;
+        }
+    }
+    Ok(())
 }

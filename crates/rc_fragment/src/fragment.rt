@@ -1,46 +1,32 @@
-//! The fragment of a stripe.
+//! The fragment of a stripe, with the rows of all edges.
 
-ghost use Rattle.std.specs.Prelude.{◌≡◌, ◌<◌, ◌^◌, length, OnOk, OnErr, IfOk, option_copied};
-ghost use Rattle.rc_spec.specs.CountedRows.{count_at, lowered, raised};
-ghost use Rattle.rc_fragment.specs.Fragment.{AreAllRows, AreRowsOf, AreWhole, HasAlone, HasColumns, HasScanned, HasShape, HasSingle, IsFoundAt, IsLookedUp, IsScan, IsThere, edge_table, seen_parts, shape_of};
-ghost use Rattle.rc_fragment.specs.FragmentRows.{changed, no_rows, rolled_back, settled, with_promise, without_promise};
-ghost use Rattle.rc_fragment.specs.Listing.{AreEmpty, AreStored, found_by, shapes};
-ghost use Rattle.rc_fragment.specs.Container.{kept_in};
-ghost use Rattle.rc_fragment.specs.Notes.{IsEmptiedAt};
+ghost use Rattle.std.specs.Prelude.{◌≡◌, ◌<◌, ◌≤◌, length, OnOk, OnErr, IfOk, option_copied};
+ghost use Rattle.rc_fragment.specs.Fragment.{AreAllRows, AreRowsOf, HasScanned, HasShape, IsFoundAt, IsLookedUp, IsScan, edge_table};
+ghost use Rattle.rc_fragment.specs.FragmentRows.{no_rows, rolled_back, settled, with_promise, without_promise};
+ghost use Rattle.rc_fragment.specs.ImpliedTables.{IsTable, full_rows};
+ghost use Rattle.rc_fragment.specs.Tuples.{CanAddTuple, HasTuple, IsPartlyAdded, changes_of_class, full_fragment, with_tuple, without_tuple};
 ghost use Rattle.rc_fragment.specs.declared.shape.EdgeShape.{EdgeShape};
 
-use crate::EdgeShape;
-use crate::changes::{add_noted, revert_noted, settle_noted, sub_noted};
-use crate::edge_rows::EdgeRows;
-use crate::note::{Note, VALUES_OF_NOTE};
+use crate::rows::row_over;
+use crate::stored::Stored;
 use rc_maps::Seed;
-use rc_spec::{Accepted, Edge, Spec};
+use rc_spec::Accepted;
 use rc_tuple::{Memory, Tuple, Tuples};
 use std::alloc::Global;
 use std::marker::Model;
 
-/// The rows of all edges that fall on one lock stripe (PLDI 2012, lock striping): each edge and source
-/// has its rows in a container of the edge's kind.
+/// The rows of all edges that fall on one lock stripe (PLDI 2012, lock striping), changed by tuples: all rows that
+/// a tuple has in the edges of a lock class are added together, and taken out together.
 ///
-/// A fragment also tells its rows as they were taken. Changes are made in place, where `own` promised
-/// room for them, and noted with the count before, as in an undo log; `revert` takes them back, from
-/// the last on, and `settle` makes them count as taken. Both cost the changes, whatever the fragment's
-/// size, take no memory and leave no note.
+/// So the rows of an edge from a node without columns needn't be kept where another edge of its class leads from its
+/// target: they are the sources of the other edge's rows, each with their count. Contracts see the rows of all edges.
 ///
-/// Its parts are in a block of their own, so that a stripe that is taken or given back moves a pointer.
+/// A fragment also tells its rows as they were taken. Changes are made in place, where `own` promised room for them,
+/// and noted, as in an undo log; `revert` takes them back, and `settle` makes them count as taken. Both cost the
+/// changes, whatever the fragment's size, take no memory and leave no note.
 #[derive(Drop, Debug)]
 pub struct Fragment {
-    parts: Box<Parts>,
-}
-
-/// What a fragment keeps: the rows of each edge, the changes since they were taken with the values of
-/// the changed rows, and for how many further changes room is promised.
-#[derive(Drop, Debug)]
-pub struct Parts {
-    pub edges: Vec<EdgeRows>,
-    pub notes: Vec<Note>,
-    pub noted: Vec<u64>,
-    pub room: usize,
+    stored: Stored,
 }
 
 impl Model for Fragment {
@@ -48,11 +34,11 @@ impl Model for Fragment {
 
     ghost Value = { FragmentRows };
 
-    ghost use Rattle.rc_fragment.specs.Fragment.{IsWhole, seen};
+    ghost use Rattle.rc_fragment.specs.Tuples.{IsTabled, full_seen};
 
-    ghost view = { seen };
+    ghost view = { full_seen };
 
-    ghost invariant = { IsWhole };
+    ghost invariant = { IsTabled };
 }
 
 impl Fragment {
@@ -62,13 +48,9 @@ impl Fragment {
     pub fn empty(alloc: Global, seed: Seed, accepted: &Accepted) -> Result<Fragment, Memory>
         ensures { IfOk result (λ fragment. fragment ≡ no_rows (edge_table accepted.now)) }
     {
-        let parts = Parts {
-            edges: empty_edges(alloc, seed, accepted)?,
-            notes: Vec::new(alloc),
-            noted: Vec::new(alloc),
-            room: 0,
-        };
-        boxed(alloc, parts)
+        Ok(Fragment {
+            stored: Stored::empty(alloc, seed, accepted)?,
+        })
     }
 
     /// Makes room for at least so many further changes in all. It may be called again. Where memory is
@@ -77,67 +59,38 @@ impl Fragment {
         ensures ok { OnOk result (self.new ≡ with_promise changes self.old) }
         ensures err { OnErr result (self.new ≡ self.old) }
     {
-        let promised = changes as usize;
-        let parts = &mut *self.parts;
-        parts.notes.reserve(promised)?;
-        parts.noted.reserve(promised * VALUES_OF_NOTE)?;
-        parts.room = parts.room.max(promised);
-        Ok(())
+        self.stored.own(changes)
     }
 
-    /// Takes back what `own` promised and no change has used. The memory stays. Where nothing is promised it writes nothing, since a
-    /// write would take the cache line from other processors.
+    /// Takes back what `own` promised and no change has used. The memory stays.
     pub(crate) fn disown(&mut self)
         ensures { self.new ≡ without_promise self.old }
     {
-        if self.parts.room > 0 {
-            self.parts.room = 0;
-        }
+        self.stored.disown();
     }
 
-    /// Adds the row to the edge with the count 1, or raises its count by 1, where there is room for a
-    /// change. The row has the columns of the edge's target, no other row of the edge has its source
-    /// and key, and in a singleton none with its source has another key. Where memory is wanted nothing
-    /// changes. Costs a look-up of the source and one of the key.
-    pub fn add_row(&mut self, edge: u8, row: &Tuple) -> Result<(), Memory>
-        requires known { edge < length self.old.table }
-        requires owned { 0 < self.old.room }
-        requires room { count_at edge row.now self.old.now < 2 ^ 63 }
-        requires columns { HasColumns self.old.table edge row.now }
-        requires alone { HasAlone self.old.table self.old.now edge row.now }
-        requires single { HasSingle self.old.table self.old.now edge row.now }
-        ensures ok { OnOk result (self.new ≡ changed (raised edge row.now) self.old) }
-        ensures err { OnErr result (self.new ≡ self.old) }
+    /// Adds the tuple's row to each edge of the class with the count 1, or raises its count by 1, where there is room for
+    /// a change of each that is kept. Each row has the columns of its edge's target, no other row of the edge has its
+    /// source and key, and in a singleton none with its source has another key. Where memory is wanted some of the tuple's
+    /// rows may have been added, each once, which `revert` takes out. Costs a look-up of the source and one of the key in
+    /// each edge that is kept.
+    pub fn add_tuple(&mut self, class: u8, tuple: &Tuple) -> Result<(), Memory>
+        requires owned { changes_of_class self.old.table class ≤ self.old.room }
+        requires can { CanAddTuple self.old.table self.old.now class tuple.now }
+        ensures ok { OnOk result (self.new ≡ with_tuple class tuple.now self.old) }
+        ensures err { OnErr result (IsPartlyAdded class tuple.now self.old self.new) }
     {
-        let parts = &mut *self.parts;
-        add_noted(
-            &mut parts.edges,
-            &mut parts.notes,
-            &mut parts.noted,
-            edge,
-            row,
-        )?;
-        parts.room -= 1;
-        Ok(())
+        add_kept_rows(&mut self.stored, class, tuple)
     }
 
-    /// Lowers the count of a row that is in the edge by 1, and takes it out at 0, where there is room
-    /// for a change. Takes no memory. Costs a look-up of the source and one of the key.
-    pub fn sub_row(&mut self, edge: u8, row: &Tuple)
-        requires known { edge < length self.old.table }
-        requires owned { 0 < self.old.room }
-        requires there { IsThere self.old.now edge row.now }
-        ensures { self.new ≡ changed (lowered edge row.now) self.old }
+    /// Lowers the count of the tuple's row of each edge of the class by 1, and takes it out at 0, where there is room for
+    /// a change of each that is kept. Takes no memory. Costs what `add_tuple` does.
+    pub fn sub_tuple(&mut self, class: u8, tuple: &Tuple)
+        requires owned { changes_of_class self.old.table class ≤ self.old.room }
+        requires there { HasTuple self.old.table self.old.now class tuple.now }
+        ensures { self.new ≡ without_tuple class tuple.now self.old }
     {
-        let parts = &mut *self.parts;
-        sub_noted(
-            &mut parts.edges,
-            &mut parts.notes,
-            &mut parts.noted,
-            edge,
-            row,
-        );
-        parts.room -= 1;
+        sub_kept_rows(&mut self.stored, class, tuple);
     }
 
     /// Makes the rows what they were as taken (a rollback). Takes no memory. Costs the changes since
@@ -145,8 +98,7 @@ impl Fragment {
     pub fn revert(&mut self)
         ensures { self.new ≡ rolled_back self.old }
     {
-        let parts = &mut *self.parts;
-        revert_noted(&mut parts.edges, &mut parts.notes, &mut parts.noted);
+        self.stored.revert();
     }
 
     /// Makes the rows now count as taken (a commit). Takes no memory. Costs the changes since they were
@@ -154,34 +106,53 @@ impl Fragment {
     pub fn settle(&mut self)
         ensures { self.new ≡ settled self.old }
     {
-        let parts = &mut *self.parts;
-        settle_noted(&mut parts.edges, &mut parts.notes, &mut parts.noted);
+        self.stored.settle();
     }
 
     /// Of the row of the edge with these values at the source's and at the key's columns, each in column
     /// order, the values at the extra columns, those of the target that neither has, in column order;
     /// `None` exactly where there is no such row. Costs a hash look-up of the source and a look-up of
     /// the key: one of a hash in an edge of kind hash, logarithmic in one of kind ordered, and linear in
-    /// the rows of the source in one of kind list. Takes no memory.
+    /// the rows of the source in one of kind list. Where another edge's rows tell it, costs a hash look-up of the key
+    /// there, and while changes are pending a step for each row with it as the source that was taken out. Takes no memory.
     pub fn lookup(&self, edge: u8, source: &[u64], key: &[u64]) -> Option<&[u64]>
         requires { edge < length self.now.table }
         ensures { (shape : EdgeShape) → HasShape self.now.table edge shape → IsLookedUp shape self.now.now edge source.now key.now (option_copied result) }
     {
-        let rows = &self.parts.edges[edge as usize];
-        rows.get(source, key)
+        self.stored.rows_fit_the_table();
+        match self.stored.shape(edge).lower {
+            None => self.stored.lookup(edge, source, key),
+            Some(lower) => {
+                if source.is_empty() && self.stored.has_source(lower, key) {
+                    Some(&[])
+                } else {
+                    None
+                }
+            }
+        }
     }
 
     /// Adds of each row of the edge with these values at the source's columns the values at the key's
     /// and then those at the extra columns at the end of the list, rising by the keys. A row without
     /// key and extra columns adds nothing: `lookup` tells whether it is there. Where memory is wanted
-    /// the list stays as it was.
+    /// the list stays as it was. Where another edge's rows tell those of this one, takes a list of its sources, and
+    /// while changes are pending a step for each row that was taken out.
     pub fn scan(&self, edge: u8, source: &[u64], out: &mut Vec<u64>) -> Result<(), Memory>
         requires { edge < length self.now.table }
         ensures ok { OnOk result ((shape : EdgeShape) → HasShape self.now.table edge shape → HasScanned shape self.now.now edge source.now out.old.items out.new.items) }
         ensures err { OnErr result (out.new.items ≡ out.old.items) }
     {
-        let rows = &self.parts.edges[edge as usize];
-        rows.scan(source, out)
+        self.stored.rows_fit_the_table();
+        match self.stored.shape(edge).lower {
+            None => self.stored.scan(edge, source, out),
+            Some(lower) => {
+                if source.is_empty() {
+                    self.stored.push_sources(lower, out)
+                } else {
+                    Ok(())
+                }
+            }
+        }
     }
 
     /// The row of the edge with these values at the source's and at the key's columns, if there is one,
@@ -190,8 +161,19 @@ impl Fragment {
         requires { edge < length self.now.table }
         ensures { IfOk result (λ row. (shape : EdgeShape) → HasShape self.now.table edge shape → IsFoundAt shape self.now.now edge source.now key.now row) }
     {
-        let rows = &self.parts.edges[edge as usize];
-        rows.row_at(source, key)
+        self.stored.rows_fit_the_table();
+        let shape = self.stored.shape(edge);
+        match shape.lower {
+            None => self.stored.row_at(edge, source, key),
+            Some(lower) => {
+                if source.is_empty() && self.stored.has_source(lower, key) {
+                    let row = row_over(self.stored.alloc(), shape.key, key)?;
+                    Ok(Some(row))
+                } else {
+                    Ok(None)
+                }
+            }
+        }
     }
 
     /// The rows of the edge with these values at the source's columns, rising by their keys, as tuples
@@ -200,8 +182,17 @@ impl Fragment {
         requires { edge < length self.now.table }
         ensures { IfOk result (λ rows. (shape : EdgeShape) → HasShape self.now.table edge shape → IsScan shape self.now.now edge source.now rows) }
     {
-        let rows = &self.parts.edges[edge as usize];
-        rows.rows_at(source)
+        self.stored.rows_fit_the_table();
+        match self.stored.shape(edge).lower {
+            None => self.stored.rows_at(edge, source),
+            Some(lower) => {
+                if source.is_empty() {
+                    self.stored.sources(lower)
+                } else {
+                    Ok(Tuples::new(self.stored.alloc()))
+                }
+            }
+        }
     }
 
     /// A law, in the form of a call that does nothing: the rows of every fragment are counted, each is
@@ -210,7 +201,7 @@ impl Fragment {
         ensures now { AreRowsOf self.now.table self.now.now }
         ensures taken { AreRowsOf self.now.table self.now.taken }
     {
-        let _ = &self.parts;
+        self.stored.rows_fit_the_table();
     }
 
     /// The rows of the edge, each at least once, in no particular order.
@@ -218,8 +209,11 @@ impl Fragment {
         requires { edge < length self.now.table }
         ensures { IfOk result (λ rows. AreAllRows self.now.now edge rows) }
     {
-        let rows = &self.parts.edges[edge as usize];
-        rows.all()
+        self.stored.rows_fit_the_table();
+        match self.stored.shape(edge).lower {
+            None => self.stored.rows(edge),
+            Some(lower) => self.stored.sources(lower),
+        }
     }
 
     /// Another fragment with the same rows, now and as taken, and the same changes to take back, for
@@ -227,64 +221,42 @@ impl Fragment {
     pub fn copy(&self, alloc: Global) -> Result<Fragment, Memory>
         ensures { IfOk result (λ copy. copy ≡ without_promise self.now) }
     {
-        let parts = Parts {
-            edges: copy_edges(alloc, &self.parts.edges)?,
-            notes: Vec::from_slice(alloc, self.parts.notes.as_slice())?,
-            noted: Vec::from_slice(alloc, self.parts.noted.as_slice())?,
-            room: 0,
-        };
-        boxed(alloc, parts)
+        Ok(Fragment {
+            stored: self.stored.copy(alloc)?,
+        })
     }
 }
 
-/// The fragment with these parts, in their block.
-fn boxed(alloc: Global, parts: Parts) -> Result<Fragment, Memory>
-    requires { AreWhole parts }
-    ensures { IfOk result (λ fragment. fragment ≡ seen_parts parts) }
+/// Adds the tuple's row to each edge of the class whose rows are kept. Where memory is wanted some may have been added.
+fn add_kept_rows(stored: &mut Stored, class: u8, tuple: &Tuple) -> Result<(), Memory>
+    requires table { IsTable stored.old.table }
+    requires owned { changes_of_class stored.old.table class ≤ stored.old.room }
+    requires can { CanAddTuple stored.old.table (full_rows stored.old.table stored.old.now) class tuple.now }
+    ensures ok { OnOk result (full_fragment stored.new ≡ with_tuple class tuple.now (full_fragment stored.old)) }
+    ensures err { OnErr result (IsPartlyAdded class tuple.now (full_fragment stored.old) (full_fragment stored.new)) }
+    ensures same { stored.new.table ≡ stored.old.table }
 {
-    Ok(Fragment {
-        parts: Box::new(alloc, parts)?,
-    })
-}
-
-/// A copy of the edges, with all rows that are kept.
-fn copy_edges(alloc: Global, edges: &Vec<EdgeRows>) -> Result<Vec<EdgeRows>, Memory>
-    requires { AreStored edges.now.items }
-    ensures shapes { IfOk result (λ copy. shapes copy.items ≡ shapes edges.now.items) }
-    ensures stored { IfOk result (λ copy. AreStored copy.items) }
-    ensures kept { IfOk result (λ copy. (e : _) (s k : _) → found_by kept_in copy.items e s k ≡ found_by kept_in edges.now.items e s k) }
-    ensures emptied { IfOk result (λ copy. (e : _) (s : _) → IsEmptiedAt copy.items e s → IsEmptiedAt edges.now.items e s) }
-{
-    let mut copy = Vec::new(alloc);
-    for edge in edges {
-        copy.push(edge.copy()?)?;
+    stored.rows_fit_the_table();
+    for edge in 0..stored.edge_count() as u8 {
+        if stored.shape(edge).is_kept_of(class) {
+            stored.add_row(edge, tuple)?;
+        }
     }
-    Ok(copy)
+    Ok(())
 }
 
-/// The edges of a specification with no row.
-fn empty_edges(alloc: Global, seed: Seed, accepted: &Accepted) -> Result<Vec<EdgeRows>, Memory>
-    ensures shapes { IfOk result (λ edges. shapes edges.items ≡ edge_table accepted.now) }
-    ensures empty { IfOk result (λ edges. AreEmpty edges.items) }
+/// Takes the tuple's row out of each edge of the class whose rows are kept.
+fn sub_kept_rows(stored: &mut Stored, class: u8, tuple: &Tuple)
+    requires table { IsTable stored.old.table }
+    requires owned { changes_of_class stored.old.table class ≤ stored.old.room }
+    requires there { HasTuple stored.old.table (full_rows stored.old.table stored.old.now) class tuple.now }
+    ensures value { full_fragment stored.new ≡ without_tuple class tuple.now (full_fragment stored.old) }
+    ensures same { stored.new.table ≡ stored.old.table }
 {
-    let spec = accepted.spec();
-    let mut edges = Vec::new(alloc);
-    for edge in spec.edges.list() {
-        edges.push(EdgeRows::new(alloc, seed, shape_of(spec, edge)))?;
-    }
-    Ok(edges)
-}
-
-/// What a fragment knows of an edge.
-fn shape_of(spec: &Spec, edge: &Edge) -> EdgeShape
-    requires from { edge.now.from < length spec.now.nodes }
-    requires to { edge.now.to < length spec.now.nodes }
-    ensures { result ≡ shape_of spec.now edge.now }
-{
-    EdgeShape {
-        source: spec.bound(edge.from),
-        key: edge.key,
-        target: spec.bound(edge.to),
-        kind: edge.kind,
+    stored.rows_fit_the_table();
+    for edge in 0..stored.edge_count() as u8 {
+        if stored.shape(edge).is_kept_of(class) {
+            stored.sub_row(edge, tuple);
+        }
     }
 }

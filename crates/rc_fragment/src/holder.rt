@@ -1,11 +1,10 @@
 //! What lends a plan the fragments of the stripes that it locks.
 
 ghost use Rattle.std.specs.Prelude.{◌≡◌, ◌<◌, length, OnOk, OnErr};
-ghost use Rattle.rc_spec.specs.CountedRows.{lowered, raised};
 ghost use Rattle.rc_spec.specs.Stripes.{stripe_total};
 ghost use Rattle.rc_spec.specs.declared.spec.Spec.{Spec};
 ghost use Rattle.rc_fragment.specs.Fragment.{edge_table};
-ghost use Rattle.rc_fragment.specs.Holder.{AreOfOneRelation, CanLower, CanRaise, CountsOnlyHeld, HasRefused, HasRoom, HasTaken, HasTakenNothing, Holding, IsAbove, IsHeld, IsHeldExclusive, IsLent, MayTake, all_reverted, held_of, with_change_at, with_room_at};
+ghost use Rattle.rc_fragment.specs.Holder.{AreOfOneRelation, CanLower, CanRaise, CountsOnlyHeld, HasRefused, HasRoomFor, HasTaken, HasTakenNothing, Holding, IsAbove, IsHeld, IsHeldExclusive, IsLent, IsPartlyAddedAt, MayTake, all_reverted, held_of, with_room_at, with_tuple_at, without_tuple_at};
 ghost use Rattle.rc_fragment.specs.declared.held.Held.{Held};
 ghost use Rattle.rc_fragment.specs.declared.held.TakeStop.TheVariants as stop;
 
@@ -52,21 +51,22 @@ pub trait Holder {
         requires { IsHeld (held_of (seen self.now)) stripe }
         ensures { IsLent (seen self.now) stripe result.now };
 
-    /// Does on the stripe's fragment what `Fragment::add_row` does.
-    fn add_row(&mut self, stripe: u32, edge: u8, row: &Tuple) -> Result<(), Memory>
+    /// Does on the stripe's fragment what `Fragment::add_tuple` does. Where memory is wanted some of the tuple's rows may
+    /// have been added.
+    fn add_tuple(&mut self, stripe: u32, class: u8, tuple: &Tuple) -> Result<(), Memory>
         requires exclusive { IsHeldExclusive (held_of (seen self.old)) stripe }
-        requires owned { HasRoom (seen self.old) stripe }
-        requires can { CanRaise (seen self.old) stripe edge row.now }
-        ensures ok { OnOk result (seen self.new ≡ with_change_at stripe (raised edge row.now) (seen self.old)) }
-        ensures err { OnErr result (seen self.new ≡ seen self.old) }
+        requires owned { HasRoomFor (seen self.old) stripe class }
+        requires can { CanRaise (seen self.old) stripe class tuple.now }
+        ensures ok { OnOk result (seen self.new ≡ with_tuple_at stripe class tuple.now (seen self.old)) }
+        ensures err { OnErr result (IsPartlyAddedAt stripe class tuple.now (seen self.old) (seen self.new)) }
         ensures sound { (spec : Spec) → is_sound self.old spec → is_sound self.new spec };
 
-    /// Does on the stripe's fragment what `Fragment::sub_row` does.
-    fn sub_row(&mut self, stripe: u32, edge: u8, row: &Tuple)
+    /// Does on the stripe's fragment what `Fragment::sub_tuple` does.
+    fn sub_tuple(&mut self, stripe: u32, class: u8, tuple: &Tuple)
         requires exclusive { IsHeldExclusive (held_of (seen self.old)) stripe }
-        requires owned { HasRoom (seen self.old) stripe }
-        requires can { CanLower (seen self.old) stripe edge row.now }
-        ensures value { seen self.new ≡ with_change_at stripe (lowered edge row.now) (seen self.old) }
+        requires owned { HasRoomFor (seen self.old) stripe class }
+        requires can { CanLower (seen self.old) stripe class tuple.now }
+        ensures value { seen self.new ≡ without_tuple_at stripe class tuple.now (seen self.old) }
         ensures sound { (spec : Spec) → is_sound self.old spec → is_sound self.new spec };
 
     /// A sound holder has the specification's edge table and number of stripes.

@@ -15,6 +15,7 @@ mod places;
 mod rows;
 mod shape;
 mod source_table;
+mod stored;
 mod values;
 
 pub use cow::CowFragment;

@@ -1,8 +1,8 @@
 //! Rows made of the values that are kept of them.
 
-ghost use Rattle.std.specs.Prelude.{◌≡◌, ◌++◌, Some, IfOk, OnOk, length};
+ghost use Rattle.std.specs.Prelude.{◌≡◌, ◌<◌, ◌++◌, List, Some, IfOk, OnOk, length, map};
 ghost use Rattle.std.specs.FinMap as fin;
-ghost use Rattle.std.specs.List.{zip};
+ghost use Rattle.std.specs.List.{flat_map, zip};
 ghost use Rattle.rc_tuple.specs.ColSet.{IsColSet};
 ghost use Rattle.rc_tuple.specs.RisingSet.{In};
 ghost use Rattle.rc_tuple.specs.Tuple.{value};
@@ -10,7 +10,7 @@ ghost use Rattle.rc_edges.specs.Values.{Values};
 ghost use Rattle.rc_edges.specs.EdgeMap.{Counted};
 ghost use Rattle.rc_fragment.specs.Container.{now_in};
 ghost use Rattle.rc_fragment.specs.Listing.{rows_with};
-ghost use Rattle.rc_fragment.specs.RowValues.{HasValues, IsParted, row_from};
+ghost use Rattle.rc_fragment.specs.RowValues.{HasValues, HaveWidth, IsParted, row_from};
 
 use crate::EdgeShape;
 use crate::container::Container;
@@ -63,6 +63,26 @@ pub fn row_of(
         }
     }
     Tuple::new(shape.target, Vals::from_vec(vals))
+}
+
+/// The tuple that gives the columns these values.
+pub fn row_over(alloc: Global, cols: ColSet, values: &[u64]) -> Result<Tuple, Memory>
+    requires { length values.now ≡ length cols }
+    ensures { IfOk result (λ row. row ≡ zip cols values.now) }
+{
+    Tuple::new(cols, Vals::from_slice(alloc, values)?)
+}
+
+/// The tuples over the columns, of which there are some, that give them these values, one tuple's behind the other's.
+pub fn rows_over(alloc: Global, cols: ColSet, values: &[u64]) -> Result<Tuples, Memory>
+    requires { 0 < length cols }
+    ensures { IfOk result (λ rows. (lists : List Values) → values.now ≡ flat_map (λ s. s) lists → HaveWidth (length cols) lists → rows ≡ map (zip cols) lists) }
+{
+    let mut rows = Tuples::new(alloc);
+    for row in values.chunks_exact(cols.len() as usize) {
+        rows.push(row_over(alloc, cols, row)?)?;
+    }
+    Ok(rows)
 }
 
 /// The row's value at a column of its edge's target.

@@ -1,5 +1,5 @@
 -- A change of one stripe, as a holder's calls promise it.
-use Rattle.std.specs.Prelude.{◌≡◌, ℕ, zero, suc, pred, max, ◌+◌, ◌<◌, ◌≤◌, cond, List, [], ◌∷◌, ◌++◌, Option, None, Some, length, map}
+use Rattle.std.specs.Prelude.{◌≡◌, ℕ, zero, suc, max, ◌+◌, ◌-◌, ◌<◌, ◌≤◌, cond, List, [], ◌∷◌, ◌++◌, Option, None, Some, length, map}
 use Rattle.std.specs.List.{slice_get}
 use Rattle.std.proofs.Common.{inl, refl, sym, ap, subst, ◌∙◌, arith, get_or}
 use Rattle.std.proofs.Math.ListN.{set}
@@ -8,12 +8,16 @@ use Rattle.std.proofs.lemmas.List.{length-append, length-set, map-append}
 use Rattle.std.proofs.lemmas.Option.{same_Some, slice_get_read}
 use Rattle.rc_tuple.specs.RisingSet.{In}
 use Rattle.rc_tuple.specs.RisingSetLaws.{slice_get_in}
+use Rattle.rc_tuple.specs.Tuple.{Pairs}
 use Rattle.rc_spec.specs.Fragments.{EdgeRow}
 use Rattle.rc_spec.specs.declared.lock.Mode.{Mode}
 use Rattle.rc_spec.specs.declared.spec.Spec.{Spec}
-use Rattle.rc_fragment.specs.FragmentRows.{FragmentRows, changed, with_promise}
+use Rattle.rc_fragment.specs.FragmentRows.{FragmentRows, with_promise}
+use Rattle.rc_fragment.specs.Implied.{NumberedRow}
+use Rattle.rc_fragment.specs.ImpliedTables.{class_rows}
 use Rattle.rc_fragment.specs.Keep.{IsAtRest}
-use Rattle.rc_fragment.specs.Holder.{HeldStripe, LentStripe, AreOffered, HasRoom, HasTaken, IsAbove, IsHeld, IsLent, held_of, just_taken, with_change, with_change_at, with_room, with_room_at}
+use Rattle.rc_fragment.specs.Holder.{HeldStripe, LentStripe, AreOffered, CanLower, CanRaise, HasRoomFor, HasTaken, IsAbove, IsHeld, IsLent, IsPartlyAddedAt, held_of, just_taken, with_changes, with_changes_at, with_room, with_room_at}
+use Rattle.rc_fragment.specs.Tuples.{ArePartlyAdded, CanAddTuple, HasTuple, IsPartlyAdded, changed_by, changes_of_class}
 use Rattle.rc_instance.specs.Instance.{held_from, held_numbers, holding, lent_from, stripes_of, table_of, IsOfOneRelation, IsInstance, IsWholeInstance, Stripe}
 use Rattle.rc_instance.specs.InstanceLaws.{as_held, held_of-holding, lent_as, place_in}
 use Rattle.rc_instance.proofs.StripeLemmas.{IsHeldAs, above_is_free, held_as, held_below, held_not_free, instance-set, lent_from-set, lent_from-taken, lent_from_in, not_equal, sound-set, table_of-set, with_now-here, with_now-other}
@@ -28,11 +32,11 @@ room-other k n l d = ap (λ b. (let z : LentStripe = record { held = l.held; roo
 room-here : (k n : ℕ) (f : FragmentRows) (mode : Mode) → with_room k n (lent_as k mode f) ≡ lent_as k mode (with_promise n f)
 room-here k n f mode = ap (λ b. (let z : LentStripe = record { held = as_held k mode f; room = cond b (max f.room n) f.room } in z)) (eq-eqb k k refl)
 
-change-other : (k : ℕ) (change : List EdgeRow → List EdgeRow) (l : LentStripe) → (l.held.stripe ≡ k → ⊥) → with_change k change l ≡ l
-change-other k change l d = λ i. record { held = with_now-other k change l.held d i; room = cond (not_equal l.held.stripe k d i) (pred l.room) l.room }
+change-other : (k n : ℕ) (change : List EdgeRow → List EdgeRow) (l : LentStripe) → (l.held.stripe ≡ k → ⊥) → with_changes k n change l ≡ l
+change-other k n change l d = λ i. record { held = with_now-other k change l.held d i; room = cond (not_equal l.held.stripe k d i) (l.room - n) l.room }
 
-change-here : (k : ℕ) (change : List EdgeRow → List EdgeRow) (f : FragmentRows) (mode : Mode) → with_change k change (lent_as k mode f) ≡ lent_as k mode (changed change f)
-change-here k change f mode = λ i. record { held = with_now-here k change (as_held k mode f) refl i; room = cond (eq-eqb k k refl i) (pred f.room) f.room }
+change-here : (k n : ℕ) (change : List EdgeRow → List EdgeRow) (f : FragmentRows) (mode : Mode) → with_changes k n change (lent_as k mode f) ≡ lent_as k mode (changed_by n change f)
+change-here k n change f mode = λ i. record { held = with_now-here k change (as_held k mode f) refl i; room = cond (eq-eqb k k refl i) (f.room - n) f.room }
 
 -- ---- lists of which one element is set
 
@@ -81,8 +85,26 @@ module _ (fs : List FragmentRows) (ms : List (Option Mode)) (v : List Stripe) (v
   pub as_it_is : (h : HeldStripe) → In h (held_of (holding v)) → h.stripe ≡ k → IsHeldAs stripe h
   as_it_is h m = held_as v k stripe there h (subst (In h) (held_of-holding v) m)
 
-  pub has_room : HasRoom (holding v) k → 0 < f.room
-  has_room room = room (lent_as k q.0.mode f) (lent_from_in 0 v k k stripe q.0.mode there (omega arith) (as_it_is q.0 q.1 q.2).held) refl
+  lent_here : In (lent_as k q.0.mode f) (lent_from 0 v)
+  lent_here = lent_from_in 0 v k k stripe q.0.mode there (omega arith) (as_it_is q.0 q.1 q.2).held
+
+  -- what is asked for a change of a tuple's rows
+  module _ (class : ℕ) where
+    pub has_some : HasRoomFor (holding v) k class → 0 < f.room
+    has_some room = room.some (lent_as k q.0.mode f) lent_here refl
+
+    pub has_room : IsInstance (stripes_of fs ms) → HasRoomFor (holding v) k class → changes_of_class f.table class ≤ f.room
+    has_room i room = subst (λ table. changes_of_class table class ≤ f.room) (sym (table_is i)) (room.all (lent_as k q.0.mode f) lent_here refl)
+
+    pub can_add : (t : Pairs) → IsInstance (stripes_of fs ms) → CanRaise (holding v) k class t → CanAddTuple f.table f.now class t
+    can_add t i can =
+        subst (λ table. CanAddTuple table f.now class t) (sym (table_is i))
+        (subst (λ rows. CanAddTuple (table_of v) rows class t) (sym (as_it_is q.0 q.1 q.2).now) (can q.0 q.1 q.2))
+
+    pub has_tuple : (t : Pairs) → IsInstance (stripes_of fs ms) → CanLower (holding v) k class t → HasTuple f.table f.now class t
+    has_tuple t i can =
+        subst (λ table. HasTuple table f.now class t) (sym (table_is i))
+        (subst (λ rows. HasTuple (table_of v) rows class t) (sym (as_it_is q.0 q.1 q.2).now) (can q.0 q.1 q.2))
 
   pub is_lent : IsInstance (stripes_of fs ms) → IsLent (holding v) k f
   is_lent i = record { table = table_is i; now = λ h m p. (as_it_is h m p).now }
@@ -128,8 +150,28 @@ module _ (fs : List FragmentRows) (ms : List (Option Mode)) (v : List Stripe) (v
   pub tells_room : (n : ℕ) (g : FragmentRows) → g ≡ with_promise n f → holding (stripes_of (set fs k g) ms) ≡ with_room_at k n (holding v)
   tells_room n g e = ap (λ z. holding (stripes_of (set fs k z) ms)) e ∙ tells (with_promise n f) refl refl (with_room k n) (room-other k n) (room-here k n f)
 
-  pub tells_change : (change : List EdgeRow → List EdgeRow) (g : FragmentRows) → g ≡ changed change f → holding (stripes_of (set fs k g) ms) ≡ with_change_at k change (holding v)
-  tells_change change g e = ap (λ z. holding (stripes_of (set fs k z) ms)) e ∙ tells (changed change f) refl refl (with_change k change) (change-other k change) (change-here k change f)
+  tells_change : (n : ℕ) (change : List EdgeRow → List EdgeRow) (g : FragmentRows) → g ≡ changed_by n change f → holding (stripes_of (set fs k g) ms) ≡ with_changes_at k n change (holding v)
+  tells_change n change g e =
+      ap (λ z. holding (stripes_of (set fs k z) ms)) e ∙ tells (changed_by n change f) refl refl (with_changes k n change) (change-other k n change) (change-here k n change f)
+
+  -- a change of a tuple's rows of a class
+  pub tells_tuple : (all : List NumberedRow → List EdgeRow → List EdgeRow) (class : ℕ) (t : Pairs) (g : FragmentRows) → IsInstance (stripes_of fs ms)
+      → g ≡ changed_by (changes_of_class f.table class) (all (class_rows f.table class t)) f
+      → holding (stripes_of (set fs k g) ms) ≡ with_changes_at k (changes_of_class (table_of v) class) (all (class_rows (table_of v) class t)) (holding v)
+  tells_tuple all class t g i e =
+      tells_change (changes_of_class f.table class) (all (class_rows f.table class t)) g e
+      ∙ ap (λ table. with_changes_at k (changes_of_class table class) (all (class_rows table class t)) (holding v)) (table_is i)
+
+  pub tells_partly : (class : ℕ) (t : Pairs) (g : FragmentRows) → IsInstance (stripes_of fs ms) → IsPartlyAdded class t f g → IsPartlyAddedAt k class t (holding v) (holding (stripes_of (set fs k g) ms))
+  tells_partly class t g i partly = record {
+    changes = partly.changes;
+    few = subst (λ table. partly.changes ≤ changes_of_class table class) (table_is i) partly.few;
+    change = λ _. partly.rows;
+    added = λ h m at.
+        subst (λ rows. ArePartlyAdded (table_of v) class t rows partly.rows) (as_it_is h m at).now
+        (subst (λ table. ArePartlyAdded table class t f.now partly.rows) (table_is i) partly.added);
+    value = tells_change partly.changes (λ _. partly.rows) g partly.value;
+  }
 
 -- v are the stripes of the fragments fs that are held as ms says, and k is the number of one above all that are held
 module _ (fs : List FragmentRows) (ms : List (Option Mode)) (v : List Stripe) (view : stripes_of fs ms ≡ v) (k : ℕ) (l : k < length v) (over : IsAbove (held_of (holding v)) k) (i : IsInstance (stripes_of fs ms)) (place : k < length ms) (mode : Mode) where

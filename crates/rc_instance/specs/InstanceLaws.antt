@@ -1,6 +1,6 @@
 -- Laws of instances: what they hold and offer, and what they represent.
 use Rattle.std.specs.Prelude.{◌≡◌, ℕ, zero, suc, ◌+◌, ◌<◌, ◌^◌, ◌⊎◌, ◌==◌, Bool, true, false, List, [], ◌∷◌, Option, None, Some, length, map, ◌++◌}
-use Rattle.std.specs.List.{slice_get}
+use Rattle.std.specs.List.{range_with_len, slice_get}
 use Rattle.std.proofs.Common.{inl, inr, refl, sym, ap, subst, ◌∙◌, arith}
 use Rattle.std.proofs.lemmas.Bool.{eqb-true, eq-eqb, false≢true}
 use Rattle.std.proofs.lemmas.List.{length-map}
@@ -15,7 +15,6 @@ use Rattle.rc_spec.specs.Fragments.{fragment_of}
 use Rattle.rc_spec.specs.Placement.{class_of}
 use Rattle.rc_spec.specs.PlacementLaws.{class_of_known, physical_stripe_below}
 use Rattle.rc_spec.specs.Stripes.{physical_stripe, stripe_total}
-use Rattle.rc_spec.specs.declared.items.Edge.{Edge}
 use Rattle.rc_spec.specs.declared.lock.Mode.{Mode}
 use Rattle.rc_spec.specs.declared.spec.Spec.{Spec}
 use Rattle.rc_fragment.specs.Fragment.{edge_table, shape_of}
@@ -128,13 +127,9 @@ sound_rows ss spec o = (
 
 -- ---- new soundness
 
-no_edges : (edges : List Edge) → length edges ≡ 0 → edges ≡ []
-no_edges [] h = refl
-no_edges (e ∷ edges) h = absurd (omega (arith, h))
-
 -- a specification without stripes has no edge
 pub no_table : (spec : Spec) → IsSealed spec → stripe_total spec ≡ 0 → edge_table spec ≡ []
-no_table spec sealed none = ap (map (shape_of spec)) (no_edges spec.edges (go (length spec.edges) refl))
+no_table spec sealed none = ap (λ n. map (shape_of spec) (range_with_len 0 n)) (go (length spec.edges) refl)
   where
     go : (n : ℕ) → length spec.edges ≡ n → length spec.edges ≡ 0
     go zero e = e

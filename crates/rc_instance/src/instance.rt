@@ -150,14 +150,14 @@ impl Holder for Instance {
         self.fragments[stripe as usize].fragment()
     }
 
-    fn add_row(&mut self, stripe: u32, edge: u8, row: &Tuple) -> Result<(), Memory> {
+    fn add_tuple(&mut self, stripe: u32, class: u8, tuple: &Tuple) -> Result<(), Memory> {
         let fragment = &mut self.fragments[stripe as usize];
-        fragment.add_row(edge, row)
+        fragment.add_tuple(class, tuple)
     }
 
-    fn sub_row(&mut self, stripe: u32, edge: u8, row: &Tuple) {
+    fn sub_tuple(&mut self, stripe: u32, class: u8, tuple: &Tuple) {
         let fragment = &mut self.fragments[stripe as usize];
-        fragment.sub_row(edge, row);
+        fragment.sub_tuple(class, tuple);
     }
 }
 

@@ -37,27 +37,26 @@ use Rattle.rc_plan.specs.AccessLaws.{row_of_match, tuple_of_row}
 use Rattle.rc_plan.specs.MatchLaws.{pick-project}
 use Rattle.rc_machine.specs.Access.{HasListed, HasLookedUp, row_reply}
 use Rattle.rc_machine.proofs.EmitLemmas.{few_rows}
-use Rattle.rc_machine.proofs.EdgeRowLemmas.{has_key, has_source, inside, pick_values, picked, same}
+use Rattle.rc_machine.proofs.EdgeRowLemmas.{has_key, has_source, inside, pick_values, picked, same_all, these_given}
 use Rattle.rc_machine.proofs.SeekLemmas.{same_projected}
-use Rattle.rc_spec.specs.DecompositionLaws.{edge_at_in}
 
 -- ---- the values of a row's key and extra columns
 
-pub picked_parts : (spec : Spec) (sealed : IsSealed spec) (e : ℕ) → e < length spec.edges → (u : Pairs) → cols_of u ≡ (shape_of spec (edge_at spec e)).target
-    → pick ((edge_at spec e).key ++ extra_columns (shape_of spec (edge_at spec e))) u ≡ values_at (edge_at spec e).key u ++ values_at (extra_columns (shape_of spec (edge_at spec e))) u
+pub picked_parts : (spec : Spec) (sealed : IsSealed spec) (e : ℕ) → e < length spec.edges → (u : Pairs) → cols_of u ≡ (shape_of spec e).target
+    → pick ((edge_at spec e).key ++ extra_columns (shape_of spec e)) u ≡ values_at (edge_at spec e).key u ++ values_at (extra_columns (shape_of spec e)) u
 picked_parts spec sealed e known u columns =
-    let shape : EdgeShape = shape_of spec (edge_at spec e) in
-    let parted : IsParted shape = parted_edge spec sealed (edge_at spec e) (edge_at_in spec e known) in
+    let shape : EdgeShape = shape_of spec e in
+    let parted : IsParted shape = parted_edge spec sealed e known in
     let up : IsRising nat_cmp (cols_of u) = subst (IsRising nat_cmp) (sym columns) parted.target.rising in
     let key : pick shape.key u ≡ values_at shape.key u = pick_values shape.key u parted.key.rising up (λ c m. subst (In c) (sym columns) (parted.key_within c m)) in
     let extra : pick (extra_columns shape) u ≡ values_at (extra_columns shape) u = pick_values (extra_columns shape) u (extra_set shape parted).rising up (λ c m. subst (In c) (sym columns) (extra_within shape parted c m)) in
     map-append (value u) shape.key (extra_columns shape) ∙ ap (λ z. z ++ pick (extra_columns shape) u) key ∙ ap (λ z. values_at shape.key u ++ z) extra
 
 -- these columns are the target's
-pub key_and_extra_within : (spec : Spec) (sealed : IsSealed spec) (e : ℕ) → e < length spec.edges → Within ((edge_at spec e).key ++ extra_columns (shape_of spec (edge_at spec e))) (shape_of spec (edge_at spec e)).target
+pub key_and_extra_within : (spec : Spec) (sealed : IsSealed spec) (e : ℕ) → e < length spec.edges → Within ((edge_at spec e).key ++ extra_columns (shape_of spec e)) (shape_of spec e).target
 key_and_extra_within spec sealed e known c m =
-    let shape : EdgeShape = shape_of spec (edge_at spec e) in
-    let parted : IsParted shape = parted_edge spec sealed (edge_at spec e) (edge_at_in spec e known) in
+    let shape : EdgeShape = shape_of spec e in
+    let parted : IsParted shape = parted_edge spec sealed e known in
     elim (in_append c shape.key (extra_columns shape) m) [ inl n ↦ parted.key_within c n | inr n ↦ extra_within shape parted c n ]
 
 -- of two lists whose first parts are as long, that with the lesser first part is below
@@ -101,10 +100,10 @@ rising_map R S f (x ∷ xs) keeps rises = (
 module _ (spec : Spec) (sealed : IsSealed spec) (e : ℕ) (known : e < length spec.edges) (s : Pairs) (tuple : IsTuple s) (striped : Within (class_at spec (class_of spec e)).cols (cols_of s))
     (r : List Pairs) (i : IsRelation (all_columns spec) r) (rows : List EdgeRow) (are : rows ≡ fragment_of spec r (physical_stripe spec (class_of spec e) s)) where
   abbrev shape : EdgeShape
-  shape = shape_of spec (edge_at spec e)
+  shape = shape_of spec e
 
   parted : IsParted shape
-  parted = parted_edge spec sealed (edge_at spec e) (edge_at_in spec e known)
+  parted = parted_edge spec sealed e known
 
   pub over : (t : Pairs) → In t r → cols_of (project shape.target t) ≡ shape.target
   over t m = cols-project (all_columns spec) shape.target t (rising_range 0 (length spec.columns)) parted.target.rising (target_within spec sealed.in_range e known) (i.each t m).over
@@ -135,8 +134,8 @@ module _ (spec : Spec) (sealed : IsSealed spec) (e : ℕ) (known : e < length sp
   pub row_of : cols_of s ≡ union shape.source shape.key → (t : Pairs) → In t r → matches s t ≡ true → IsThereWith shape rows e (values_at shape.source s) (values_at shape.key s) (project shape.target t)
   row_of whole t m match = record {
     there = there_of t m match;
-    source_is = values_are shape.source parted.source_within (has_source spec sealed e known s tuple whole) t match;
-    key_is = values_are shape.key parted.key_within (has_key spec sealed e known s tuple whole) t match;
+    source_is = values_are shape.source parted.source_within (has_source spec sealed e known s tuple (these_given spec sealed e known s tuple whole)) t match;
+    key_is = values_are shape.key parted.key_within (has_key spec sealed e known s tuple (these_given spec sealed e known s tuple whole)) t match;
   }
 
   module _ (ranges : List Range) (none : ranges ≡ []) where
@@ -175,7 +174,7 @@ module _ (spec : Spec) (sealed : IsSealed spec) (e : ℕ) (known : e < length sp
                 let row : (t : Pairs) × In t r × (u ≡ project shape.target t) =
                 tuple_of_row spec sealed.in_range sealed.accepted.adequate sealed.accepted.placed r i e known (physical_stripe spec (class_of spec e) s) u one.0 (subst (λ (z : List EdgeRow). In (e, u, one.0) z) are one.1) in
                 let columns : cols_of u ≡ shape.target = ap cols_of row.2 ∙ over row.0 row.1 in
-                let t : (t : Pairs) × In t r × (matches s t ≡ true) × (u ≡ project shape.target t) = match_of (inside spec sealed e known s tuple whole) u one (same spec sealed e known s tuple whole rows u look.1 columns) in
+                let t : (t : Pairs) × In t r × (matches s t ≡ true) × (u ≡ project shape.target t) = match_of (inside spec sealed e known s tuple whole) u one (same_all spec sealed e known s tuple whole rows u look.1 columns) in
                 let only : rows_of outs asked ≡ pick outs u ∷ [] =
                 same_rising row_cmp number_lists_order (rows_of outs asked) (pick outs u ∷ []) (rising_gather row_cmp number_lists_order (map (pick outs) asked)) ((λ y m. absurd m), tt)
                 (λ z m. let v = rows_in z m in let k = asked_in v.0 v.1 in
@@ -184,7 +183,7 @@ module _ (spec : Spec) (sealed : IsSealed spec) (e : ℕ) (known : e < length sp
                   | inl q ↦ subst (λ y. In y (rows_of outs asked)) (sym (q ∙ ap (pick outs) t.3 ∙ pick-project shape.target outs t.0 within)) (in_rows t.0 (in_asked t.0 t.1 t.2))
                   | inr x ↦ absurd x
                 ]) in
-                let row_is : pick outs u ≡ pick outs (s ++ zip (extra_columns shape) values) = picked spec sealed e known s tuple whole rows u look.1 columns outs within values look.2 in
+                let row_is : pick outs u ≡ pick outs (zip (extra_columns shape) values ++ s) = picked spec sealed e known s tuple (these_given spec sealed e known s tuple whole) rows u look.1 columns outs within values look.2 in
                 ap (at_most most) only ∙ few_rows most (pick outs u ∷ []) (omega (arith, some)) ∙ ap (λ z. Rows (z ∷ [])) row_is ∙ sym is
 
       -- ---- a scan

@@ -55,15 +55,15 @@ use Rattle.rc_machine.proofs.RunLemmas.{has_evaluated, has_served, serves, strip
 
 -- ---- one Lock more
 
-pub one_lock_more : (spec : Spec) (t : Pairs) (first : List Statement) (c : ℕ) (choice : Which) (mode : Mode) (stripes : List ℕ) → AreLockedFor spec t first stripes
-    → AreLockedFor spec t (first ++ Lock c choice mode ∷ []) (stripes ++ physical_stripe spec c t ∷ [])
-one_lock_more spec t first c choice mode stripes are k e =
+pub one_lock_more : (spec : Spec) (t : Pairs) (first : List Statement) (c : ℕ) (choice : Which) (mode : Mode) (stripes more : List ℕ) → AreLockedFor spec t first stripes → In (physical_stripe spec c t) more
+    → AreLockedFor spec t (first ++ Lock c choice mode ∷ []) (stripes ++ more)
+one_lock_more spec t first c choice mode stripes more are falls k e =
     let x : Statement = Lock c choice mode in
     let q : (y : Statement) × In y (first ++ x ∷ []) × (is_lock_of k y ≡ true) = in_list_any (is_lock_of k) (first ++ x ∷ []) e in
     elim (in_append q.0 first (x ∷ []) q.1) [
-      | inl m ↦ append_in_left (physical_stripe spec k t) stripes (physical_stripe spec c t ∷ []) (are k (list_any_in (is_lock_of k) first q.0 m q.2))
-      | inr (inl is) ↦ append_in_right (physical_stripe spec k t) stripes (physical_stripe spec c t ∷ [])
-          (inl (ap (λ z. physical_stripe spec z t) (sym (eqb-true c k (subst (λ y. is_lock_of k y ≡ true) is q.2)))))
+      | inl m ↦ append_in_left (physical_stripe spec k t) stripes more (are k (list_any_in (is_lock_of k) first q.0 m q.2))
+      | inr (inl is) ↦ append_in_right (physical_stripe spec k t) stripes more
+          (subst (λ z. In (physical_stripe spec z t) more) (eqb-true c k (subst (λ y. is_lock_of k y ≡ true) is q.2)) falls)
       | inr (inr z) ↦ absurd z
     ]
 
@@ -134,26 +134,26 @@ module _ (spec : Spec) (sealed : IsSealed spec) (call : Call) (fits : Fits spec 
 
     module _ (rows : List EdgeRow) (r : List Pairs) (i : IsRelation (all_columns spec) r) (rows_are : rows ≡ fragment_of spec r (physical_stripe spec (class_of spec p.edge) call.args)) where
       -- what the look-up found is the plain reply
-      pub row_served : (reply : Reply) → p.mode ≡ Lookup → HasLookedUp (shape_of spec (edge_at spec p.edge)) rows p.edge call.args outs reply → plain spec r call ≡ leaving reply r
+      pub row_served : (reply : Reply) → p.mode ≡ Lookup → HasLookedUp (shape_of spec p.edge) rows p.edge call.args outs reply → plain spec r call ≡ leaving reply r
       row_served reply mode found =
           let row : AsksForRow spec (op_at spec call.op) (edge_at spec p.edge) = subst (λ m. AsksQuery m spec (op_at spec call.op) (edge_at spec p.edge)) mode asks in
           let same : query.0 ≡ row.outs = ap outs_of (sym query.1 ∙ row.query) in
           plain_is r
           ∙ ap (λ z. leaving z r)
           (looked_up spec sealed p.edge path.locks.edge call.args (at spec sealed call fits).tuple (args_striped) r i rows rows_are call.ranges none query.0
-          (subst (λ z. Within z (shape_of spec (edge_at spec p.edge)).target) (sym same) row.within) spec.most_rows (args_given ∙ row.given) row.told reply
-          (subst (λ z. HasLookedUp (shape_of spec (edge_at spec p.edge)) rows p.edge call.args z reply) outs_are found))
+          (subst (λ z. Within z (shape_of spec p.edge).target) (sym same) row.within) spec.most_rows (args_given ∙ row.given) row.told reply
+          (subst (λ z. HasLookedUp (shape_of spec p.edge) rows p.edge call.args z reply) outs_are found))
 
       -- and so is what the scan listed
-      pub rows_served : (reply : Reply) → p.mode ≡ Scan → HasListed (shape_of spec (edge_at spec p.edge)) rows p.edge call.args outs spec.most_rows reply → plain spec r call ≡ leaving reply r
+      pub rows_served : (reply : Reply) → p.mode ≡ Scan → HasListed (shape_of spec p.edge) rows p.edge call.args outs spec.most_rows reply → plain spec r call ≡ leaving reply r
       rows_served reply mode found =
           let listing : AsksForRows spec (op_at spec call.op) (edge_at spec p.edge) = subst (λ m. AsksQuery m spec (op_at spec call.op) (edge_at spec p.edge)) mode asks in
           let same = ap outs_of (sym query.1 ∙ listing.query) in
           plain_is r
           ∙ ap (λ z. leaving z r)
           (listed spec sealed p.edge path.locks.edge call.args (at spec sealed call fits).tuple (args_striped) r i rows rows_are call.ranges none query.0
-          (subst (λ z. Within z (shape_of spec (edge_at spec p.edge)).target) (sym same) (key_and_extra_within spec sealed p.edge path.locks.edge)) spec.most_rows (args_given ∙ listing.given) same reply
-          (subst (λ z. HasListed (shape_of spec (edge_at spec p.edge)) rows p.edge call.args z spec.most_rows reply) outs_are found))
+          (subst (λ z. Within z (shape_of spec p.edge).target) (sym same) (key_and_extra_within spec sealed p.edge path.locks.edge)) spec.most_rows (args_given ∙ listing.given) same reply
+          (subst (λ z. HasListed (shape_of spec p.edge) rows p.edge call.args z spec.most_rows reply) outs_are found))
 
 -- ---- the rows that are lent of the path's stripe
 

@@ -1,8 +1,8 @@
--- A run whose Locks are taken, of a change that finds what it is to find, comes to its Apply.
-use Rattle.std.specs.Prelude.{◌≡◌, ℕ, Bool, true, false, List, [], ◌∷◌, None}
+-- A run whose Locks are taken, of a change that finds what it is to find and checks no dependency, comes to its Apply.
+use Rattle.std.specs.Prelude.{◌≡◌, ℕ, Bool, true, false, List, [], ◌∷◌, Option, Some}
 use Rattle.std.specs.List.{list_any}
 use Rattle.std.specs.Ordering.{nat_cmp}
-use Rattle.std.proofs.Common.{refl, subst, sym, ◌∙◌}
+use Rattle.std.proofs.Common.{refl, ap, subst, sym, ◌∙◌}
 use Rattle.std.proofs.lemmas.Bool.{false≢true, or_parts}
 use Rattle.std.proofs.lemmas.Option.{slice_get_within}
 use Rattle.rc_tuple.specs.RisingSet.{In}
@@ -22,12 +22,14 @@ use Rattle.rc_plan.specs.declared.statement.Statement.{Statement}
 use Rattle.rc_plan.specs.declared.statement.Statement.TheVariants.{Lock, Probe, Read, CheckAbsent, CheckFound, CheckDep, Apply, Emit, Commit, Release}
 use Rattle.rc_plan.specs.Access.{is_dep_check, is_lock}
 use Rattle.rc_plan.specs.Evaluation.{some_left}
-use Rattle.rc_plan.specs.PlanRules.{IsInsert, IsQuery, IsUpdate, Phase, pattern_columns}
+use Rattle.rc_plan.specs.PlanRules.{ChecksAreDone, IsInsert, IsQuery, IsUpdate, Phase, pattern_columns}
 use Rattle.rc_plan.specs.ProbeLaws.{found_one, one_left, seen_at}
+use Rattle.rc_plan.specs.UpdateLaws.{IsOld}
 use Rattle.rc_machine.specs.Machine.{locks_of, rows_now}
 use Rattle.rc_machine.specs.Run.{IsAt, IsOn}
 use Rattle.rc_machine.proofs.CheckStepLemmas.{absent_step, probe_step, whole_tuple}
 use Rattle.rc_machine.proofs.ReadStepLemmas.{read_step}
+use Rattle.rc_machine.proofs.UpdateLemmas.{found_step, kept_bindings}
 
 is_insert : (kind : OpKind) → IsInsert kind → kind ≡ Insert
 is_insert (Query outs ranges) i = absurd i
@@ -43,21 +45,25 @@ module _ (spec : Spec) (sealed : IsSealed spec) (plan : List Statement) (call : 
   abbrev pub IsNew : Type 0
   IsNew = IsInsert (op_at spec call.op).kind → (u : Pairs) → In u one.0 → project pattern call.args ≡ project pattern u → ⊥
 
+  -- some tuple of the relation has the values at an update's pattern
+  abbrev pub HasOld : Type 0
+  HasOld = IsUpdate (op_at spec call.op).kind → (o : Pairs) × IsOld one.0 call.args (op_at spec call.op).pattern o
+
   -- where a run stands whose next statement is an Apply
   abbrev pub ComesToApply : Type 0
-  ComesToApply = (rest : List Statement) × (bs : List Pairs) × IsAt spec plan call (Apply ∷ rest) bs None held
+  ComesToApply = (rest : List Statement) × (bs : List Pairs) × (old : Option Pairs) × IsAt spec plan call (Apply ∷ rest) bs old held
 
   some_pattern : IsInsert (op_at spec call.op).kind → (op_at spec call.op).pattern ≡ [] → ⊥
   some_pattern i = (sealed.accepted.ops call.op (slice_get_within spec.ops call.op fits.0 fits.1.known)).o1 (is_insert (op_at spec call.op).kind i)
 
   -- where none has them, no binding is left at a check for one
-  none_found : IsNew → (rest : List Statement) (bs : List Pairs) (at : IsAt spec plan call (CheckAbsent ∷ rest) bs None held) → some_left bs ≡ false
-  none_found new rest bs at = go (some_left bs) refl
+  none_found : IsNew → (rest : List Statement) (bs : List Pairs) (old : Option Pairs) (at : IsAt spec plan call (CheckAbsent ∷ rest) bs old held) → some_left bs ≡ false
+  none_found new rest bs old at = go (some_left bs) refl
     where
       insert : IsInsert (op_at spec call.op).kind
       insert = at.keeps.0.k1.1
 
-      o : IsOn spec one.0 (op_at spec call.op) call.args at.progress bs None (locks_of held)
+      o : IsOn spec one.0 (op_at spec call.op) call.args at.progress bs old (locks_of held)
       o = at.on one.0 one.1
 
       go : (b : Bool) → some_left bs ≡ b → some_left bs ≡ false
@@ -71,19 +77,39 @@ module _ (spec : Spec) (sealed : IsSealed spec) (plan : List Statement) (call : 
           let u = found_one spec one.0 one.1.relation call.args over pattern at.progress.visited bs seen at.keeps.0.k6.1 b.0 b.1 in
           absurd (new insert u.0 u.1 u.2)
 
-  module _ (no_query : IsQuery (op_at spec call.op).kind → ⊥) (no_update : IsUpdate (op_at spec call.op).kind → ⊥) (new : IsNew) where
+  -- where some tuple has them, CheckFound keeps it
+  old_found : HasOld → (rest : List Statement) (bs : List Pairs) (old : Option Pairs) → IsAt spec plan call (CheckFound ∷ rest) bs old held → (new : List Pairs) × (o : Pairs) × IsAt spec plan call rest new (Some o) held
+  old_found has rest bs old at =
+      let update : IsUpdate (op_at spec call.op).kind = at.keeps.0.k1.1 in
+      let o = has update in
+      let found : bs ≡ o.0 ∷ o.1.0 = kept_bindings spec sealed plan call fits rest bs old held at one.0 one.1 ∙ o.1.1 in
+      (o.0 ∷ o.1.0, o.0, found_step spec sealed plan call fits rest o.0 o.1.0 old held (subst (λ z. IsAt spec plan call (CheckFound ∷ rest) z old held) found at))
+
+  module _ (no_query : IsQuery (op_at spec call.op).kind → ⊥) (new : IsNew) (has : HasOld) where
     pub arrives : (rest : List Statement) → list_any is_lock rest ≡ false → (GivesTuple (op_at spec call.op).kind → list_any is_dep_check rest ≡ false)
-        → (bs : List Pairs) → IsAt spec plan call rest bs None held → ComesToApply
-    arrives [] others unchecked bs at = absurd (let e : Phase.Searching ≡ Phase.Committed = sym (at.on one.0 one.1).search.phase ∙ at.keeps.0 in cc)
-    arrives (Lock c choice mode ∷ rest) others unchecked bs at = absurd (false≢true (sym (or_parts true (list_any is_lock rest) others).0))
-    arrives (Probe xs ∷ rest) others unchecked bs at = arrives rest others unchecked (project xs call.args ∷ []) (probe_step spec sealed plan call fits xs rest bs None held at)
-    arrives (Read e mode ∷ rest) others unchecked bs at =
+        → (bs : List Pairs) (old : Option Pairs) → IsAt spec plan call rest bs old held → ComesToApply
+    arrives [] others unchecked bs old at = absurd (let e : Phase.Searching ≡ Phase.Committed = sym (at.on one.0 one.1).search.phase ∙ at.keeps.0 in cc)
+    arrives (Lock c choice mode ∷ rest) others unchecked bs old at = absurd (false≢true (sym (or_parts true (list_any is_lock rest) others).0))
+    arrives (Probe xs ∷ rest) others unchecked bs old at = arrives rest others unchecked (project xs call.args ∷ []) old (probe_step spec sealed plan call fits xs rest bs old held at)
+    arrives (Read e mode ∷ rest) others unchecked bs old at =
         let joined : List Pairs = join bs (tuples_of_edge e (rows_now held)) in
-        arrives rest others unchecked joined (read_step spec sealed plan call e mode rest bs None held at joined refl one.0 one.1)
-    arrives (CheckAbsent ∷ rest) others unchecked bs at = arrives rest others unchecked bs (absent_step spec sealed plan call fits rest bs None held at (none_found new rest bs at))
-    arrives (CheckFound ∷ rest) others unchecked bs at = absurd (no_update at.keeps.0.k1.1)
-    arrives (CheckDep dep ∷ rest) others unchecked bs at = absurd (false≢true (sym (or_parts true (list_any is_dep_check rest) (unchecked at.keeps.0.k1.1)).0))
-    arrives (Apply ∷ rest) others unchecked bs at = (rest, bs, at)
-    arrives (Emit ∷ rest) others unchecked bs at = absurd (no_query at.keeps.0.k1.1)
-    arrives (Commit ∷ rest) others unchecked bs at = absurd (let e : Phase.Searching ≡ Phase.Decided = sym (at.on one.0 one.1).search.phase ∙ at.keeps.0.k1 in cc)
-    arrives (Release c ∷ rest) others unchecked bs at = absurd (let e : Phase.Searching ≡ Phase.Committed = sym (at.on one.0 one.1).search.phase ∙ at.keeps.0.k1.0 in cc)
+        arrives rest others unchecked joined old (read_step spec sealed plan call e mode rest bs old held at joined refl one.0 one.1)
+    arrives (CheckAbsent ∷ rest) others unchecked bs old at = arrives rest others unchecked bs old (absent_step spec sealed plan call fits rest bs old held at (none_found new rest bs old at))
+    arrives (CheckFound ∷ rest) others unchecked bs old at = let kept = old_found has rest bs old at in arrives rest others unchecked kept.0 (Some kept.1) kept.2
+    arrives (CheckDep dep ∷ rest) others unchecked bs old at = absurd (false≢true (sym (or_parts true (list_any is_dep_check rest) (unchecked at.keeps.0.k1.1)).0))
+    arrives (Apply ∷ rest) others unchecked bs old at = (rest, bs, old, at)
+    arrives (Emit ∷ rest) others unchecked bs old at = absurd (no_query at.keeps.0.k1.1)
+    arrives (Commit ∷ rest) others unchecked bs old at = absurd (let e : Phase.Searching ≡ Phase.Decided = sym (at.on one.0 one.1).search.phase ∙ at.keeps.0.k1 in cc)
+    arrives (Release c ∷ rest) others unchecked bs old at = absurd (let e : Phase.Searching ≡ Phase.Committed = sym (at.on one.0 one.1).search.phase ∙ at.keeps.0.k1.0 in cc)
+
+  -- what an update's Apply is given is the tuple that has the values
+  pub old_kept : (rest : List Statement) (bs : List Pairs) (old : Option Pairs) (at : IsAt spec plan call (Apply ∷ rest) bs old held) → (op_at spec call.op).kind ≡ Update
+      → (o : Pairs) → IsOld one.0 call.args (op_at spec call.op).pattern o → old ≡ Some o
+  old_kept rest bs old at kind o is =
+      let update : IsUpdate (op_at spec call.op).kind = subst IsUpdate (sym kind) tt in
+      let done : ChecksAreDone spec (op_at spec call.op) Update at.progress = subst (λ z. ChecksAreDone spec (op_at spec call.op) z at.progress) kind at.keeps.0.k7 in
+      let found = (at.on one.0 one.1).found update done.0 in
+      found.1 ∙ ap Some (first_same found.0 o found.2.0 is.0 (sym found.2.1 ∙ is.1))
+    where
+      first_same : (x y : Pairs) (xs ys : List Pairs) → x ∷ xs ≡ y ∷ ys → x ≡ y
+      first_same x y xs ys e = cc

@@ -29,7 +29,7 @@ use Rattle.rc_spec.specs.Calls.{Fits, GivesTuple, all_columns}
 use Rattle.rc_spec.specs.Contents.{how_many}
 use Rattle.rc_spec.specs.ContentsLaws.{target_within}
 use Rattle.rc_spec.specs.CountedRows.{row_in}
-use Rattle.rc_spec.specs.CountedRowsLaws.{AllHeld}
+use Rattle.rc_spec.specs.CountedRowsLaws.{AllHeld, AreCountedRows, AreCountedRows-rows_on}
 use Rattle.rc_spec.specs.Decomposition.{bound, edge_at, target_columns}
 use Rattle.rc_spec.specs.Fragments.{EdgeRow, fragment_of, row_stripe}
 use Rattle.rc_spec.specs.FragmentsLaws.{all_rows_in, fragments_in, in_all_rows, in_fragments}
@@ -51,11 +51,11 @@ use Rattle.rc_plan.specs.RemoveLaws.{covered_without_probe}
 use Rattle.rc_plan.specs.RunLaws.{cols_of-project}
 use Rattle.rc_plan.specs.StripeLocks.{AreIn}
 use Rattle.rc_plan.specs.StripeLocksLaws.{striping_in_target}
-use Rattle.rc_machine.specs.Apply.{AreAddable, AreAllThere, AreExclusive, stripe_in}
+use Rattle.rc_machine.specs.Apply.{AreAddable, AreAllCounted, AreAllThere, AreExclusive, stripe_in}
 use Rattle.rc_machine.specs.Machine.{locks_of, stripes_held}
 use Rattle.rc_machine.specs.Run.{IsAt, IsOn}
 use Rattle.rc_machine.proofs.CheckStepLemmas.{whole_tuple}
-use Rattle.rc_machine.proofs.ReadLemmas.{shape_in_table}
+use Rattle.rc_fragment.specs.FragmentLaws.{number_has_shape}
 use Rattle.rc_machine.proofs.ReadStepLemmas.{good_stripes}
 use Rattle.rc_machine.proofs.RunLemmas.{stripes_named}
 
@@ -125,13 +125,16 @@ module _ (spec : Spec) (sealed : IsSealed spec) (r : List Pairs) (i : IsRelation
 -- ---- what can be changed over unchanged stripes of a relation
 
 module _ (spec : Spec) (sealed : IsSealed spec) (r : List Pairs) (held : List HeldStripe) (same : (h : HeldStripe) → In h held → h.now ≡ h.taken) (a : AreOfRelation spec held r) where
+  pub counted_at : AreAllCounted held
+  counted_at h m = subst AreCountedRows (sym (same h m ∙ a.rows h m)) (AreCountedRows-rows_on spec r (h.stripe ∷ []))
+
   -- where a relation with one tuple more satisfies the dependencies, its rows can be added
   pub addable_at : (t : Pairs) → cols_of t ≡ all_columns spec → IsTuple t → Satisfies (put tuple_cmp t r) spec.deps → AreAddable spec t held
   addable_at t over tuple sat e l h m s =
       let source : (u : Pairs) → IsThere h.now e u → (x : Pairs) × In x r × (u ≡ project (bound spec (edge_at spec e).to) x) = λ u n.
       (in_all_rows spec r (e, u, n.0) (in_fragments spec r (h.stripe ∷ []) (e, u, n.0) (subst (λ (z : List EdgeRow). In (e, u, n.0) z) (same h m ∙ a.rows h m) n.1)).0).projected in
-      let shape_is : (shape : EdgeShape) → HasShape (edge_table spec) e shape → shape_of spec (edge_at spec e) ≡ shape = λ shape has.
-      (let q : Some (shape_of spec (edge_at spec e)) ≡ Some shape = sym (shape_in_table spec e l) ∙ has in cc) in
+      let shape_is : (shape : EdgeShape) → HasShape (edge_table spec) e shape → shape_of spec e ≡ shape = λ shape has.
+      (let q : Some (shape_of spec e) ≡ Some shape = sym (number_has_shape spec e l) ∙ has in cc) in
       record {
         small = λ w n q. ((good_stripes spec sealed held same r a h m).counted w n).1;
         alone = λ shape has u n p q.
@@ -139,7 +142,7 @@ module _ (spec : Spec) (sealed : IsSealed spec) (r : List Pairs) (held : List He
             let keyed_two : AreKeyed spec (e, project (bound spec (edge_at spec e).to) x.0, how_many (bound spec (edge_at spec e).to) (put tuple_cmp t (x.0 ∷ [])) (project (bound spec (edge_at spec e).to) x.0))
             (e, project (bound spec (edge_at spec e).to) t, how_many (bound spec (edge_at spec e).to) (put tuple_cmp t (x.0 ∷ [])) (project (bound spec (edge_at spec e).to) t)) =
             keyed spec sealed r a.relation t over tuple sat e l x.0 x.1 in
-            let is : shape_of spec (edge_at spec e) ≡ shape = shape_is shape has in
+            let is : shape_of spec e ≡ shape = shape_is shape has in
             x.2 ∙ ap (λ (z : EdgeRow). z.1) (keyed_two.by_key refl
             (subst (λ (z : EdgeShape). project z.source (project (bound spec (edge_at spec e).to) x.0) ≡ project z.source (row_in spec t e)) (sym is) (subst (λ z. project shape.source z ≡ project shape.source (row_in spec t e)) x.2 p))
             (subst (λ (z : EdgeShape). project z.key (project (bound spec (edge_at spec e).to) x.0) ≡ project z.key (row_in spec t e)) (sym is) (subst (λ z. project shape.key z ≡ project shape.key (row_in spec t e)) x.2 q)));
@@ -148,7 +151,7 @@ module _ (spec : Spec) (sealed : IsSealed spec) (r : List Pairs) (held : List He
             let keyed_two : AreKeyed spec (e, project (bound spec (edge_at spec e).to) x.0, how_many (bound spec (edge_at spec e).to) (put tuple_cmp t (x.0 ∷ [])) (project (bound spec (edge_at spec e).to) x.0))
             (e, project (bound spec (edge_at spec e).to) t, how_many (bound spec (edge_at spec e).to) (put tuple_cmp t (x.0 ∷ [])) (project (bound spec (edge_at spec e).to) t)) =
             keyed spec sealed r a.relation t over tuple sat e l x.0 x.1 in
-            let is : shape_of spec (edge_at spec e) ≡ shape = shape_is shape has in
+            let is : shape_of spec e ≡ shape = shape_is shape has in
             ap (project shape.key) (x.2 ∙ ap (λ (z : EdgeRow). z.1) (keyed_two.single refl (subst (λ (z : EdgeShape). z.kind ≡ Singleton) (sym is) kind)
             (subst (λ (z : EdgeShape). project z.source (project (bound spec (edge_at spec e).to) x.0) ≡ project z.source (row_in spec t e)) (sym is) (subst (λ z. project shape.source z ≡ project shape.source (row_in spec t e)) x.2 p))));
       }

@@ -1,5 +1,5 @@
--- Inserts and removes that are answered from the rows of one edge.
-use Rattle.std.specs.Prelude.{◌≡◌, ℕ, zero, suc, ◌++◌, Bool, true, false, List, [], ◌∷◌, None, Option, Some, Result, Ok, Err, IsErr, drop, filter, length, map, take}
+-- Inserts, removes and updates that are answered from the rows of one edge.
+use Rattle.std.specs.Prelude.{◌≡◌, ℕ, zero, suc, ◌++◌, Bool, true, false, List, [], ◌∷◌, None, Option, Some, Result, Ok, Err, IsErr, drop, filter, length, map}
 use Rattle.std.specs.List.{list_any}
 use Rattle.std.specs.Ordering.{nat_cmp}
 use Rattle.std.proofs.Common.{inl, inr, refl, sym, ap, subst, ◌∙◌}
@@ -8,57 +8,54 @@ use Rattle.rc_tuple.specs.ColSet.{Within}
 use Rattle.rc_tuple.specs.ColSetLaws.{in_range_below, rising_range, union_left, union_right}
 use Rattle.rc_tuple.specs.MergeLaws.{project_all}
 use Rattle.rc_tuple.specs.Relation.{IsRelation}
-use Rattle.rc_tuple.specs.RelationLaws.{list_any_in, test_from_agree}
+use Rattle.rc_tuple.specs.RelationLaws.{agree_from_test, list_any_in, test_from_agree}
 use Rattle.rc_tuple.specs.RisingSet.{In, IsRising, gather}
-use Rattle.rc_tuple.specs.RisingSetLaws.{filter_in, gather_in, in_filter, nat_order, rising_filter, rising_gather, same_rising}
+use Rattle.rc_tuple.specs.RisingSetLaws.{filter_in, gather_in, in_filter, in_gather, nat_order, rising_filter, rising_gather, same_rising}
 use Rattle.rc_tuple.specs.Tuple.{IsTuple, Pairs, agree_on, cols_of, matches, project, tuple_cmp}
 use Rattle.rc_tuple.specs.TupleLaws.{cols-project, in_project, one_pair, project-project, project_less, rising_cols, rising_cols-project, same_from_test, test_from_same, tuple_order}
 use Rattle.rc_spec.specs.declared.call.Call.{Call}
 use Rattle.rc_spec.specs.declared.call.Reply.{Reply}
-use Rattle.rc_spec.specs.declared.call.Reply.TheVariants.{Absent, Inserted, Present, Removed}
+use Rattle.rc_spec.specs.declared.call.Reply.TheVariants.{Absent, Inserted, Present, Removed, Updated}
 use Rattle.rc_spec.specs.declared.items.Edge.{Edge}
 use Rattle.rc_spec.specs.declared.items.Op.{Op}
-use Rattle.rc_spec.specs.declared.items.OpKind.TheVariants.{Insert, Remove}
+use Rattle.rc_spec.specs.declared.items.OpKind.TheVariants.{Insert, Remove, Update}
 use Rattle.rc_spec.specs.declared.spec.Spec.{Spec}
 use Rattle.rc_spec.specs.Calls.{GivesTuple, all_columns, value_columns}
 use Rattle.rc_spec.specs.CallsLaws.{fits_at_op}
 use Rattle.rc_spec.specs.CountedRows.{lowered, raised}
 use Rattle.rc_spec.specs.Decomposition.{bound, edge_at, source_and_key}
-use Rattle.rc_spec.specs.DecompositionLaws.{edge_at_in}
 use Rattle.rc_spec.specs.Fragments.{EdgeRow, edge_numbers, fragment_of}
 use Rattle.rc_spec.specs.Placement.{class_at, class_of, op_at}
 use Rattle.rc_spec.specs.Plain.{plain, plain_by}
-use Rattle.rc_spec.specs.PlainLaws.{insert-present, plain-known}
+use Rattle.rc_spec.specs.PlainLaws.{insert-present, plain-known, update-absent}
 use Rattle.rc_spec.specs.Stripes.{physical_stripe}
 use Rattle.rc_fragment.specs.Fragment.{IsThereWith, shape_of}
 use Rattle.rc_fragment.specs.FragmentLaws.{parted_edge}
 use Rattle.rc_fragment.specs.FragmentRows.{FragmentRows}
-use Rattle.rc_fragment.specs.Holder.{AreOfOneRelation, AreOfRelation, HeldStripe, Holding, IsLent, held_of, reverted}
+use Rattle.rc_fragment.specs.Holder.{AreOfOneRelation, AreOfRelation, HeldStripe, Holding, IsLent, held_of}
 use Rattle.rc_fragment.specs.RowValues.{IsParted, values_at}
 use Rattle.rc_fragment.specs.declared.shape.EdgeShape.{EdgeShape}
-use Rattle.rc_plan.specs.Access.{Asks, InsertsRow, RemovesRow, is_dep_check}
+use Rattle.rc_plan.specs.Access.{Asks, InsertsRow, RemovesRow, UpdatesRow, is_dep_check}
 use Rattle.rc_plan.specs.Compiled.{SpecWithPlans, plan_at}
 use Rattle.rc_plan.specs.PlanRules.{IsInsert, IsQuery, IsUpdate, pattern_columns}
 use Rattle.rc_plan.specs.StripeLocksLaws.{physical_stripe-agreeing}
+use Rattle.rc_plan.specs.UpdateLaws.{IsOld}
 use Rattle.rc_plan.specs.declared.access.AccessPath.{AccessPath}
 use Rattle.rc_plan.specs.declared.statement.ReadMode.{ReadMode}
 use Rattle.rc_plan.specs.declared.statement.ReadMode.TheVariants.{Lookup, Scan}
 use Rattle.rc_plan.specs.declared.statement.Statement.{Statement}
 use Rattle.rc_machine.specs.Access.{HasAnsweredByPath, HasLockedPath, IsRowFound, IsTupleFound, leaving}
-use Rattle.rc_machine.specs.Applied.{AreTakenAlike, CanInsert, CanRemove, HasRemoved}
-use Rattle.rc_machine.specs.Apply.{IsSameButLent, all_changed, place_in}
+use Rattle.rc_machine.specs.Applied.{CanInsert, CanRemove, CanReplace, HasRemoved, HasReplaced, replaced_in}
+use Rattle.rc_machine.specs.Apply.{IsSameButLent, all_changed}
 use Rattle.rc_machine.specs.Machine.{AreTakenAsOffered, HasReplied}
 use Rattle.rc_machine.specs.Stripes.{AreStripesOf}
 use Rattle.rc_machine.specs.declared.stripe.ClassStripe.{ClassStripe}
 use Rattle.rc_machine.proofs.AccessLemmas.{match_of, no_member, row_of}
 use Rattle.rc_machine.proofs.AccessRunLemmas.{args_are, args_striped, lent_over, lent_rows, path_replies, pattern_in_args}
-use Rattle.rc_machine.proofs.ArriveLemmas.{ComesToApply, arrives}
-use Rattle.rc_machine.proofs.CheckStepLemmas.{whole_tuple}
+use Rattle.rc_machine.proofs.ArriveLemmas.{ComesToApply, arrives, old_kept}
 use Rattle.rc_machine.proofs.ConditionLemmas.{found_args}
-use Rattle.rc_machine.proofs.EdgeRowLemmas.{inside, same}
+use Rattle.rc_machine.proofs.EdgeRowLemmas.{inside, same_all}
 use Rattle.rc_machine.proofs.GoLemmas.{applied_replies, can_apply}
-use Rattle.rc_machine.proofs.PlacedLemmas.{placed_changed}
-use Rattle.rc_machine.proofs.RevertLemmas.{taken_alike}
 use Rattle.rc_machine.proofs.StripeLemmas.{args_below, stripes_of_more}
 
 -- ---- what a path of a change asks
@@ -70,6 +67,10 @@ inserts_row spec op plan e Scan asks = absurd asks
 removes_row : (spec : Spec) (op : Op) (plan : List Statement) (e : Edge) (mode : ReadMode) → Asks Remove mode spec op plan e → RemovesRow spec op e
 removes_row spec op plan e Lookup asks = asks
 removes_row spec op plan e Scan asks = absurd asks
+
+updates_row : (spec : Spec) (op : Op) (plan : List Statement) (e : Edge) (mode : ReadMode) → Asks Update mode spec op plan e → UpdatesRow spec op plan e
+updates_row spec op plan e Lookup asks = asks
+updates_row spec op plan e Scan asks = absurd asks
 
 -- what none of a list passes none of its last elements passes
 none_dropped : (f : Statement → Bool) (n : ℕ) (plan : List Statement) → list_any f plan ≡ false → list_any f (drop n plan) ≡ false
@@ -91,32 +92,40 @@ module _ (compiled : SpecWithPlans) (call : Call) (p : AccessPath) (stripe : ℕ
   edge = edge_at spec p.edge
 
   abbrev shape : EdgeShape
-  shape = shape_of spec edge
+  shape = shape_of spec p.edge
 
   abbrev fall : ℕ
   fall = physical_stripe spec (class_of spec p.edge) call.args
 
   parted : IsParted shape
-  parted = parted_edge spec locked.sealed edge (edge_at_in spec p.edge locked.path.locks.edge)
+  parted = parted_edge spec locked.sealed p.edge locked.path.locks.edge
 
   args : IsTuple call.args
   args = (fits_at_op spec call locked.fits).tuple
 
-  -- ---- an insert
+  abbrev pattern : List ℕ
+  pattern = pattern_columns (op_at spec call.op)
 
-  module _ (kind : (op_at spec call.op).kind ≡ Insert) where
-    insert_row : InsertsRow spec (op_at spec call.op) plan edge
-    insert_row = inserts_row spec (op_at spec call.op) plan edge p.mode (subst (λ k. Asks k p.mode spec (op_at spec call.op) plan edge) kind locked.path.asks)
+  -- what is found, as a list
+  abbrev found_list : Option Pairs → List Pairs
+  found_list None = []
+  found_list (Some t) = t ∷ []
 
-    whole : cols_of call.args ≡ all_columns spec
-    whole = whole_tuple spec call locked.fits (subst GivesTuple (sym kind) tt)
+  -- where the edge's target has all columns, a tuple is its row
+  itself : bound spec edge.to ≡ all_columns spec → (r : List Pairs) → IsRelation (all_columns spec) r → (t : Pairs) → In t r → project shape.target t ≡ t
+  itself whole r i t m =
+      let its : cols_of t ≡ all_columns spec = (i.each t m).over in
+      project_all shape.target t (rising_cols t (subst (IsRising nat_cmp) (sym its) (rising_range 0 (length spec.columns)))) (λ c n. subst (In c) (its ∙ sym whole) n)
+
+  -- ---- a pattern that is source and key of the edge
+
+  module _ (given : pattern ≡ source_and_key spec edge) where
+    pub pattern_given : Within (source_and_key spec edge) (cols_of call.args)
+    pattern_given c m = pattern_in_args spec locked.sealed call locked.fits c (subst (In c) (sym given) m)
 
     -- what is sought: the values at the pattern
     abbrev sought : Pairs
     sought = project (source_and_key spec edge) call.args
-
-    in_args : Within (source_and_key spec edge) (cols_of call.args)
-    in_args c m = pattern_in_args spec locked.sealed call locked.fits c (subst (In c) (sym insert_row.given) m)
 
     sought_tuple : IsTuple sought
     sought_tuple = record {
@@ -126,10 +135,10 @@ module _ (compiled : SpecWithPlans) (call : Call) (p : AccessPath) (stripe : ℕ
     }
 
     sought_over : cols_of sought ≡ source_and_key spec edge
-    sought_over = cols-project (cols_of call.args) (source_and_key spec edge) call.args args.rising (source_and_key_rise spec edge) in_args refl
+    sought_over = cols-project (cols_of call.args) (source_and_key spec edge) call.args args.rising (source_and_key_rise spec edge) pattern_given refl
 
     sought_striped : Within (class_at spec (class_of spec p.edge)).cols (cols_of sought)
-    sought_striped c m = subst (In c) (sym sought_over) (subst (In c) insert_row.given (locked.path.locks.striped c m))
+    sought_striped c m = subst (In c) (sym sought_over) (subst (In c) given (locked.path.locks.striped c m))
 
     same_fall : fall ≡ physical_stripe spec (class_of spec p.edge) sought
     same_fall =
@@ -149,34 +158,60 @@ module _ (compiled : SpecWithPlans) (call : Call) (p : AccessPath) (stripe : ℕ
       at_sought : rows ≡ fragment_of spec r (physical_stripe spec (class_of spec p.edge) sought)
       at_sought = rows_are ∙ ap (fragment_of spec r) same_fall
 
-      -- where no row has them, no tuple has the values at the pattern
-      pub nothing_found : IsRowFound shape rows p.edge call.args None → (u : Pairs) → In u r → project (pattern_columns (op_at spec call.op)) call.args ≡ project (pattern_columns (op_at spec call.op)) u → ⊥
-      nothing_found nowhere u m e =
+      -- the row of a tuple that has the values at the pattern has those of source and key
+      pub row_there : (u : Pairs) → In u r → project pattern call.args ≡ project pattern u → IsThereWith shape rows p.edge (values_at shape.source call.args) (values_at shape.key call.args) (project shape.target u)
+      row_there u m e =
           let match : matches sought u ≡ true =
-          test_from_same (project (cols_of sought) u) sought (ap (λ cols. project cols u) (sought_over ∙ sym insert_row.given) ∙ sym e ∙ ap (λ cols. project cols call.args) insert_row.given) in
+          test_from_same (project (cols_of sought) u) sought (ap (λ cols. project cols u) (sought_over ∙ sym given) ∙ sym e ∙ ap (λ cols. project cols call.args) given) in
           let there : IsThereWith shape rows p.edge (values_at shape.source sought) (values_at shape.key sought) (project shape.target u) =
           row_of spec locked.sealed p.edge locked.path.locks.edge sought sought_tuple sought_striped r a.relation rows at_sought sought_over u m match in
-          nowhere (project shape.target u) (record { there = there.there; source_is = there.source_is ∙ same_source; key_is = there.key_is ∙ same_key })
+          record { there = there.there; source_is = there.source_is ∙ same_source; key_is = there.key_is ∙ same_key }
 
-      -- and a row is that of a tuple that has them
-      pub present : (values : List ℕ) → IsRowFound shape rows p.edge call.args (Some values) → ((w : EdgeRow) → In w rows → cols_of w.1 ≡ bound spec (edge_at spec w.0).to) → plain spec r call ≡ leaving Present r
-      present values look over =
-          let u : Pairs = look.0 in
+      -- and a row that has these is of a tuple that has those
+      pub tuple_there : ((w : EdgeRow) → In w rows → cols_of w.1 ≡ bound spec (edge_at spec w.0).to) → (u : Pairs) → IsThereWith shape rows p.edge (values_at shape.source call.args) (values_at shape.key call.args) u
+          → (t : Pairs) × In t r × (project pattern call.args ≡ project pattern t) × (u ≡ project shape.target t)
+      tuple_there over u found =
           let there : IsThereWith shape rows p.edge (values_at shape.source sought) (values_at shape.key sought) u =
-          record { there = look.1.there; source_is = look.1.source_is ∙ sym same_source; key_is = look.1.key_is ∙ sym same_key } in
-          let columns : cols_of u ≡ shape.target = over (p.edge, u, look.1.there.0) look.1.there.1 in
+          record { there = found.there; source_is = found.source_is ∙ sym same_source; key_is = found.key_is ∙ sym same_key } in
+          let columns : cols_of u ≡ shape.target = over (p.edge, u, found.there.0) found.there.1 in
           let t : (t : Pairs) × In t r × (matches sought t ≡ true) × (u ≡ project shape.target t) =
           match_of spec locked.sealed p.edge locked.path.locks.edge sought sought_tuple sought_striped r a.relation rows at_sought
           (inside spec locked.sealed p.edge locked.path.locks.edge sought sought_tuple sought_over) u there.there
-          (same spec locked.sealed p.edge locked.path.locks.edge sought sought_tuple sought_over rows u there columns) in
-          let agree : project (pattern_columns (op_at spec call.op)) call.args ≡ project (pattern_columns (op_at spec call.op)) t.0 =
-          ap (λ cols. project cols call.args) insert_row.given ∙ sym (same_from_test (project (cols_of sought) t.0) sought t.2) ∙ ap (λ cols. project cols t.0) (sought_over ∙ sym insert_row.given) in
-          plain-known spec r call (op_at spec call.op) (fits_at_op spec call locked.fits).known
-          ∙ ap (λ k. plain_by spec.most_rows k (op_at spec call.op).pattern spec.deps call.args call.ranges r) kind
-          ∙ insert-present spec.most_rows (op_at spec call.op).pattern spec.deps call.args call.ranges r
-          (list_any_in (agree_on (op_at spec call.op).pattern call.args) r t.0 t.1
-          (test_from_agree (op_at spec call.op).pattern call.args t.0
-          (project_less (op_at spec call.op).pattern (pattern_columns (op_at spec call.op)) call.args t.0 (λ c m. gather_in nat_cmp nat_order c (op_at spec call.op).pattern m) agree)))
+          (same_all spec locked.sealed p.edge locked.path.locks.edge sought sought_tuple sought_over rows u there columns) in (
+            t.0,
+            t.1,
+            ap (λ cols. project cols call.args) given ∙ sym (same_from_test (project (cols_of sought) t.0) sought t.2) ∙ ap (λ cols. project cols t.0) (sought_over ∙ sym given),
+            t.3,
+          )
+
+      -- where no row has them, no tuple has the values at the pattern
+      pub nothing_found : IsRowFound shape rows p.edge call.args None → (u : Pairs) → In u r → project pattern call.args ≡ project pattern u → ⊥
+      nothing_found nowhere u m e = nowhere (project shape.target u) (row_there u m e)
+
+  -- values at the pattern are those at the operation's list of its columns
+  listed_agree : (t u : Pairs) → project pattern t ≡ project pattern u → agree_on (op_at spec call.op).pattern t u ≡ true
+  listed_agree t u e =
+      test_from_agree (op_at spec call.op).pattern t u (project_less (op_at spec call.op).pattern pattern t u (λ c m. gather_in nat_cmp nat_order c (op_at spec call.op).pattern m) e)
+
+  agree_listed : (t u : Pairs) → agree_on (op_at spec call.op).pattern t u ≡ true → project pattern t ≡ project pattern u
+  agree_listed t u e =
+      project_less pattern (op_at spec call.op).pattern t u (λ c m. in_gather nat_cmp nat_order c (op_at spec call.op).pattern m) (agree_from_test (op_at spec call.op).pattern t u e)
+
+  -- ---- an insert
+
+  module _ (kind : (op_at spec call.op).kind ≡ Insert) where
+    insert_row : InsertsRow spec (op_at spec call.op) plan edge
+    insert_row = inserts_row spec (op_at spec call.op) plan edge p.mode (subst (λ k. Asks k p.mode spec (op_at spec call.op) plan edge) kind locked.path.asks)
+
+    -- a row is that of a tuple that has the values at the pattern
+    present : (r : List Pairs) (a : AreOfRelation spec (held_of s) r) (rows : List EdgeRow) → rows ≡ fragment_of spec r fall → (values : List ℕ) → IsRowFound shape rows p.edge call.args (Some values)
+        → ((w : EdgeRow) → In w rows → cols_of w.1 ≡ bound spec (edge_at spec w.0).to) → plain spec r call ≡ leaving Present r
+    present r a rows rows_are values look over =
+        let t = tuple_there insert_row.given r a rows rows_are over look.0 look.1 in
+        plain-known spec r call (op_at spec call.op) (fits_at_op spec call locked.fits).known
+        ∙ ap (λ k. plain_by spec.most_rows k (op_at spec call.op).pattern spec.deps call.args call.ranges r) kind
+        ∙ insert-present spec.most_rows (op_at spec call.op).pattern spec.deps call.args call.ranges r
+        (list_any_in (agree_on (op_at spec call.op).pattern call.args) r t.0 t.1 (listed_agree call.args t.0 t.2))
 
     module _ (fragment : FragmentRows) (lent : IsLent s stripe fragment) where
       -- a row found is a tuple with the values at the pattern
@@ -188,16 +223,16 @@ module _ (compiled : SpecWithPlans) (call : Call) (p : AccessPath) (stripe : ℕ
       module _ (nowhere : IsRowFound shape fragment.now p.edge call.args None) where
         insert_arrives : ComesToApply spec locked.sealed plan call locked.fits (held_of s) one
         insert_arrives =
-            arrives spec locked.sealed plan call locked.fits (held_of s) one (λ q. subst IsQuery kind q) (λ u. subst IsUpdate kind u)
-            (λ i. nothing_found one.0 one.1 fragment.now (lent_rows compiled call p stripe s locked fragment lent one.0 one.1) nowhere)
-            (drop p.locks plan) locked.path.locks.others (λ gives. none_dropped is_dep_check p.locks plan insert_row.unchecked) (call.args ∷ []) locked.run
+            arrives spec locked.sealed plan call locked.fits (held_of s) one (λ q. subst IsQuery kind q)
+            (λ i. nothing_found insert_row.given one.0 one.1 fragment.now (lent_rows compiled call p stripe s locked fragment lent one.0 one.1) nowhere) (λ u. absurd (subst IsUpdate kind u))
+            (drop p.locks plan) locked.path.locks.others (λ gives. none_dropped is_dep_check p.locks plan insert_row.unchecked) (call.args ∷ []) None locked.run
 
         -- where none is found the tuple can be added
         pub can_insert : CanInsert spec call.args (held_of s)
-        can_insert = can_apply spec locked.sealed plan call locked.fits locked.planned insert_arrives.0 insert_arrives.1 None (held_of s) one insert_arrives.2 Insert kind
+        can_insert = can_apply spec locked.sealed plan call locked.fits locked.planned insert_arrives.0 insert_arrives.1 insert_arrives.2 (held_of s) one insert_arrives.3 Insert kind
 
         pub insert_replies : (new : List HeldStripe) → new ≡ all_changed raised spec call.args (edge_numbers spec) (held_of s) → AreOfOneRelation spec new → HasReplied spec plan call new Inserted
-        insert_replies new is one' = applied_replies spec locked.sealed plan call locked.fits locked.planned insert_arrives.0 (held_of s) insert_arrives.1 None insert_arrives.2 one Insert kind new Inserted (refl, is) one'
+        insert_replies new is one' = applied_replies spec locked.sealed plan call locked.fits locked.planned insert_arrives.0 (held_of s) insert_arrives.1 insert_arrives.2 insert_arrives.3 one Insert kind new Inserted (refl, is) one'
 
   -- ---- a remove
 
@@ -210,11 +245,6 @@ module _ (compiled : SpecWithPlans) (call : Call) (p : AccessPath) (stripe : ℕ
 
     pub remove_whole : bound spec edge.to ≡ all_columns spec
     remove_whole = remove_row.whole
-
-    -- what is found, as a list
-    abbrev found_list : Option Pairs → List Pairs
-    found_list None = []
-    found_list (Some t) = t ∷ []
 
     module _ (fragment : FragmentRows) (lent : IsLent s stripe fragment) where
       abbrev r : List Pairs
@@ -229,12 +259,6 @@ module _ (compiled : SpecWithPlans) (call : Call) (p : AccessPath) (stripe : ℕ
       striped : Within (class_at spec (class_of spec p.edge)).cols (cols_of call.args)
       striped = args_striped spec locked.sealed call locked.fits plan p locked.path
 
-      -- a tuple is its row
-      itself : (t : Pairs) → In t r → project shape.target t ≡ t
-      itself t m =
-          let its : cols_of t ≡ all_columns spec = (relation.each t m).over in
-          project_all shape.target t (rising_cols t (subst (IsRising nat_cmp) (sym its) (rising_range 0 (length spec.columns)))) (λ c n. subst (In c) (its ∙ sym remove_row.whole) n)
-
       there : (t : Pairs) → In t (filter (matches call.args) r) → IsThereWith shape fragment.now p.edge (values_at shape.source call.args) (values_at shape.key call.args) (project shape.target t)
       there t m =
           let q : In t r × (matches call.args t ≡ true) = in_filter (matches call.args) t r m in
@@ -247,32 +271,32 @@ module _ (compiled : SpecWithPlans) (call : Call) (p : AccessPath) (stripe : ℕ
           let t : (t : Pairs) × In t r × (matches call.args t ≡ true) × (u ≡ project shape.target t) =
           match_of spec locked.sealed p.edge locked.path.locks.edge call.args args striped r relation fragment.now rows_are
           (inside spec locked.sealed p.edge locked.path.locks.edge call.args args remove_given) u found.0.there
-          (same spec locked.sealed p.edge locked.path.locks.edge call.args args remove_given fragment.now u found.0 columns) in
-          subst (λ z. In z (filter (matches call.args) r)) (sym (t.3 ∙ itself t.0 t.1)) (filter_in (matches call.args) t.0 r t.1 t.2)
+          (same_all spec locked.sealed p.edge locked.path.locks.edge call.args args remove_given fragment.now u found.0 columns) in
+          subst (λ z. In z (filter (matches call.args) r)) (sym (t.3 ∙ itself remove_whole r relation t.0 t.1)) (filter_in (matches call.args) t.0 r t.1 t.2)
 
       found_matches : (found : Option Pairs) → IsTupleFound shape fragment.now p.edge call.args found → filter (matches call.args) r ≡ found_list found
       found_matches None nowhere = no_member (filter (matches call.args) r) (λ t m. nowhere (project shape.target t) (there t m))
       found_matches (Some u) found =
           same_rising tuple_cmp tuple_order (filter (matches call.args) r) (u ∷ []) (rising_filter tuple_cmp (matches call.args) r relation.rising) ((λ y m. absurd m), tt)
-          (λ t m. inl (sym (itself t (in_filter (matches call.args) t r m).0) ∙ found.1 (project shape.target t) (there t m)))
+          (λ t m. inl (sym (itself remove_whole r relation t (in_filter (matches call.args) t r m).0) ∙ found.1 (project shape.target t) (there t m)))
           (λ t m. elim m [ inl e ↦ subst (λ z. In z (filter (matches call.args) r)) (sym e) (matching u found) | inr z ↦ absurd z ])
 
       remove_arrives : ComesToApply spec locked.sealed plan call locked.fits (held_of s) one
       remove_arrives =
-          arrives spec locked.sealed plan call locked.fits (held_of s) one (λ q. subst IsQuery kind q) (λ u. subst IsUpdate kind u) (λ i. absurd (subst IsInsert kind i))
-          (drop p.locks plan) locked.path.locks.others (λ gives. absurd (subst GivesTuple kind gives)) (call.args ∷ []) locked.run
+          arrives spec locked.sealed plan call locked.fits (held_of s) one (λ q. subst IsQuery kind q) (λ i. absurd (subst IsInsert kind i)) (λ u. absurd (subst IsUpdate kind u))
+          (drop p.locks plan) locked.path.locks.others (λ gives. absurd (subst GivesTuple kind gives)) (call.args ∷ []) None locked.run
 
       -- and what the plan's Reads find
       same_found : (found : Option Pairs) → IsTupleFound shape fragment.now p.edge call.args found → remove_arrives.1 ≡ found_list found
-      same_found found is = found_args spec locked.sealed plan call locked.fits remove_arrives.0 remove_arrives.1 None (held_of s) remove_arrives.2 one.0 one.1 kind ∙ found_matches found is
+      same_found found is = found_args spec locked.sealed plan call locked.fits remove_arrives.0 remove_arrives.1 remove_arrives.2 (held_of s) remove_arrives.3 one.0 one.1 kind ∙ found_matches found is
 
       pub can_remove : (u : Pairs) → IsTupleFound shape fragment.now p.edge call.args (Some u) → CanRemove spec u (held_of s)
       can_remove u found =
-          can_apply spec locked.sealed plan call locked.fits locked.planned remove_arrives.0 remove_arrives.1 None (held_of s) one remove_arrives.2 Remove kind u (subst (In u) (sym (same_found (Some u) found)) (inl refl))
+          can_apply spec locked.sealed plan call locked.fits locked.planned remove_arrives.0 remove_arrives.1 remove_arrives.2 (held_of s) one remove_arrives.3 Remove kind u (subst (In u) (sym (same_found (Some u) found)) (inl refl))
 
       remove_replies : (found : Option Pairs) → IsTupleFound shape fragment.now p.edge call.args found → (new : List HeldStripe) (answer : Reply) → HasRemoved spec (found_list found) (held_of s) new answer → AreOfOneRelation spec new → HasReplied spec plan call new answer
       remove_replies found is new answer removed one' =
-          applied_replies spec locked.sealed plan call locked.fits locked.planned remove_arrives.0 (held_of s) remove_arrives.1 None remove_arrives.2 one Remove kind new answer
+          applied_replies spec locked.sealed plan call locked.fits locked.planned remove_arrives.0 (held_of s) remove_arrives.1 remove_arrives.2 remove_arrives.3 one Remove kind new answer
           (subst (λ bs. HasRemoved spec bs (held_of s) new answer) (sym (same_found found is)) removed) one'
 
       pub removed_replies : (u : Pairs) → IsTupleFound shape fragment.now p.edge call.args (Some u) → (new : List HeldStripe) → new ≡ all_changed lowered spec u (edge_numbers spec) (held_of s) → AreOfOneRelation spec new → HasReplied spec plan call new (Removed u)
@@ -291,13 +315,74 @@ module _ (compiled : SpecWithPlans) (call : Call) (p : AccessPath) (stripe : ℕ
           (λ x y m n e. one_pair u (subst (IsRising nat_cmp) (sym over) (rising_range 0 (length spec.columns))) x y
           (in_project (cols_of call.args) x u (subst (In x) (sym (same_from_test (project (cols_of call.args) u) call.args q.1)) m)).0 n e) are
 
+  -- ---- an update
+
+  module _ (kind : (op_at spec call.op).kind ≡ Update) where
+    update_row : UpdatesRow spec (op_at spec call.op) plan edge
+    update_row = updates_row spec (op_at spec call.op) plan edge p.mode (subst (λ k. Asks k p.mode spec (op_at spec call.op) plan edge) kind locked.path.asks)
+
+    pub update_given : Within (source_and_key spec edge) (cols_of call.args)
+    update_given = pattern_given update_row.given
+
+    pub update_whole : bound spec edge.to ≡ all_columns spec
+    update_whole = update_row.whole
+
+    module _ (fragment : FragmentRows) (lent : IsLent s stripe fragment) where
+      -- what is found is what has the values at the pattern
+      agreeing : (r : List Pairs) → AreOfRelation spec (held_of s) r → (found : Option Pairs) → IsTupleFound shape fragment.now p.edge call.args found → filter (agree_on (op_at spec call.op).pattern call.args) r ≡ found_list found
+      agreeing r a found is = go found is
+        where
+          rows_are : fragment.now ≡ fragment_of spec r fall
+          rows_are = lent_rows compiled call p stripe s locked fragment lent r a
+
+          there : (t : Pairs) → In t (filter (agree_on (op_at spec call.op).pattern call.args) r) → IsThereWith shape fragment.now p.edge (values_at shape.source call.args) (values_at shape.key call.args) (project shape.target t)
+          there t m =
+              let q = in_filter (agree_on (op_at spec call.op).pattern call.args) t r m in
+              row_there update_row.given r a fragment.now rows_are t q.0 (agree_listed call.args t q.1)
+
+          agrees : (u : Pairs) → IsThereWith shape fragment.now p.edge (values_at shape.source call.args) (values_at shape.key call.args) u → In u (filter (agree_on (op_at spec call.op).pattern call.args) r)
+          agrees u has =
+              let t = tuple_there update_row.given r a fragment.now rows_are (lent_over compiled call p stripe s locked fragment lent one) u has in
+              subst (λ z. In z (filter (agree_on (op_at spec call.op).pattern call.args) r)) (sym (t.3 ∙ itself update_whole r a.relation t.0 t.1)) (filter_in (agree_on (op_at spec call.op).pattern call.args) t.0 r t.1 (listed_agree call.args t.0 t.2))
+
+          go : (found : Option Pairs) → IsTupleFound shape fragment.now p.edge call.args found → filter (agree_on (op_at spec call.op).pattern call.args) r ≡ found_list found
+          go None nowhere = no_member (filter (agree_on (op_at spec call.op).pattern call.args) r) (λ t m. nowhere (project shape.target t) (there t m))
+          go (Some u) only =
+              same_rising tuple_cmp tuple_order (filter (agree_on (op_at spec call.op).pattern call.args) r) (u ∷ []) (rising_filter tuple_cmp (agree_on (op_at spec call.op).pattern call.args) r a.relation.rising) ((λ y m. absurd m), tt)
+              (λ t m. inl (sym (itself update_whole r a.relation t (in_filter (agree_on (op_at spec call.op).pattern call.args) t r m).0) ∙ only.1 (project shape.target t) (there t m)))
+              (λ t m. elim m [ inl e ↦ subst (λ z. In z (filter (agree_on (op_at spec call.op).pattern call.args) r)) (sym e) (agrees u only.0) | inr z ↦ absurd z ])
+
+      -- where no row is found no tuple is replaced
+      pub unfound_replies : IsTupleFound shape fragment.now p.edge call.args None → HasReplied spec plan call (held_of s) Absent
+      unfound_replies nowhere =
+          path_replies spec locked.sealed call locked.fits plan locked.planned (drop p.locks plan) locked.path.locks.others (held_of s) locked.run one Absent
+          (λ r a. plain-known spec r call (op_at spec call.op) (fits_at_op spec call locked.fits).known
+          ∙ ap (λ k. plain_by spec.most_rows k (op_at spec call.op).pattern spec.deps call.args call.ranges r) kind
+          ∙ update-absent spec.most_rows (op_at spec call.op).pattern spec.deps call.args call.ranges r (agreeing r a None nowhere))
+
+      module _ (old : Pairs) (found : IsTupleFound shape fragment.now p.edge call.args (Some old)) where
+        is_old : IsOld one.0 call.args (op_at spec call.op).pattern old
+        is_old = ([], agreeing one.0 one.1 (Some old) found)
+
+        update_arrives : ComesToApply spec locked.sealed plan call locked.fits (held_of s) one
+        update_arrives =
+            arrives spec locked.sealed plan call locked.fits (held_of s) one (λ q. subst IsQuery kind q) (λ i. absurd (subst IsInsert kind i)) (λ u. (old, is_old))
+            (drop p.locks plan) locked.path.locks.others (λ gives. none_dropped is_dep_check p.locks plan update_row.unchecked) (call.args ∷ []) None locked.run
+
+        -- and the plan's statements keep this tuple
+        keeps_old : update_arrives.2 ≡ Some old
+        keeps_old = old_kept spec locked.sealed plan call locked.fits (held_of s) one update_arrives.0 update_arrives.1 update_arrives.2 update_arrives.3 kind old is_old
+
+        pub can_update : CanReplace spec old call.args (held_of s)
+        can_update = can_apply spec locked.sealed plan call locked.fits locked.planned update_arrives.0 update_arrives.1 update_arrives.2 (held_of s) one update_arrives.3 Update kind old keeps_old
+
+        pub update_replies : (new : List HeldStripe) → new ≡ replaced_in spec old call.args (held_of s) → AreOfOneRelation spec new → HasReplied spec plan call new (Updated old)
+        update_replies new is one' =
+            applied_replies spec locked.sealed plan call locked.fits locked.planned update_arrives.0 (held_of s) update_arrives.1 update_arrives.2 update_arrives.3 one Update kind new (Updated old)
+            (subst (λ z. HasReplaced spec call.args z (held_of s) new (Updated old)) (sym keeps_old) (refl, is)) one'
+
 -- ---- what was taken as offered stays so, also where memory was wanted
 
 pub unanswered : {E : Type 0} (compiled : SpecWithPlans) (call : Call) (old new : Holding) (result : Result Reply E) → IsErr result → AreTakenAsOffered new → IsSameButLent old new → HasAnsweredByPath compiled call old new result
 unanswered compiled call old new (Ok answer) is told lent = absurd cc
 unanswered compiled call old new (Err e) is told lent = record { answered = tt; taken = told; lent = lent }
-
--- rows of the first edges may be added then
-pub raised_alike : (spec : Spec) (t : Pairs) (n : ℕ) (old new : List HeldStripe) → new ≡ all_changed raised spec t (take n (edge_numbers spec)) old → AreTakenAlike old new
-raised_alike spec t n old new is =
-    ap (map reverted) (is ∙ sym (placed_changed raised spec t (take n (edge_numbers spec)) old)) ∙ taken_alike raised (map (place_in spec t) (take n (edge_numbers spec))) old

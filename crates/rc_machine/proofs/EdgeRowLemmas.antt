@@ -12,11 +12,10 @@ use Rattle.rc_tuple.specs.ColSet.{IsColSet, Within, has, union}
 use Rattle.rc_tuple.specs.ColSetLaws.{in_range_bounds, in_union, minus_in, union_left, union_right}
 use Rattle.rc_tuple.specs.MergeLaws.{project_all, value_in}
 use Rattle.rc_tuple.specs.Tuple.{IsTuple, Pairs, cols_of, get, pair_cmp, pick, project, tuple_of, value}
-use Rattle.rc_tuple.specs.TupleLaws.{in_project, one_pair, pair_order, project_by, project_in, rising_cols, rising_pairs}
+use Rattle.rc_tuple.specs.TupleLaws.{cols-project, in_project, one_pair, pair_order, project_by, project_in, rising_cols, rising_pairs}
 use Rattle.rc_spec.specs.declared.spec.Spec.{Spec}
 use Rattle.rc_spec.specs.Acceptance.{IsSealed}
 use Rattle.rc_spec.specs.Decomposition.{edge_at, source_and_key}
-use Rattle.rc_spec.specs.DecompositionLaws.{edge_at_in}
 use Rattle.rc_spec.specs.Fragments.{EdgeRow}
 use Rattle.rc_bindings.specs.RegistersLaws.{get-project}
 use Rattle.rc_fragment.specs.Fragment.{IsThereWith, shape_of}
@@ -121,51 +120,75 @@ pub distinct_range : (from n : ℕ) → AreDistinct (range_with_len from n)
 distinct_range from zero = tt
 distinct_range from (suc n) = ((λ m. let h = in_range_bounds (from + 1) n from m in absurd (omega (arith, h.0))), distinct_range (from + 1) n)
 
--- ---- a row with the values of source and key of a tuple that has no other
+-- ---- a row with the values of source and key of a tuple that has these at least
 
-module _ (spec : Spec) (sealed : IsSealed spec) (e : ℕ) (known : e < length spec.edges) (s : Pairs) (tuple : IsTuple s) (whole : cols_of s ≡ source_and_key spec (edge_at spec e)) where
+module _ (spec : Spec) (sealed : IsSealed spec) (e : ℕ) (known : e < length spec.edges) (s : Pairs) (tuple : IsTuple s) (given : Within (source_and_key spec (edge_at spec e)) (cols_of s)) where
   abbrev edge_shape : EdgeShape
-  edge_shape = shape_of spec (edge_at spec e)
+  edge_shape = shape_of spec e
 
   edge_parted : IsParted edge_shape
-  edge_parted = parted_edge spec sealed (edge_at spec e) (edge_at_in spec e known)
+  edge_parted = parted_edge spec sealed e known
 
   pub has_source : Within edge_shape.source (cols_of s)
-  has_source c m = subst (In c) (sym whole) (union_left edge_shape.source edge_shape.key c m)
+  has_source c m = given c (union_left edge_shape.source edge_shape.key c m)
 
   pub has_key : Within edge_shape.key (cols_of s)
-  has_key c m = subst (In c) (sym whole) (union_right edge_shape.source edge_shape.key c m)
-
-  pub inside : Within (cols_of s) edge_shape.target
-  inside c m = elim (in_union edge_shape.source edge_shape.key c (subst (In c) whole m)) [ inl n ↦ edge_parted.source_within c n | inr n ↦ edge_parted.key_within c n ]
+  has_key c m = given c (union_right edge_shape.source edge_shape.key c m)
 
   module _ (rows : List EdgeRow) (u : Pairs) (found : IsThereWith edge_shape rows e (values_at edge_shape.source s) (values_at edge_shape.key s) u) (columns : cols_of u ≡ edge_shape.target) where
     same_at : (ys : List ℕ) → IsColSet ys → Within ys edge_shape.target → Within ys (cols_of s) → values_at ys u ≡ values_at ys s → project ys u ≡ project ys s
     same_at ys set w v is = same_projected ys u s set (subst (IsRising nat_cmp) (sym columns) edge_parted.target.rising) tuple.rising (λ c m. subst (In c) (sym columns) (w c m)) v is
 
-    pub same : project (cols_of s) u ≡ project (cols_of s) s
-    same = project_by (cols_of s) u s (rising_cols u (subst (IsRising nat_cmp) (sym columns) edge_parted.target.rising)) (rising_pairs s tuple)
-        (λ c m. elim (in_union edge_shape.source edge_shape.key c (subst (In c) whole m)) [
+    pub same : project (source_and_key spec (edge_at spec e)) u ≡ project (source_and_key spec (edge_at spec e)) s
+    same = project_by (source_and_key spec (edge_at spec e)) u s (rising_cols u (subst (IsRising nat_cmp) (sym columns) edge_parted.target.rising)) (rising_pairs s tuple)
+        (λ c m. elim (in_union edge_shape.source edge_shape.key c m) [
           | inl n ↦ (edge_shape.source, n, same_at edge_shape.source edge_parted.source edge_parted.source_within has_source found.source_is)
           | inr n ↦ (edge_shape.key, n, same_at edge_shape.key edge_parted.key edge_parted.key_within has_key found.key_is)
         ])
 
-    -- its values are the tuple's, and the extra ones
-    get_found : (c : ℕ) → In c edge_shape.target → get u c ≡ get (s ++ project (extra_columns edge_shape) u) c
-    get_found c m = elim (cases_Bool (has (cols_of s) c)) [
-      | inl y ↦ (let v : (v : ℕ) × (get s c ≡ Some v) = get_some s c (in_has (cols_of s) c y) in
-          let is : get u c ≡ get s c = sym (get-project (cols_of s) u c y) ∙ ap (λ z. get z c) (same ∙ project_all (cols_of s) s (rising_pairs s tuple) (λ d n. n)) in
-          is ∙ v.1 ∙ sym (get_first s (project (extra_columns edge_shape) u) c v.0 v.1))
-      | inr n ↦ (let extra : In c (extra_columns edge_shape) = minus_in edge_shape.target (union edge_shape.source edge_shape.key) c m (λ k. false≢true (sym n ∙ has_in (cols_of s) c (subst (In c) (sym whole) k))) in
-          sym (get_second s (project (extra_columns edge_shape) u) c (get_none s c (λ k. false≢true (sym n ∙ has_in (cols_of s) c k)))
-          ∙ get-project (extra_columns edge_shape) u c (has_in (extra_columns edge_shape) c extra)))
-    ]
+    extra_columns_of : cols_of (project (extra_columns edge_shape) u) ≡ extra_columns edge_shape
+    extra_columns_of = cols-project edge_shape.target (extra_columns edge_shape) u edge_parted.target.rising (extra_set edge_shape edge_parted).rising (extra_within edge_shape edge_parted) columns
 
-    pub picked : (outs : List ℕ) → Within outs edge_shape.target → (values : List ℕ) → values_at (extra_columns edge_shape) u ≡ values → pick outs u ≡ pick outs (s ++ zip (extra_columns edge_shape) values)
+    -- its values are the extra ones, and the tuple's
+    get_found : (c : ℕ) → In c edge_shape.target → get u c ≡ get (project (extra_columns edge_shape) u ++ s) c
+    get_found c m = elim (cases_Bool (has (extra_columns edge_shape) c)) [
+      | inl y ↦ (let v : (v : ℕ) × (get (project (extra_columns edge_shape) u) c ≡ Some v) =
+          get_some (project (extra_columns edge_shape) u) c (subst (In c) (sym extra_columns_of) (in_has (extra_columns edge_shape) c y)) in
+          sym (get-project (extra_columns edge_shape) u c y) ∙ v.1 ∙ sym (get_first (project (extra_columns edge_shape) u) s c v.0 v.1))
+      | inr n ↦ (let there : has (source_and_key spec (edge_at spec e)) c ≡ true = not_extra c m n in
+          sym (get-project (source_and_key spec (edge_at spec e)) u c there) ∙ ap (λ z. get z c) same ∙ get-project (source_and_key spec (edge_at spec e)) s c there
+          ∙ sym (get_second (project (extra_columns edge_shape) u) s c (get_none (project (extra_columns edge_shape) u) c (λ k. false≢true (sym n ∙ has_in (extra_columns edge_shape) c (subst (In c) extra_columns_of k))))))
+    ]
+      where
+        not_extra : (c : ℕ) → In c edge_shape.target → has (extra_columns edge_shape) c ≡ false → has (source_and_key spec (edge_at spec e)) c ≡ true
+        not_extra c m n = elim (cases_Bool (has (source_and_key spec (edge_at spec e)) c)) [
+          | inl y ↦ y
+          | inr k ↦ absurd (false≢true (sym n ∙ has_in (extra_columns edge_shape) c
+              (minus_in edge_shape.target (union edge_shape.source edge_shape.key) c m (λ z. false≢true (sym k ∙ has_in (source_and_key spec (edge_at spec e)) c z)))))
+        ]
+
+    pub picked : (outs : List ℕ) → Within outs edge_shape.target → (values : List ℕ) → values_at (extra_columns edge_shape) u ≡ values → pick outs u ≡ pick outs (zip (extra_columns edge_shape) values ++ s)
     picked outs within values is =
-        picked_alike outs u (s ++ project (extra_columns edge_shape) u) (λ c m. get_found c (within c m))
-        ∙ ap (λ z. pick outs (s ++ z)) (sym (zip_values edge_shape.target (extra_columns edge_shape) u edge_parted.target.rising (extra_set edge_shape edge_parted).rising (extra_within edge_shape edge_parted) columns) ∙ ap (zip (extra_columns edge_shape)) is)
+        picked_alike outs u (project (extra_columns edge_shape) u ++ s) (λ c m. get_found c (within c m))
+        ∙ ap (λ z. pick outs (z ++ s)) (sym (zip_values edge_shape.target (extra_columns edge_shape) u edge_parted.target.rising (extra_set edge_shape edge_parted).rising (extra_within edge_shape edge_parted) columns) ∙ ap (zip (extra_columns edge_shape)) is)
 
     -- so the row, as a tuple, is made of them
-    pub completed_is : (values : List ℕ) → values_at (extra_columns edge_shape) u ≡ values → tuple_of edge_shape.target (pick edge_shape.target (s ++ zip (extra_columns edge_shape) values)) ≡ u
+    pub completed_is : (values : List ℕ) → values_at (extra_columns edge_shape) u ≡ values → tuple_of edge_shape.target (pick edge_shape.target (zip (extra_columns edge_shape) values ++ s)) ≡ u
     completed_is values is = ap (tuple_of edge_shape.target) (sym (picked edge_shape.target (λ c m. m) values is)) ∙ tuple_of_itself edge_shape.target u edge_parted.target.rising columns
+
+-- ---- a tuple that has these and no others
+
+module _ (spec : Spec) (sealed : IsSealed spec) (e : ℕ) (known : e < length spec.edges) (s : Pairs) (tuple : IsTuple s) (whole : cols_of s ≡ source_and_key spec (edge_at spec e)) where
+  pub these_given : Within (source_and_key spec (edge_at spec e)) (cols_of s)
+  these_given c m = subst (In c) (sym whole) m
+
+  -- they are of the edge's target
+  pub inside : Within (cols_of s) (shape_of spec e).target
+  inside c m =
+      let parted : IsParted (shape_of spec e) = parted_edge spec sealed e known in
+      elim (in_union (shape_of spec e).source (shape_of spec e).key c (subst (In c) whole m)) [ inl n ↦ parted.source_within c n | inr n ↦ parted.key_within c n ]
+
+  -- and the row has all of its values
+  pub same_all : (rows : List EdgeRow) (u : Pairs) → IsThereWith (shape_of spec e) rows e (values_at (shape_of spec e).source s) (values_at (shape_of spec e).key s) u → cols_of u ≡ (shape_of spec e).target
+      → project (cols_of s) u ≡ project (cols_of s) s
+  same_all rows u found columns = subst (λ cols. project cols u ≡ project cols s) (sym whole) (same spec sealed e known s tuple these_given rows u found columns)

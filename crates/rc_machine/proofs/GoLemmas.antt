@@ -47,7 +47,7 @@ use Rattle.rc_machine.specs.Run.{HasGoneOn, HasKeptLeast, IsAt, IsOn}
 use Rattle.rc_machine.proofs.ApplyLemmas.{Change, IsSameAt, LeavesOthers, lowered_leaves, raised_leaves, stripes_stay}
 use Rattle.rc_machine.proofs.ChangeLemmas.{IsLocal, all_done, changed_evaluated, changed_served, lowered_done, lowered_local, raised_done, raised_local}
 use Rattle.rc_machine.proofs.CheckStepLemmas.{absent_step, dep_step, ends_evaluated, ends_served, evaluated, whole_tuple}
-use Rattle.rc_machine.proofs.ConditionLemmas.{found_whole, insert_addable, insert_exclusive, is_insert, remove_exclusive, remove_there, tuple_named}
+use Rattle.rc_machine.proofs.ConditionLemmas.{counted_at, found_whole, insert_addable, insert_exclusive, is_insert, remove_exclusive, remove_there, tuple_named}
 use Rattle.rc_machine.proofs.LockLemmas.{risen_since}
 use Rattle.rc_machine.proofs.RunLemmas.{serves, stripes_named, taken_together}
 use Rattle.rc_machine.proofs.ReplaceLemmas.{can_replace, replaced_evaluated, replaced_served}
@@ -213,11 +213,13 @@ module _ (spec : Spec) (sealed : IsSealed spec) (plan : List Statement) (call : 
     pub can_apply : (kind : OpKind) → (op_at spec call.op).kind ≡ kind → CanApply spec kind call.args old bs held
     can_apply (Query outs ranges) k = may_apply outs ranges k
     can_apply Insert k = record {
+      counted = counted_at spec sealed one.0 held at.unchanged one.1;
       whole = whole_tuple spec call fits (is_insert (op_at spec call.op).kind k);
       exclusive = insert_exclusive spec sealed plan call fits rest bs old held at one.0 one.1 k;
       addable = insert_addable spec sealed plan call fits rest bs old held at one.0 one.1 k (plainly Inserted (all_done raised spec call.args (edge_numbers spec)) (insert_runs k));
     }
     can_apply Remove k = λ b m. record {
+      counted = counted_at spec sealed one.0 held at.unchanged one.1;
       whole = found_whole spec sealed plan call fits rest bs old held at one.0 one.1 k b m;
       exclusive = remove_exclusive spec sealed plan call fits rest bs old held at one.0 one.1 k b m;
       there = remove_there spec sealed plan call fits rest bs old held at one.0 one.1 k b m;

@@ -20,9 +20,12 @@ lent_new old new ls e = e ∙ ap (with_lent old) (sym (ap (λ (s : Holding). s.l
 pub lent_again : (a b c : Holding) → IsSameButLent a b → IsSameButLent b c → IsSameButLent a c
 lent_again a b c p q = q ∙ ap (λ (s : Holding). with_lent s c.lent) p
 
+pub lent_table : (old new : Holding) → IsSameButLent old new → new.table ≡ old.table
+lent_table old new e = ap (λ (s : Holding). s.table) e
+
 pub lent_goes_on : (old new : Holding) → IsSameButLent old new → GoesOn old new
 lent_goes_on old new e = record {
-  table = ap (λ (s : Holding). s.table) e;
+  table = lent_table old new e;
   lends = ap (λ (s : Holding). s.lends) e;
   offered = ap (λ (s : Holding). s.offered) e;
   through = ap (λ (s : Holding). s.through) e;

@@ -4,7 +4,7 @@ mod DifferLemmas
 pub mod LentLemmas
 mod LockLemmas
 mod PlaceLemmas
-mod PlacedLemmas
+mod ClassLemmas
 mod ReadLemmas
 mod SeekLemmas
 pub mod RevertLemmas

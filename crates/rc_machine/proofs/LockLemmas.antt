@@ -1,5 +1,5 @@
 -- Stripes taken one after another, in rising order.
-use Rattle.std.specs.Prelude.{◌≡◌, ℕ, zero, suc, ◌+◌, ◌<◌, ◌≤◌, List, [], ◌∷◌, ◌++◌, Option, None, Some, Result, Ok, Err, IsErr, IsErrAnd, length, map, take, get_or}
+use Rattle.std.specs.Prelude.{◌≡◌, ℕ, zero, suc, ◌+◌, ◌<◌, ◌≤◌, List, [], ◌∷◌, ◌++◌, Option, None, Some, Result, Ok, Err, IfErr, IsErr, IsErrAnd, length, map, take, get_or}
 use Rattle.std.specs.declared.cmp.Ordering.TheVariants.{Less}
 use Rattle.std.specs.Ordering.{nat_cmp}
 use Rattle.std.proofs.Common.{inl, inr, refl, sym, ap, subst, ◌∙◌, arith, add-one, append_assoc, append-nil}
@@ -127,6 +127,10 @@ memory_or_held h e = cc
 
 same_held : (k h : Held) → stop.Held h ≡ stop.Held k → k ≡ h
 same_held k h e = cc
+
+-- a run that only want of memory stops is refused nothing
+pub memory_alone : {T : Type 0} (r : Result T Stop) (h : Held) → IfErr r (λ s. s ≡ stop.Memory) → r ≡ Err (stop.Held h) → ⊥
+memory_alone r h alone e = memory_or_held h (subst (λ (z : Result _ Stop). IfErr z (λ s. s ≡ stop.Memory)) e alone)
 
 -- a stop that is Held came from a take that was
 pub held_stop : (t : TakeStop) (h : Held) → stop.Held h ≡ stopped t → t ≡ take_stop.Held h

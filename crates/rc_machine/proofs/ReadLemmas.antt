@@ -1,11 +1,10 @@
 -- What the containers of held stripes answer a binding, merged with it, is its part of a join.
 use Rattle.std.specs.Prelude.{◌≡◌, ℕ, zero, suc, ◌+◌, ◌<◌, ◌≤◌, true, List, [], ◌∷◌, ◌++◌, ◌⊎◌, None, Some, filter, length, map, take, get_or, Result, Ok, Err, IfOk, OnErr, OnOk}
 use Rattle.std.specs.List.{flat_map, range_with_len}
-use Rattle.std.specs.Option.{option_map}
 use Rattle.std.specs.Ordering.{nat_cmp}
 use Rattle.std.proofs.Common.{inl, inr, refl, sym, ap, subst, ◌∙◌, arith, add-one}
 use Rattle.std.proofs.lemmas.Bool.{cases_eq}
-use Rattle.std.proofs.lemmas.Option.{slice_get-map, slice_get-get_or}
+use Rattle.std.proofs.lemmas.List.FromFn.{length-map-range_with_len}
 use Rattle.std.proofs.Math.Seq.{take-suc}
 use Rattle.rc_tuple.specs.RisingSet.{In, IsRising, gather}
 use Rattle.rc_tuple.specs.RisingSetLaws.{same_rising, rising_gather, in_gather, gather_in, get_or_in, in_map, map_in, in_filter, filter_in, in_append, append_in_left, append_in_right, in_flat_map, flat_map_in}
@@ -17,7 +16,7 @@ use Rattle.rc_spec.specs.declared.spec.Spec.{Spec}
 use Rattle.rc_spec.specs.Acceptance.{IsSealed}
 use Rattle.rc_spec.specs.Adequacy.{KeepsA3}
 use Rattle.rc_spec.specs.Contents.{join}
-use Rattle.rc_spec.specs.Decomposition.{bound, edge_at, no_edge, node_at, no_node}
+use Rattle.rc_spec.specs.Decomposition.{bound, edge_at, node_at, no_node}
 use Rattle.rc_spec.specs.DecompositionLaws.{edge_at_in}
 use Rattle.rc_spec.specs.Fragments.{EdgeRow, edge_row_cmp, tuples_of_edge}
 use Rattle.rc_spec.specs.FragmentsLaws.{edge_row_order, in_tuples_of_edge, tuples_of_edge_in}
@@ -29,15 +28,17 @@ use Rattle.rc_spec.specs.PlacementLaws.{class_of_known}
 use Rattle.rc_spec.specs.Stripes.{physical_stripe}
 use Rattle.rc_bindings.specs.Bindings.{BindingList, OneBinding, with_tuples}
 use Rattle.rc_fragment.specs.declared.shape.EdgeShape.{EdgeShape}
-use Rattle.rc_fragment.specs.Fragment.{HasShape, IsLookedUp, IsScan, IsThere, IsThereWith, edge_table, shape_of}
+use Rattle.rc_fragment.specs.Fragment.{IsLookedUp, IsScan, IsThere, IsThereWith, shape_of}
 use Rattle.rc_fragment.specs.RowValues.{values_at}
 use Rattle.rc_fragment.specs.Holder.{HeldStripe, Holding, IsHeld, IsLent, held_of}
 use Rattle.rc_fragment.specs.FragmentRows.{FragmentRows}
 use Rattle.rc_plan.specs.declared.statement.ReadMode.TheVariants.{Lookup, Scan}
 use Rattle.rc_spec.specs.JoinLaws.{project-agreeing}
 use Rattle.rc_plan.specs.StripeLocksLaws.{physical_stripe-agreeing, physical_stripe-in_band, striping_in_target}
+use Rattle.rc_machine.specs.EdgeRead.{IsReadOver}
 use Rattle.rc_machine.specs.Machine.{rows_now, stripes_held}
 use Rattle.rc_machine.specs.Read.{AreGood, AreMerges, HasMerged, HasMergedAll, HasMergedOn, IsMergeOf, IsMergeOn, IsReader, TakesMerges}
+use Rattle.rc_machine.specs.declared.edge_read.EdgeRead.{EdgeRead}
 use Rattle.rc_plan.specs.StripeLocks.{band}
 
 -- ---- results
@@ -63,9 +64,11 @@ if_ok (Err e) f h = tt
 pub class_known : (spec : Spec) → IsSealed spec → (e : ℕ) → e < length spec.edges → class_of spec e < length spec.classes
 class_known spec sealed e l = class_of_known spec e sealed.in_range (sealed.accepted.placed.p1 e l)
 
--- the shape of an edge in the table
-pub shape_in_table : (spec : Spec) (e : ℕ) → e < length spec.edges → HasShape (edge_table spec) e (shape_of spec (edge_at spec e))
-shape_in_table spec e l = slice_get-map (shape_of spec) spec.edges e ∙ ap (λ o. option_map (shape_of spec) o) (slice_get-get_or spec.edges e no_edge l)
+-- the edge that is read is in the table
+pub read_known : (shapes : List EdgeShape) (read : EdgeRead) → IsReadOver shapes read → read.edge < length shapes
+read_known shapes read over =
+    let n : length shapes ≡ length read.spec.now.edges = ap length over.table ∙ length-map-range_with_len (shape_of read.spec.now) 0 (length read.spec.now.edges) in
+    omega (arith, n, over.known)
 
 pub target_rises : (spec : Spec) → IsSealed spec → (e : ℕ) → e < length spec.edges → IsRising nat_cmp (bound spec (edge_at spec e).to)
 target_rises spec sealed e k =
@@ -92,7 +95,7 @@ appended b e rows old us f g = record {
 module _ (spec : Spec) (sealed : IsSealed spec) (e : ℕ) (known : e < length spec.edges) (b : Pairs) (tuple : IsTuple b) (rows : List EdgeRow)
     (columns : (w : EdgeRow) → In w rows → cols_of w.1 ≡ bound spec (edge_at spec w.0).to) where
   abbrev pub shape : EdgeShape
-  shape = shape_of spec (edge_at spec e)
+  shape = shape_of spec e
 
   target : List ℕ
   target = bound spec (edge_at spec e).to

@@ -30,16 +30,9 @@ use Rattle.rc_machine.specs.Apply.{AreAddable, all_changed}
 use Rattle.rc_machine.specs.Machine.{HasEvaluated, HasServed, locks_of, stripes_held}
 use Rattle.rc_machine.proofs.ApplyLemmas.{Change, IsSameAt, lowered_leaves, raised_leaves, stripes_stay}
 use Rattle.rc_machine.proofs.ChangeLemmas.{IsLocal, all_done, locks_kept, lowered_done, lowered_local, part_of, parts_changed, raised_local, stripes_kept}
-use Rattle.rc_machine.proofs.ConditionLemmas.{addable_at, exclusive_from, there_at}
+use Rattle.rc_machine.proofs.ClassLemmas.{fewer}
+use Rattle.rc_machine.proofs.ConditionLemmas.{addable_at, counted_at, exclusive_from, there_at}
 use Rattle.rc_machine.proofs.RunLemmas.{has_evaluated, has_served, serves, stripes_named}
-
-length_filter : {A : Type 0} (q : A → Bool) (xs : List A) → length (filter q xs) ≤ length xs
-length_filter q [] = omega arith
-length_filter q (x ∷ xs) = go (q x) (length_filter q xs)
-  where
-    go : (b : Bool) → length (filter q xs) ≤ length xs → length (cond b (x ∷ filter q xs) (filter q xs)) ≤ length (x ∷ xs)
-    go true l = omega (arith, l)
-    go false l = omega (arith, l)
 
 done_counted : (change : Change) → IsLocal change → (spec : Spec) (t : Pairs) (edges : List ℕ) (ws : List EdgeRow) → AreCountedRows ws → AreCountedRows (all_done change spec t edges ws)
 done_counted change local spec t [] ws a = a
@@ -69,7 +62,7 @@ module _ (spec : Spec) (sealed : IsSealed spec) (r : List Pairs) (held : List He
 
   settled : AreOfRelation spec (map as_taken mid) (without o r)
   settled =
-      let fewer : length (without o r) ≤ length r = length_filter (λ x. not (tuple_eq x o)) r in
+      let fewer : length (without o r) ≤ length r = fewer (λ x. not (tuple_eq x o)) r in
       let few : length r < 2 ^ 63 = a.few in
       record {
         relation = record {
@@ -94,9 +87,9 @@ module _ (spec : Spec) (sealed : IsSealed spec) (r : List Pairs) (held : List He
 
   pub can_replace : (t : Pairs) → cols_of t ≡ all_columns spec → IsTuple t → Satisfies (put tuple_cmp t (without o r)) spec.deps → AllHeld spec (stripes_held held) t → AreIn Exclusive (locks_of held) → CanReplace spec o t held
   can_replace t over tuple sat named_new modes = record {
-    counted = λ h m. subst AreCountedRows (sym (same h m ∙ a.rows h m)) (AreCountedRows-rows_on spec r (h.stripe ∷ []));
-    out = record { whole = (a.relation.each o there).over; exclusive = exclusive_from spec o held named modes; there = there_at spec sealed r held same a o there };
+    out = record { counted = counted_at spec sealed r held same a; whole = (a.relation.each o there).over; exclusive = exclusive_from spec o held named modes; there = there_at spec sealed r held same a o there };
     put = record {
+      counted = λ h m. subst AreCountedRows (sym (lowered_now h m)) (AreCountedRows-rows_on spec (without o r) (h.stripe ∷ []));
       whole = over;
       exclusive = exclusive_from spec t mid (λ e l. subst (In (physical_stripe spec (class_of spec e) (row_in spec t e))) (sym (stripes_kept lowered spec o (edge_numbers spec) held)) (named_new e l))
           (subst (AreIn Exclusive) (sym (locks_kept lowered spec o (edge_numbers spec) held)) modes);

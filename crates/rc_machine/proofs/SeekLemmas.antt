@@ -12,8 +12,6 @@ use Rattle.rc_tuple.specs.Tuple.{IsTuple, Pairs, cols_of, project}
 use Rattle.rc_tuple.specs.TupleLaws.{in_project, project_in}
 use Rattle.rc_spec.specs.declared.spec.Spec.{Spec}
 use Rattle.rc_spec.specs.Acceptance.{IsSealed}
-use Rattle.rc_spec.specs.Decomposition.{edge_at}
-use Rattle.rc_spec.specs.DecompositionLaws.{edge_at_in}
 use Rattle.rc_bindings.specs.Bindings.{BindingList, IsGivenBy, IsRowWith, OneBinding, TakesRows, given}
 use Rattle.rc_fragment.specs.Fragment.{shape_of}
 use Rattle.rc_fragment.specs.FragmentLaws.{parted_edge}
@@ -31,13 +29,13 @@ same_projected cols t u set r s v w e =
 
 module _ (spec : Spec) (sealed : IsSealed spec) (e : ℕ) (known : e < length spec.edges) where
   abbrev pub shape : EdgeShape
-  shape = shape_of spec (edge_at spec e)
+  shape = shape_of spec e
 
   abbrev pub extra_of : List ℕ
   extra_of = extra_columns shape
 
   pub parted : IsParted shape
-  parted = parted_edge spec sealed (edge_at spec e) (edge_at_in spec e known)
+  parted = parted_edge spec sealed e known
 
   -- a column of the target is the source's, the key's or one of the extra ones
   part_of : (c : ℕ) → In c shape.target → In c shape.source ⊎ (In c shape.key ⊎ In c extra_of)

@@ -2,51 +2,50 @@
 use Rattle.std.specs.Prelude.{◌≡◌, ℕ, suc, pred, ◌<◌, ◌==◌, Bool, true, false, List, [], ◌∷◌, cond, filter, length, not}
 use Rattle.std.specs.declared.cmp.Ordering.TheVariants.{Less}
 use Rattle.std.specs.Ordering.{nat_cmp}
-use Rattle.std.proofs.Common.{inl, inr, refl, sym, ap, subst, ◌∙◌}
+use Rattle.std.proofs.Common.{inl, inr, refl, sym, ap, subst, ◌∙◌, arith}
 use Rattle.std.proofs.lemmas.Bool.{eqb-true, false≢true, not-true}
 use Rattle.rc_tuple.specs.RisingSet.{In, IsRising}
-use Rattle.rc_tuple.specs.RisingSetLaws.{in_filter, in_map, nat_order, not_below_itself}
+use Rattle.rc_tuple.specs.RisingSetLaws.{in_filter, in_map, nat_order, not_below_itself, rising_filter}
 use Rattle.rc_tuple.specs.ColSet.{inter}
+use Rattle.rc_tuple.specs.ColSetLaws.{in_range_bounds, rising_range}
 use Rattle.rc_tuple.specs.Tuple.{Pairs, agree_on}
 use Rattle.rc_tuple.specs.TupleLaws.{same_from_test}
 use Rattle.rc_spec.specs.declared.spec.Spec.{Spec}
-use Rattle.rc_spec.specs.Acceptance.{IsSealed}
 use Rattle.rc_spec.specs.CountedRows.{lowered, raised, row_in}
 use Rattle.rc_spec.specs.CountedRowsLaws.{AreCountedRows, raised-lowered, recounts-apart}
 use Rattle.rc_spec.specs.Decomposition.{bound, edge_at}
 use Rattle.rc_spec.specs.Fragments.{EdgeRow, edge_numbers}
 use Rattle.rc_spec.specs.Placement.{class_of}
 use Rattle.rc_spec.specs.Stripes.{physical_stripe}
-use Rattle.rc_fragment.specs.Fragment.{IsThere, edge_table}
+use Rattle.rc_fragment.specs.Fragment.{IsThere}
 use Rattle.rc_fragment.specs.Holder.{HeldStripe, changed_at, with_now}
 use Rattle.rc_machine.specs.Applied.{CanInsert, replaced_in}
-use Rattle.rc_machine.specs.Apply.{AreAllCounted, AreAllThere, CanAdd, all_changed, has_column, place_in, stripe_in}
-use Rattle.rc_machine.proofs.ApplyLemmas.{AreSameAt, Change, can_add_same, changed_same, lowered_leaves, same_back}
+use Rattle.rc_machine.specs.Apply.{AreAllCounted, AreAllThere, all_changed, has_column, stripe_in}
+use Rattle.rc_machine.proofs.ApplyLemmas.{AreSameAt, CanAdd, Change, can_add_same, changed_same, lowered_leaves, same_back}
 use Rattle.rc_machine.proofs.ChangeLemmas.{IsLocal, lowered_local, raised_local}
-use Rattle.rc_machine.proofs.PlacedLemmas.{all_edges, can_add_in, some_edges}
 
 -- ---- changes of rows of two edges, in either order
 
 -- changes of rows of two edges may be made in either order
-abbrev CanSwap : Change → Change → Type 0
+abbrev pub CanSwap : Change → Change → Type 0
 CanSwap c d = (e f : ℕ) (u v : Pairs) (ws : List EdgeRow) → AreCountedRows ws → (e ≡ f → ⊥) → c e u (d f v ws) ≡ d f v (c e u ws)
 
 raised_lowered : CanSwap raised lowered
 raised_lowered e f u v ws a apart = recounts-apart (λ n. suc n) (λ n. pred n) e f u v ws a apart
 
-raised_raised : CanSwap raised raised
+pub raised_raised : CanSwap raised raised
 raised_raised e f u v ws a apart = recounts-apart (λ n. suc n) (λ n. suc n) e f u v ws a apart
 
-lowered_lowered : CanSwap lowered lowered
+pub lowered_lowered : CanSwap lowered lowered
 lowered_lowered e f u v ws a apart = recounts-apart (λ n. pred n) (λ n. pred n) e f u v ws a apart
 
-abbrev changed_rows : (List EdgeRow → List EdgeRow) → HeldStripe → HeldStripe
+abbrev pub changed_rows : (List EdgeRow → List EdgeRow) → HeldStripe → HeldStripe
 changed_rows f h = record { stripe = h.stripe; mode = h.mode; now = f h.now; taken = h.taken }
 
-on_it : (s : ℕ) (f : List EdgeRow → List EdgeRow) (h : HeldStripe) → (h.stripe == s) ≡ true → with_now s f h ≡ changed_rows f h
+pub on_it : (s : ℕ) (f : List EdgeRow → List EdgeRow) (h : HeldStripe) → (h.stripe == s) ≡ true → with_now s f h ≡ changed_rows f h
 on_it s f h q = ap (λ b. cond b (changed_rows f h) h) q
 
-off_it : (s : ℕ) (f : List EdgeRow → List EdgeRow) (h : HeldStripe) → (h.stripe == s) ≡ false → with_now s f h ≡ h
+pub off_it : (s : ℕ) (f : List EdgeRow → List EdgeRow) (h : HeldStripe) → (h.stripe == s) ≡ false → with_now s f h ≡ h
 off_it s f h q = ap (λ b. cond b (changed_rows f h) h) q
 
 with_now_swap : (r s : ℕ) (f g : List EdgeRow → List EdgeRow) (h : HeldStripe) → f (g h.now) ≡ g (f h.now) → with_now r f (with_now s g h) ≡ with_now s g (with_now r f h)
@@ -68,6 +67,14 @@ swapped c d swap r s e f u v apart (h ∷ held) counted =
     let others = swapped c d swap r s e f u v apart held (λ g m. counted g (inr m)) in
     λ i. one i ∷ others i
 
+-- ---- the edges of a specification
+
+pub known_edge : (spec : Spec) (e : ℕ) → In e (edge_numbers spec) → e < length spec.edges
+known_edge spec e m = let b = in_range_bounds 0 (length spec.edges) e m in omega (arith, b.1)
+
+pub edges_rise : (spec : Spec) → IsRising nat_cmp (edge_numbers spec)
+edges_rise spec = rising_range 0 (length spec.edges)
+
 -- ---- changes of a tuple's rows
 
 module _ (change : Change) (local : IsLocal change) where
@@ -80,7 +87,7 @@ module _ (change : Change) (local : IsLocal change) where
       go g true a = local.counted e row g.now a
       go g false a = a
 
-  all_counted : (spec : Spec) (t : Pairs) (edges : List ℕ) (held : List HeldStripe) → AreAllCounted held → AreAllCounted (all_changed change spec t edges held)
+  pub all_counted : (spec : Spec) (t : Pairs) (edges : List ℕ) (held : List HeldStripe) → AreAllCounted held → AreAllCounted (all_changed change spec t edges held)
   all_counted spec t [] held counted = counted
   all_counted spec t (e ∷ edges) held counted =
       all_counted spec t edges (changed_at (stripe_in spec t e) (change e (row_in spec t e)) held) (one_counted (stripe_in spec t e) e (row_in spec t e) held counted)
@@ -99,7 +106,7 @@ later_differ e edges rising f m q =
     let less : nat_cmp e e ≡ Less = subst (λ k. nat_cmp e k ≡ Less) (sym q) (rising.0 f m) in not_below_itself nat_cmp nat_order e e less less
 
 -- changes in some edges may be made as those in a part of them, and then those in the others
-parted : (c : Change) → CanSwap c c → IsLocal c → (spec : Spec) (t : Pairs) (first second : ℕ → Bool) → ((e : ℕ) → second e ≡ not (first e)) → (edges : List ℕ) → IsRising nat_cmp edges → (held : List HeldStripe) → AreAllCounted held
+pub parted : (c : Change) → CanSwap c c → IsLocal c → (spec : Spec) (t : Pairs) (first second : ℕ → Bool) → ((e : ℕ) → second e ≡ not (first e)) → (edges : List ℕ) → IsRising nat_cmp edges → (held : List HeldStripe) → AreAllCounted held
     → all_changed c spec t edges held ≡ all_changed c spec t (filter second edges) (all_changed c spec t (filter first edges) held)
 parted c swap local spec t first second other [] rising held counted = refl
 parted c swap local spec t first second other (e ∷ edges) rising held counted =
@@ -173,7 +180,7 @@ module _ (spec : Spec) (o t : Pairs) (keep : ℕ → Bool) (held : List HeldStri
   mid = all_changed lowered spec o (filter keep (edge_numbers spec)) held
 
   all_out : all_changed lowered spec o (edge_numbers spec) held ≡ all_changed lowered spec o skipped mid
-  all_out = parted lowered lowered_lowered lowered_local spec o keep (λ e. not (keep e)) (λ e. refl) (edge_numbers spec) (all_edges spec).rising held counted
+  all_out = parted lowered lowered_lowered lowered_local spec o keep (λ e. not (keep e)) (λ e. refl) (edge_numbers spec) (edges_rise spec) held counted
 
   -- an edge isn't kept and skipped
   not_both : (e : ℕ) → In e kept → In e skipped → ⊥
@@ -187,8 +194,8 @@ module _ (spec : Spec) (o t : Pairs) (keep : ℕ → Bool) (held : List HeldStri
       → all_changed raised spec t (filter keep (edge_numbers spec)) (all_changed lowered spec o (filter keep (edge_numbers spec)) held) ≡ replaced_in spec o t held
   skipped_stay same there =
       sym (ap (all_changed raised spec t (edge_numbers spec)) all_out
-      ∙ parted raised raised_raised raised_local spec t (λ e. not (keep e)) keep (λ e. not_twice (keep e)) (edge_numbers spec) (all_edges spec).rising (all_changed lowered spec o skipped mid) out_counted
-      ∙ ap (all_changed raised spec t kept) (restored spec o t skipped (some_edges spec (λ e. not (keep e))).rising skipped_same mid mid_counted mid_there))
+      ∙ parted raised raised_raised raised_local spec t (λ e. not (keep e)) keep (λ e. not_twice (keep e)) (edge_numbers spec) (edges_rise spec) (all_changed lowered spec o skipped mid) out_counted
+      ∙ ap (all_changed raised spec t kept) (restored spec o t skipped (rising_filter nat_cmp (λ e. not (keep e)) (edge_numbers spec) (edges_rise spec)) skipped_same mid mid_counted mid_there))
     where
       mid_counted : AreAllCounted mid
       mid_counted = all_counted lowered lowered_local spec o kept held counted
@@ -197,19 +204,18 @@ module _ (spec : Spec) (o t : Pairs) (keep : ℕ → Bool) (held : List HeldStri
       out_counted = all_counted lowered lowered_local spec o skipped mid mid_counted
 
       skipped_same : (e : ℕ) → In e skipped → row_in spec o e ≡ row_in spec t e
-      skipped_same e m = same e ((some_edges spec (λ e. not (keep e))).known e m) (not-true (keep e) (in_filter (λ e. not (keep e)) e (edge_numbers spec) m).1)
+      skipped_same e m = let q = in_filter (λ e. not (keep e)) e (edge_numbers spec) m in same e (known_edge spec e q.0) (not-true (keep e) q.1)
 
       mid_there : (e : ℕ) → In e skipped → (h : HeldStripe) → In h mid → h.stripe ≡ stripe_in spec o e → IsThere h.now e (row_in spec o e)
       mid_there e m h n s =
           let q = (changed_same lowered lowered_leaves spec o e kept held (λ d k same. not_both e (subst (λ z. In z kept) same k) m)).came h n in
-          let r : IsThere q.0.now e (row_in spec o e) = there e ((some_edges spec (λ e. not (keep e))).known e m) q.0 q.1 (sym q.2.stripe ∙ s) in
+          let r : IsThere q.0.now e (row_in spec o e) = there e (known_edge spec e (in_filter (λ e. not (keep e)) e (edge_numbers spec) m).0) q.0 q.1 (sym q.2.stripe ∙ s) in
           (r.0, q.2.there (e, row_in spec o e, r.0) refl r.1)
 
   -- what can be added once all the old rows are out can be added once those of its own edges are
-  pub can_add_kept : IsSealed spec → CanInsert spec t (all_changed lowered spec o (edge_numbers spec) held) → (e : ℕ) → In e (filter keep (edge_numbers spec))
-      → CanAdd (edge_table spec) (all_changed lowered spec o (filter keep (edge_numbers spec)) held) (place_in spec t e)
-  can_add_kept sealed can e m =
-      let all : CanAdd (edge_table spec) (all_changed lowered spec o skipped mid) (place_in spec t e) =
-      subst (λ z. CanAdd (edge_table spec) z (place_in spec t e)) all_out (can_add_in spec sealed t (all_changed lowered spec o (edge_numbers spec) held) can e ((some_edges spec keep).known e m)) in
+  pub can_add_kept : CanInsert spec t (all_changed lowered spec o (edge_numbers spec) held) → (e : ℕ) → In e (filter keep (edge_numbers spec)) → CanAdd spec t mid e
+  can_add_kept can e m =
+      let l : e < length spec.edges = known_edge spec e (in_filter keep e (edge_numbers spec) m).0 in
+      let out : CanAdd spec t (all_changed lowered spec o skipped mid) e = subst (λ z. CanAdd spec t z e) all_out (record { exclusive = can.exclusive e l; addable = can.addable e l }) in
       let same : AreSameAt e mid (all_changed lowered spec o skipped mid) = changed_same lowered lowered_leaves spec o e skipped mid (λ d k q. not_both e m (subst (λ z. In z skipped) q k)) in
-      can_add_same (edge_table spec) (all_changed lowered spec o skipped mid) mid (place_in spec t e) (same_back e mid (all_changed lowered spec o skipped mid) same) all
+      can_add_same spec t e (all_changed lowered spec o skipped mid) mid (same_back e mid (all_changed lowered spec o skipped mid) same) out

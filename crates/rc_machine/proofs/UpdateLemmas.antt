@@ -30,7 +30,7 @@ use Rattle.rc_plan.specs.declared.statement.Statement.{Statement}
 use Rattle.rc_plan.specs.declared.statement.Statement.TheVariants.{CheckFound}
 use Rattle.rc_plan.specs.declared.statement.Which.{Which}
 use Rattle.rc_plan.specs.NamedStripes.{HasNamed}
-use Rattle.rc_plan.specs.PlanRules.{CoversOld, IsLocked, IsUpdate, KeepsAll, Progress, after, pattern_columns}
+use Rattle.rc_plan.specs.PlanRules.{CoversOld, IsLocked, IsUpdate, Progress, after, pattern_columns}
 use Rattle.rc_plan.specs.ProbeLaws.{IsProbing, seen_at}
 use Rattle.rc_plan.specs.Search.{IsSearching}
 use Rattle.rc_spec.specs.Locks.{StripeLock}
@@ -124,6 +124,14 @@ module _ (spec : Spec) (sealed : IsSealed spec) (call : Call) (fits : Fits spec 
       ap (λ (z : Outcome). z.relation) known
       ∙ updated_kind spec.most_rows (op_at spec call.op).kind (op_at spec call.op).pattern spec.deps call.args call.ranges r o (update_is (op_at spec call.op).kind update) is (sym (ap (λ (z : Outcome). z.reply) known) ∙ e)
 
+-- what is found before CheckFound is what agrees with the call's tuple on the pattern
+pub kept_bindings : (spec : Spec) (sealed : IsSealed spec) (plan : List Statement) (call : Call) (fits : Fits spec call) (rest : List Statement) (bs : List Pairs) (old : Option Pairs) (held : List HeldStripe)
+    (at : IsAt spec plan call (CheckFound ∷ rest) bs old held) (r : List Pairs) → AreOfRelation spec held r → bs ≡ filter (agree_on (op_at spec call.op).pattern call.args) r
+kept_bindings spec sealed plan call fits rest bs old held at r a =
+    let update : IsUpdate (op_at spec call.op).kind = at.keeps.0.k1.1 in
+    let o : IsOn spec r (op_at spec call.op) call.args at.progress bs old (locks_of held) = at.on r a in
+    found_bindings spec sealed call fits update r a.relation a.satisfies at.progress o.sought bs (locks_of held) o.search (o.tuple (update_gives (op_at spec call.op).kind update)).probing at.keeps.0.k6.0 at.keeps.0.k6.1
+
 -- the run after CheckFound, where a binding is left
 pub found_step : (spec : Spec) (sealed : IsSealed spec) (plan : List Statement) (call : Call) (fits : Fits spec call) (rest : List Statement) (b : Pairs) (others : List Pairs) (old : Option Pairs) (held : List HeldStripe)
     → IsAt spec plan call (CheckFound ∷ rest) (b ∷ others) old held → IsAt spec plan call rest (b ∷ others) (Some b) held
@@ -136,14 +144,7 @@ found_step spec sealed plan call fits rest b others old held at = record {
   classes = at.classes;
   modes = at.modes;
   columns_rise = at.columns_rise;
-  on = λ r a. check_on spec sealed plan call fits r (op_at spec call.op) at.progress (b ∷ others) old (Some b) (locks_of held) true at.progress.checked (at.on r a) (λ u e. (b, refl, (others, sym (are u r a))));
+  on = λ r a. check_on spec sealed plan call fits r (op_at spec call.op) at.progress (b ∷ others) old (Some b) (locks_of held) true at.progress.checked (at.on r a)
+      (λ u e. (b, refl, (others, sym (kept_bindings spec sealed plan call fits rest (b ∷ others) old held at r a))));
   runs = at.runs;
 }
-  where
-    keeps : KeepsAll spec (op_at spec call.op) at.progress CheckFound
-    keeps = at.keeps.0
-
-    are : IsUpdate (op_at spec call.op).kind → (r : List Pairs) → AreOfRelation spec held r → b ∷ others ≡ filter (agree_on (op_at spec call.op).pattern call.args) r
-    are u r a =
-        let o : IsOn spec r (op_at spec call.op) call.args at.progress (b ∷ others) old (locks_of held) = at.on r a in
-        found_bindings spec sealed call fits u r a.relation a.satisfies at.progress o.sought (b ∷ others) (locks_of held) o.search (o.tuple (update_gives (op_at spec call.op).kind u)).probing keeps.k6.0 keeps.k6.1

@@ -33,10 +33,10 @@ AreLockedFor spec t first stripes = (class : ℕ) → list_any (is_lock_of class
 abbrev pub leaving : Reply → List Pairs → Outcome
 leaving reply r = record { reply = reply; relation = r }
 
--- the row of the arguments and the extra values, or none
+-- the row of the extra values and the arguments, or none
 abbrev pub row_reply : List ℕ → Pairs → List ℕ → Option (List ℕ) → Reply
 row_reply outs args extra None = Rows []
-row_reply outs args extra (Some values) = Rows (pick outs (args ++ zip extra values) ∷ [])
+row_reply outs args extra (Some values) = Rows (pick outs (zip extra values ++ args) ∷ [])
 
 -- The row of the edge that has the tuple's values of source and key is found, told by its extra values, or there is none.
 abbrev pub IsRowFound : EdgeShape → List EdgeRow → ℕ → Pairs → Option (List ℕ) → Type 0

@@ -13,21 +13,22 @@ use Rattle.rc_spec.specs.Fragments.{edge_numbers}
 use Rattle.rc_fragment.specs.Holder.{HeldStripe, reverted}
 use Rattle.rc_machine.specs.Apply.{AreAddable, AreAllCounted, AreAllThere, AreExclusive, all_changed}
 
--- the tuple's rows can be added
+-- the rows of each stripe are counted, and the tuple's can be added
 pub record CanInsert (spec : Spec) (t : Pairs) (held : List HeldStripe) : Type 0 where
+  pub counted : AreAllCounted held
   pub whole : cols_of t ≡ all_columns spec
   pub exclusive : AreExclusive spec t held
   pub addable : AreAddable spec t held
 
--- the tuple's rows can be taken out
+-- the rows of each stripe are counted, and the tuple's can be taken out
 pub record CanRemove (spec : Spec) (t : Pairs) (held : List HeldStripe) : Type 0 where
+  pub counted : AreAllCounted held
   pub whole : cols_of t ≡ all_columns spec
   pub exclusive : AreExclusive spec t held
   pub there : AreAllThere spec t held
 
--- the rows of each stripe are counted, those of the old tuple can be taken out, and then the new one's be added
+-- the rows of the old tuple can be taken out, and then the new one's be added
 pub record CanReplace (spec : Spec) (o t : Pairs) (held : List HeldStripe) : Type 0 where
-  pub counted : AreAllCounted held
   pub out : CanRemove spec o held
   pub put : CanInsert spec t (all_changed lowered spec o (edge_numbers spec) held)
 

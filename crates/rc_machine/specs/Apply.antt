@@ -1,7 +1,8 @@
 -- A tuple's rows added to the edges on held stripes, or taken out of them.
-use Rattle.std.specs.Prelude.{◌≡◌, ℕ, ◌<◌, ◌≤◌, ◌^◌, ◌==◌, Bool, List, [], ◌∷◌, count_by, filter, length, map, not}
-use Rattle.rc_tuple.specs.RisingSet.{In}
-use Rattle.rc_tuple.specs.ColSet.{inter}
+use Rattle.std.specs.Prelude.{◌≡◌, ℕ, ◌<◌, ◌^◌, ◌==◌, ◌++◌, Bool, List, [], ◌∷◌, cond, filter, length, map, not}
+use Rattle.std.specs.List.{fold, list_any}
+use Rattle.rc_tuple.specs.RisingSet.{AreDistinct, In}
+use Rattle.rc_tuple.specs.ColSet.{has, inter}
 use Rattle.rc_tuple.specs.Tuple.{Pairs}
 use Rattle.rc_spec.specs.declared.spec.Spec.{Spec}
 use Rattle.rc_spec.specs.CountedRows.{row_in}
@@ -11,17 +12,15 @@ use Rattle.rc_spec.specs.Fragments.{EdgeRow, edge_numbers}
 use Rattle.rc_spec.specs.Placement.{class_of}
 use Rattle.rc_spec.specs.Stripes.{physical_stripe}
 use Rattle.rc_fragment.specs.declared.shape.EdgeShape.{EdgeShape}
-use Rattle.rc_fragment.specs.Fragment.{HasAlone, HasColumns, HasSingle, IsThere, edge_table}
-use Rattle.rc_fragment.specs.Holder.{HeldStripe, Holding, IsHeldExclusive, LentStripe, changed_at}
-use Rattle.rc_machine.specs.declared.places.RowPlace.{RowPlace}
+use Rattle.rc_fragment.specs.Fragment.{HasAlone, HasSingle, IsThere, edge_table}
+use Rattle.rc_fragment.specs.Holder.{HasRoomFor, HeldStripe, Holding, IsHeldExclusive, changed_at}
+use Rattle.rc_fragment.specs.Implied.{NumberedRow}
+use Rattle.rc_fragment.specs.ImpliedTables.{class_rows}
+use Rattle.rc_machine.specs.declared.stripe.ClassStripe.{ClassStripe}
 
 -- the stripe on which a tuple's row of the edge falls
 abbrev pub stripe_in : Spec → Pairs → ℕ → ℕ
 stripe_in spec t e = physical_stripe spec (class_of spec e) (row_in spec t e)
-
--- the tuple's row of the edge, and the stripe on which it falls
-abbrev pub place_in : Spec → Pairs → ℕ → RowPlace
-place_in spec t e = record { edge = e; stripe = stripe_in spec t e; row = row_in spec t e }
 
 -- the held stripes with the change of the tuple's row in each of some edges, on the stripe on which it falls
 abbrev pub all_changed : (ℕ → Pairs → List EdgeRow → List EdgeRow) → Spec → Pairs → List ℕ → List HeldStripe → List HeldStripe
@@ -50,29 +49,42 @@ AreAllThere spec t held = (e : ℕ) → e < length spec.edges → (h : HeldStrip
 abbrev pub AreAllCounted : List HeldStripe → Type 0
 AreAllCounted held = (h : HeldStripe) → In h held → AreCountedRows h.now
 
--- ---- rows, each with the stripe on which it falls
+-- ---- classes, each with the stripe on which a tuple falls
 
--- the edges of the rows
-abbrev pub edges_of : List RowPlace → List ℕ
-edges_of places = map (λ (p : RowPlace). p.edge) places
+-- the edges of the class
+abbrev pub class_edges : Spec → ℕ → List ℕ
+class_edges spec c = filter (λ e. class_of spec e == c) (edge_numbers spec)
 
--- the held stripes with the change of each row on its stripe
-abbrev pub all_placed : (ℕ → Pairs → List EdgeRow → List EdgeRow) → List RowPlace → List HeldStripe → List HeldStripe
-all_placed change [] held = held
-all_placed change (p ∷ places) held = all_placed change places (changed_at p.stripe (change p.edge p.row) held)
+-- the classes, with one more, which may stand among them already
+abbrev pub with_class : List ℕ → ℕ → List ℕ
+with_class classes c = cond (has classes c) classes (classes ++ c ∷ [])
 
--- the row can be added on its stripe, which is held for a change
-pub record CanAdd (table : List EdgeShape) (held : List HeldStripe) (p : RowPlace) : Type 0 where
-  pub known : p.edge < length table
-  pub columns : HasColumns table p.edge p.row
+-- the classes of the edges, each once, in the order in which the edges come to them
+abbrev pub classes_of : Spec → List ℕ → List ℕ
+classes_of spec edges = fold (λ classes e. with_class classes (class_of spec e)) [] edges
+
+-- the class, and the stripe of it on which the tuple falls
+abbrev pub place_in : Spec → Pairs → ℕ → ClassStripe
+place_in spec t c = record { class = c; stripe = physical_stripe spec c t }
+
+-- the places, with that of one more class, which may be among them already
+abbrev pub with_place : Spec → Pairs → List ClassStripe → ℕ → List ClassStripe
+with_place spec t places c = cond (list_any (λ (p : ClassStripe). p.class == c) places) places (places ++ place_in spec t c ∷ [])
+
+-- no two are of one stripe, and each class has edges
+pub record ArePlaces (spec : Spec) (places : List ClassStripe) : Type 0 where
+  pub apart : AreDistinct (map (λ (p : ClassStripe). p.stripe) places)
+  pub used : (p : ClassStripe) → In p places → 0 < length (class_edges spec p.class)
+
+-- the held stripes with a change of the tuple's rows of each class on its stripe
+abbrev pub all_placed : (List NumberedRow → List EdgeRow → List EdgeRow) → List EdgeShape → Pairs → List ClassStripe → List HeldStripe → List HeldStripe
+all_placed change table t [] held = held
+all_placed change table t (p ∷ places) held = all_placed change table t places (changed_at p.stripe (change (class_rows table p.class t)) held)
+
+-- the stripe is held for a change, and this holds of its rows, the class and the tuple
+pub record CanChange (holds : List EdgeShape → List EdgeRow → ℕ → Pairs → Type 0) (table : List EdgeShape) (held : List HeldStripe) (t : Pairs) (p : ClassStripe) : Type 0 where
   pub exclusive : IsHeldExclusive held p.stripe
-  pub addable : (h : HeldStripe) → In h held → h.stripe ≡ p.stripe → IsAddable table p.edge p.row h.now
-
--- the row can be taken out of its stripe, which is held for a change
-pub record CanSub (table : List EdgeShape) (held : List HeldStripe) (p : RowPlace) : Type 0 where
-  pub known : p.edge < length table
-  pub exclusive : IsHeldExclusive held p.stripe
-  pub there : (h : HeldStripe) → In h held → h.stripe ≡ p.stripe → IsThere h.now p.edge p.row
+  pub can : (h : HeldStripe) → In h held → h.stripe ≡ p.stripe → holds table h.now p.class t
 
 -- ---- rows that a change of some columns changes
 
@@ -86,13 +98,9 @@ edges_with spec cols = filter (has_column spec cols) (edge_numbers spec)
 
 -- ---- room
 
--- how many of the rows fall on the stripe
-abbrev pub count_on : ℕ → List RowPlace → ℕ
-count_on stripe places = count_by (λ (p : RowPlace). p.stripe == stripe) places
-
--- each lent stripe has room for a change of each of the rows that fall on it
-abbrev pub HasRoomFor : List RowPlace → Holding → Type 0
-HasRoomFor places s = (l : LentStripe) → In l s.lent → count_on l.held.stripe places ≤ l.room
+-- each stripe, where it is held, has room for the changes of a tuple of the class
+abbrev pub HaveRoom : List ClassStripe → Holding → Type 0
+HaveRoom places s = (p : ClassStripe) → In p places → HasRoomFor s p.stripe p.class
 
 -- all but what is lent is the same
 abbrev pub IsSameButLent : Holding → Holding → Type 0

@@ -1,8 +1,7 @@
 //! Apply: a tuple's rows added to all edges, or taken out of them.
 
-ghost use Rattle.std.specs.Prelude.{◌≡◌, ℕ, ◌<◌, ◌^◌, Some, length, take, IfOk, OnErr, OnOk};
-ghost use Rattle.std.specs.Ordering.{nat_cmp};
-ghost use Rattle.rc_tuple.specs.RisingSet.{In, IsRising};
+ghost use Rattle.std.specs.Prelude.{◌≡◌, Some, IfOk, OnErr, OnOk};
+ghost use Rattle.rc_tuple.specs.RisingSet.{In};
 ghost use Rattle.rc_tuple.specs.Tuple.{Pairs};
 ghost use Rattle.rc_spec.specs.Acceptance.{IsSealed};
 ghost use Rattle.rc_spec.specs.CountedRows.{lowered, raised};
@@ -10,13 +9,15 @@ ghost use Rattle.rc_spec.specs.Fragments.{edge_numbers};
 ghost use Rattle.rc_spec.specs.declared.spec.Spec.{Spec};
 ghost use Rattle.rc_fragment.specs.Fragment.{edge_table};
 ghost use Rattle.rc_fragment.specs.Holder.{held_of};
+ghost use Rattle.rc_fragment.specs.Implied.{lowered_all, raised_all};
+ghost use Rattle.rc_fragment.specs.Tuples.{CanAddTuple, HasTuple};
 ghost use Rattle.rc_machine.specs.Applied.{AreTakenAlike, CanApply, CanInsert, CanRemove, CanReplace, HasApplied, HasRemoved, HasReplaced, replaced_in};
-ghost use Rattle.rc_machine.specs.Apply.{CanAdd, CanSub, IsSameButLent, all_changed, all_placed, edges_of};
+ghost use Rattle.rc_machine.specs.Apply.{ArePlaces, CanChange, IsSameButLent, all_changed, all_placed};
 ghost use Rattle.rc_machine.specs.Stripes.{AreStripesOf};
-ghost use Rattle.rc_machine.specs.declared.places.RowPlace.{RowPlace};
+ghost use Rattle.rc_machine.specs.declared.stripe.ClassStripe.{ClassStripe};
 
 use crate::differing::differing;
-use crate::places::{RowPlace, make_room, place_rows, place_rows_with};
+use crate::places::{make_room, place_classes, place_classes_with};
 use crate::stripe::ClassStripe;
 use crate::workspace::Workspace;
 use rc_fragment::Holder;
@@ -120,15 +121,15 @@ fn replace_old<H: Holder>(
     Ok(Reply::Updated(old))
 }
 
-/// Takes the old tuple's rows out and adds the new one's, but for those that both have. Where memory is wanted some rows
-/// may be changed.
-fn replace<H: Holder>(
+/// Takes the old tuple's rows out and adds the new one's, in the classes of which they don't have all rows alike. Where
+/// memory is wanted some rows may be changed.
+pub(crate) fn replace<H: Holder>(
     holder: &mut H,
     compiled: &Compiled,
     old: &Tuple,
     args: &Tuple,
     stripes: &mut Vec<ClassStripe>,
-    places: &mut Vec<RowPlace>,
+    places: &mut Vec<ClassStripe>,
 ) -> Result<(), Memory>
     requires sealed { IsSealed compiled.now.spec }
     requires table { (H.seen holder.old).table ≡ edge_table compiled.now.spec }
@@ -140,33 +141,33 @@ fn replace<H: Holder>(
 {
     let cols = differing(old, args);
     stripes.clear();
-    let gone = place_rows_with(compiled, cols, old, stripes, places)?;
-    sub_placed(holder, &places[..gone])?;
+    place_classes_with(compiled, cols, old, stripes, places)?;
+    sub_placed(holder, compiled, places, old)?;
     stripes.clear();
-    let come = place_rows_with(compiled, cols, args, stripes, places)?;
-    add_placed(holder, &places[..come])
+    place_classes_with(compiled, cols, args, stripes, places)?;
+    add_placed(holder, compiled, places, args)
 }
 
-/// Adds the tuple's row to each edge, on the stripe on which it falls. Where memory is wanted the rows of the first
-/// edges may be added.
+/// Adds the tuple's row to each edge, on the stripe on which it falls. Where memory is wanted some rows may be added; as
+/// taken they are what they were.
 pub(crate) fn add_rows<H: Holder>(
     holder: &mut H,
     compiled: &Compiled,
     tuple: &Tuple,
     stripes: &mut Vec<ClassStripe>,
-    places: &mut Vec<RowPlace>,
+    places: &mut Vec<ClassStripe>,
 ) -> Result<(), Memory>
     requires sealed { IsSealed compiled.now.spec }
     requires table { (H.seen holder.old).table ≡ edge_table compiled.now.spec }
     requires stripes { AreStripesOf compiled.now.spec tuple.now stripes.old.items }
     requires can { CanInsert compiled.now.spec tuple.now (held_of (H.seen holder.old)) }
     ensures ok { OnOk result (held_of (H.seen holder.new) ≡ all_changed raised compiled.now.spec tuple.now (edge_numbers compiled.now.spec) (held_of (H.seen holder.old))) }
-    ensures some { (n : ℕ) × (held_of (H.seen holder.new) ≡ all_changed raised compiled.now.spec tuple.now (take n (edge_numbers compiled.now.spec)) (held_of (H.seen holder.old))) }
+    ensures alike { OnErr result (AreTakenAlike (held_of (H.seen holder.old)) (held_of (H.seen holder.new))) }
     ensures lent { IsSameButLent (H.seen holder.old) (H.seen holder.new) }
     ensures sound { (spec : Spec) → H.is_sound holder.old spec → H.is_sound holder.new spec }
 {
-    place_rows(compiled, tuple, stripes, places)?;
-    add_placed(holder, places)
+    place_classes(compiled, tuple, stripes, places)?;
+    add_placed(holder, compiled, places, tuple)
 }
 
 /// Takes the tuple's row out of each edge, on the stripe on which it falls. Where memory is wanted the rows stay.
@@ -175,7 +176,7 @@ pub(crate) fn sub_rows<H: Holder>(
     compiled: &Compiled,
     tuple: &Tuple,
     stripes: &mut Vec<ClassStripe>,
-    places: &mut Vec<RowPlace>,
+    places: &mut Vec<ClassStripe>,
 ) -> Result<(), Memory>
     requires sealed { IsSealed compiled.now.spec }
     requires table { (H.seen holder.old).table ≡ edge_table compiled.now.spec }
@@ -186,40 +187,53 @@ pub(crate) fn sub_rows<H: Holder>(
     ensures lent { IsSameButLent (H.seen holder.old) (H.seen holder.new) }
     ensures sound { (spec : Spec) → H.is_sound holder.old spec → H.is_sound holder.new spec }
 {
-    place_rows(compiled, tuple, stripes, places)?;
-    sub_placed(holder, places)
+    place_classes(compiled, tuple, stripes, places)?;
+    sub_placed(holder, compiled, places, tuple)
 }
 
-/// Adds each row to its edge, on its stripe. Where memory is wanted the first rows may be added.
-fn add_placed<H: Holder>(holder: &mut H, places: &[RowPlace]) -> Result<(), Memory>
-    requires few { length places.now < 2 ^ 16 }
-    requires rising { IsRising nat_cmp (edges_of places.now) }
-    requires can { (p : RowPlace) → In p places.now → CanAdd (H.seen holder.old).table (held_of (H.seen holder.old)) p }
-    ensures ok { OnOk result (held_of (H.seen holder.new) ≡ all_placed raised places.now (held_of (H.seen holder.old))) }
-    ensures some { (n : ℕ) × (held_of (H.seen holder.new) ≡ all_placed raised (take n places.now) (held_of (H.seen holder.old))) }
+/// Adds the tuple's row to each edge of each class, on its stripe. Where memory is wanted some rows may be added; as taken
+/// they are what they were.
+fn add_placed<H: Holder>(
+    holder: &mut H,
+    compiled: &Compiled,
+    places: &[ClassStripe],
+    tuple: &Tuple,
+) -> Result<(), Memory>
+    requires sealed { IsSealed compiled.now.spec }
+    requires table { (H.seen holder.old).table ≡ edge_table compiled.now.spec }
+    requires places { ArePlaces compiled.now.spec places.now }
+    requires can { (p : ClassStripe) → In p places.now → CanChange CanAddTuple (H.seen holder.old).table (held_of (H.seen holder.old)) tuple.now p }
+    ensures ok { OnOk result (held_of (H.seen holder.new) ≡ all_placed raised_all (H.seen holder.old).table tuple.now places.now (held_of (H.seen holder.old))) }
+    ensures alike { OnErr result (AreTakenAlike (held_of (H.seen holder.old)) (held_of (H.seen holder.new))) }
     ensures lent { IsSameButLent (H.seen holder.old) (H.seen holder.new) }
     ensures sound { (spec : Spec) → H.is_sound holder.old spec → H.is_sound holder.new spec }
 {
-    make_room(holder, places)?;
+    make_room(holder, compiled, places)?;
     for place in places {
-        holder.add_row(place.stripe, place.edge, &place.row)?;
+        holder.add_tuple(place.stripe, place.class, tuple)?;
     }
     Ok(())
 }
 
-/// Takes each row out of its edge, on its stripe. Where memory is wanted the rows stay.
-fn sub_placed<H: Holder>(holder: &mut H, places: &[RowPlace]) -> Result<(), Memory>
-    requires few { length places.now < 2 ^ 16 }
-    requires rising { IsRising nat_cmp (edges_of places.now) }
-    requires can { (p : RowPlace) → In p places.now → CanSub (H.seen holder.old).table (held_of (H.seen holder.old)) p }
-    ensures ok { OnOk result (held_of (H.seen holder.new) ≡ all_placed lowered places.now (held_of (H.seen holder.old))) }
+/// Takes the tuple's row out of each edge of each class, on its stripe. Where memory is wanted the rows stay.
+fn sub_placed<H: Holder>(
+    holder: &mut H,
+    compiled: &Compiled,
+    places: &[ClassStripe],
+    tuple: &Tuple,
+) -> Result<(), Memory>
+    requires sealed { IsSealed compiled.now.spec }
+    requires table { (H.seen holder.old).table ≡ edge_table compiled.now.spec }
+    requires places { ArePlaces compiled.now.spec places.now }
+    requires can { (p : ClassStripe) → In p places.now → CanChange HasTuple (H.seen holder.old).table (held_of (H.seen holder.old)) tuple.now p }
+    ensures ok { OnOk result (held_of (H.seen holder.new) ≡ all_placed lowered_all (H.seen holder.old).table tuple.now places.now (held_of (H.seen holder.old))) }
     ensures err { OnErr result (held_of (H.seen holder.new) ≡ held_of (H.seen holder.old)) }
     ensures lent { IsSameButLent (H.seen holder.old) (H.seen holder.new) }
     ensures sound { (spec : Spec) → H.is_sound holder.old spec → H.is_sound holder.new spec }
 {
-    make_room(holder, places)?;
+    make_room(holder, compiled, places)?;
     for place in places {
-        holder.sub_row(place.stripe, place.edge, &place.row);
+        holder.sub_tuple(place.stripe, place.class, tuple);
     }
     Ok(())
 }

@@ -1,20 +1,21 @@
-//! Inserts and removes that are answered from the rows of one edge.
+//! Inserts, removes and updates that are answered from the rows of one edge.
 
-ghost use Rattle.std.specs.Prelude.{◌≡◌};
+ghost use Rattle.std.specs.Prelude.{◌≡◌, IfErr};
 ghost use Rattle.rc_spec.specs.Placement.{op_at};
 ghost use Rattle.rc_spec.specs.declared.items.OpKind.TheVariants as kind;
 ghost use Rattle.rc_spec.specs.declared.spec.Spec.{Spec};
 ghost use Rattle.rc_machine.specs.Access.{HasAnsweredByPath, HasLockedPath};
 ghost use Rattle.rc_machine.specs.Stripes.{AreStripesOf};
+ghost use Rattle.rc_machine.specs.declared.stop.Stop.TheVariants as stop;
 
-use crate::apply::{add_rows, sub_rows};
+use crate::Stop;
+use crate::apply::{add_rows, replace, sub_rows};
 use crate::edge_read::EdgeRead;
 use crate::edge_row::{find_row, find_tuple};
 use crate::workspace::Workspace;
 use rc_fragment::Holder;
 use rc_plan::{AccessPath, Compiled};
 use rc_spec::{Call, Reply};
-use rc_tuple::Memory;
 
 /// Adds the call's tuple, where the path's edge has no row with its values at the pattern. Where memory is wanted some rows
 /// may be changed; as taken they are what they were.
@@ -25,12 +26,13 @@ pub(crate) fn insert_by_edge<H: Holder>(
     path: AccessPath,
     stripe: u32,
     space: &mut Workspace,
-) -> Result<Reply, Memory>
+) -> Result<Reply, Stop>
     requires insert { (op_at compiled.now.spec call.now.op).kind ≡ kind.Insert }
     requires locked { HasLockedPath compiled.now call.now path stripe (H.seen holder.old) }
     requires stripes { AreStripesOf compiled.now.spec call.now.args space.old.class_stripes.items }
     requires sound { H.is_sound holder.old compiled.now.spec }
     ensures answered { HasAnsweredByPath compiled.now call.now (H.seen holder.old) (H.seen holder.new) result }
+    ensures memory { IfErr result (λ s. s ≡ stop.Memory) }
     ensures sound { (spec : Spec) → H.is_sound holder.old spec → H.is_sound holder.new spec }
 {
     let read = EdgeRead::of(compiled, path.edge, path.mode);
@@ -57,12 +59,13 @@ pub(crate) fn remove_by_edge<H: Holder>(
     path: AccessPath,
     stripe: u32,
     space: &mut Workspace,
-) -> Result<Reply, Memory>
+) -> Result<Reply, Stop>
     requires remove { (op_at compiled.now.spec call.now.op).kind ≡ kind.Remove }
     requires locked { HasLockedPath compiled.now call.now path stripe (H.seen holder.old) }
     requires stripes { AreStripesOf compiled.now.spec call.now.args space.old.class_stripes.items }
     requires sound { H.is_sound holder.old compiled.now.spec }
     ensures answered { HasAnsweredByPath compiled.now call.now (H.seen holder.old) (H.seen holder.new) result }
+    ensures memory { IfErr result (λ s. s ≡ stop.Memory) }
     ensures sound { (spec : Spec) → H.is_sound holder.old spec → H.is_sound holder.new spec }
 {
     let alloc = space.alloc();
@@ -80,4 +83,38 @@ pub(crate) fn remove_by_edge<H: Holder>(
         &mut space.places,
     )?;
     Ok(Reply::Removed(removed))
+}
+
+/// Puts the call's tuple in the place of the one that the row of the path's edge with its values at the pattern is, if there
+/// is one. Where memory is wanted some rows may be changed; as taken they are what they were.
+pub(crate) fn update_by_edge<H: Holder>(
+    holder: &mut H,
+    compiled: &Compiled,
+    call: &Call,
+    path: AccessPath,
+    stripe: u32,
+    space: &mut Workspace,
+) -> Result<Reply, Stop>
+    requires update { (op_at compiled.now.spec call.now.op).kind ≡ kind.Update }
+    requires locked { HasLockedPath compiled.now call.now path stripe (H.seen holder.old) }
+    requires sound { H.is_sound holder.old compiled.now.spec }
+    ensures answered { HasAnsweredByPath compiled.now call.now (H.seen holder.old) (H.seen holder.new) result }
+    ensures memory { IfErr result (λ s. s ≡ stop.Memory) }
+    ensures sound { (spec : Spec) → H.is_sound holder.old spec → H.is_sound holder.new spec }
+{
+    let alloc = space.alloc();
+    let read = EdgeRead::of(compiled, path.edge, path.mode);
+    let fragment = holder.fragment(stripe);
+    let Some(old) = find_tuple(alloc, fragment, &read, &call.args, &mut space.finder)? else {
+        return Ok(Reply::Absent);
+    };
+    replace(
+        holder,
+        compiled,
+        &old,
+        &call.args,
+        &mut space.class_stripes,
+        &mut space.places,
+    )?;
+    Ok(Reply::Updated(old))
 }

@@ -1,6 +1,6 @@
 //! Queries that are answered from the rows of one edge.
 
-ghost use Rattle.std.specs.Prelude.{◌≡◌, ℕ, List, ◌++◌, [], length, IfOk};
+ghost use Rattle.std.specs.Prelude.{◌≡◌, ℕ, List, ◌∷◌, ◌++◌, [], length, IfErr, IfOk};
 ghost use Rattle.std.specs.List.{zip};
 ghost use Rattle.rc_tuple.specs.RisingSet.{In};
 ghost use Rattle.rc_tuple.specs.Tuple.{Pairs, cols_of, pick};
@@ -14,7 +14,9 @@ ghost use Rattle.rc_plan.specs.Access.{extra_of};
 ghost use Rattle.rc_plan.specs.PlanRules.{IsQuery};
 ghost use Rattle.rc_machine.specs.Access.{HasListed, HasLockedPath, HasLookedUp, leaving};
 ghost use Rattle.rc_machine.specs.EdgeRead.{IsReadOver};
+ghost use Rattle.rc_machine.specs.declared.stop.Stop.TheVariants as stop;
 
+use crate::Stop;
 use crate::edge_read::EdgeRead;
 use crate::edge_row::{find_row, push_picked, push_values};
 use crate::workspace::Finder;
@@ -25,6 +27,7 @@ use rc_tuple::{ColSet, Cols, Memory, Tuple};
 use std::alloc::Global;
 
 /// Answers a query from the rows of its path's edge, on the stripe on which the arguments fall, which is held.
+/// Only want of memory stops it.
 pub(crate) fn answer_by_edge<H: Holder>(
     alloc: Global,
     holder: &H,
@@ -33,12 +36,13 @@ pub(crate) fn answer_by_edge<H: Holder>(
     path: AccessPath,
     stripe: u32,
     finder: &mut Finder,
-) -> Result<Reply, Memory>
+) -> Result<Reply, Stop>
     requires locked { HasLockedPath compiled.now call.now path stripe (H.seen holder.now) }
     requires query { IsQuery (op_at compiled.now.spec call.now.op).kind }
     requires one { AreOfOneRelation compiled.now.spec (held_of (H.seen holder.now)) }
-    ensures { IfOk result (λ reply. (r : List Pairs) → AreOfRelation compiled.now.spec (held_of (H.seen holder.now)) r
+    ensures answered { IfOk result (λ reply. (r : List Pairs) → AreOfRelation compiled.now.spec (held_of (H.seen holder.now)) r
         → plain compiled.now.spec r call.now ≡ leaving reply r) }
+    ensures memory { IfErr result (λ s. s ≡ stop.Memory) }
 {
     let OpKind::Query { outs, .. } = &compiled.accepted().spec().op(call.op).kind else {
         unreachable!()
@@ -52,6 +56,8 @@ pub(crate) fn answer_by_edge<H: Holder>(
 }
 
 /// The row that has the arguments' values of source and key, if there is one.
+// A call hands its reply on by moving it. In its caller's place this one, which answers most queries, moves it once less.
+#[inline(always)]
 fn look_up(
     alloc: Global,
     fragment: &Fragment,
@@ -59,16 +65,18 @@ fn look_up(
     args: &Tuple,
     outs: &Cols,
     finder: &mut Finder,
-) -> Result<Reply, Memory>
+) -> Result<Reply, Stop>
     requires read { IsReadOver fragment.now.table read.now }
     requires columns { (w : EdgeRow) → In w fragment.now.now → cols_of w.1 ≡ bound read.now.spec.now (edge_at read.now.spec.now w.0).to }
-    ensures { IfOk result (HasLookedUp (shape_of read.now.spec.now (edge_at read.now.spec.now read.now.edge)) fragment.now.now read.now.edge args.now outs.now) }
+    ensures rows { IfOk result (HasLookedUp (shape_of read.now.spec.now read.now.edge) fragment.now.now read.now.edge args.now outs.now) }
+    ensures memory { IfErr result (λ s. s ≡ stop.Memory) }
 {
     match find_row(fragment, read, args, finder)? {
         None => Ok(Reply::Rows(RowList::new(alloc))),
         Some(values) => {
-            let row = picked(alloc, outs, args, read.resolved.extra, values)?;
-            Ok(Reply::Rows(RowList::of_width(row, 1, outs.list().len())))
+            let extra = read.resolved.extra;
+            let rows = picked(alloc, outs, args, extra, values, &mut finder.rows)?;
+            Ok(Reply::Rows(rows))
         }
     }
 }
@@ -82,12 +90,13 @@ fn list(
     args: &Tuple,
     outs: &Cols,
     finder: &mut Finder,
-) -> Result<Reply, Memory>
+) -> Result<Reply, Stop>
     requires read { IsReadOver fragment.now.table read.now }
     requires columns { (w : EdgeRow) → In w fragment.now.now → cols_of w.1 ≡ bound read.now.spec.now (edge_at read.now.spec.now w.0).to }
     requires outs { outs.now ≡ (edge_at read.now.spec.now read.now.edge).key ++ extra_of read.now.spec.now (edge_at read.now.spec.now read.now.edge) }
     requires keyed { (edge_at read.now.spec.now read.now.edge).key ≡ [] → ⊥ }
-    ensures { IfOk result (HasListed (shape_of read.now.spec.now (edge_at read.now.spec.now read.now.edge)) fragment.now.now read.now.edge args.now outs.now read.now.spec.now.most_rows) }
+    ensures rows { IfOk result (HasListed (shape_of read.now.spec.now read.now.edge) fragment.now.now read.now.edge args.now outs.now read.now.spec.now.most_rows) }
+    ensures memory { IfErr result (λ s. s ≡ stop.Memory) }
 {
     finder.source.clear();
     push_values(args, read.resolved.source, &mut finder.source)?;
@@ -101,18 +110,20 @@ fn list(
     Ok(Reply::Rows(RowList::of_width(values, rows, width)))
 }
 
-/// The values at the outputs: the tuple's, or else those of the extra columns.
+/// The row of the values at the outputs: those of the extra columns, or else the tuple's. Takes memory only where they are
+/// more than a list keeps without a block, or the space had room for fewer.
 fn picked(
     alloc: Global,
     outs: &Cols,
     tuple: &Tuple,
     extra: ColSet,
     values: &[u64],
-) -> Result<Vec<u64>, Memory>
+    space: &mut Vec<u64>,
+) -> Result<RowList, Memory>
     requires { length values.now ≡ length extra }
-    ensures { IfOk result (λ row. row.items ≡ pick outs.now (tuple.now ++ zip extra values.now)) }
+    ensures { IfOk result (λ rows. rows ≡ pick outs.now (zip extra values.now ++ tuple.now) ∷ []) }
 {
-    let mut row = Vec::with_capacity(alloc, outs.list().len())?;
-    push_picked(&mut row, outs.list(), tuple, extra, values)?;
-    Ok(row)
+    space.clear();
+    push_picked(space, outs.list(), tuple, extra, values)?;
+    RowList::of_row(alloc, space)
 }

@@ -3,6 +3,7 @@
 ghost use Rattle.std.specs.Prelude.{◌≡◌, ◌≤◌, ◌++◌, length, IfOk, OnOk};
 ghost use Rattle.std.specs.List.{range_with_len, zip};
 ghost use Rattle.std.specs.Option.{option_copied};
+ghost use Rattle.rc_tuple.specs.ColSet.{Within};
 ghost use Rattle.rc_tuple.specs.RisingSet.{In};
 ghost use Rattle.rc_tuple.specs.Tuple.{IsTuple, cols_of, pick, tuple_of, value};
 ghost use Rattle.rc_spec.specs.Calls.{all_columns};
@@ -34,7 +35,7 @@ pub(crate) fn find_row<'a>(
     finder: &mut Finder,
 ) -> Result<Option<&'a [u64]>, Memory>
     requires { IsReadOver fragment.now.table read.now }
-    ensures { IfOk result (λ found. IsRowFound (shape_of read.now.spec.now (edge_at read.now.spec.now read.now.edge)) fragment.now.now read.now.edge tuple.now (option_copied found)) }
+    ensures { IfOk result (λ found. IsRowFound (shape_of read.now.spec.now read.now.edge) fragment.now.now read.now.edge tuple.now (option_copied found)) }
 {
     finder.source.clear();
     push_values(tuple, read.resolved.source, &mut finder.source)?;
@@ -43,8 +44,8 @@ pub(crate) fn find_row<'a>(
     Ok(fragment.lookup(read.edge, &finder.source, &finder.key))
 }
 
-/// The row that has the tuple's values of source and key, which are all that the tuple has, if there is one. The row has
-/// all columns. Costs what `find_row` does, and the row's block.
+/// The row that has the tuple's values of source and key, if there is one; what else the tuple has is of no matter. The
+/// row has all columns. Costs what `find_row` does, and the row's block.
 pub(crate) fn find_tuple(
     alloc: Global,
     fragment: &Fragment,
@@ -55,9 +56,9 @@ pub(crate) fn find_tuple(
     requires read { IsReadOver fragment.now.table read.now }
     requires columns { (w : EdgeRow) → In w fragment.now.now → cols_of w.1 ≡ bound read.now.spec.now (edge_at read.now.spec.now w.0).to }
     requires tuple { IsTuple tuple.now }
-    requires given { cols_of tuple.now ≡ source_and_key read.now.spec.now (edge_at read.now.spec.now read.now.edge) }
+    requires given { Within (source_and_key read.now.spec.now (edge_at read.now.spec.now read.now.edge)) (cols_of tuple.now) }
     requires whole { bound read.now.spec.now (edge_at read.now.spec.now read.now.edge).to ≡ all_columns read.now.spec.now }
-    ensures { IfOk result (IsTupleFound (shape_of read.now.spec.now (edge_at read.now.spec.now read.now.edge)) fragment.now.now read.now.edge tuple.now) }
+    ensures { IfOk result (IsTupleFound (shape_of read.now.spec.now read.now.edge) fragment.now.now read.now.edge tuple.now) }
 {
     let Some(values) = find_row(fragment, read, tuple, finder)? else {
         return Ok(None);
@@ -67,8 +68,8 @@ pub(crate) fn find_tuple(
     Ok(Some(row))
 }
 
-/// The tuple over the columns below the width that has the tuple's values, and at the other columns those of the extra
-/// ones. Costs one block.
+/// The tuple over the columns below the width that has these values at the extra columns, and at the others the tuple's.
+/// Costs one block.
 fn completed(
     alloc: Global,
     width: usize,
@@ -79,7 +80,7 @@ fn completed(
 ) -> Result<Tuple, Memory>
     requires few { width ≤ 32 }
     requires fits { length values.now ≡ length extra }
-    ensures { IfOk result (λ row. row ≡ tuple_of (range_with_len 0 width) (pick (range_with_len 0 width) (tuple.now ++ zip extra values.now))) }
+    ensures { IfOk result (λ row. row ≡ tuple_of (range_with_len 0 width) (pick (range_with_len 0 width) (zip extra values.now ++ tuple.now))) }
 {
     let columns = &COLUMNS[..width];
     finder.rows.clear();
@@ -87,7 +88,7 @@ fn completed(
     Tuple::from_columns(alloc, columns, &finder.rows)
 }
 
-/// Adds the values at the columns, in the order of the list: the tuple's, or else those of the extra columns.
+/// Adds the values at the columns, in the order of the list: those of the extra columns, or else the tuple's.
 pub(crate) fn push_picked(
     row: &mut Vec<u64>,
     cols: &[u8],
@@ -96,7 +97,7 @@ pub(crate) fn push_picked(
     values: &[u64],
 ) -> Result<(), Memory>
     requires { length values.now ≡ length extra }
-    ensures { OnOk result (row.new.items ≡ row.old.items ++ pick cols.now (tuple.now ++ zip extra values.now)) }
+    ensures { OnOk result (row.new.items ≡ row.old.items ++ pick cols.now (zip extra values.now ++ tuple.now)) }
 {
     for col in cols {
         row.push(value_at(tuple, extra, values, *col))?;
@@ -104,26 +105,15 @@ pub(crate) fn push_picked(
     Ok(())
 }
 
-/// The value at the column: the tuple's, or else that of an extra column, or 0.
+/// The value at the column: that of an extra column, or else the tuple's, or 0.
 fn value_at(tuple: &Tuple, extra: ColSet, values: &[u64], col: u8) -> u64
     requires { length values.now ≡ length extra }
-    ensures { result ≡ value (tuple.now ++ zip extra values.now) col }
+    ensures { result ≡ value (zip extra values.now ++ tuple.now) col }
 {
-    match tuple.get(col) {
-        Some(value) => value,
-        None => value_among(extra, values, col),
-    }
-}
-
-/// The value at the column, of values at these columns, or 0.
-fn value_among(cols: ColSet, values: &[u64], col: u8) -> u64
-    requires { length values.now ≡ length cols }
-    ensures { result ≡ value (zip cols values.now) col }
-{
-    if cols.has(col) {
-        values[cols.rank(col) as usize]
+    if extra.has(col) {
+        values[extra.rank(col) as usize]
     } else {
-        0
+        tuple.get(col).unwrap_or(0)
     }
 }
 

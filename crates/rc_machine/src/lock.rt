@@ -111,6 +111,32 @@ fn push_band(stripes: &mut Vec<u32>, compiled: &Compiled, class: u8) -> Result<(
     Ok(())
 }
 
+/// Takes all stripes of a class, in rising order. After a stop those that were taken stay held.
+pub(crate) fn lock_band<H: Holder>(
+    holder: &mut H,
+    compiled: &Compiled,
+    class: u8,
+    mode: Mode,
+    stripes: &mut Vec<u32>,
+) -> Result<(), Stop>
+    requires sealed { IsSealed compiled.now.spec }
+    requires known { class < length compiled.now.spec.classes }
+    requires total { length (H.seen holder.old).offered ≡ stripe_total compiled.now.spec }
+    requires lent { (s : ℕ) → In s (band compiled.now.spec class) → MayTake (H.seen holder.old).lends s mode }
+    requires above { (s : ℕ) → In s (band compiled.now.spec class) → IsAbove (held_of (H.seen holder.old)) s }
+    ensures ok { OnOk result (HasLocked (H.seen holder.old) (H.seen holder.new) (band compiled.now.spec class) mode) }
+    ensures some { (n : ℕ) × HasLocked (H.seen holder.old) (H.seen holder.new) (take n (band compiled.now.spec class)) mode }
+    ensures refused { (h : Held) → result ≡ Err (stop.Held h) → HasRefusedOne (H.seen holder.old) (H.seen holder.new) (band compiled.now.spec class) mode h }
+    ensures counted { (spec : Spec) → H.is_sound holder.old spec → CountsOnlyHeldStop result (H.seen holder.old) (H.seen holder.new) }
+    ensures goes_on { GoesOn (H.seen holder.old) (H.seen holder.new) }
+    ensures sound { (spec : Spec) → H.is_sound holder.old spec → H.is_sound holder.new spec }
+{
+    stripes.clear();
+    push_band(stripes, compiled, class)?;
+    take_all(holder, stripes, mode)?;
+    Ok(())
+}
+
 /// Takes the stripes one after another.
 pub(crate) fn take_all<H: Holder>(
     holder: &mut H,

@@ -1,20 +1,21 @@
 //! Calls that are answered by an access path.
 
-ghost use Rattle.std.specs.Prelude.{◌≡◌};
+ghost use Rattle.std.specs.Prelude.{◌≡◌, IfErr};
 ghost use Rattle.rc_spec.specs.declared.spec.Spec.{Spec};
 ghost use Rattle.rc_machine.specs.Access.{HasAnsweredByPath, HasLockedPath};
 ghost use Rattle.rc_machine.specs.Stripes.{AreStripesOf};
+ghost use Rattle.rc_machine.specs.declared.stop.Stop.TheVariants as stop;
 
-use crate::edge_change::{insert_by_edge, remove_by_edge};
+use crate::Stop;
+use crate::edge_change::{insert_by_edge, remove_by_edge, update_by_edge};
 use crate::edge_query::answer_by_edge;
 use crate::workspace::Workspace;
 use rc_fragment::Holder;
 use rc_plan::{AccessPath, Compiled};
 use rc_spec::{Call, OpKind, Reply};
-use rc_tuple::Memory;
 
 /// Answers the call, whose path's stripes are held, from the rows of the path's edge, on the stripe on which the arguments
-/// fall. Where memory is wanted some rows may be changed; as taken they are what they were.
+/// fall. Only want of memory stops it; then some rows may be changed; as taken they are what they were.
 pub(crate) fn answer_by_path<H: Holder>(
     holder: &mut H,
     compiled: &Compiled,
@@ -22,11 +23,12 @@ pub(crate) fn answer_by_path<H: Holder>(
     path: AccessPath,
     stripe: u32,
     space: &mut Workspace,
-) -> Result<Reply, Memory>
+) -> Result<Reply, Stop>
     requires locked { HasLockedPath compiled.now call.now path stripe (H.seen holder.old) }
     requires stripes { AreStripesOf compiled.now.spec call.now.args space.old.class_stripes.items }
     requires sound { H.is_sound holder.old compiled.now.spec }
     ensures answered { HasAnsweredByPath compiled.now call.now (H.seen holder.old) (H.seen holder.new) result }
+    ensures memory { IfErr result (λ s. s ≡ stop.Memory) }
     ensures sound { (spec : Spec) → H.is_sound holder.old spec → H.is_sound holder.new spec }
 {
     match compiled.accepted().spec().op(call.op).kind {
@@ -44,6 +46,6 @@ pub(crate) fn answer_by_path<H: Holder>(
         }
         OpKind::Insert => insert_by_edge(holder, compiled, call, path, stripe, space),
         OpKind::Remove => remove_by_edge(holder, compiled, call, path, stripe, space),
-        OpKind::Update => unreachable!(),
+        OpKind::Update => update_by_edge(holder, compiled, call, path, stripe, space),
     }
 }

@@ -1,145 +1,135 @@
-//! The rows of a tuple in all edges, each with the stripe on which it falls, and room for a change of each.
+//! The classes of the edges in which a tuple's rows change, each with the stripe on which the tuple falls, and room for the
+//! changes.
 
-ghost use Rattle.std.specs.Prelude.{◌≡◌, ◌==◌, ◌<◌, ◌≤◌, ◌^◌, length, map, take, count_by, IfOk, OnOk};
+ghost use Rattle.std.specs.Prelude.{◌≡◌, ◌==◌, ◌<◌, length, map, OnOk};
+ghost use Rattle.std.specs.List.{list_any};
 ghost use Rattle.rc_tuple.specs.RisingSet.{In};
 ghost use Rattle.rc_tuple.specs.Tuple.{cols_of};
 ghost use Rattle.rc_spec.specs.Acceptance.{IsSealed};
 ghost use Rattle.rc_spec.specs.Calls.{all_columns};
 ghost use Rattle.rc_spec.specs.Fragments.{edge_numbers};
 ghost use Rattle.rc_spec.specs.Placement.{class_of};
-ghost use Rattle.rc_spec.specs.Stripes.{physical_stripe};
 ghost use Rattle.rc_spec.specs.declared.spec.Spec.{Spec};
+ghost use Rattle.rc_fragment.specs.Fragment.{edge_table};
 ghost use Rattle.rc_fragment.specs.Holder.{IsHeldExclusive, held_of};
-ghost use Rattle.rc_machine.specs.Apply.{HasRoomFor, IsSameButLent, count_on, edges_with, place_in};
+ghost use Rattle.rc_machine.specs.Apply.{HaveRoom, IsSameButLent, class_edges, classes_of, edges_with, place_in, with_place};
 ghost use Rattle.rc_machine.specs.Stripes.{AreStripesOf};
-ghost use Rattle.rc_machine.specs.declared.places.RowPlace.{RowPlace};
+ghost use Rattle.rc_machine.specs.declared.stripe.ClassStripe.{ClassStripe};
 
 use crate::stripe::{ClassStripe, find_stripe};
 use rc_fragment::Holder;
 use rc_plan::Compiled;
 use rc_tuple::{ColSet, Memory, Tuple};
-use std::alloc::Global;
 
-/// A row of an edge, and the stripe on which it falls.
-#[derive(Debug, Drop)]
-pub(crate) struct RowPlace {
-    pub(crate) edge: u8,
-    pub(crate) stripe: u32,
-    pub(crate) row: Tuple,
-}
-
-/// Makes the places those of the tuple's row in each edge, with the stripe on which it falls, which is that of the tuple.
-/// The stripes are those of the tuple that were found; each class's is found once. Memory is taken only where the places
-/// had room for fewer edges or columns, or the stripes for fewer classes.
-pub(crate) fn place_rows(
+/// Makes the places the classes of all edges, each once, with the stripe on which the tuple falls. The stripes are those of
+/// the tuple that were found; each class's is found once. Memory is taken only where the places or the stripes had room for
+/// fewer classes.
+pub(crate) fn place_classes(
     compiled: &Compiled,
     tuple: &Tuple,
     stripes: &mut Vec<ClassStripe>,
-    places: &mut Vec<RowPlace>,
+    places: &mut Vec<ClassStripe>,
 ) -> Result<(), Memory>
     requires sealed { IsSealed compiled.now.spec }
     requires whole { cols_of tuple.now ≡ all_columns compiled.now.spec }
     requires stripes { AreStripesOf compiled.now.spec tuple.now stripes.old.items }
-    ensures { OnOk result (places.new.items ≡ map (place_in compiled.now.spec tuple.now) (edge_numbers compiled.now.spec)) }
+    ensures { OnOk result (places.new.items ≡ map (place_in compiled.now.spec tuple.now) (classes_of compiled.now.spec (edge_numbers compiled.now.spec))) }
 {
+    places.clear();
     let edges = compiled.accepted().spec().edges.list().len();
-    resize(places, edges, tuple.alloc())?;
     for edge in 0..edges as u8 {
-        let stripe = find_stripe(compiled, compiled.edge(edge).class, tuple, stripes)?;
-        place_row(compiled, tuple, edge, stripe, &mut places[edge as usize])?;
+        place_class(compiled, edge, tuple, stripes, places)?;
     }
     Ok(())
 }
 
-/// Makes the first places those of the tuple's row in each edge whose target has one of the columns, as `place_rows` makes
-/// all of them, and tells how many they are. The others keep their memory for a later call.
-pub(crate) fn place_rows_with(
+/// Makes the places the classes of the edges whose target has one of the columns, as `place_classes` makes them those of
+/// all edges.
+pub(crate) fn place_classes_with(
     compiled: &Compiled,
     cols: ColSet,
     tuple: &Tuple,
     stripes: &mut Vec<ClassStripe>,
-    places: &mut Vec<RowPlace>,
-) -> Result<usize, Memory>
+    places: &mut Vec<ClassStripe>,
+) -> Result<(), Memory>
     requires sealed { IsSealed compiled.now.spec }
     requires whole { cols_of tuple.now ≡ all_columns compiled.now.spec }
     requires stripes { AreStripesOf compiled.now.spec tuple.now stripes.old.items }
-    ensures within { IfOk result (λ count. count ≤ length places.new.items) }
-    ensures first { IfOk result (λ count. take count places.new.items ≡ map (place_in compiled.now.spec tuple.now) (edges_with compiled.now.spec cols)) }
+    ensures { OnOk result (places.new.items ≡ map (place_in compiled.now.spec tuple.now) (classes_of compiled.now.spec (edges_with compiled.now.spec cols))) }
 {
+    places.clear();
     let all = compiled.accepted().spec().edges.list().len();
-    resize(places, all, tuple.alloc())?;
-    let mut count = 0;
     for edge in 0..all as u8 {
-        let resolved = compiled.edge(edge);
-        if resolved.target.inter(cols).is_empty() {
+        if compiled.edge(edge).target.inter(cols).is_empty() {
             continue;
         }
-        let stripe = find_stripe(compiled, resolved.class, tuple, stripes)?;
-        place_row(compiled, tuple, edge, stripe, &mut places[count])?;
-        count += 1;
-    }
-    Ok(count)
-}
-
-/// Makes the list as long as this; new places have no row.
-fn resize(places: &mut Vec<RowPlace>, count: usize, alloc: Global) -> Result<(), Memory>
-    ensures { OnOk result (length places.new.items ≡ count) }
-{
-    places.truncate(count);
-    for _ in places.len()..count {
-        places.push(RowPlace {
-            edge: 0,
-            stripe: 0,
-            row: Tuple::empty(alloc),
-        })?;
+        place_class(compiled, edge, tuple, stripes, places)?;
     }
     Ok(())
 }
 
-/// Makes the place that of the tuple's row in the edge, on the stripe on which the tuple falls.
-fn place_row(
+/// Adds the edge's class to the places, with the stripe on which the tuple falls, where it isn't among them.
+fn place_class(
     compiled: &Compiled,
-    tuple: &Tuple,
     edge: u8,
-    stripe: u32,
-    place: &mut RowPlace,
+    tuple: &Tuple,
+    stripes: &mut Vec<ClassStripe>,
+    places: &mut Vec<ClassStripe>,
 ) -> Result<(), Memory>
     requires sealed { IsSealed compiled.now.spec }
     requires known { edge < length compiled.now.spec.edges }
-    requires falls { stripe ≡ physical_stripe compiled.now.spec (class_of compiled.now.spec edge) tuple.now }
     requires whole { cols_of tuple.now ≡ all_columns compiled.now.spec }
-    ensures { OnOk result (place.new ≡ place_in compiled.now.spec tuple.now edge) }
+    requires stripes { AreStripesOf compiled.now.spec tuple.now stripes.old.items }
+    ensures places { OnOk result (places.new.items ≡ with_place compiled.now.spec tuple.now places.old.items (class_of compiled.now.spec edge)) }
+    ensures stripes { AreStripesOf compiled.now.spec tuple.now stripes.new.items }
 {
-    place.edge = edge;
-    place.stripe = stripe;
-    tuple.project_into(compiled.edge(edge).target, &mut place.row)
+    let class = compiled.edge(edge).class;
+    if has_class(places, class) {
+        return Ok(());
+    }
+    let stripe = find_stripe(compiled, class, tuple, stripes)?;
+    places.push(ClassStripe { class, stripe })?;
+    Ok(())
 }
 
-/// Makes room on each row's stripe for a change of each of the rows that fall on it. No row changes. Rows that follow each
-/// other mostly fall on one stripe, for which room is made once.
-pub(crate) fn make_room<H: Holder>(holder: &mut H, places: &[RowPlace]) -> Result<(), Memory>
-    requires few { length places.now < 2 ^ 16 }
-    requires exclusive { (p : RowPlace) → In p places.now → IsHeldExclusive (held_of (H.seen holder.old)) p.stripe }
-    ensures room { OnOk result (HasRoomFor places.now (H.seen holder.new)) }
+/// Whether one of the places is of the class.
+fn has_class(places: &[ClassStripe], class: u8) -> bool
+    ensures { result ≡ list_any (λ p. p.class == class) places.now }
+{
+    places.iter().any(|place| place.class == class)
+}
+
+/// Makes room on the stripe of each class for the changes of a tuple. No row changes.
+pub(crate) fn make_room<H: Holder>(
+    holder: &mut H,
+    compiled: &Compiled,
+    places: &[ClassStripe],
+) -> Result<(), Memory>
+    requires sealed { IsSealed compiled.now.spec }
+    requires table { (H.seen holder.old).table ≡ edge_table compiled.now.spec }
+    requires exclusive { (p : ClassStripe) → In p places.now → IsHeldExclusive (held_of (H.seen holder.old)) p.stripe }
+    requires used { (p : ClassStripe) → In p places.now → 0 < length (class_edges compiled.now.spec p.class) }
+    ensures room { OnOk result (HaveRoom places.now (H.seen holder.new)) }
     ensures held { held_of (H.seen holder.new) ≡ held_of (H.seen holder.old) }
     ensures lent { IsSameButLent (H.seen holder.old) (H.seen holder.new) }
     ensures sound { (spec : Spec) → H.is_sound holder.old spec → H.is_sound holder.new spec }
 {
-    let mut last = None;
     for place in places {
-        if last == Some(place.stripe) {
-            continue;
-        }
-        holder.own(place.stripe, count_on(places, place.stripe))?;
-        last = Some(place.stripe);
+        holder.own(place.stripe, count_edges(compiled, place.class))?;
     }
     Ok(())
 }
 
-/// How many of the rows fall on the stripe.
-fn count_on(places: &[RowPlace], stripe: u32) -> u16
-    requires { length places.now < 2 ^ 16 }
-    ensures { result ≡ count_on stripe places.now }
+/// How many edges the class has.
+fn count_edges(compiled: &Compiled, class: u8) -> u16
+    requires { IsSealed compiled.now.spec }
+    ensures { result ≡ length (class_edges compiled.now.spec class) }
 {
-    places.iter().filter(|place| place.stripe == stripe).count() as u16
+    let mut count = 0;
+    for edge in 0..compiled.accepted().spec().edges.list().len() as u8 {
+        if compiled.edge(edge).class == class {
+            count += 1;
+        }
+    }
+    count
 }

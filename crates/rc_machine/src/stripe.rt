@@ -23,6 +23,8 @@ pub(crate) struct ClassStripe {
 
 /// The number, among all stripes, of the class's stripe on which the tuple falls, which has the class's columns. The list
 /// has those that were found of the tuple before, and keeps this one: a class is hashed once.
+// A call asks for the same stripe several times, of a list of one or two: what is found is told with no call.
+#[inline(always)]
 pub(crate) fn find_stripe(
     compiled: &Compiled,
     class: u8,
@@ -39,6 +41,25 @@ pub(crate) fn find_stripe(
     if let Some(stripe) = stripe_in(stripes, class) {
         return Ok(stripe);
     }
+    add_stripe(compiled, class, tuple, stripes)
+}
+
+/// Does so for a class of which no stripe was found.
+// It stands apart, so that what asks for a stripe stays small.
+#[inline(never)]
+fn add_stripe(
+    compiled: &Compiled,
+    class: u8,
+    tuple: &Tuple,
+    stripes: &mut Vec<ClassStripe>,
+) -> Result<u32, Memory>
+    requires sealed { IsSealed compiled.now.spec }
+    requires known { class < length compiled.now.spec.classes }
+    requires within { Within (class_at compiled.now.spec class).cols (cols_of tuple.now) }
+    requires stripes { AreStripesOf compiled.now.spec tuple.now stripes.old.items }
+    ensures stripe { IfOk result (λ stripe. stripe ≡ physical_stripe compiled.now.spec class tuple.now) }
+    ensures stripes { AreStripesOf compiled.now.spec tuple.now stripes.new.items }
+{
     let stripe = tuple_stripe(compiled, class, tuple);
     stripes.push(ClassStripe { class, stripe })?;
     Ok(stripe)

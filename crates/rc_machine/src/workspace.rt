@@ -3,7 +3,6 @@
 ghost use Rattle.std.specs.Prelude.{◌≡◌, ◌<◌, ◌≤◌, [], None};
 ghost use Rattle.rc_bindings.specs.Bindings.{no_binding};
 
-use crate::places::RowPlace;
 use crate::stripe::ClassStripe;
 use rc_bindings::Bindings;
 use rc_tuple::Tuple;
@@ -11,8 +10,8 @@ use std::alloc::Global;
 
 /// What runs of plans work with, one run after another: the bindings, the tuple that an update found, and space that
 /// statements use, for the bindings that a Read finds, for the values by which it looks up, for the stripes that a Lock
-/// takes and those on which a tuple falls, and for the rows that an Apply changes. What a run leaves in it the next one
-/// forgets; its memory the next one uses again.
+/// takes and those on which a tuple falls, and for the classes whose rows an Apply changes. What a run leaves in it the next
+/// one forgets; its memory the next one uses again.
 #[derive(Debug, Drop)]
 pub struct Workspace {
     pub(crate) bindings: Bindings,
@@ -23,7 +22,8 @@ pub struct Workspace {
     pub(crate) stripes: Vec<u32>,
     /// Stripes on which the call's tuple, or one that it changes, falls.
     pub(crate) class_stripes: Vec<ClassStripe>,
-    pub(crate) places: Vec<RowPlace>,
+    /// The classes whose rows an Apply changes, with the stripes on which its tuple falls.
+    pub(crate) places: Vec<ClassStripe>,
 }
 
 /// The values by which rows are looked up, and those of rows that are found.

@@ -1,10 +1,11 @@
 -- Laws of a walk over a table's entries, in an order of the table's own: sorted, counted and copied.
-use Rattle.std.specs.Prelude.{◌≡◌, ℕ, zero, suc, ◌+◌, Bool, true, false, cond, T, ◌&&◌, Option, None, Some, is_some, List, [], ◌∷◌, map, length}
+use Rattle.std.specs.Prelude.{◌≡◌, ℕ, zero, suc, ◌+◌, Bool, true, false, cond, nat_lt, T, ◌<◌, ◌&&◌, ◌||◌, ◌↔◌, Option, None, Some, is_some, List, [], ◌∷◌, map, length}
 use Rattle.std.specs.declared.cmp.Ordering.{Ordering}
 use Rattle.std.specs.declared.cmp.Ordering.TheVariants.{Less, Equal, Greater}
 use Rattle.std.specs.Ordering.{is_lt, is_eq, ordering_reverse}
 use Rattle.std.specs.Cmp.{eq_by_cmp_equiv}
-use Rattle.std.specs.List.{IsDistinct, AllByRecursion, count_by}
+use Rattle.std.specs.Bool.{IsTrue}
+use Rattle.std.specs.List.{IsDistinct, AllByRecursion, count_by, list_any}
 use Rattle.std.specs.List.Sorted.{IsPermutation, IsSortedBy, IsStrictlySortedBy}
 use Rattle.std.specs.Map.{lookup, keys_of, values_of}
 use Rattle.std.specs.Option.{option_and_then, option_or}
@@ -12,7 +13,7 @@ use Rattle.std.specs.FinMap as fin
 use Rattle.std.specs.FinMap.{FinMap, find, get-from_entries, get-empty, len-insert}
 use Rattle.std.specs.FinMap.Entries.{below_all}
 use Rattle.std.proofs.Common.{refl, sym, ap, subst, ◌∙◌, arith, get_or}
-use Rattle.std.proofs.lemmas.Bool.{false≢true}
+use Rattle.std.proofs.lemmas.Bool.{false≢true, lt-ltb, ltb-true}
 use Rattle.std.proofs.lemmas.List.Sums.{sum_by-cons}
 use Rattle.std.proofs.lemmas.List.Sorted.{Contains-permutation, IsPermutation-sym, IsPermutation-map}
 use Rattle.std.proofs.lemmas.Map.Keys.{IsDistinct-head, IsDistinct-tail, IsDistinct-IsPermutation, sorted_from_all_adjacent, apart_from_distinct}
@@ -175,6 +176,32 @@ len-walk (e ∷ es) h =
         let b : k ≡ n = ih in
         let d : k + 1 ≡ 1 + n = omega arith in
         a ∙ d
+
+-- whether there is one, by a walk
+some-counted : (cs : List Counted) → nat_lt 0 (count_by has_row cs) ≡ list_any has_row cs
+some-counted [] = refl
+some-counted (c ∷ cs) = go (has_row c) refl (some-counted cs)
+  where
+    one_if : Counted → ℕ
+    one_if v = cond (has_row v) 1 0
+
+    go : (b : Bool) → has_row c ≡ b → nat_lt 0 (count_by has_row cs) ≡ list_any has_row cs → nat_lt 0 (count_by has_row (c ∷ cs)) ≡ (has_row c || list_any has_row cs)
+    go true t ih =
+        let is : count_by has_row (c ∷ cs) ≡ 1 + count_by has_row cs = sum_by-cons one_if c cs ∙ ap (λ b. cond b 1 0 + count_by has_row cs) t in
+        lt-ltb 0 (count_by has_row (c ∷ cs)) (omega (arith, is)) ∙ ap (λ b. b || list_any has_row cs) (sym t)
+    go false t ih =
+        let is : 0 + count_by has_row cs ≡ count_by has_row cs = omega arith in
+        ap (nat_lt 0) (sum_by-cons one_if c cs ∙ ap (λ b. cond b 1 0 + count_by has_row cs) t ∙ is) ∙ ih ∙ ap (λ b. b || list_any has_row cs) (sym t)
+
+pub has_row-walk : (es : Items) → IsDistinct values_eq (keys_of es) → (b : Bool) → b ≡ list_any has_row (values_of es)
+    → IsTrue b ↔ (0 < fin.len (current (rows_in es)))
+has_row-walk es apart b e = ((λ t. ltb-true 0 n (sym is ∙ t)), (λ l. is ∙ lt-ltb 0 n l))
+  where
+    n : ℕ
+    n = fin.len (current (rows_in es))
+
+    is : b ≡ nat_lt 0 n
+    is = e ∙ sym (some-counted (values_of es)) ∙ ap (nat_lt 0) (sym (len-walk es apart))
 
 -- ---- a copy
 

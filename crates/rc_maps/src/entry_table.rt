@@ -91,9 +91,14 @@ pub trait EntryTable: Sized {
         ensures ok { OnOk result (out.new.items ≡ out.old.items ++ listed (entries self.now)) }
         ensures err { OnErr result (out.new.items ≡ out.old.items) };
 
-    /// How many entries' rows are there.
+    /// How many entries' rows are there. Costs a step for each entry.
     fn count(&self) -> u64
         ensures { result ≡ fin.len (current (entries self.now)) };
+
+    /// Whether an entry has a row. Costs a step for each entry met before one, a tombstone, and in a hash
+    /// table the places without one besides.
+    fn has_row(&self) -> bool
+        ensures { IsTrue result ↔ (0 < fin.len (current (entries self.now))) };
 
     /// Whether there is no entry.
     fn has_none(&self) -> bool

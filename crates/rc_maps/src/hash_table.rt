@@ -247,6 +247,17 @@ impl EntryTable for HashTable<Entry> {
         }
     }
 
+    fn has_row(&self) -> bool {
+        match self {
+            HashTable::One(map) => map.values().any(has_row),
+            HashTable::Many { pairs, others, .. } => {
+                let mut in_pairs = pairs.map.values();
+                let mut in_others = others.map.values();
+                in_pairs.any(has_row) || in_others.any(has_row)
+            }
+        }
+    }
+
     fn has_none(&self) -> bool {
         self.is_empty()
     }

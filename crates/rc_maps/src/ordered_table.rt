@@ -155,9 +155,9 @@ impl OrderedTable<Entry> {
     {
         match self {
             OrderedTable::One(map) => {
-                // An entry with a row adds a value at least; one without adds nothing, and has room
+                // All rows are as wide as the first; an entry without one adds nothing, and has room
                 // made for it all the same.
-                out.reserve(map.len())?;
+                out.reserve(map.len().saturating_mul(first_width(map)))?;
                 for (key, entry) in map {
                     entry.push_row(slice::from_ref(key), out)?;
                 }
@@ -237,6 +237,13 @@ impl EntryTable for OrderedTable<Entry> {
         }
     }
 
+    fn has_row(&self) -> bool {
+        match self {
+            OrderedTable::One(map) => map.values().any(has_row),
+            OrderedTable::Many(map, _) => map.values().any(has_row),
+        }
+    }
+
     fn has_none(&self) -> bool {
         self.is_empty()
     }
@@ -267,4 +274,10 @@ fn raise_one(
             Ok(0)
         }
     }
+}
+
+/// How many values the first row of a table over one column has.
+fn first_width(map: &BTreeMap<u64, Entry>) -> usize {
+    let extra = map.values().next().and_then(|first| first.extra());
+    extra.map_or(1, |extra| extra.len().saturating_add(1))
 }

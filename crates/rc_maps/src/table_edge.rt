@@ -122,6 +122,10 @@ impl<T: EntryTable + Drop> EdgeMap for TableEdge<T> {
         self.table.count()
     }
 
+    fn has_row(&self) -> bool {
+        self.table.has_row()
+    }
+
     fn is_gone(&self) -> bool {
         self.table.has_none()
     }

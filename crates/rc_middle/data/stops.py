@@ -7,8 +7,9 @@ as docs/RULES.md says. A plan locks classes in rising order, and takes of each
 the stripes on which its bindings fall, or all. An insert and an update bind all columns from the start. A query or a remove binds what the patterns
 of the tuples that it has read so far give: below, each class that an operation locks stands with the columns that are read
 before. A class is locked for each tuple with the call's values in them; where none was to be read, for the call itself. What is
-added or taken out makes room before any row changes: edge by edge, but once for edges that follow each other on one stripe. An
-update takes out the old tuple's rows, and then adds the new one's; it leaves those that both have, and makes no room for them.
+added or taken out makes room before any row changes: once for each class, on the stripe on which the tuple falls. An
+update takes out the old tuple's rows, and then adds the new one's, in each class with an edge of which they have other rows, and
+makes no room in the others.
 
 A row of an edge is a tuple's part over the edge's target. Its stripe is, with h = 7,
 for each column of the edge's class h = 31 h + value, then h modulo the stripes of the class, behind those of the classes before.
@@ -254,8 +255,8 @@ class Striped:
         return taken
 
     def owns(self):
-        """How often room was made for the rows that went or came: for those of one tuple after those of the other."""
-        return sum(self.owns_for(t, self.changed_edges()) for t in self.model.changed)
+        """How often room was made for the rows that went or came, class by class: for those of one tuple after those of the other."""
+        return len({name for _, name, _ in self.changed_edges()}) * len(self.model.changed)
 
     def changed_edges(self):
         """The edges of which rows went or came: all, but for those in which the two tuples of an update have one row."""
@@ -264,10 +265,6 @@ class Striped:
             return edges
         old, new = self.model.changed
         return [edge for edge in edges if any(old[c] != new[c] for c in edge[2])]
-
-    def owns_for(self, changed, edges):
-        stripes = [self.stripe(name, changed) for _, name, _ in edges]
-        return sum(at == 0 or stripe != stripes[at - 1] for at, stripe in enumerate(stripes))
 
     def rows(self):
         """A line for each row, by edges, by stripes and by values."""

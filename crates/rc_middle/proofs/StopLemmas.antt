@@ -6,7 +6,10 @@ use Rattle.rc_tuple.specs.Tuple.{Pairs}
 use Rattle.rc_spec.specs.Fragments.{EdgeRow}
 use Rattle.rc_spec.specs.declared.lock.Mode.{Mode}
 use Rattle.rc_fragment.specs.FragmentRows.{FragmentRows}
-use Rattle.rc_fragment.specs.Holder.{CanLower, CanRaise, HasRefused, HasTaken, HasTakenNothing, Holding, IsLent, all_reverted, with_change_at, with_room_at}
+use Rattle.rc_fragment.specs.Holder.{CanLower, CanRaise, HasRefused, HasRoomFor, HasTaken, HasTakenNothing, Holding, IsLent, IsPartlyAddedAt, all_reverted, with_changes_at, with_room_at, with_tuple_at, without_tuple_at}
+use Rattle.rc_fragment.specs.Implied.{lowered_all, raised_all}
+use Rattle.rc_fragment.specs.ImpliedTables.{class_rows}
+use Rattle.rc_fragment.specs.Tuples.{changes_of_class}
 use Rattle.rc_fragment.specs.declared.held.Held.{Held}
 use Rattle.rc_middle.specs.Stopping.{told_through}
 use Rattle.rc_middle.specs.declared.stopping.Refused.{Refused}
@@ -36,29 +39,37 @@ module _ (refused : Option Refused) (through : ℕ) where
       → OnOk result (told_through new refused through ≡ with_room_at stripe changes (told_through old refused through))
   room_through result old new stripe changes ok = on_ok_weaker result (λ e. ap (λ (s : Holding). told_through s refused through) e) ok
 
-  change_so : (old new : Holding) (stripe : ℕ) (change : List EdgeRow → List EdgeRow) → new ≡ with_change_at stripe change old
-      → told_through new refused through ≡ with_change_at stripe change (told_through old refused through)
-  change_so old new stripe change e = ap (λ (s : Holding). told_through s refused through) e
+  change_so : (old new : Holding) (stripe count : ℕ) (change : List EdgeRow → List EdgeRow) → new ≡ with_changes_at stripe count change old
+      → told_through new refused through ≡ with_changes_at stripe count change (told_through old refused through)
+  change_so old new stripe count change e = ap (λ (s : Holding). told_through s refused through) e
 
-  pub change_through : {T E : Type 0} (result : Result T E) (old new : Holding) (stripe : ℕ) (change : List EdgeRow → List EdgeRow)
-      → OnOk result (new ≡ with_change_at stripe change old)
-      → OnOk result (told_through new refused through ≡ with_change_at stripe change (told_through old refused through))
-  change_through result old new stripe change ok = on_ok_weaker result (change_so old new stripe change) ok
+  pub added_through : {T E : Type 0} (result : Result T E) (old new : Holding) (stripe class : ℕ) (t : Pairs) → OnOk result (new ≡ with_tuple_at stripe class t old)
+      → OnOk result (told_through new refused through ≡ with_tuple_at stripe class t (told_through old refused through))
+  added_through result old new stripe class t ok =
+      on_ok_weaker result (change_so old new stripe (changes_of_class old.table class) (raised_all (class_rows old.table class t))) ok
 
-  pub changed_through : (old new : Holding) (stripe : ℕ) (change : List EdgeRow → List EdgeRow) → new ≡ with_change_at stripe change old
-      → told_through new refused through ≡ with_change_at stripe change (told_through old refused through)
-  changed_through old new stripe change e = change_so old new stripe change e
+  pub partly_through : {T E : Type 0} (result : Result T E) (old new : Holding) (stripe class : ℕ) (t : Pairs) → OnErr result (IsPartlyAddedAt stripe class t old new)
+      → OnErr result (IsPartlyAddedAt stripe class t (told_through old refused through) (told_through new refused through))
+  partly_through result old new stripe class t err =
+      on_err_weaker result (λ p. record { changes = p.changes; few = p.few; change = p.change; added = p.added; value = change_so old new stripe p.changes p.change p.value }) err
+
+  pub taken_out_through : (old new : Holding) (stripe class : ℕ) (t : Pairs) → new ≡ without_tuple_at stripe class t old
+      → told_through new refused through ≡ without_tuple_at stripe class t (told_through old refused through)
+  taken_out_through old new stripe class t e = change_so old new stripe (changes_of_class old.table class) (lowered_all (class_rows old.table class t)) e
 
   pub reverted_through : (old new : Holding) → new ≡ all_reverted old → told_through new refused through ≡ all_reverted (told_through old refused through)
   reverted_through old new e = ap (λ (s : Holding). told_through s refused through) e
 
   -- ---- what the holder may do the instance may
 
-  pub may_raise : (s : Holding) (stripe e : ℕ) (row : Pairs) → CanRaise (told_through s refused through) stripe e row → CanRaise s stripe e row
-  may_raise s stripe e row c = record { known = c.known; columns = c.columns; small = c.small; alone = c.alone; single = c.single }
+  pub may_raise : (s : Holding) (stripe class : ℕ) (t : Pairs) → CanRaise (told_through s refused through) stripe class t → CanRaise s stripe class t
+  may_raise s stripe class t c = c
 
-  pub may_lower : (s : Holding) (stripe e : ℕ) (row : Pairs) → CanLower (told_through s refused through) stripe e row → CanLower s stripe e row
-  may_lower s stripe e row c = record { known = c.known; there = c.there }
+  pub may_lower : (s : Holding) (stripe class : ℕ) (t : Pairs) → CanLower (told_through s refused through) stripe class t → CanLower s stripe class t
+  may_lower s stripe class t c = c
+
+  pub has_room : (s : Holding) (stripe class : ℕ) → HasRoomFor (told_through s refused through) stripe class → HasRoomFor s stripe class
+  has_room s stripe class r = record { some = r.some; all = r.all }
 
   -- and lends what the instance does
   pub lent_through : (s : Holding) (stripe : ℕ) (fragment : FragmentRows) → IsLent s stripe fragment → IsLent (told_through s refused through) stripe fragment

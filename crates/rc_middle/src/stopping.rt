@@ -116,14 +116,14 @@ impl<'a> Holder for StopHolder<'a> {
         self.instance.fragment(stripe)
     }
 
-    #[tactic(auto, using(crate::proofs::StopLemmas::change_through, crate::proofs::StopLemmas::may_raise, crate::proofs::StopLemmas::same_through))]
-    fn add_row(&mut self, stripe: u32, edge: u8, row: &Tuple) -> Result<(), Memory> {
-        self.instance.add_row(stripe, edge, row)
+    #[tactic(auto, using(crate::proofs::StopLemmas::added_through, crate::proofs::StopLemmas::partly_through, crate::proofs::StopLemmas::has_room, crate::proofs::StopLemmas::may_raise))]
+    fn add_tuple(&mut self, stripe: u32, class: u8, tuple: &Tuple) -> Result<(), Memory> {
+        self.instance.add_tuple(stripe, class, tuple)
     }
 
-    #[tactic(auto, using(crate::proofs::StopLemmas::changed_through, crate::proofs::StopLemmas::may_lower))]
-    fn sub_row(&mut self, stripe: u32, edge: u8, row: &Tuple) {
-        self.instance.sub_row(stripe, edge, row);
+    #[tactic(auto, using(crate::proofs::StopLemmas::taken_out_through, crate::proofs::StopLemmas::has_room, crate::proofs::StopLemmas::may_lower))]
+    fn sub_tuple(&mut self, stripe: u32, class: u8, tuple: &Tuple) {
+        self.instance.sub_tuple(stripe, class, tuple);
     }
 }
 

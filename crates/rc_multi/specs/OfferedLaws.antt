@@ -4,21 +4,23 @@ use Rattle.std.proofs.Common.{refl, sym, ap, subst, ◌∙◌, inl, inr, arith}
 use Rattle.std.specs.Ordering.{nat_cmp}
 use Rattle.std.proofs.Props.{props}
 use Rattle.rc_tuple.specs.RisingSet.{In, IsRising}
+use Rattle.rc_spec.specs.Fragments.{EdgeRow}
 use Rattle.rc_spec.specs.declared.lock.Mode.{Mode}
 use Rattle.rc_spec.specs.declared.lock.Mode.TheVariants.{Exclusive, Shared}
 use Rattle.rc_spec.specs.declared.spec.Spec.{Spec}
-use Rattle.rc_fragment.specs.Holder.{AreOfOneRelation, HasRisen, HasTaken, HeldStripe, Holding, IsHeld, IsHeldExclusive, LentStripe, MayTake, held_of}
+use Rattle.rc_fragment.specs.Holder.{AreOfOneRelation, HasRisen, HasTaken, HeldStripe, Holding, IsHeld, IsHeldExclusive, IsPartlyAddedAt, LentStripe, MayTake, held_of, with_changes_at}
 use Rattle.rc_spec.specs.Locks.{StripeLock, Suffices}
 use Rattle.rc_machine.specs.Apply.{IsSameButLent}
 use Rattle.rc_machine.specs.Machine.{HasReplied, locks_of, stripes_held}
 use Rattle.rc_tuple.specs.Tuple.{Pairs}
+use Rattle.rc_fragment.specs.HoldingLaws.{IsChangedAt, partly_changed}
 use Rattle.rc_spec.specs.declared.call.Call.{Call}
 use Rattle.rc_spec.specs.declared.call.Reply.{Reply}
 use Rattle.rc_plan.specs.declared.statement.Statement.{Statement}
 use Rattle.rc_multi.specs.Group.{AreNowOf, HasRunTaking}
 use Rattle.rc_multi.specs.Offered.{IsFrom, IsFromSo, Start}
 use Rattle.rc_multi.specs.Offering.{IsOffered, offering}
-use Rattle.rc_multi.specs.OfferingLaws.{has_run_over, has_taken, lock_lent, offered_first, offered_rows, part_taken, taken_offered, taken_part}
+use Rattle.rc_multi.specs.OfferingLaws.{change_offered, has_run_over, has_taken, lock_lent, offered_first, offered_rows, part_taken, taken_offered, taken_part}
 
 suffices_once : (held wanted : Mode) → IsProp (Suffices held wanted)
 suffices_once Exclusive wanted = hlevel props
@@ -57,6 +59,20 @@ pub may_lend : {T E : Type 0} (result : Result T E) (begun old next new : Holdin
     → IsSameButLent begun new
 may_lend (Ok x) begun old next new k l ok err = subst (IsSameButLent begun) (sym ok) (lent_again begun old next k l)
 may_lend (Err x) begun old next new k l ok err = subst (IsSameButLent begun) (sym err) k
+
+-- a call that changed a tuple's rows of a stripe, or failed after some of them
+pub either_changed : {T E : Type 0} (result : Result T E) (p class n : ℕ) (t : Pairs) (change : List EdgeRow → List EdgeRow) (old new : Holding) → OnOk result (new ≡ with_changes_at p n change old)
+    → OnErr result (IsPartlyAddedAt p class t old new) → IsChangedAt p old new
+either_changed (Ok x) p class n t change old new ok err = (n, change, ok)
+either_changed (Err x) p class n t change old new ok err = partly_changed p class t old new err
+
+-- what is offered after changes of a stripe that the plan holds
+pub changed_offer : (p : ℕ) (begun : List HeldStripe) (old new : Holding) (taken : List StripeLock) (n : ℕ) → IsOffered begun old taken → IsHeld (held_of (offering begun old taken n)) p → IsChangedAt p old new → IsOffered begun new taken
+changed_offer p begun old new taken n k held b = subst (λ (s : Holding). IsOffered begun s taken) (sym b.2) (change_offered p b.1 b.0 begun old taken k held)
+
+-- and all but what is lent stays
+pub changed_lend : (p : ℕ) (begun old new : Holding) → IsSameButLent begun old → IsChangedAt p old new → IsSameButLent begun new
+changed_lend p begun old new k b = subst (IsSameButLent begun) (sym b.2) (lent_again begun old (with_changes_at p b.0 b.1 old) k refl)
 
 -- ---- takes
 

@@ -1,5 +1,5 @@
 -- What the calls of a group's holder leave: each is met by the same call of the holder that has the group's stripes.
-use Rattle.std.specs.Prelude.{◌≡◌, ℕ, zero, suc, ◌⊎◌, get_or, ◌<◌, ◌^◌, ◌==◌, Bool, true, false, cond, pred, List, [], ◌∷◌, ◌++◌, None, Some, length, map, replicate, if◌then◌else◌}
+use Rattle.std.specs.Prelude.{◌≡◌, ℕ, zero, suc, ◌⊎◌, get_or, ◌-◌, ◌<◌, ◌==◌, Bool, true, false, cond, List, [], ◌∷◌, ◌++◌, None, Some, length, map, replicate, if◌then◌else◌}
 use Rattle.std.specs.Ordering.{nat_cmp}
 use Rattle.std.specs.declared.cmp.Ordering.TheVariants.{Less}
 use Rattle.std.proofs.Common.{refl, sym, ap, subst, ◌∙◌, inl, inr, arith, append_assoc, append-nil}
@@ -10,19 +10,19 @@ use Rattle.rc_tuple.specs.ColSet.{Within}
 use Rattle.rc_tuple.specs.RisingSet.{In, IsRising}
 use Rattle.rc_tuple.specs.RisingSetLaws.{in_append, append_in_left, append_in_right, in_filter, filter_in, in_map, map_in, nat_order, not_below_itself}
 use Rattle.rc_tuple.specs.Tuple.{Pairs}
-use Rattle.rc_spec.specs.CountedRows.{count_at}
 use Rattle.rc_spec.specs.declared.lock.Mode.{Mode}
 use Rattle.rc_spec.specs.declared.lock.Mode.TheVariants.{Exclusive}
 use Rattle.rc_spec.specs.declared.spec.Spec.{Spec}
 use Rattle.rc_spec.specs.Fragments.{EdgeRow, fragment_of}
 use Rattle.rc_spec.specs.Stripes.{stripe_total}
-use Rattle.rc_fragment.specs.Fragment.{HasAlone, HasSingle, IsThere, edge_table}
+use Rattle.rc_fragment.specs.Fragment.{edge_table}
 use Rattle.rc_fragment.specs.FragmentRows.{FragmentRows}
-use Rattle.rc_fragment.specs.Holder.{AreOfRelation, AreOffered, CanLower, CanRaise, HasRoom, HasTaken, HeldStripe, Holding, IsHeld, IsHeldExclusive, IsLent, LentStripe, changed_at, held_of, just_taken, with_change, with_change_at, with_now, with_room, with_room_at}
+use Rattle.rc_fragment.specs.Holder.{AreOfRelation, AreOffered, CanLower, CanRaise, HasRoomFor, HasTaken, HeldStripe, Holding, IsHeld, IsHeldExclusive, IsLent, IsPartlyAddedAt, LentStripe, changed_at, held_of, just_taken, with_changes, with_changes_at, with_now, with_room, with_room_at}
 use Rattle.rc_fragment.specs.HoldingLaws.{held-change, held-room}
+use Rattle.rc_fragment.specs.Tuples.{ArePartlyAdded, CanAddTuple, HasTuple}
 use Rattle.rc_spec.specs.Locks.{StripeLock, Suffices}
 use Rattle.rc_plan.specs.StripeLocks.{stripes_of}
-use Rattle.rc_plan.specs.StripeLocksLaws.{in_stripes_of, stripes_of_in}
+use Rattle.rc_plan.specs.StripeLocksLaws.{stripes_of_in}
 use Rattle.rc_machine.specs.Machine.{locks_of, stripes_held}
 use Rattle.rc_multi.specs.CommitLaws.{one_held}
 use Rattle.rc_multi.specs.Group.{AreNowOf, HasRunOver, now_after, with_part}
@@ -69,15 +69,16 @@ told_room begun s taken n stripe changes = λ i. record {
   through = n;
 }
 
-stripe-change : (stripe : ℕ) (change : List EdgeRow → List EdgeRow) (l : LentStripe) → (with_change stripe change l).held.stripe ≡ l.held.stripe
-stripe-change stripe change l = go (l.held.stripe == stripe)
+stripe-change : (stripe count : ℕ) (change : List EdgeRow → List EdgeRow) (l : LentStripe) → (with_changes stripe count change l).held.stripe ≡ l.held.stripe
+stripe-change stripe count change l = go (l.held.stripe == stripe)
   where
     go : (b : Bool) → (cond b (let z : HeldStripe = record { stripe = l.held.stripe; mode = l.held.mode; now = change l.held.now; taken = l.held.taken } in z) l.held).stripe ≡ l.held.stripe
     go true = refl
     go false = refl
 
-part-change : (begun : List HeldStripe) (stripe : ℕ) (change : List EdgeRow → List EdgeRow) (m : Mode) (l : LentStripe) → as_part begun m (with_change stripe change l) ≡ with_change stripe change (as_part begun m l)
-part-change begun stripe change m l = go (l.held.stripe == stripe)
+part-change : (begun : List HeldStripe) (stripe count : ℕ) (change : List EdgeRow → List EdgeRow) (m : Mode) (l : LentStripe)
+    → as_part begun m (with_changes stripe count change l) ≡ with_changes stripe count change (as_part begun m l)
+part-change begun stripe count change m l = go (l.held.stripe == stripe)
   where
     here : HeldStripe
     here = record { stripe = l.held.stripe; mode = l.held.mode; now = change l.held.now; taken = l.held.taken }
@@ -85,17 +86,17 @@ part-change begun stripe change m l = go (l.held.stripe == stripe)
     there : HeldStripe
     there = record { stripe = l.held.stripe; mode = m; now = change l.held.now; taken = rows_now_at begun l.held.stripe }
 
-    go : (b : Bool) → as_part begun m (let z : LentStripe = record { held = cond b here l.held; room = cond b (pred l.room) l.room } in z)
-        ≡ (let z : LentStripe = record { held = cond b there (as_part begun m l).held; room = cond b (pred l.room) l.room } in z)
+    go : (b : Bool) → as_part begun m (let z : LentStripe = record { held = cond b here l.held; room = cond b (l.room - count) l.room } in z)
+        ≡ (let z : LentStripe = record { held = cond b there (as_part begun m l).held; room = cond b (l.room - count) l.room } in z)
     go true = refl
     go false = refl
 
--- and a change of the holder's is one that the plan is told of
-pub told_change : (begun : List HeldStripe) (s : Holding) (taken : List StripeLock) (n stripe : ℕ) (change : List EdgeRow → List EdgeRow)
-    → offering begun (with_change_at stripe change s) taken n ≡ with_change_at stripe change (offering begun s taken n)
-told_change begun s taken n stripe change = λ i. record {
+-- and changes of the holder's are ones that the plan is told of
+pub told_change : (begun : List HeldStripe) (s : Holding) (taken : List StripeLock) (n stripe count : ℕ) (change : List EdgeRow → List EdgeRow)
+    → offering begun (with_changes_at stripe count change s) taken n ≡ with_changes_at stripe count change (offering begun s taken n)
+told_change begun s taken n stripe count change = λ i. record {
   table = s.table;
-  lent = part-each begun (with_change stripe change) (stripe-change stripe change) (part-change begun stripe change) s.lent taken i;
+  lent = part-each begun (with_changes stripe count change) (stripe-change stripe count change) (part-change begun stripe count change) s.lent taken i;
   lends = Some (locks_of begun);
   offered = replicate (length s.offered) None;
   refusals = 0;
@@ -170,6 +171,21 @@ module _ (begun : List HeldStripe) (s : Holding) (taken : List StripeLock) (n : 
         ∙ sym (ap (λ (h : HeldStripe). h.now) is);
   }
 
+  -- some of a tuple's rows that are added to a stripe of the group are added to the one that the plan is told
+  pub told_partly : (new : Holding) (p class : ℕ) (t : Pairs) → IsPartlyAddedAt p class t s new → IsPartlyAddedAt p class t (offering begun s taken n) (offering begun new taken n)
+  told_partly new p class t partly = record {
+    changes = partly.changes;
+    few = partly.few;
+    change = partly.change;
+    added = λ h m e.
+        let w = held_part h m in
+        let q = w.1 in
+        let is : h ≡ (as_part begun q.lock.1 q.own).held = w.2 ∙ ap (λ (l : LentStripe). l.held) q.is in
+        subst (λ rows. ArePartlyAdded s.table class t rows (partly.change rows)) (sym (ap (λ (h : HeldStripe). h.now) is))
+        (partly.added q.own.held (map_in (λ (l : LentStripe). l.held) q.own s.lent q.lent_own) (sym (ap (λ (h : HeldStripe). h.stripe) is) ∙ e));
+    value = ap (λ (z : Holding). offering begun z taken n) partly.value ∙ told_change begun s taken n p partly.changes partly.change;
+  }
+
   -- a stripe of the group that the plan holds
   as_told : (p : ℕ) → IsHeld (held_of (offering begun s taken n)) p → (x : LentStripe) → In x s.lent → x.held.stripe ≡ p → (t : StripeLock) × In (as_part begun t.1 x) (part_of begun s.lent taken)
   as_told p held x m e =
@@ -178,8 +194,11 @@ module _ (begun : List HeldStripe) (s : Holding) (taken : List StripeLock) (n : 
       let at : q.own.held.stripe ≡ p = sym (ap (λ (h : HeldStripe). h.stripe) (w.2 ∙ ap (λ (l : LentStripe). l.held) q.is)) ∙ held.2 in
       (q.lock, part_in begun s.lent taken q.lock x q.locked m (e ∙ sym at ∙ q.stripe))
 
-  pub room_there : (p : ℕ) → IsHeld (held_of (offering begun s taken n)) p → HasRoom (offering begun s taken n) p → HasRoom s p
-  room_there p held room x m e = let t = as_told p held x m e in room (as_part begun t.0.1 x) t.1 e
+  pub room_there : (p class : ℕ) → IsHeld (held_of (offering begun s taken n)) p → HasRoomFor (offering begun s taken n) p class → HasRoomFor s p class
+  room_there p class held room = record {
+    some = λ x m e. let w = as_told p held x m e in room.some (as_part begun w.0.1 x) w.1 e;
+    all = λ x m e. let w = as_told p held x m e in room.all (as_part begun w.0.1 x) w.1 e;
+  }
 
   own_of : (h : HeldStripe) → In h (held_of s) → (x : LentStripe) × In x s.lent × (h ≡ x.held)
   own_of h m = in_map (λ (l : LentStripe). l.held) h s.lent m
@@ -194,18 +213,12 @@ module _ (begun : List HeldStripe) (s : Holding) (taken : List StripeLock) (n : 
       subst P (sym (ap (λ (h : HeldStripe). h.now) x.2))
       (told (as_part begun t.0.1 x.0).held (map_in (λ (l : LentStripe). l.held) (as_part begun t.0.1 x.0) (part_of begun s.lent taken) t.1) here)
 
-  -- a row can be added to the group's stripe where it can be to the plan's, and taken out where it can be
-  pub raise_there : (p e : ℕ) (row : Pairs) → IsHeld (held_of (offering begun s taken n)) p → CanRaise (offering begun s taken n) p e row → CanRaise s p e row
-  raise_there p e row held can = record {
-    known = can.known;
-    columns = can.columns;
-    small = each_there p (λ rows. count_at e row rows < 2 ^ 63) held can.small;
-    alone = each_there p (λ rows. HasAlone s.table rows e row) held can.alone;
-    single = each_there p (λ rows. HasSingle s.table rows e row) held can.single;
-  }
+  -- a tuple's rows can be added to the group's stripe where they can be to the plan's, and taken out where they can be
+  pub raise_there : (p class : ℕ) (t : Pairs) → IsHeld (held_of (offering begun s taken n)) p → CanRaise (offering begun s taken n) p class t → CanRaise s p class t
+  raise_there p class t held can = each_there p (λ rows. CanAddTuple s.table rows class t) held can
 
-  pub lower_there : (p e : ℕ) (row : Pairs) → IsHeld (held_of (offering begun s taken n)) p → CanLower (offering begun s taken n) p e row → CanLower s p e row
-  lower_there p e row held can = record { known = can.known; there = each_there p (λ rows. IsThere rows e row) held can.there }
+  pub lower_there : (p class : ℕ) (t : Pairs) → IsHeld (held_of (offering begun s taken n)) p → CanLower (offering begun s taken n) p class t → CanLower s p class t
+  lower_there p class t held can = each_there p (λ rows. HasTuple s.table rows class t) held can
 
 -- ---- rows of held stripes
 
@@ -426,19 +439,19 @@ module _ (p : ℕ) (change : List EdgeRow → List EdgeRow) where
       go true = refl
       go false = refl
 
-  -- After a change of a stripe that the plan holds, the group's stripes are still as at its start but for what the plan did.
-  pub change_offered : (begun : List HeldStripe) (s : Holding) (taken : List StripeLock) → IsOffered begun s taken → IsHeld (helds (part_of begun s.lent taken)) p
-      → IsOffered begun (with_change_at p change s) taken
-  change_offered begun s taken k held = record {
-    rising = subst (IsRising nat_cmp) (sym (ap stripes_held (held-change p change s) ∙ stripes-changed (held_of s))) k.rising;
+  -- After changes of a stripe that the plan holds, the group's stripes are still as at its start but for what the plan did.
+  pub change_offered : (count : ℕ) (begun : List HeldStripe) (s : Holding) (taken : List StripeLock) → IsOffered begun s taken → IsHeld (helds (part_of begun s.lent taken)) p
+      → IsOffered begun (with_changes_at p count change s) taken
+  change_offered count begun s taken k held = record {
+    rising = subst (IsRising nat_cmp) (sym (ap stripes_held (held-change p count change s) ∙ stripes-changed (held_of s))) k.rising;
     same =
-        held-change p change s
+        held-change p count change s
         ∙ ap (changed_at p change) k.same
         ∙ map-map (with_now p change) (with_part part) begun
         ∙ map_same (λ h. with_now p change (with_part part h)) (with_part (changed_at p change part)) begun (λ h m. one_changed part h held)
         ∙ (λ i. map (with_part (sym parts i)) begun);
     modes = λ t m h n e.
-        let w : (x : HeldStripe) × In x (held_of s) × (h ≡ with_now p change x) = in_map (with_now p change) h (held_of s) (subst (In h) (held-change p change s) n) in
+        let w : (x : HeldStripe) × In x (held_of s) × (h ≡ with_now p change x) = in_map (with_now p change) h (held_of s) (subst (In h) (held-change p count change s) n) in
         let same = same_hold w.0 in
         subst (λ (z : Mode). Suffices z t.1) (sym (ap (λ (x : HeldStripe). x.mode) w.2 ∙ same.1))
         (k.modes t m w.0 w.1 (sym (ap (λ (x : HeldStripe). x.stripe) w.2 ∙ same.0) ∙ e));
@@ -447,8 +460,8 @@ module _ (p : ℕ) (change : List EdgeRow → List EdgeRow) where
       part : List HeldStripe
       part = helds (part_of begun s.lent taken)
 
-      parts : helds (part_of begun (with_change_at p change s).lent taken) ≡ changed_at p change part
-      parts = ap held_of (told_change begun s taken 0 p change) ∙ held-change p change (offering begun s taken 0)
+      parts : helds (part_of begun (with_changes_at p count change s).lent taken) ≡ changed_at p change part
+      parts = ap held_of (told_change begun s taken 0 p count change) ∙ held-change p count change (offering begun s taken 0)
 
 -- Room that is made changes nothing of it.
 pub room_offered : (begun : List HeldStripe) (s : Holding) (taken : List StripeLock) (p changes : ℕ) → IsOffered begun s taken → IsOffered begun (with_room_at p changes s) taken

@@ -74,11 +74,11 @@ impl<'a, O: Starts, H: Holder> Holder for Offered<'a, O, H> {
         self.holder.fragment(stripe)
     }
 
-    fn add_row(&mut self, stripe: u32, edge: u8, row: &Tuple) -> Result<(), Memory> {
-        self.holder.add_row(stripe, edge, row)
+    fn add_tuple(&mut self, stripe: u32, class: u8, tuple: &Tuple) -> Result<(), Memory> {
+        self.holder.add_tuple(stripe, class, tuple)
     }
 
-    fn sub_row(&mut self, stripe: u32, edge: u8, row: &Tuple) {
-        self.holder.sub_row(stripe, edge, row);
+    fn sub_tuple(&mut self, stripe: u32, class: u8, tuple: &Tuple) {
+        self.holder.sub_tuple(stripe, class, tuple);
     }
 }

@@ -72,6 +72,10 @@ module _ (held : List HeldRows) (p at : ℕ) (h : IsHeldAt held p at) where
         ∙ sym (ap (held_with p change) h.is ∙ map-append (with_fragment (λ (x : HeldRows). cond (x.stripe == p) (change x.fragment) x.fragment)) h.before (h.here ∷ h.after)
         ∙ (λ i. none_changed p change h.before h.first i ++ record h.here { fragment = cond (eq-eqb h.here.stripe p h.stripe i) (change h.here.fragment) h.here.fragment } ∷ none_changed p change h.after not_after i))
 
+    -- what is read at the place, with its fragment changed so
+    pub set_here : (change : FragmentRows → FragmentRows) (x : HeldRows) (f : FragmentRows) → x ≡ h.here → f ≡ change x.fragment → set held at (record x { fragment = f }) ≡ held_with p change held
+    set_here change x f is e = ap (λ (g : FragmentRows). set held at (record x { fragment = g })) e ∙ ap (λ (y : HeldRows). set held at (here_with change y)) is ∙ changed_here change
+
     pub gone_here : held_without held p ≡ h.before ++ h.after
     gone_here =
         ap (λ (hs : List HeldRows). held_without hs p) h.is ∙ filter-append (λ (x : HeldRows). not (x.stripe == p)) h.before (h.here ∷ h.after)

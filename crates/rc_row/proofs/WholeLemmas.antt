@@ -20,9 +20,12 @@ use Rattle.rc_row.specs.PassInside.{IsWholePass, pass_seen}
 use Rattle.rc_row.specs.RowInside.{IsWholeRow, row_seen}
 use Rattle.rc_row.specs.Told.{passes_in}
 use Rattle.rc_row.specs.declared.row.Row.TheInside.{Inside as RowInside}
-use Rattle.rc_row.specs.Passes.{IsPassOf, OfHeld, PassSeen, RowSeen, core_of, holds_taken, stripes_of}
+use Rattle.rc_row.specs.Passes.{ArePartlyAddedOn, IsPassOf, OfHeld, PassSeen, RowSeen, core_of, held_with, holds_taken, stripes_of}
+use Rattle.rc_tuple.specs.Tuple.{Pairs}
 use Rattle.rc_fragment.specs.FragmentRows.{FragmentRows}
+use Rattle.rc_fragment.specs.Tuples.{changed_by}
 use Rattle.rc_row.proofs.AgreeLemmas.{agrees_same, few_held, high_at}
+use Rattle.rc_row.proofs.ChangeLemmas.{hands-held_with, taken-held_with}
 
 -- how many passes a row has, by its slots
 pub passes_seen : (b : RowInside) (row : RowSeen) → row_seen b ≡ row → IsWholeRow b → passes_in b.table.shared.table_id.slots ≡ row.key.passes
@@ -108,3 +111,11 @@ pub whole_if : {T E : Type 0} (r : Result T E) (a : Inside) (held : Vec HeldFrag
     → ((n k : ℕ) → hands_out n k items ≡ hands_out n k a.held.items) → holds_taken items ≡ holds_taken a.held.items → held.cap ≡ a.held.cap → IsWholePass record a { held = held }
 whole_if (Ok x) a held items whole is not same taken room = whole_with a held items whole is same taken room
 whole_if (Err e) a held items whole is not same taken room = whole_with a held a.held.items whole not (λ n k. refl) refl room
+
+-- the same, where it may have failed with some of a tuple's rows of a stripe added
+pub whole_partly : {T E : Type 0} (r : Result T E) (a : Inside) (held : Vec HeldFragment) (p class : ℕ) (t : Pairs) (change : FragmentRows → FragmentRows) → ((f : FragmentRows) → (change f).taken ≡ f.taken) → IsWholePass a
+    → OnOk r (held.items ≡ held_with p change a.held.items) → OnErr r (ArePartlyAddedOn p class t a.held.items held.items) → held.cap ≡ a.held.cap → IsWholePass record a { held = held }
+whole_partly (Ok x) a held p class t change same whole is partly room = whole_with a held (held_with p change a.held.items) whole is (hands-held_with p change a.held.items) (taken-held_with p change same a.held.items) room
+whole_partly (Err e) a held p class t change same whole is partly room =
+    let some = changed_by partly.changes (λ _. partly.rows) in
+    whole_with a held (held_with p some a.held.items) whole partly.value (hands-held_with p some a.held.items) (taken-held_with p some (λ f. refl) a.held.items) room

@@ -2,16 +2,16 @@
 use Rattle.std.specs.Prelude.{◌≡◌, ℕ, suc, ◌+◌, ◌*◌, IfSome, ◌-◌, ◌<◌, ◌≤◌, ◌^◌, ◌==◌, not, List, [], ◌∷◌, ◌++◌, map, filter, length, Option, Some, None, All, IsSome, cond}
 use Rattle.std.specs.List.{range_with_len}
 use Rattle.rc_tuple.specs.Tuple.{Pairs}
-use Rattle.rc_spec.specs.CountedRows.{count_at}
 use Rattle.rc_spec.specs.declared.call.Call.{Call}
 use Rattle.rc_spec.specs.declared.lock.Mode.{Mode}
 use Rattle.rc_spec.specs.declared.call.Reply.{Reply}
 use Rattle.rc_spec.specs.declared.spec.Spec.{Spec}
 use Rattle.rc_spec.specs.Fragments.{EdgeRow}
 use Rattle.rc_plan.specs.Compiled.{SpecWithPlans}
-use Rattle.rc_fragment.specs.Fragment.{edge_table, HasAlone, HasColumns, HasSingle, IsThere}
+use Rattle.rc_fragment.specs.Fragment.{edge_table}
 use Rattle.rc_fragment.specs.FragmentRows.{FragmentRows, rolled_back, settled}
 use Rattle.rc_fragment.specs.Keep.{IsAtRest}
+use Rattle.rc_fragment.specs.Tuples.{ArePartlyAdded, CanAddTuple, HasTuple, changed_by, changes_of_class}
 use Rattle.rc_journal.specs.PartEntries.{PartEntries}
 use Rattle.rc_rel.specs.declared.entry.Entry.{Entry}
 use Rattle.rc_rel.specs.declared.entry.Placed.{Placed}
@@ -225,21 +225,30 @@ pub record HasWaited (mode : Mode) (passes p : ℕ) (old new : PassSeen) : Type 
 
 -- ---- changes of a fragment
 
--- The row can be added to the edge of the fragment, or its count raised: there is room for a change, the row has the columns of the edge's
--- target, no other row has its source and key, and in a singleton none with its source has another key.
-pub record CanAddRow (e : ℕ) (row : Pairs) (f : FragmentRows) : Type 0 where
-  pub known : e < length f.table
-  pub owned : 0 < f.room
-  pub small : count_at e row f.now < 2 ^ 63
-  pub columns : HasColumns f.table e row
-  pub alone : HasAlone f.table f.now e row
-  pub single : HasSingle f.table f.now e row
+-- the tuple's row can be added to each edge of the class, or its count raised, and there is room for the changes, and for one at least, as `HasRoomFor` asks
+pub record CanAddTo (class : ℕ) (t : Pairs) (f : FragmentRows) : Type 0 where
+  pub owned : changes_of_class f.table class ≤ f.room
+  pub some : 0 < f.room
+  pub can : CanAddTuple f.table f.now class t
 
--- the edge of the fragment has the row, and there is room for a change
-pub record CanSubRow (e : ℕ) (row : Pairs) (f : FragmentRows) : Type 0 where
-  pub known : e < length f.table
-  pub owned : 0 < f.room
-  pub there : IsThere f.now e row
+-- each edge of the class has the tuple's row, and there is room for the changes, and for one at least, as `HasRoomFor` asks
+pub record CanSubFrom (class : ℕ) (t : Pairs) (f : FragmentRows) : Type 0 where
+  pub owned : changes_of_class f.table class ≤ f.room
+  pub some : 0 < f.room
+  pub there : HasTuple f.table f.now class t
+
+-- some of the tuple's rows were added to the held fragment of the stripe p, by no more changes than the whole tuple takes, for which room was promised
+pub record ArePartlyAddedOn (p class : ℕ) (t : Pairs) (old new : List HeldRows) : Type 0 where
+  pub changes : ℕ
+  pub few : OfHeld old p (λ f. changes ≤ changes_of_class f.table class)
+  pub rows : List EdgeRow
+  pub added : OfHeld old p (λ f. ArePartlyAdded f.table class t f.now rows)
+  pub value : new ≡ held_with p (changed_by changes (λ _. rows)) old
+
+-- the same of the pass that holds it, of which nothing else is another
+pub record IsPartlyAddedOn (p class : ℕ) (t : Pairs) (old new : PassSeen) : Type 0 where
+  pub held : ArePartlyAddedOn p class t old.held new.held
+  pub value : new ≡ record old { held = new.held }
 
 -- ---- new and ended rows
 

@@ -3,10 +3,10 @@
 ghost use Rattle.std.specs.Prelude.{◌≡◌, OnErr, OnOk};
 ghost use Rattle.std.specs.Ordering.{nat_cmp};
 ghost use Rattle.rc_tuple.specs.RisingSet.{In, IsRising};
-ghost use Rattle.rc_spec.specs.CountedRows.{lowered, raised};
 ghost use Rattle.rc_core.specs.State.{stripes_in, writes_of};
-ghost use Rattle.rc_fragment.specs.FragmentRows.{changed, rolled_back, with_promise};
-ghost use Rattle.rc_row.specs.Passes.{CanAddRow, CanSubRow, OfHeld, all_with, core_of, held_with, holds_taken, reverted, with_held};
+ghost use Rattle.rc_fragment.specs.FragmentRows.{rolled_back, with_promise};
+ghost use Rattle.rc_fragment.specs.Tuples.{with_tuple, without_tuple};
+ghost use Rattle.rc_row.specs.Passes.{ArePartlyAddedOn, CanAddTo, CanSubFrom, IsPartlyAddedOn, OfHeld, all_with, core_of, held_with, holds_taken, reverted, with_held};
 
 use crate::hands::place_of;
 use crate::held::HeldFragment;
@@ -36,23 +36,24 @@ impl Pass {
         own_at(self.alloc, &mut self.held, stripe, changes)
     }
 
-    /// Does on the fragment of a stripe that the pass writes what `Fragment::add_row` does.
-    pub fn add_row(&mut self, stripe: u32, edge: u8, row: &Tuple) -> Result<(), Memory>
+    /// Does on the fragment of a stripe that the pass writes what `Fragment::add_tuple` does. Where memory is wanted some of
+    /// the tuple's rows may have been added.
+    pub fn add_tuple(&mut self, stripe: u32, class: u8, tuple: &Tuple) -> Result<(), Memory>
         requires held { In stripe (writes_of (core_of self.old)) }
-        requires can { OfHeld self.old.held stripe (CanAddRow edge row.now) }
-        ensures ok { OnOk result (self.new ≡ with_held stripe (changed (raised edge row.now)) self.old) }
-        ensures err { OnErr result (self.new ≡ self.old) }
+        requires can { OfHeld self.old.held stripe (CanAddTo class tuple.now) }
+        ensures ok { OnOk result (self.new ≡ with_held stripe (with_tuple class tuple.now) self.old) }
+        ensures err { OnErr result (IsPartlyAddedOn stripe class tuple.now self.old self.new) }
     {
-        add_row_at(&mut self.held, stripe, edge, row)
+        add_tuple_at(&mut self.held, stripe, class, tuple)
     }
 
-    /// Does on the fragment of a stripe that the pass writes what `Fragment::sub_row` does.
-    pub fn sub_row(&mut self, stripe: u32, edge: u8, row: &Tuple)
+    /// Does on the fragment of a stripe that the pass writes what `Fragment::sub_tuple` does.
+    pub fn sub_tuple(&mut self, stripe: u32, class: u8, tuple: &Tuple)
         requires held { In stripe (writes_of (core_of self.old)) }
-        requires can { OfHeld self.old.held stripe (CanSubRow edge row.now) }
-        ensures { self.new ≡ with_held stripe (changed (lowered edge row.now)) self.old }
+        requires can { OfHeld self.old.held stripe (CanSubFrom class tuple.now) }
+        ensures { self.new ≡ with_held stripe (without_tuple class tuple.now) self.old }
     {
-        sub_row_at(&mut self.held, stripe, edge, row);
+        sub_tuple_at(&mut self.held, stripe, class, tuple);
     }
 
     /// Makes the rows of a held stripe what they were as taken. Takes no memory, and costs the changes.
@@ -88,34 +89,34 @@ fn own_at(
     held[at].fragment.own(alloc, changes)
 }
 
-/// Adds a row to the fragment of a held stripe.
-fn add_row_at(
+/// Adds a tuple's rows of a class to the fragment of a held stripe.
+fn add_tuple_at(
     held: &mut Vec<HeldFragment>,
     stripe: u32,
-    edge: u8,
-    row: &Tuple,
+    class: u8,
+    tuple: &Tuple,
 ) -> Result<(), Memory>
     requires held { In stripe (stripes_in (holds_taken held.old.items)) }
     requires rising { IsRising nat_cmp (stripes_in (holds_taken held.old.items)) }
-    requires can { OfHeld held.old.items stripe (CanAddRow edge row.now) }
-    ensures ok { OnOk result (held.new.items ≡ held_with stripe (changed (raised edge row.now)) held.old.items) }
-    ensures err { OnErr result (held.new.items ≡ held.old.items) }
+    requires can { OfHeld held.old.items stripe (CanAddTo class tuple.now) }
+    ensures ok { OnOk result (held.new.items ≡ held_with stripe (with_tuple class tuple.now) held.old.items) }
+    ensures err { OnErr result (ArePartlyAddedOn stripe class tuple.now held.old.items held.new.items) }
     ensures room { held.new.cap ≡ held.old.cap }
 {
     let at = place_of(held, stripe);
-    held[at].fragment.add_row(edge, row)
+    held[at].fragment.add_tuple(class, tuple)
 }
 
-/// Takes a row out of the fragment of a held stripe.
-fn sub_row_at(held: &mut Vec<HeldFragment>, stripe: u32, edge: u8, row: &Tuple)
+/// Takes a tuple's rows of a class out of the fragment of a held stripe.
+fn sub_tuple_at(held: &mut Vec<HeldFragment>, stripe: u32, class: u8, tuple: &Tuple)
     requires held { In stripe (stripes_in (holds_taken held.old.items)) }
     requires rising { IsRising nat_cmp (stripes_in (holds_taken held.old.items)) }
-    requires can { OfHeld held.old.items stripe (CanSubRow edge row.now) }
-    ensures items { held.new.items ≡ held_with stripe (changed (lowered edge row.now)) held.old.items }
+    requires can { OfHeld held.old.items stripe (CanSubFrom class tuple.now) }
+    ensures items { held.new.items ≡ held_with stripe (without_tuple class tuple.now) held.old.items }
     ensures room { held.new.cap ≡ held.old.cap }
 {
     let at = place_of(held, stripe);
-    held[at].fragment.sub_row(edge, row);
+    held[at].fragment.sub_tuple(class, tuple);
 }
 
 /// Makes the rows of a held stripe what they were as taken.

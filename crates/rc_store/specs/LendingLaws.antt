@@ -1,5 +1,5 @@
 -- What a holder of a pass tells, and what its calls leave of it.
-use Rattle.std.specs.Prelude.{◌≡◌, ℕ, suc, ◌<◌, ◌==◌, Bool, true, false, List, [], ◌∷◌, map, length, cond, max, pred, Option, None, Some, Result, Ok, Err, OnOk, OnErr, IfSome, All}
+use Rattle.std.specs.Prelude.{◌≡◌, ℕ, suc, ◌-◌, ◌<◌, ◌≤◌, ◌==◌, Bool, true, false, List, [], ◌∷◌, map, length, cond, max, Option, None, Some, Result, Ok, Err, OnOk, OnErr, IfSome, All}
 use Rattle.std.proofs.Common.{refl, sym, ap, subst, ◌∙◌, inl, inr, arith}
 use Rattle.std.proofs.lemmas.List.{length-replicate}
 use Rattle.std.proofs.lemmas.List.Elements.{All-cons, All-contains, All-map, All-nil}
@@ -16,15 +16,16 @@ use Rattle.rc_spec.specs.Fragments.{EdgeRow}
 use Rattle.rc_spec.specs.Stripes.{stripe_total}
 use Rattle.rc_fragment.specs.declared.held.Held.{Held}
 use Rattle.rc_fragment.specs.declared.shape.EdgeShape.{EdgeShape}
-use Rattle.rc_fragment.specs.Fragment.{HasAlone, HasColumns, HasSingle, edge_table}
-use Rattle.rc_fragment.specs.FragmentRows.{FragmentRows, changed, with_promise}
-use Rattle.rc_fragment.specs.Holder.{AreOfOneRelation, CanLower, CanRaise, HasRefused, HasRisen, HasRoom, HeldStripe, IsAbove as IsAboveHeld, IsHeld, IsHeldExclusive, IsLent, LentStripe, held_of, with_change, with_change_at, with_room, with_room_at}
+use Rattle.rc_fragment.specs.Fragment.{edge_table}
+use Rattle.rc_fragment.specs.FragmentRows.{FragmentRows, with_promise}
+use Rattle.rc_fragment.specs.Holder.{AreOfOneRelation, CanLower, CanRaise, HasRefused, HasRisen, HasRoomFor, HeldStripe, IsAbove as IsAboveHeld, IsHeld, IsHeldExclusive, IsLent, IsPartlyAddedAt, LentStripe, held_of, with_changes, with_changes_at, with_room, with_room_at}
+use Rattle.rc_fragment.specs.Tuples.{ArePartlyAdded, CanAddTuple, HasTuple, changed_by, changes_of_class}
 use Rattle.rc_core.specs.declared.state.Hold.{Hold}
 use Rattle.rc_core.specs.ListLaws.{in_stripes, stripes_have, stripes_in_have}
 use Rattle.rc_core.specs.Passes.{IsAbove}
 use Rattle.rc_core.specs.State.{hold, stripes_in, writes_of}
 use Rattle.rc_row.specs.HeldRows.{HeldRows}
-use Rattle.rc_row.specs.Passes.{CanAddRow, CanSubRow, IsPassOf, OfHeld, PassSeen, RowSeen, core_of, holds_now, holds_taken, spec_of, stripes_of, with_fragment, with_held, with_standing}
+use Rattle.rc_row.specs.Passes.{CanAddTo, CanSubFrom, IsPartlyAddedOn, IsPassOf, OfHeld, PassSeen, RowSeen, core_of, holds_now, holds_taken, spec_of, stripes_of, with_fragment, with_held, with_standing}
 use Rattle.rc_row.specs.Standings.{HaveOneRelation, turned_away}
 use Rattle.rc_row.specs.StandingsLaws.{refusals_first}
 use Rattle.rc_store.specs.declared.lender.Refused.{Refused}
@@ -71,6 +72,10 @@ lent_rows waits (Some lent) row pass refused n spec l =
     (one_relation spec pass.held (core_of pass).held l.way.agrees (subst (λ s. HaveOneRelation s (core_of pass).held) (sym l.spec_is) l.way.one))
 lent_rows waits None row pass refused n spec l = absurd l
 
+-- a pass after some of a tuple's rows were added
+partly_with : (p class : ℕ) (t : Pairs) (old new : PassSeen) → (partly : IsPartlyAddedOn p class t old new) → new ≡ with_held p (changed_by partly.held.changes (λ _. partly.held.rows)) old
+partly_with p class t old new partly = partly.value ∙ ap (λ (hs : List HeldRows). let q : PassSeen = record old { held = hs } in q) partly.held.value
+
 -- ---- what is held, by the core
 
 module _ (row : RowSeen) (pass : PassSeen) (refused : Option Refused) (n : ℕ) where
@@ -113,57 +118,60 @@ module _ (row : RowSeen) (pass : PassSeen) (refused : Option Refused) (n : ℕ) 
   lent_there : (h : HeldRows) → In h pass.held → In (held_stripe h) (held_of (lending row pass refused n))
   lent_there h m = subst (In (held_stripe h)) (sym (held_of-lending row pass refused n)) (map_in held_stripe h pass.held m)
 
-  pub may_add : (p e : ℕ) (tuple : Pairs) → IsPassOf row pass → HasRoom (lending row pass refused n) p → CanRaise (lending row pass refused n) p e tuple
-      → OfHeld pass.held p (CanAddRow e tuple)
-  may_add p e tuple of room can =
-      each_held (λ (h : HeldRows). h.stripe ≡ p → CanAddRow e tuple h.fragment) (λ h m at.
+  pub may_add : (p class : ℕ) (t : Pairs) → IsPassOf row pass → HasRoomFor (lending row pass refused n) p class → CanRaise (lending row pass refused n) p class t
+      → OfHeld pass.held p (CanAddTo class t)
+  may_add p class t of room can =
+      each_held (λ (h : HeldRows). h.stripe ≡ p → CanAddTo class t h.fragment) (λ h m at.
       let shape : h.fragment.table ≡ edge_table (spec_of row) = shape_there of h m in
       record {
-        known = subst (λ (t : List EdgeShape). e < length t) (sym shape) can.known;
-        owned = room (lent_stripe h) (map_in lent_stripe h pass.held m) at;
-        small = can.small (held_stripe h) (lent_there h m) at;
-        columns = subst (λ (t : List EdgeShape). HasColumns t e tuple) (sym shape) can.columns;
-        alone = subst (λ (t : List EdgeShape). HasAlone t h.fragment.now e tuple) (sym shape) (can.alone (held_stripe h) (lent_there h m) at);
-        single = subst (λ (t : List EdgeShape). HasSingle t h.fragment.now e tuple) (sym shape) (can.single (held_stripe h) (lent_there h m) at);
+        owned = subst (λ (table : List EdgeShape). changes_of_class table class ≤ h.fragment.room) (sym shape) (room.all (lent_stripe h) (map_in lent_stripe h pass.held m) at);
+        some = room.some (lent_stripe h) (map_in lent_stripe h pass.held m) at;
+        can = subst (λ (table : List EdgeShape). CanAddTuple table h.fragment.now class t) (sym shape) (can (held_stripe h) (lent_there h m) at);
       })
 
-  pub may_sub : (p e : ℕ) (tuple : Pairs) → IsPassOf row pass → HasRoom (lending row pass refused n) p → CanLower (lending row pass refused n) p e tuple
-      → OfHeld pass.held p (CanSubRow e tuple)
-  may_sub p e tuple of room can =
-      each_held (λ (h : HeldRows). h.stripe ≡ p → CanSubRow e tuple h.fragment) (λ h m at. record {
-        known = subst (λ (t : List EdgeShape). e < length t) (sym (shape_there of h m)) can.known;
-        owned = room (lent_stripe h) (map_in lent_stripe h pass.held m) at;
-        there = can.there (held_stripe h) (lent_there h m) at;
+  pub may_sub : (p class : ℕ) (t : Pairs) → IsPassOf row pass → HasRoomFor (lending row pass refused n) p class → CanLower (lending row pass refused n) p class t
+      → OfHeld pass.held p (CanSubFrom class t)
+  may_sub p class t of room can =
+      each_held (λ (h : HeldRows). h.stripe ≡ p → CanSubFrom class t h.fragment) (λ h m at.
+      let shape : h.fragment.table ≡ edge_table (spec_of row) = shape_there of h m in
+      record {
+        owned = subst (λ (table : List EdgeShape). changes_of_class table class ≤ h.fragment.room) (sym shape) (room.all (lent_stripe h) (map_in lent_stripe h pass.held m) at);
+        some = room.some (lent_stripe h) (map_in lent_stripe h pass.held m) at;
+        there = subst (λ (table : List EdgeShape). HasTuple table h.fragment.now class t) (sym shape) (can (held_stripe h) (lent_there h m) at);
       })
+
+  -- a stripe that is told is one that is held
+  of_told : (g : HeldStripe) → In g (held_of (lending row pass refused n)) → (h : HeldRows) × In h pass.held × (g ≡ held_stripe h)
+  of_told g m = in_map held_stripe g pass.held (subst (In g) (held_of-lending row pass refused n) m)
+
+  of_fragment : (p : ℕ) (fact : FragmentRows → Type 0) → OfHeld pass.held p fact → (h : HeldRows) → In h pass.held → h.stripe ≡ p → fact h.fragment
+  of_fragment p fact all h m = All-contains (λ (h : HeldRows). h.stripe ≡ p → fact h.fragment) pass.held h all (in_contains h pass.held m)
 
   -- the fragment of a held stripe is lent
   pub lent_so : (p : ℕ) (f : FragmentRows) → IsPassOf row pass → OfHeld pass.held p (λ g. f ≡ g) → IsHeld (held_of (lending row pass refused n)) p
       → IsLent (lending row pass refused n) p f
   lent_so p f of same is = record {
     table =
-        let w : (h : HeldRows) × In h pass.held × (is.0 ≡ held_stripe h) = in_map held_stripe is.0 pass.held (subst (In is.0) (held_of-lending row pass refused n) is.1) in
+        let w = of_told is.0 is.1 in
         let at : w.0.stripe ≡ p = sym (ap (λ (h : HeldStripe). h.stripe) w.2) ∙ is.2 in
-        ap (λ (g : FragmentRows). g.table) (fragment_is w.0 w.1 at) ∙ shape_there of w.0 w.1;
+        ap (λ (g : FragmentRows). g.table) (of_fragment p (λ g. f ≡ g) same w.0 w.1 at) ∙ shape_there of w.0 w.1;
     now = λ g m e.
-        let w : (h : HeldRows) × In h pass.held × (g ≡ held_stripe h) = in_map held_stripe g pass.held (subst (In g) (held_of-lending row pass refused n) m) in
-        ap (λ (g : FragmentRows). g.now) (fragment_is w.0 w.1 (sym (ap (λ (h : HeldStripe). h.stripe) w.2) ∙ e)) ∙ sym (ap (λ (h : HeldStripe). h.now) w.2);
+        let w = of_told g m in
+        ap (λ (g : FragmentRows). g.now) (of_fragment p (λ g. f ≡ g) same w.0 w.1 (sym (ap (λ (h : HeldStripe). h.stripe) w.2) ∙ e)) ∙ sym (ap (λ (h : HeldStripe). h.now) w.2);
   }
-    where
-      fragment_is : (h : HeldRows) → In h pass.held → h.stripe ≡ p → f ≡ h.fragment
-      fragment_is h m e = All-contains (λ (h : HeldRows). h.stripe ≡ p → f ≡ h.fragment) pass.held h same (in_contains h pass.held m) e
 
   -- ---- what is told after a change
 
   abbrev changed_so : (HeldRows → FragmentRows) → PassSeen
   changed_so fragment = record pass { held = map (with_fragment fragment) pass.held }
 
-  lent_each : (fragment : HeldRows → FragmentRows) (g : LentStripe → LentStripe) → ((h : HeldRows) → lent_stripe (with_fragment fragment h) ≡ g (lent_stripe h))
-      → (hs : List HeldRows) → lent_stripes (map (with_fragment fragment) hs) ≡ map g (lent_stripes hs)
-  lent_each fragment g same [] = refl
-  lent_each fragment g same (h ∷ hs) = λ i. same h i ∷ lent_each fragment g same hs i
+  lent_each : (fragment : HeldRows → FragmentRows) (g : LentStripe → LentStripe) (hs : List HeldRows) → ((h : HeldRows) → In h hs → lent_stripe (with_fragment fragment h) ≡ g (lent_stripe h))
+      → lent_stripes (map (with_fragment fragment) hs) ≡ map g (lent_stripes hs)
+  lent_each fragment g [] same = refl
+  lent_each fragment g (h ∷ hs) same = λ i. same h (inl refl) i ∷ lent_each fragment g hs (λ x m. same x (inr m)) i
 
   pub told_room : (p changes : ℕ) → lending row (with_held p (with_promise changes) pass) refused n ≡ with_room_at p changes (lending row pass refused n)
-  told_room p changes = ap (λ (ls : List LentStripe). record (lending row pass refused n) { lent = ls }) (lent_each fragment (with_room p changes) (λ h. one h (h.stripe == p)) pass.held)
+  told_room p changes = ap (λ (ls : List LentStripe). record (lending row pass refused n) { lent = ls }) (lent_each fragment (with_room p changes) pass.held (λ h m. one h (h.stripe == p)))
     where
       fragment : HeldRows → FragmentRows
       fragment h = cond (h.stripe == p) (with_promise changes h.fragment) h.fragment
@@ -172,16 +180,44 @@ module _ (row : RowSeen) (pass : PassSeen) (refused : Option Refused) (n : ℕ) 
       one h true = refl
       one h false = refl
 
-  pub told_change : (p : ℕ) (change : List EdgeRow → List EdgeRow) → lending row (with_held p (changed change) pass) refused n ≡ with_change_at p change (lending row pass refused n)
-  told_change p change = ap (λ (ls : List LentStripe). record (lending row pass refused n) { lent = ls }) (lent_each fragment (with_change p change) (λ h. one h (h.stripe == p)) pass.held)
+  -- changes that the table tells, as those of a tuple's rows
+  pub told_change : (p : ℕ) (count : List EdgeShape → ℕ) (change : List EdgeShape → List EdgeRow → List EdgeRow) → IsPassOf row pass
+      → lending row (with_held p (λ f. changed_by (count f.table) (change f.table) f) pass) refused n
+      ≡ with_changes_at p (count (edge_table (spec_of row))) (change (edge_table (spec_of row))) (lending row pass refused n)
+  told_change p count change of =
+      ap (λ (ls : List LentStripe). record (lending row pass refused n) { lent = ls })
+      (lent_each fragment (with_changes p (count (edge_table (spec_of row))) (change (edge_table (spec_of row)))) pass.held
+      (λ h m. one h (h.stripe == p) ∙ ap (λ (table : List EdgeShape). with_changes p (count table) (change table) (lent_stripe h)) (shape_there of h m)))
     where
       fragment : HeldRows → FragmentRows
-      fragment h = cond (h.stripe == p) (changed change h.fragment) h.fragment
+      fragment h = cond (h.stripe == p) (changed_by (count h.fragment.table) (change h.fragment.table) h.fragment) h.fragment
 
-      one : (h : HeldRows) (b : Bool) → lent_stripe (with_fragment (λ h. cond b (changed change h.fragment) h.fragment) h)
-          ≡ record { held = cond b (record { stripe = h.stripe; mode = h.mode; now = change h.fragment.now; taken = h.fragment.taken }) (held_stripe h); room = cond b (pred h.fragment.room) h.fragment.room }
+      one : (h : HeldRows) (b : Bool) → lent_stripe (with_fragment (λ h. cond b (changed_by (count h.fragment.table) (change h.fragment.table) h.fragment) h.fragment) h) ≡ record {
+        held = cond b (record { stripe = h.stripe; mode = h.mode; now = change h.fragment.table h.fragment.now; taken = h.fragment.taken }) (held_stripe h);
+        room = cond b (h.fragment.room - count h.fragment.table) h.fragment.room;
+      }
       one h true = refl
       one h false = refl
+
+  -- some of a tuple's rows that were added to a stripe that is held
+  pub told_partly : (p class : ℕ) (t : Pairs) (new : PassSeen) → IsPassOf row pass → IsHeld (held_of (lending row pass refused n)) p → IsPartlyAddedOn p class t pass new
+      → IsPartlyAddedAt p class t (lending row pass refused n) (lending row new refused n)
+  told_partly p class t new of held partly =
+      let some = partly.held in
+      record {
+        changes = some.changes;
+        few =
+            let w = of_told held.0 held.1 in
+            subst (λ (table : List EdgeShape). some.changes ≤ changes_of_class table class) (shape_there of w.0 w.1)
+            (of_fragment p (λ f. some.changes ≤ changes_of_class f.table class) some.few w.0 w.1 (sym (ap (λ (h : HeldStripe). h.stripe) w.2) ∙ held.2));
+        change = λ _. some.rows;
+        added = λ g m at.
+            let w = of_told g m in
+            subst (λ rows. ArePartlyAdded (edge_table (spec_of row)) class t rows some.rows) (sym (ap (λ (h : HeldStripe). h.now) w.2))
+            (subst (λ (table : List EdgeShape). ArePartlyAdded table class t w.0.fragment.now some.rows) (shape_there of w.0 w.1)
+            (of_fragment p (λ f. ArePartlyAdded f.table class t f.now some.rows) some.added w.0 w.1 (sym (ap (λ (h : HeldStripe). h.stripe) w.2) ∙ at)));
+        value = ap (λ (q : PassSeen). lending row q refused n) (partly_with p class t pass new partly) ∙ told_change p (λ _. some.changes) (λ _ _. some.rows) of;
+      }
 
   -- ---- what stays after a change
 
@@ -251,6 +287,25 @@ module _ (row : RowSeen) (pass : PassSeen) (change : FragmentRows → FragmentRo
       → IsLentSo waits lent row pass refused spec → IsLentSo waits lent row new refused spec
   may_lent (Ok x) new same ok err refused waits lent spec l = subst (λ (q : PassSeen). IsLentSo waits lent row q refused spec) (sym ok) (at_lent same refused waits lent spec l)
   may_lent (Err x) new same ok err refused waits lent spec l = subst (λ (q : PassSeen). IsLentSo waits lent row q refused spec) (sym err) l
+
+-- ---- after changes of the rows of one stripe, all or some of them
+
+module _ (row : RowSeen) (pass : PassSeen) (change : FragmentRows → FragmentRows) (p : ℕ) {T E : Type 0} (result : Result T E) (new : PassSeen)
+    (ok : OnOk result (new ≡ with_held p change pass)) (class : ℕ) (t : Pairs) (err : OnErr result (IsPartlyAddedOn p class t pass new)) where
+  pub partly_of_row : ((f : FragmentRows) → (change f).table ≡ f.table) → IsPassOf row pass → IsPassOf row new
+  partly_of_row same of = go result ok err
+    where
+      go : (r : Result T E) → OnOk r (new ≡ with_held p change pass) → OnErr r (IsPartlyAddedOn p class t pass new) → IsPassOf row new
+      go (Ok x) e b = subst (IsPassOf row) (sym e) (at_of_row row pass change p same of)
+      go (Err x) e b = subst (IsPassOf row) (sym (partly_with p class t pass new b)) (at_of_row row pass (changed_by b.held.changes (λ _. b.held.rows)) p (λ f. refl) of)
+
+  pub partly_lent : ((f : FragmentRows) → (change f).taken ≡ f.taken) → (refused : Option Refused) (waits : Bool) (lent : Option Lent) (spec : Spec)
+      → IsLentSo waits lent row pass refused spec → IsLentSo waits lent row new refused spec
+  partly_lent same refused waits lent spec l = go result ok err
+    where
+      go : (r : Result T E) → OnOk r (new ≡ with_held p change pass) → OnErr r (IsPartlyAddedOn p class t pass new) → IsLentSo waits lent row new refused spec
+      go (Ok x) e b = subst (λ (q : PassSeen). IsLentSo waits lent row q refused spec) (sym e) (at_lent row pass change p same refused waits lent spec l)
+      go (Err x) e b = subst (λ (q : PassSeen). IsLentSo waits lent row q refused spec) (sym (partly_with p class t pass new b)) (at_lent row pass (changed_by b.held.changes (λ _. b.held.rows)) p (λ f. refl) refused waits lent spec l)
 
 -- ---- a refused take
 

@@ -90,13 +90,13 @@ impl<'a, L: Lends, T: Takes> Holder for Lender<'a, L, T> {
         self.pass.fragment(stripe)
     }
 
-    fn add_row(&mut self, stripe: u32, edge: u8, row: &Tuple) -> Result<(), Memory> {
+    fn add_tuple(&mut self, stripe: u32, class: u8, tuple: &Tuple) -> Result<(), Memory> {
         self.pass.held_agrees();
-        self.pass.add_row(stripe, edge, row)
+        self.pass.add_tuple(stripe, class, tuple)
     }
 
-    fn sub_row(&mut self, stripe: u32, edge: u8, row: &Tuple) {
+    fn sub_tuple(&mut self, stripe: u32, class: u8, tuple: &Tuple) {
         self.pass.held_agrees();
-        self.pass.sub_row(stripe, edge, row);
+        self.pass.sub_tuple(stripe, class, tuple);
     }
 }

@@ -41,13 +41,12 @@ impl<W: Wakes> Store<W> {
         pass.held_agrees();
         pass.reserve()?;
         let answer = run_call(&self.row, &self.compiled, call, pass, taking);
-        match answer {
-            Ok(reply) => Ok(reply),
-            Err(stop) => {
-                self.give_back(pass);
-                Err(stop)
-            }
+        // The answer is handed on as it is: taken apart and put together again, the reply would be moved twice.
+        if answer.is_ok() {
+            return answer;
         }
+        self.give_back(pass);
+        answer
     }
 
     /// Takes back what the pass changed and didn't commit, and gives back all that it holds.

@@ -1,6 +1,6 @@
 use Rattle.std.proofs.Common.{◌≡◌, ◌<◌, ℕ, length, sym, ap, subst, ◌∙◌, arith}
 use Rattle.std.specs.Prelude.{List}
-use Rattle.std.proofs.lemmas.List.{length-map}
+use Rattle.std.proofs.lemmas.List.FromFn.{length-map-range_with_len}
 use Rattle.rc_tuple.specs.Tuple.{Pairs}
 use Rattle.rc_spec.specs.Contents.{join}
 use Rattle.rc_spec.specs.Fragments.{EdgeRow, tuples_of_edge}
@@ -21,7 +21,7 @@ loop-edge-preserved c =
 pub rows_of_edge-requires : goal.rows_of_edge-requires
 rows_of_edge-requires c f m =
     let table : List EdgeShape = edge_table c.args.spec.now in
-    let n : length table ≡ length c.args.spec.now.edges = length-map c.args.spec.now.edges (shape_of c.args.spec.now) in
+    let n : length table ≡ length c.args.spec.now.edges = length-map-range_with_len (shape_of c.args.spec.now) 0 (length c.args.spec.now.edges) in
     let e : length c.list.result.now ≡ length c.args.spec.now.edges = ap length c.list.ensures in
     let l : c.loop-edge.edge < length table = omega (arith, n, e, c.loop-edge-test.true, c.requires.range.edges) in
     subst (λ (z : List EdgeShape). c.loop-edge.edge < length z) (sym (c.requires.table f m)) l

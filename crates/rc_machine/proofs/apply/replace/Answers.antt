@@ -1,76 +1,96 @@
-use Rattle.std.proofs.Common.{◌≡◌, List, ap, subst, sym, take, ◌∙◌, map}
+use Rattle.std.proofs.Common.{◌≡◌, ◌∙◌, Bool, List, ap, filter, map, subst, sym, ℕ}
+use Rattle.rc_tuple.specs.ColSet.{has}
+use Rattle.rc_tuple.specs.RisingSet.{In}
+use Rattle.rc_tuple.specs.RisingSetLaws.{filter_in, has_in, in_filter}
 use Rattle.rc_spec.specs.CountedRows.{lowered, raised}
+use Rattle.rc_spec.specs.Fragments.{edge_numbers}
+use Rattle.rc_spec.specs.Placement.{class_of}
+use Rattle.rc_spec.specs.declared.spec.Spec.{Spec}
 use Rattle.rc_fragment.specs.Fragment.{edge_table}
-use Rattle.rc_fragment.specs.Holder.{HeldStripe, Holding, held_of, reverted}
-use Rattle.rc_machine.specs.Apply.{CanAdd, CanSub, all_changed, all_placed, edges_with, has_column, place_in}
-use Rattle.rc_machine.proofs.PlacedLemmas.{can_sub_in, each_place, few_places, placed_changed, places_rise, some_edges}
-use Rattle.rc_machine.proofs.ReadLemmas.{at_err, on_ok}
-use Rattle.rc_machine.proofs.RevertLemmas.{taken_alike}
-use Rattle.rc_machine.proofs.SharedLemmas.{can_add_kept, same_row, skipped_stay}
+use Rattle.rc_fragment.specs.Holder.{HeldStripe, Holding, held_of}
+use Rattle.rc_fragment.specs.Implied.{lowered_all, raised_all}
+use Rattle.rc_fragment.specs.Tuples.{CanAddTuple, HasTuple}
+use Rattle.rc_machine.specs.Applied.{AreTakenAlike}
+use Rattle.rc_machine.specs.Apply.{AreAllCounted, CanChange, all_changed, classes_of, edges_with, has_column, place_in}
+use Rattle.rc_machine.proofs.ApplyLemmas.{CanAdd}
+use Rattle.rc_machine.proofs.ChangeLemmas.{lowered_local}
+use Rattle.rc_machine.proofs.ClassLemmas.{are_places, can_add_place, can_remove_place, changed_by_class, each_lowered, each_place, each_raised, no_column}
+use Rattle.rc_machine.proofs.LentLemmas.{lent_table}
+use Rattle.rc_machine.proofs.ReadLemmas.{at_err, on_err, on_ok}
+use Rattle.rc_machine.proofs.RevertLemmas.{placed_alike}
+use Rattle.rc_machine.proofs.SharedLemmas.{all_counted, can_add_kept, same_row, skipped_stay}
 use Rattle.rc_machine.proofs.StripeLemmas.{no_stripes}
 use Rattle.rc_machine.proofs.apply.replace.Given.{Over}
 use Rattle.rc_machine.proofs.apply.replace.Goals.{After-deref, After-deref-2, In_ok-sub_placed}
 use Rattle.rc_machine.proofs.apply.replace.Goals as goal
 
--- the first places are those of the old tuple's rows in the edges with a column that changes, and then those of the new one's
-gone : (g : Over) (c : After-deref g) → take c.in_ok-gone.gone c.deref.result.now ≡ map (place_in c.args.compiled.now.spec c.args.old.now) (edges_with c.args.compiled.now.spec c.differing-cols.result)
-gone g c = ap (take c.in_ok-gone.gone) c.deref.ensures.value ∙ c.in_ok-gone.ensures.first
+-- the edges with a column that changes are edges of the specification
+among_all : (spec : Spec) (cols : List ℕ) (e : ℕ) → In e (edges_with spec cols) → In e (edge_numbers spec)
+among_all spec cols e m = (in_filter (has_column spec cols) e (edge_numbers spec) m).0
 
-come : (g : Over) (c : After-deref-2 g) → take c.in_ok-come.come c.deref-2.result.now ≡ map (place_in c.args.compiled.now.spec c.args.args.now) (edges_with c.args.compiled.now.spec c.differing-cols.result)
-come g c = ap (take c.in_ok-come.come) c.deref-2.ensures.value ∙ c.in_ok-come.ensures.first
+-- whether the edge is of one of their classes
+abbrev is_touched : Spec → List ℕ → ℕ → Bool
+is_touched spec cols e = has (classes_of spec (edges_with spec cols)) (class_of spec e)
 
--- the old tuple's rows in these edges are out
+-- the places are those of their classes, on the stripes of the old tuple, and then on those of the new one
+gone : (g : Over) (c : After-deref g) → c.deref.result.now ≡ map (place_in c.args.compiled.now.spec c.args.old.now) (classes_of c.args.compiled.now.spec (edges_with c.args.compiled.now.spec c.differing-cols.result))
+gone g c = c.deref.ensures.value ∙ c.in_ok-place_classes_with.ensures
+
+come : (g : Over) (c : After-deref-2 g) → c.deref-2.result.now ≡ map (place_in c.args.compiled.now.spec c.args.args.now) (classes_of c.args.compiled.now.spec (edges_with c.args.compiled.now.spec c.differing-cols.result))
+come g c = c.deref-2.ensures.value ∙ c.in_ok-place_classes_with-2.ensures
+
+-- the old tuple's rows in these classes are out
 out : (g : Over) (c : In_ok-sub_placed g) → held_of (g.H.Holder.seen c.sub_placed.new.holder)
-    ≡ all_changed lowered c.args.compiled.now.spec c.args.old.now (edges_with c.args.compiled.now.spec c.differing-cols.result) (held_of (g.H.Holder.seen c.args.holder.now))
+    ≡ all_changed lowered c.args.compiled.now.spec c.args.old.now (filter (is_touched c.args.compiled.now.spec c.differing-cols.result) (edge_numbers c.args.compiled.now.spec)) (held_of (g.H.Holder.seen c.args.holder.now))
 out g c =
     let spec = c.args.compiled.now.spec in
-    let held = held_of (g.H.Holder.seen c.args.holder.now) in
-    c.in_ok-sub_placed.ensures.ok ∙ ap (λ ps. all_placed lowered ps held) (ap (take c.in_ok-gone.gone) c.deref.ensures.value ∙ c.in_ok-gone.ensures.first)
-    ∙ placed_changed lowered spec c.args.old.now (edges_with spec c.differing-cols.result) held
+    let s : Holding = g.H.Holder.seen c.args.holder.now in
+    changed_by_class lowered lowered_all each_lowered spec c.args.old.now c.requires.sealed c.requires.can.out.whole (edges_with spec c.differing-cols.result) s.table c.deref.result.now (held_of s)
+    (held_of (g.H.Holder.seen c.sub_placed.new.holder)) c.in_ok-sub_placed.ensures.ok c.requires.table (c.deref.ensures.value ∙ c.in_ok-place_classes_with.ensures) c.requires.can.out.counted
 
-pub place_rows_with-requires-clause-stripes : goal.place_rows_with-requires-clause-stripes
-place_rows_with-requires-clause-stripes g c = no_stripes c.args.compiled.now.spec c.args.old.now _ c.clear.ensures.items
+still_counted : (g : Over) (c : In_ok-sub_placed g) → AreAllCounted (held_of (g.H.Holder.seen c.sub_placed.new.holder))
+still_counted g c =
+    let spec = c.args.compiled.now.spec in
+    subst AreAllCounted (sym (out g c)) (all_counted lowered lowered_local spec c.args.old.now (filter (is_touched spec c.differing-cols.result) (edge_numbers spec)) (held_of (g.H.Holder.seen c.args.holder.now)) c.requires.can.out.counted)
 
-pub sub_placed-requires-clause-few : goal.sub_placed-requires-clause-few
-sub_placed-requires-clause-few g c =
+still_taken : (g : Over) (c : In_ok-sub_placed g) → AreTakenAlike (held_of (g.H.Holder.seen c.args.holder.now)) (held_of (g.H.Holder.seen c.sub_placed.new.holder))
+still_taken g c =
+    let s : Holding = g.H.Holder.seen c.args.holder.now in
+    placed_alike lowered_all s.table c.args.old.now c.deref.result.now (held_of s) (held_of (g.H.Holder.seen c.sub_placed.new.holder)) c.in_ok-sub_placed.ensures.ok
+
+same_table : (g : Over) (c : In_ok-sub_placed g) → (g.H.Holder.seen c.sub_placed.new.holder).table ≡ edge_table c.args.compiled.now.spec
+same_table g c = lent_table (g.H.Holder.seen c.args.holder.now) (g.H.Holder.seen c.sub_placed.new.holder) c.in_ok-sub_placed.ensures.lent ∙ c.requires.table
+
+pub place_classes_with-requires-clause-stripes : goal.place_classes_with-requires-clause-stripes
+place_classes_with-requires-clause-stripes g c = no_stripes c.args.compiled.now.spec c.args.old.now _ c.clear.ensures.items
+
+pub sub_placed-requires-clause-places : goal.sub_placed-requires-clause-places
+sub_placed-requires-clause-places g c =
     let spec = c.args.compiled.now.spec in
     let cols = c.differing-cols.result in
-    few_places spec c.requires.sealed c.args.old.now (edges_with spec cols) (some_edges spec (has_column spec cols)) (take c.in_ok-gone.gone c.deref.result.now) (gone g c)
-
-pub sub_placed-requires-clause-rising : goal.sub_placed-requires-clause-rising
-sub_placed-requires-clause-rising g c =
-    let spec = c.args.compiled.now.spec in
-    let cols = c.differing-cols.result in
-    places_rise spec c.requires.sealed c.args.old.now (edges_with spec cols) (some_edges spec (has_column spec cols)) (take c.in_ok-gone.gone c.deref.result.now) (gone g c)
+    are_places spec c.requires.sealed c.args.old.now (edges_with spec cols) (among_all spec cols) c.deref.result.now (gone g c)
 
 pub sub_placed-requires-clause-can : goal.sub_placed-requires-clause-can
 sub_placed-requires-clause-can g c =
     let spec = c.args.compiled.now.spec in
+    let o = c.args.old.now in
     let cols = c.differing-cols.result in
     let s : Holding = g.H.Holder.seen c.args.holder.now in
-    each_place spec c.requires.sealed c.args.old.now (edges_with spec cols) (some_edges spec (has_column spec cols)) (take c.in_ok-gone.gone c.deref.result.now) (gone g c) (CanSub s.table (held_of s))
-    (λ e m. subst (λ z. CanSub z (held_of s) (place_in spec c.args.old.now e)) (sym c.requires.table)
-    (can_sub_in spec c.args.old.now (held_of s) c.requires.can.out e ((some_edges spec (has_column spec cols)).known e m)))
+    each_place spec c.requires.sealed o (edges_with spec cols) (among_all spec cols) c.deref.result.now (gone g c) (CanChange HasTuple s.table (held_of s) o)
+    (λ k m among. subst (λ z. CanChange HasTuple z (held_of s) o (place_in spec o k)) (sym c.requires.table) (can_remove_place spec c.requires.sealed o c.requires.can.out.whole (held_of s) k c.requires.can.out among))
 
-pub place_rows_with-requires-2-clause-stripes : goal.place_rows_with-requires-2-clause-stripes
-place_rows_with-requires-2-clause-stripes g c = no_stripes c.args.compiled.now.spec c.args.args.now _ c.clear-2.ensures.items
+pub place_classes_with-requires-2-clause-stripes : goal.place_classes_with-requires-2-clause-stripes
+place_classes_with-requires-2-clause-stripes g c = no_stripes c.args.compiled.now.spec c.args.args.now _ c.clear-2.ensures.items
 
 -- the rows as taken stay, whatever was taken out
-pub returns-in_err-come-clause-alike : goal.returns-in_err-come-clause-alike
-returns-in_err-come-clause-alike g c =
-    at_err _ (ap (map reverted) c.in_ok-sub_placed.ensures.ok ∙ taken_alike lowered (take c.in_ok-gone.gone c.deref.result.now) (held_of (g.H.Holder.seen c.args.holder.now)))
+pub returns-in_err-place_classes_with-2-clause-alike : goal.returns-in_err-place_classes_with-2-clause-alike
+returns-in_err-place_classes_with-2-clause-alike g c = at_err _ (still_taken g (goal.at.returns-in_err-place_classes_with-2-clause-alike g c).In_ok-sub_placed)
 
-pub add_placed-requires-clause-few : goal.add_placed-requires-clause-few
-add_placed-requires-clause-few g c =
+pub add_placed-requires-clause-places : goal.add_placed-requires-clause-places
+add_placed-requires-clause-places g c =
     let spec = c.args.compiled.now.spec in
     let cols = c.differing-cols.result in
-    few_places spec c.requires.sealed c.args.args.now (edges_with spec cols) (some_edges spec (has_column spec cols)) (take c.in_ok-come.come c.deref-2.result.now) (come g c)
-
-pub add_placed-requires-clause-rising : goal.add_placed-requires-clause-rising
-add_placed-requires-clause-rising g c =
-    let spec = c.args.compiled.now.spec in
-    let cols = c.differing-cols.result in
-    places_rise spec c.requires.sealed c.args.args.now (edges_with spec cols) (some_edges spec (has_column spec cols)) (take c.in_ok-come.come c.deref-2.result.now) (come g c)
+    are_places spec c.requires.sealed c.args.args.now (edges_with spec cols) (among_all spec cols) c.deref-2.result.now (come g c)
 
 pub add_placed-requires-clause-can : goal.add_placed-requires-clause-can
 add_placed-requires-clause-can g c =
@@ -78,14 +98,15 @@ add_placed-requires-clause-can g c =
     let o = c.args.old.now in
     let t = c.args.args.now in
     let cols = c.differing-cols.result in
-    let keep = has_column spec cols in
-    let old : Holding = g.H.Holder.seen c.args.holder.now in
+    let touched : ℕ → Bool = is_touched spec cols in
+    let held : List HeldStripe = held_of (g.H.Holder.seen c.args.holder.now) in
     let mid : Holding = g.H.Holder.seen c.sub_placed.new.holder in
-    let table : mid.table ≡ edge_table spec = ap (λ (s : Holding). s.table) c.in_ok-sub_placed.ensures.lent ∙ c.requires.table in
-    let is_out = out g (goal.at.add_placed-requires-clause-can g c).In_ok-sub_placed in
-    each_place spec c.requires.sealed t (edges_with spec cols) (some_edges spec keep) (take c.in_ok-come.come c.deref-2.result.now) (come g c) (CanAdd mid.table (held_of mid))
-    (λ e m. subst (λ z. CanAdd z (held_of mid) (place_in spec t e)) (sym table)
-    (subst (λ (z : List HeldStripe). CanAdd (edge_table spec) z (place_in spec t e)) (sym is_out) (can_add_kept spec o t keep (held_of old) c.requires.can.counted c.requires.sealed c.requires.can.put e m)))
+    let at = (goal.at.add_placed-requires-clause-can g c).In_ok-sub_placed in
+    each_place spec c.requires.sealed t (edges_with spec cols) (among_all spec cols) c.deref-2.result.now (come g c) (CanChange CanAddTuple mid.table (held_of mid) t)
+    (λ k m among. subst (λ z. CanChange CanAddTuple z (held_of mid) t (place_in spec t k)) (sym (same_table g at))
+    (can_add_place spec c.requires.sealed t c.requires.can.put.whole (held_of mid) k among
+    (λ e n is. subst (λ z. CanAdd spec t z e) (sym (out g at)) (can_add_kept spec o t touched held c.requires.can.out.counted c.requires.can.put e
+    (filter_in touched e (edge_numbers spec) n (has_in (classes_of spec (edges_with spec cols)) (class_of spec e) (subst (λ z. In z (classes_of spec (edges_with spec cols))) (sym is) m)))))))
 
 pub returns-clause-ok : goal.returns-clause-ok
 returns-clause-ok g c =
@@ -93,17 +114,15 @@ returns-clause-ok g c =
     let o = c.args.old.now in
     let t = c.args.args.now in
     let cols = c.differing-cols.result in
-    let keep = has_column spec cols in
-    let held = held_of (g.H.Holder.seen c.args.holder.now) in
-    let mid = held_of (g.H.Holder.seen c.sub_placed.new.holder) in
+    let touched : ℕ → Bool = is_touched spec cols in
+    let held : List HeldStripe = held_of (g.H.Holder.seen c.args.holder.now) in
+    let mid : Holding = g.H.Holder.seen c.sub_placed.new.holder in
     let at = goal.at.returns-clause-ok g c in
-    on_ok c.add_placed.result (λ is. is ∙ ap (λ ps. all_placed raised ps mid) (come g at.After-deref-2) ∙ placed_changed raised spec t (edges_with spec cols) mid
-    ∙ ap (all_changed raised spec t (edges_with spec cols)) (out g at.In_ok-sub_placed)
-    ∙ skipped_stay spec o t keep held c.requires.can.counted (λ e l q. same_row spec o t cols c.differing-cols.ensures e q) c.requires.can.out.there) c.add_placed.ensures.ok
+    on_ok c.add_placed.result (λ is.
+    changed_by_class raised raised_all each_raised spec t c.requires.sealed c.requires.can.put.whole (edges_with spec cols) mid.table c.deref-2.result.now (held_of mid) (held_of (g.H.Holder.seen c.add_placed.new.holder)) is
+    (same_table g at.In_ok-sub_placed) (come g at.After-deref-2) (still_counted g at.In_ok-sub_placed)
+    ∙ ap (all_changed raised spec t (filter touched (edge_numbers spec))) (out g at.In_ok-sub_placed)
+    ∙ skipped_stay spec o t touched held c.requires.can.out.counted (λ e l q. same_row spec o t cols c.differing-cols.ensures e (no_column spec cols e l q)) c.requires.can.out.there) c.add_placed.ensures.ok
 
 pub returns-clause-alike : goal.returns-clause-alike
-returns-clause-alike g c =
-    let held = held_of (g.H.Holder.seen c.args.holder.now) in
-    let mid = held_of (g.H.Holder.seen c.sub_placed.new.holder) in
-    at_err _ (ap (map reverted) c.add_placed.ensures.some.1 ∙ taken_alike raised (take c.add_placed.ensures.some.0 (take c.in_ok-come.come c.deref-2.result.now)) mid
-    ∙ ap (map reverted) c.in_ok-sub_placed.ensures.ok ∙ taken_alike lowered (take c.in_ok-gone.gone c.deref.result.now) held)
+returns-clause-alike g c = on_err c.add_placed.result (λ alike. alike ∙ still_taken g (goal.at.returns-clause-alike g c).In_ok-sub_placed) c.add_placed.ensures.alike

@@ -1,13 +1,12 @@
 use Rattle.std.proofs.Common.{◌∙◌, None, refl, subst, sym, [], Option, List, ℕ}
 use Rattle.std.specs.Option.{option_copied}
-use Rattle.rc_spec.specs.Decomposition.{edge_at}
 use Rattle.rc_spec.specs.declared.call.Reply.TheVariants.{Inserted}
 use Rattle.rc_spec.specs.declared.items.OpKind.TheVariants.{Insert}
 use Rattle.rc_spec.specs.declared.spec.Spec.{Spec}
 use Rattle.rc_fragment.specs.Fragment.{shape_of}
 use Rattle.rc_fragment.specs.Holder.{AreOfOneRelation, held_of}
 use Rattle.rc_machine.specs.Access.{IsRowFound}
-use Rattle.rc_machine.proofs.EdgeChangeLemmas.{can_insert, insert_replies, present_replies, raised_alike, unanswered}
+use Rattle.rc_machine.proofs.EdgeChangeLemmas.{can_insert, insert_replies, present_replies, unanswered}
 use Rattle.rc_machine.proofs.EdgeRowLemmas.{nothing_told, values_told}
 use Rattle.rc_machine.proofs.GoLemmas.{applied_told, told_alike}
 use Rattle.rc_machine.proofs.LentLemmas.{lent_goes_on}
@@ -22,15 +21,15 @@ one g c = g.met.H.Holder.sound_rows c.args.holder.now c.args.compiled.now.spec c
 
 -- what was looked up, as the edge's
 abbrev IsLooked : (g : Over) (c : In_ok-find_row g) → Option (List ℕ) → Type 0
-IsLooked g c found = IsRowFound (shape_of c.args.compiled.now.spec (edge_at c.args.compiled.now.spec c.args.path.edge)) c.fragment-fragment.result.now.now c.args.path.edge c.args.call.now.args found
+IsLooked g c found = IsRowFound (shape_of c.args.compiled.now.spec c.args.path.edge) c.fragment-fragment.result.now.now c.args.path.edge c.args.call.now.args found
 
 looked : (g : Over) (c : In_ok-find_row g) → IsLooked g c (option_copied c.in_ok-find_row.field-0)
 looked g c =
     let spec = c.args.compiled.now.spec in
     let rows = c.fragment-fragment.result.now.now in
     let found = option_copied c.in_ok-find_row.field-0 in
-    subst (λ e. IsRowFound (shape_of spec (edge_at spec e)) rows e c.args.call.now.args found) c.of-read.ensures.edge
-    (subst (λ (s : Spec). IsRowFound (shape_of s (edge_at s c.of-read.result.edge)) rows c.of-read.result.edge c.args.call.now.args found) c.of-read.ensures.spec c.in_ok-find_row.ensures)
+    subst (λ e. IsRowFound (shape_of spec e) rows e c.args.call.now.args found) c.of-read.ensures.edge
+    (subst (λ (s : Spec). IsRowFound (shape_of s c.of-read.result.edge) rows c.of-read.result.edge c.args.call.now.args found) c.of-read.ensures.spec c.in_ok-find_row.ensures)
 
 nowhere : (g : Over) (c : Else-is_some g) → IsLooked g c.before.before.before None
 nowhere g c = subst (IsLooked g c.before.before.before) (nothing_told c.in_ok-find_row.field-0 (sym c.is_some.ensures ∙ c.if-is_some.false)) (looked g c.before.before.before)
@@ -60,7 +59,7 @@ returns-in_err-add_rows-clause-answered g c =
     let new = g.H.Holder.seen c.add_rows.new.holder in
     let failed = c.in_err-add_rows.ensures in
     unanswered c.args.compiled.now c.args.call.now old new c.from_residual-in_err-add_rows.result c.from_residual-in_err-add_rows.ensures.0
-    (told_alike old new (lent_goes_on old new failed.lent) (raised_alike c.args.compiled.now.spec c.args.call.now.args failed.some.0 (held_of old) (held_of new) failed.some.1) c.requires.locked.taken) failed.lent
+    (told_alike old new (lent_goes_on old new failed.lent) failed.alike c.requires.locked.taken) failed.lent
 
 pub returns-clause-answered : goal.returns-clause-answered
 returns-clause-answered g c =

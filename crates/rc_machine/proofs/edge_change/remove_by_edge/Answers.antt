@@ -1,4 +1,5 @@
-use Rattle.std.proofs.Common.{◌≡◌, ◌∷◌, ◌∙◌, None, Option, Some, ap, map, refl, subst, sym, []}
+use Rattle.std.proofs.Common.{◌≡◌, ◌∷◌, None, Option, Some, ap, map, refl, subst, sym, []}
+use Rattle.rc_tuple.specs.RisingSet.{In}
 use Rattle.rc_tuple.specs.Tuple.{Pairs, cols_of}
 use Rattle.rc_spec.specs.Calls.{all_columns}
 use Rattle.rc_spec.specs.CallsLaws.{fits_at_op}
@@ -24,15 +25,15 @@ one g c = g.met.H.Holder.sound_rows c.args.holder.now c.args.compiled.now.spec c
 
 -- what was found, as the edge's
 abbrev IsLooked : (g : Over) (c : In_ok-removed g) → Option Pairs → Type 0
-IsLooked g c found = IsTupleFound (shape_of c.args.compiled.now.spec (edge_at c.args.compiled.now.spec c.args.path.edge)) c.fragment-fragment.result.now.now c.args.path.edge c.args.call.now.args found
+IsLooked g c found = IsTupleFound (shape_of c.args.compiled.now.spec c.args.path.edge) c.fragment-fragment.result.now.now c.args.path.edge c.args.call.now.args found
 
 looked : (g : Over) (c : In_ok-removed g) → IsLooked g c c.in_ok-removed.field-0
 looked g c =
     let spec = c.args.compiled.now.spec in
     let rows = c.fragment-fragment.result.now.now in
     let found = c.in_ok-removed.field-0 in
-    subst (λ e. IsTupleFound (shape_of spec (edge_at spec e)) rows e c.args.call.now.args found) c.of-read.ensures.edge
-    (subst (λ (s : Spec). IsTupleFound (shape_of s (edge_at s c.of-read.result.edge)) rows c.of-read.result.edge c.args.call.now.args found) c.of-read.ensures.spec c.in_ok-removed.ensures)
+    subst (λ e. IsTupleFound (shape_of spec e) rows e c.args.call.now.args found) c.of-read.ensures.edge
+    (subst (λ (s : Spec). IsTupleFound (shape_of s c.of-read.result.edge) rows c.of-read.result.edge c.args.call.now.args found) c.of-read.ensures.spec c.in_ok-removed.ensures)
 
 removed : (g : Over) (c : In-Some g) → IsLooked g c.before (Some c.in-Some.removed)
 removed g c = subst (IsLooked g c.before) c.in-Some.is (looked g c.before)
@@ -49,10 +50,10 @@ pub find_tuple-requires-clause-tuple : goal.find_tuple-requires-clause-tuple
 find_tuple-requires-clause-tuple g c = (fits_at_op c.args.compiled.now.spec c.args.call.now c.requires.locked.fits).tuple
 
 pub find_tuple-requires-clause-given : goal.find_tuple-requires-clause-given
-find_tuple-requires-clause-given g c =
+find_tuple-requires-clause-given g c k m =
     let spec = c.args.compiled.now.spec in
-    remove_given c.args.compiled.now c.args.call.now c.args.path c.args.stripe (g.H.Holder.seen c.args.holder.now) c.requires.locked (one g (goal.at.find_tuple-requires-clause-given g c).Start) c.requires.remove
-    ∙ sym (ap (λ (s : Spec). source_and_key s (edge_at s c.of-read.result.edge)) c.of-read.ensures.spec ∙ ap (λ e. source_and_key spec (edge_at spec e)) c.of-read.ensures.edge)
+    subst (In k) (sym (remove_given c.args.compiled.now c.args.call.now c.args.path c.args.stripe (g.H.Holder.seen c.args.holder.now) c.requires.locked (one g (goal.at.find_tuple-requires-clause-given g c).Start) c.requires.remove))
+    (subst (λ e. In k (source_and_key spec (edge_at spec e))) c.of-read.ensures.edge (subst (λ (s : Spec). In k (source_and_key s (edge_at s c.of-read.result.edge))) c.of-read.ensures.spec m))
 
 pub find_tuple-requires-clause-whole : goal.find_tuple-requires-clause-whole
 find_tuple-requires-clause-whole g c =

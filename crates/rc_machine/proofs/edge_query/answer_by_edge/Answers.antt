@@ -37,28 +37,28 @@ look_up-requires-clause-columns g c = columns g (goal.at.look_up-requires-clause
 pub list-requires-clause-columns : goal.list-requires-clause-columns
 list-requires-clause-columns g c = columns g (goal.at.list-requires-clause-columns g c).After-fragment-fragment
 
-pub returns-in-Lookup : goal.returns-in-Lookup
-returns-in-Lookup g c =
-    let at = (goal.at.returns-in-Lookup g c).After-fragment-fragment in
+pub returns-in-Lookup-clause-answered : goal.returns-in-Lookup-clause-answered
+returns-in-Lookup-clause-answered g c =
+    let at = (goal.at.returns-in-Lookup-clause-answered g c).After-fragment-fragment in
     let spec = c.args.compiled.now.spec in
     let rows = c.fragment-fragment.result.now.now in
     if_ok c.look_up.result
     (λ reply found r a.
     row_served spec c.requires.locked.sealed c.args.call.now c.requires.locked.fits (plan_at c.args.compiled.now.plans c.args.call.now.op) c.args.path c.requires.locked.path c.in-Query.outs c.in-Query.ranges (kind_is g at.before)
     rows r a.relation (lent_rows c.args.compiled.now c.args.call.now c.args.path c.args.stripe (g.H.Holder.seen c.args.holder.now) c.requires.locked c.fragment-fragment.result.now c.fragment-fragment.ensures r a) reply c.in-Lookup.is
-    (subst (λ e. HasLookedUp (shape_of spec (edge_at spec e)) rows e c.args.call.now.args c.in-Query.outs reply) c.of-read.ensures.edge
-    (subst (λ (s : Spec). HasLookedUp (shape_of s (edge_at s c.of-read.result.edge)) rows c.of-read.result.edge c.args.call.now.args c.in-Query.outs reply) c.of-read.ensures.spec found)))
-    c.look_up.ensures
+    (subst (λ e. HasLookedUp (shape_of spec e) rows e c.args.call.now.args c.in-Query.outs reply) c.of-read.ensures.edge
+    (subst (λ (s : Spec). HasLookedUp (shape_of s c.of-read.result.edge) rows c.of-read.result.edge c.args.call.now.args c.in-Query.outs reply) c.of-read.ensures.spec found)))
+    c.look_up.ensures.rows
 
-pub returns-in-Scan : goal.returns-in-Scan
-returns-in-Scan g c =
-    let at = (goal.at.returns-in-Scan g c).After-fragment-fragment in
+pub returns-in-Scan-clause-answered : goal.returns-in-Scan-clause-answered
+returns-in-Scan-clause-answered g c =
+    let at = (goal.at.returns-in-Scan-clause-answered g c).After-fragment-fragment in
     let spec = c.args.compiled.now.spec in
     let rows = c.fragment-fragment.result.now.now in
     if_ok c.list.result
     (λ reply found r a.
     rows_served spec c.requires.locked.sealed c.args.call.now c.requires.locked.fits (plan_at c.args.compiled.now.plans c.args.call.now.op) c.args.path c.requires.locked.path c.in-Query.outs c.in-Query.ranges (kind_is g at.before)
     rows r a.relation (lent_rows c.args.compiled.now c.args.call.now c.args.path c.args.stripe (g.H.Holder.seen c.args.holder.now) c.requires.locked c.fragment-fragment.result.now c.fragment-fragment.ensures r a) reply c.in-Scan.is
-    (subst (λ e. HasListed (shape_of spec (edge_at spec e)) rows e c.args.call.now.args c.in-Query.outs spec.most_rows reply) c.of-read.ensures.edge
-    (subst (λ (s : Spec). HasListed (shape_of s (edge_at s c.of-read.result.edge)) rows c.of-read.result.edge c.args.call.now.args c.in-Query.outs s.most_rows reply) c.of-read.ensures.spec found)))
-    c.list.ensures
+    (subst (λ e. HasListed (shape_of spec e) rows e c.args.call.now.args c.in-Query.outs spec.most_rows reply) c.of-read.ensures.edge
+    (subst (λ (s : Spec). HasListed (shape_of s c.of-read.result.edge) rows c.of-read.result.edge c.args.call.now.args c.in-Query.outs s.most_rows reply) c.of-read.ensures.spec found)))
+    c.list.ensures.rows

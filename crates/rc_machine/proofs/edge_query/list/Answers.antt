@@ -12,13 +12,17 @@ use Rattle.rc_fragment.specs.RowValues.{extra_columns, values_at}
 use Rattle.rc_fragment.specs.declared.shape.EdgeShape.{EdgeShape}
 use Rattle.rc_machine.proofs.AccessLemmas.{flat_map_alike, picked_parts, some_length}
 use Rattle.rc_machine.proofs.EmitLemmas.{few_rows, many_rows}
-use Rattle.rc_machine.proofs.ReadLemmas.{shape_in_table}
+use Rattle.rc_machine.proofs.ReadLemmas.{read_known}
+use Rattle.rc_fragment.specs.FragmentLaws.{number_has_shape}
 use Rattle.rc_machine.proofs.edge_query.list.Goals as goal
 use Rattle.rc_machine.proofs.edge_query.list.Goals.{After-as_slice}
 
+pub scan-requires : goal.scan-requires
+scan-requires c = read_known c.args.fragment.now.table c.args.read.now c.requires.read
+
 -- the edge's shape
 abbrev edge_shape : After-as_slice → EdgeShape
-edge_shape c = shape_of c.args.read.now.spec.now (edge_at c.args.read.now.spec.now c.args.read.now.edge)
+edge_shape c = shape_of c.args.read.now.spec.now c.args.read.now.edge
 
 -- the values of the source by which rows are scanned
 source : (c : After-as_slice) → c.deref.result.now ≡ values_at (bound c.args.read.now.spec.now (edge_at c.args.read.now.spec.now c.args.read.now.edge).from) c.args.args.now
@@ -36,7 +40,7 @@ told : (c : After-as_slice) → Told c
 told c =
     let spec = c.args.read.now.spec.now in
     let e : ℕ = c.args.read.now.edge in
-    let has : HasShape c.args.fragment.now.table e (edge_shape c) = subst (λ t. HasShape t e (edge_shape c)) (sym c.requires.read.table) (shape_in_table spec e c.requires.read.known) in
+    let has : HasShape c.args.fragment.now.table e (edge_shape c) = subst (λ t. HasShape t e (edge_shape c)) (sym c.requires.read.table) (number_has_shape spec e c.requires.read.known) in
     let all : HasScanned (edge_shape c) c.args.fragment.now.now e c.deref.result.now [] c.scan.new.out.items =
     subst (λ z. HasScanned (edge_shape c) c.args.fragment.now.now e c.deref.result.now z c.scan.new.out.items) c.new-values.ensures.items (c.in_ok-scan.ensures.ok (edge_shape c) has) in
     let alike : flat_map (key_and_extra (edge_shape c)) all.0 ≡ flat_map (pick c.args.outs.now) all.0 =
@@ -61,9 +65,9 @@ count c t =
     let some : 0 < length outs = subst (λ (z : List ℕ). 0 < length z) (sym c.requires.outs) (some_length (edge_at c.args.read.now.spec.now c.args.read.now.edge).key (extra_columns (edge_shape c)) c.requires.keyed) in
     ap (λ n. n / length c.list-width.result.now) many ∙ ap (λ (l : List ℕ). length t.rows * length outs / length l) c.list-width.ensures ∙ mul-div_cancel (length t.rows) some
 
-pub returns-then-rows-read : goal.returns-then-rows-read
-returns-then-rows-read c =
-    let at = (goal.at.returns-then-rows-read c).After-as_slice in
+pub returns-then-rows-read-clause-rows : goal.returns-then-rows-read-clause-rows
+returns-then-rows-read-clause-rows c =
+    let at = (goal.at.returns-then-rows-read-clause-rows c).After-as_slice in
     let t : Told at = told at in
     let rows : List (List ℕ) = map (pick c.args.outs.now) t.rows in
     let all : length rows ≡ length t.rows = length-map t.rows (pick c.args.outs.now) in
@@ -78,9 +82,9 @@ of_width-requires c =
     let outs : List ℕ = c.args.outs.now in
     ap length t.values ∙ length-flat_map_width (pick outs) (length outs) (wide outs) t.rows ∙ ap (λ n. n * length outs) (sym (count at t)) ∙ ap (λ (l : List ℕ). (length c.as_slice.result.now / length c.list-width.result.now) * length l) (sym c.list-width.ensures)
 
-pub returns : goal.returns
-returns c =
-    let at = (goal.at.returns c).After-as_slice in
+pub returns-clause-rows : goal.returns-clause-rows
+returns-clause-rows c =
+    let at = (goal.at.returns-clause-rows c).After-as_slice in
     let t : Told at = told at in
     let outs : List ℕ = c.args.outs.now in
     let rows : List (List ℕ) = map (pick outs) t.rows in

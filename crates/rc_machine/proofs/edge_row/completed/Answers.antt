@@ -19,7 +19,7 @@ from_columns-requires-clause-distinct c = subst (λ (cols : List ℕ). AreDistin
 pub returns : goal.returns
 returns c =
     let columns : List ℕ = take c.args.width (range_with_len 0 32) in
-    let given = c.args.tuple.now ++ zip c.args.extra c.args.values.now in
+    let given = zip c.args.extra c.args.values.now ++ c.args.tuple.now in
     let rows : c.deref.result.now ≡ pick columns given = c.deref.ensures.value ∙ c.in_ok-push_picked.ensures ∙ ap (λ z. z ++ pick columns given) c.clear.ensures.items in
     subst (λ cols. IfOk c.from_columns.result (λ row. row ≡ tuple_of cols (pick cols given))) (take_range 0 32 c.args.width c.requires.few)
     (if_ok c.from_columns.result (λ row is. is ∙ ap (tuple_of columns) rows) c.from_columns.ensures)

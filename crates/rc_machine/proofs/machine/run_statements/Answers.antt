@@ -4,13 +4,14 @@ use Rattle.rc_tuple.specs.RisingSet.{In}
 use Rattle.rc_spec.specs.Placement.{class_at, class_of, op_at}
 use Rattle.rc_spec.specs.Stripes.{physical_stripe}
 use Rattle.rc_fragment.specs.Holder.{held_of}
-use Rattle.rc_plan.specs.Access.{IsAccessPath, is_tuple_lock}
+use Rattle.rc_plan.specs.Access.{IsAccessPath, is_given_lock}
 use Rattle.rc_plan.specs.Compiled.{IsPlanOf, plan_at}
 use Rattle.rc_plan.specs.declared.statement.Statement.{Statement}
 use Rattle.std.specs.Prelude.{List, drop, take}
 use Rattle.rc_machine.specs.Machine.{IsRefused, stripes_held}
 use Rattle.rc_machine.specs.Run.{IsAt}
 use Rattle.rc_machine.proofs.AccessRunLemmas.{args_are, args_striped}
+use Rattle.rc_machine.proofs.LockLemmas.{memory_alone}
 use Rattle.rc_machine.proofs.ReadLemmas.{class_known}
 use Rattle.rc_machine.proofs.machine.run_statements.Given.{Over}
 use Rattle.rc_machine.proofs.machine.run_statements.Goals.{After-list-plan}
@@ -27,7 +28,7 @@ path_of g c = subst (λ (z : List Statement). IsAccessPath c.args.compiled.now.s
 pub lock_arguments-requires-clause-first : goal.lock_arguments-requires-clause-first
 lock_arguments-requires-clause-first g c =
     let at = (goal.at.lock_arguments-requires-clause-first g c).After-list-plan in
-    subst (λ cols. list_all (is_tuple_lock c.args.compiled.now.spec cols) (take c.in-Some.path.locks c.list-plan.result.now) ≡ true)
+    subst (λ cols. list_all (is_given_lock c.args.compiled.now.spec cols) (take c.in-Some.path.locks c.list-plan.result.now) ≡ true)
     (sym (args_are c.args.compiled.now.spec c.accepted.ensures.sealed c.args.call.now c.requires.fits)) (path_of g at).locks.first
 
 pub returns-in_err-lock_arguments-clause-stopped : goal.returns-in_err-lock_arguments-clause-stopped
@@ -74,3 +75,10 @@ find_stripe-requires-clause-within g c k m =
     let spec = c.args.compiled.now.spec in
     args_striped spec c.accepted.ensures.sealed c.args.call.now c.requires.fits (plan_at c.args.compiled.now.plans c.args.call.now.op) c.in-Some.path c.in-Some.ensures.some k
     (subst (λ z. In k (class_at spec z).cols) c.edge.ensures.class m)
+
+-- no stripe is refused once all are held
+pub returns-clause-stopped : goal.returns-clause-stopped
+returns-clause-stopped g c h e = absurd (memory_alone c.answer_by_path.result h c.answer_by_path.ensures.memory e)
+
+pub returns-clause-refused : goal.returns-clause-refused
+returns-clause-refused g c h e = absurd (memory_alone c.answer_by_path.result h c.answer_by_path.ensures.memory e)

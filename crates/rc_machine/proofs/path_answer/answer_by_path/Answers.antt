@@ -15,7 +15,7 @@ returns-in-Query-clause-answered g c =
           (λ reply served.
           path_replies spec locked.sealed c.args.call.now locked.fits plan locked.planned (drop c.args.path.locks plan) locked.path.locks.others (held_of (g.H.Holder.seen c.args.holder.now)) locked.run
           (g.met.H.Holder.sound_rows c.args.holder.now spec c.requires.sound) reply served)
-          c.answer_by_edge.ensures;
+          c.answer_by_edge.ensures.answered;
       taken = locked.taken;
       lent = refl;
     }

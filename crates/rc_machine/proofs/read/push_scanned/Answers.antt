@@ -10,7 +10,8 @@ use Rattle.rc_fragment.specs.Fragment.{HasScanned, HasShape, shape_of}
 use Rattle.rc_fragment.specs.RowValues.{extra_columns, values_at}
 use Rattle.rc_plan.specs.declared.statement.ReadMode.TheVariants.{Scan}
 use Rattle.rc_machine.specs.Read.{HasMerged}
-use Rattle.rc_machine.proofs.ReadLemmas.{on_ok, scanned, shape_in_table}
+use Rattle.rc_fragment.specs.FragmentLaws.{number_has_shape}
+use Rattle.rc_machine.proofs.ReadLemmas.{on_ok, read_known, scanned}
 use Rattle.rc_machine.proofs.SeekLemmas.{row_scanned, takes_rows}
 use Rattle.rc_machine.proofs.read.push_scanned.Goals as goal
 use Rattle.rc_machine.proofs.read.push_scanned.Goals.{After-deref, After-push_rows, In_ok-scan}
@@ -22,11 +23,14 @@ source c =
     ∙ ap (λ xs. values_at xs c.args.binding.now.tuple) c.requires.read.resolved.edge.source
 
 -- what the scan answered
-rows : (c : In_ok-scan) → HasScanned (shape_of c.args.read.now.spec.now (edge_at c.args.read.now.spec.now c.args.read.now.edge)) c.args.fragment.now.now c.args.read.now.edge c.deref.result.now [] c.scan.new.out.items
+rows : (c : In_ok-scan) → HasScanned (shape_of c.args.read.now.spec.now c.args.read.now.edge) c.args.fragment.now.now c.args.read.now.edge c.deref.result.now [] c.scan.new.out.items
 rows c =
-    let shape = shape_of c.args.read.now.spec.now (edge_at c.args.read.now.spec.now c.args.read.now.edge) in
-    let has : HasShape c.args.fragment.now.table c.args.read.now.edge shape = subst (λ t. HasShape t c.args.read.now.edge shape) (sym c.requires.read.table) (shape_in_table c.args.read.now.spec.now c.args.read.now.edge c.requires.read.known) in
+    let shape = shape_of c.args.read.now.spec.now c.args.read.now.edge in
+    let has : HasShape c.args.fragment.now.table c.args.read.now.edge shape = subst (λ t. HasShape t c.args.read.now.edge shape) (sym c.requires.read.table) (number_has_shape c.args.read.now.spec.now c.args.read.now.edge c.requires.read.known) in
     subst (λ z. HasScanned shape c.args.fragment.now.now c.args.read.now.edge c.deref.result.now z c.scan.new.out.items) c.clear-2.ensures.items (c.in_ok-scan.ensures.ok shape has)
+
+pub scan-requires : goal.scan-requires
+scan-requires c = read_known c.args.fragment.now.table c.args.read.now c.requires.read
 
 pub push_rows-requires-clause-takes : goal.push_rows-requires-clause-takes
 push_rows-requires-clause-takes c =
@@ -38,14 +42,14 @@ pub push_rows-requires-clause-few : goal.push_rows-requires-clause-few
 push_rows-requires-clause-few c = c.requires.read.resolved.edge.few
 
 -- what is added of the rows that the scan told
-added : (c : After-push_rows) (found : HasScanned (shape_of c.args.read.now.spec.now (edge_at c.args.read.now.spec.now c.args.read.now.edge)) c.args.fragment.now.now c.args.read.now.edge c.deref.result.now [] c.scan.new.out.items)
+added : (c : After-push_rows) (found : HasScanned (shape_of c.args.read.now.spec.now c.args.read.now.edge) c.args.fragment.now.now c.args.read.now.edge c.deref.result.now [] c.scan.new.out.items)
     → c.deref.result.now ≡ values_at (bound c.args.read.now.spec.now (edge_at c.args.read.now.spec.now c.args.read.now.edge).from) c.args.binding.now.tuple
-    → c.args.read.now.resolved.now.extra ≡ extra_columns (shape_of c.args.read.now.spec.now (edge_at c.args.read.now.spec.now c.args.read.now.edge))
+    → c.args.read.now.resolved.now.extra ≡ extra_columns (shape_of c.args.read.now.spec.now c.args.read.now.edge)
     → OnOk c.push_rows.result (c.push_rows.new.self ≡ with_tuples c.args.found.now (c.args.found.now.tuples ++ merges_of c.args.binding.now.tuple found.0))
 added c found by_source extra_is =
     let b = c.args.binding.now.tuple in
     let edge : Edge = edge_at c.args.read.now.spec.now c.args.read.now.edge in
-    let extras = extra_columns (shape_of c.args.read.now.spec.now edge) in
+    let extras = extra_columns (shape_of c.args.read.now.spec.now c.args.read.now.edge) in
     let key_is : c.args.read.now.resolved.now.key ≡ edge.key = c.requires.read.resolved.edge.key in
     let told : c.deref-2.result.now ≡ flat_map (key_and_extra c.args.read.now.resolved.now.key c.args.read.now.resolved.now.extra) found.0 =
     c.deref-2.ensures.value ∙ found.1 ∙ ap (λ k. flat_map (key_and_extra k extras) found.0) (sym key_is)

@@ -1,10 +1,8 @@
-use Rattle.std.proofs.Common.{◌≡◌, set, ap, ◌∙◌}
-use Rattle.std.proofs.lemmas.Result.{IfOk-weaker}
-use Rattle.rc_fragment.specs.FragmentRows.{FragmentRows, with_promise}
-use Rattle.rc_row.specs.HeldRows.{HeldRows}
-use Rattle.rc_row.specs.Passes.{held_with}
+use Rattle.std.proofs.Common.{◌≡◌, ◌∙◌}
+use Rattle.std.proofs.lemmas.Result.{on_ok_weaker}
+use Rattle.rc_fragment.specs.FragmentRows.{with_promise}
 use Rattle.rc_row.proofs.TurnLemmas.{read_here}
-use Rattle.rc_row.proofs.ChangeLemmas.{here_with, changed_here}
+use Rattle.rc_row.proofs.ChangeLemmas.{set_here}
 use Rattle.rc_row.proofs.fragments.own_at.Goals as goal
 
 pub returns-clause-ok : goal.returns-clause-ok
@@ -12,11 +10,6 @@ returns-clause-ok c =
     let h = c.place_of-at.ensures in
     let held = c.args.held.now.items in
     let at = c.place_of-at.result in
-    let p = c.args.stripe in
-    let change = with_promise c.args.changes in
-    let is : c.index_mut.result.now ≡ h.here = c.index_mut.ensures.value ∙ read_here held p at h c.index_mut.result.now in
     let x = c.index_mut.result.now in
-    IfOk-weaker c.own.result (λ _. c.own.new.self ≡ change x.fragment)
-    (λ _. set held at (record x { fragment = c.own.new.self }) ≡ held_with p change held)
-    (λ _ e. ap (λ (f : FragmentRows). set held at (record x { fragment = f })) e ∙ ap (λ (y : HeldRows). set held at (here_with change y)) is ∙ changed_here held p at h c.requires.rising change)
-    c.own.ensures.ok
+    let is : x ≡ h.here = c.index_mut.ensures.value ∙ read_here held c.args.stripe at h x in
+    on_ok_weaker c.own.result (set_here held c.args.stripe at h c.requires.rising (with_promise c.args.changes) x c.own.new.self is) c.own.ensures.ok

@@ -1,24 +1,23 @@
-use Rattle.std.proofs.Common.{◌≡◌, ◌<◌, ℕ, length, Some, sym, subst, arith, get_or}
-use Rattle.std.specs.Prelude.{List, option_copied}
-use Rattle.std.specs.List.{slice_get}
-use Rattle.std.proofs.lemmas.List.{length-map}
-use Rattle.rc_fragment.specs.Fragment.{HasShape, IsLookedUp}
-use Rattle.rc_fragment.specs.FragmentRows.{FragmentRows}
-use Rattle.rc_fragment.specs.Listing.{shapes}
-use Rattle.rc_fragment.specs.declared.edge_rows.EdgeRows.{EdgeRows}
-use Rattle.rc_fragment.specs.declared.fragment.Parts.{Parts}
-use Rattle.rc_fragment.specs.declared.shape.EdgeShape.{EdgeShape}
-use Rattle.rc_fragment.proofs.ChangeLemmas.{found_edge}
-use Rattle.rc_fragment.proofs.LookupLemmas.{lookup_law}
+use Rattle.std.proofs.Common.{length, sym, ap, ◌∙◌}
+use Rattle.std.specs.Prelude.{option_copied}
+use Rattle.std.proofs.lemmas.Bool.{eq-eqb, eqb-true, false≢true}
+use Rattle.std.proofs.lemmas.List.{nil_from_length}
+use Rattle.rc_fragment.proofs.FullReadLemmas.{kept_lookup, told_known, told_lookup, told_none}
 use Rattle.rc_fragment.proofs.fragment.Fragment.lookup.Goals as goal
+use Rattle.rc_fragment.proofs.fragment.Fragment.lookup.Goals.{else-is_empty-via-then-is_empty+else-has_source, else-is_empty-via-else-is_empty}
 
-pub returns : goal.returns
-returns c =
-    let edges : List EdgeRows = c.self.inside.parts.value.edges.items in
-    let e : ℕ = c.args.edge in
-    let x : EdgeRows = c.index-rows.result.now in
-    let l : e < length (shapes edges) = subst (λ (z : FragmentRows). e < length z.table) (sym c.self.view_is) c.requires in
-    let m : length (shapes edges) ≡ length edges = length-map edges (λ (z : EdgeRows). z.shape) in
-    let n : slice_get edges e ≡ Some x = found_edge edges e x (omega arith) (subst (λ (p : Parts). x ≡ get_or p.edges.items e x) c.deref.ensures c.index-rows.ensures) in
-    subst (λ (z : FragmentRows). (shape : EdgeShape) → HasShape z.table e shape → IsLookedUp shape z.now e c.args.source.now c.args.key.now (option_copied c.get.result)) c.self.view_is
-    (lookup_law edges c.self.invariant.fragment.stored e x n c.args.source.now c.args.key.now (option_copied c.get.result) c.get.ensures)
+pub has_source-requires : goal.has_source-requires
+has_source-requires c = told_known c.self.inside.stored c.args.self.now c.self.view_is c.self.invariant c.rows_fit_the_table.ensures.now c.args.edge c.shape.result c.shape.ensures c.in-Some.lower c.in-Some.is
+
+pub returns-in-None : goal.returns-in-None
+returns-in-None c = kept_lookup c.self.inside.stored c.args.self.now c.self.view_is c.self.invariant c.rows_fit_the_table.ensures.now c.args.edge c.shape.result c.shape.ensures c.in-None.is c.args.source.now c.args.key.now (option_copied c.lookup.result) c.lookup.ensures
+
+pub returns-then-has_source : goal.returns-then-has_source
+returns-then-has_source c = told_lookup c.self.inside.stored c.args.self.now c.self.view_is c.self.invariant c.rows_fit_the_table.ensures.now c.args.edge c.shape.result c.shape.ensures c.in-Some.lower c.in-Some.is c.args.source.now c.args.key.now (nil_from_length c.args.source.now (eqb-true (length c.args.source.now) 0 (sym c.is_empty.ensures ∙ c.if-is_empty.true))) (λ shape has. (c.has_source.ensures shape has).0 c.if-has_source.true)
+
+pub returns-else-is_empty : goal.returns-else-is_empty
+returns-else-is_empty c =
+    elim c.else-is_empty.branch [
+      | else-is_empty-via-then-is_empty+else-has_source w ↦ told_none c.self.inside.stored c.args.self.now c.self.view_is c.self.invariant c.rows_fit_the_table.ensures.now c.args.edge c.shape.result c.shape.ensures c.in-Some.lower c.in-Some.is c.args.source.now c.args.key.now (λ q lower has h. false≢true (sym w.if-has_source.false ∙ (w.has_source.ensures lower has).1 h))
+      | else-is_empty-via-else-is_empty w ↦ told_none c.self.inside.stored c.args.self.now c.self.view_is c.self.invariant c.rows_fit_the_table.ensures.now c.args.edge c.shape.result c.shape.ensures c.in-Some.lower c.in-Some.is c.args.source.now c.args.key.now (λ q lower has h. false≢true (sym (sym c.is_empty.ensures ∙ w.if-is_empty.false) ∙ eq-eqb (length c.args.source.now) 0 (ap length q)))
+    ]

@@ -1,37 +1,15 @@
-use Rattle.std.proofs.Common.{◌≡◌, ◌<◌, ℕ, length, Some, sym, subst, arith, get_or}
-use Rattle.std.specs.Prelude.{List}
-use Rattle.std.specs.List.{slice_get}
-use Rattle.std.proofs.lemmas.List.{length-map}
-use Rattle.rc_fragment.specs.Fragment.{AreAllRows}
-use Rattle.rc_fragment.specs.FragmentRows.{FragmentRows}
-use Rattle.rc_tuple.specs.RisingSetLaws.{slice_get_in}
-use Rattle.rc_fragment.specs.Listing.{IsStored, shapes}
-use Rattle.rc_fragment.specs.declared.edge_rows.EdgeRows.{EdgeRows}
-use Rattle.rc_fragment.specs.declared.fragment.Parts.{Parts}
-use Rattle.rc_fragment.proofs.ChangeLemmas.{found_edge}
-use Rattle.rc_fragment.proofs.KeptLemmas.{filed_there}
-use Rattle.rc_fragment.proofs.LookupLemmas.{all_rows}
-use Rattle.rc_fragment.proofs.SourcesLemmas.{if_ok_both}
+use Rattle.rc_fragment.proofs.FullReadLemmas.{kept_all, told_all, told_known, told_some}
+use Rattle.rc_fragment.proofs.SourcesLemmas.{if_ok_from}
 use Rattle.rc_fragment.proofs.fragment.Fragment.rows.Goals as goal
 
-pub returns : goal.returns
-returns c =
-    let edges : List EdgeRows = c.self.inside.parts.value.edges.items in
-    let e : ℕ = c.args.edge in
-    let x : EdgeRows = c.index-rows.result.now in
-    let l : e < length (shapes edges) = subst (λ (z : FragmentRows). e < length z.table) (sym c.self.view_is) c.requires in
-    let m : length (shapes edges) ≡ length edges = length-map edges (λ (z : EdgeRows). z.shape) in
-    let n : slice_get edges e ≡ Some x = found_edge edges e x (omega arith) (subst (λ (p : Parts). x ≡ get_or p.edges.items e x) c.deref.ensures c.index-rows.ensures) in
-    if_ok_both c.all.result c.all.ensures.only c.all.ensures.each (λ ts only each.
-    subst (λ (z : FragmentRows). AreAllRows z.now e ts) c.self.view_is (all_rows edges c.self.invariant.fragment.stored e x n ts only each))
+pub sources-requires-clause-known : goal.sources-requires-clause-known
+sources-requires-clause-known c = told_known c.self.inside.stored c.args.self.now c.self.view_is c.self.invariant c.rows_fit_the_table.ensures.now c.args.edge c.shape.result c.shape.ensures c.in-Some.lower c.in-Some.is
 
-pub all-requires : goal.all-requires
-all-requires c =
-    let edges : List EdgeRows = c.self.inside.parts.value.edges.items in
-    let e : ℕ = c.args.edge in
-    let x : EdgeRows = c.index-rows.result.now in
-    let l : e < length (shapes edges) = subst (λ (z : FragmentRows). e < length z.table) (sym c.self.view_is) c.requires in
-    let m : length (shapes edges) ≡ length edges = length-map edges (λ (z : EdgeRows). z.shape) in
-    let n : slice_get edges e ≡ Some x = found_edge edges e x (omega arith) (subst (λ (p : Parts). x ≡ get_or p.edges.items e x) c.deref.ensures c.index-rows.ensures) in
-    let s : IsStored x = c.self.invariant.fragment.stored x (slice_get_in edges e x n) in
-    record { filed = filed_there x s; parted = s.parted }
+pub sources-requires-clause-some : goal.sources-requires-clause-some
+sources-requires-clause-some c = told_some c.self.inside.stored c.args.self.now c.self.view_is c.self.invariant c.rows_fit_the_table.ensures.now c.args.edge c.shape.result c.shape.ensures c.in-Some.lower c.in-Some.is
+
+pub returns-in-None : goal.returns-in-None
+returns-in-None c = if_ok_from c.rows.result c.rows.ensures (λ rows h. kept_all c.self.inside.stored c.args.self.now c.self.view_is c.self.invariant c.rows_fit_the_table.ensures.now c.args.edge c.shape.result c.shape.ensures c.in-None.is rows h)
+
+pub returns-in-Some : goal.returns-in-Some
+returns-in-Some c = if_ok_from c.sources.result c.sources.ensures (λ rows h. told_all c.self.inside.stored c.args.self.now c.self.view_is c.self.invariant c.rows_fit_the_table.ensures.now c.args.edge c.shape.result c.shape.ensures c.in-Some.lower c.in-Some.is rows h)

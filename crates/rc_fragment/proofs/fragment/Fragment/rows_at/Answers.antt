@@ -1,39 +1,21 @@
-use Rattle.std.proofs.Common.{◌≡◌, ◌<◌, ℕ, length, Some, sym, subst, arith, get_or}
-use Rattle.std.specs.Prelude.{List}
-use Rattle.std.specs.List.{slice_get}
-use Rattle.std.proofs.lemmas.List.{length-map}
-use Rattle.rc_tuple.specs.RisingSetLaws.{slice_get_in}
-use Rattle.rc_fragment.specs.Fragment.{HasShape, IsScan}
-use Rattle.rc_fragment.specs.FragmentRows.{FragmentRows}
-use Rattle.rc_fragment.specs.Listing.{IsStored, shapes}
-use Rattle.rc_fragment.specs.declared.edge_rows.EdgeRows.{EdgeRows}
-use Rattle.rc_fragment.specs.declared.fragment.Parts.{Parts}
-use Rattle.rc_fragment.specs.declared.shape.EdgeShape.{EdgeShape}
-use Rattle.rc_fragment.proofs.ChangeLemmas.{found_edge}
-use Rattle.rc_fragment.proofs.KeptLemmas.{filed_there}
-use Rattle.rc_fragment.proofs.LookupLemmas.{rows_law}
+use Rattle.std.proofs.Common.{length, sym, ap, ◌∙◌}
+use Rattle.std.proofs.lemmas.Bool.{eq-eqb, eqb-true, false≢true}
+use Rattle.std.proofs.lemmas.List.{nil_from_length}
+use Rattle.rc_fragment.proofs.FullReadLemmas.{kept_scan, told_known, told_no_scan, told_scan, told_some}
 use Rattle.rc_fragment.proofs.SourcesLemmas.{if_ok_from}
 use Rattle.rc_fragment.proofs.fragment.Fragment.rows_at.Goals as goal
 
-pub rows_at-requires : goal.rows_at-requires
-rows_at-requires c =
-    let edges : List EdgeRows = c.self.inside.parts.value.edges.items in
-    let e : ℕ = c.args.edge in
-    let x : EdgeRows = c.index-rows.result.now in
-    let l : e < length (shapes edges) = subst (λ (z : FragmentRows). e < length z.table) (sym c.self.view_is) c.requires in
-    let m : length (shapes edges) ≡ length edges = length-map edges (λ (z : EdgeRows). z.shape) in
-    let n : slice_get edges e ≡ Some x = found_edge edges e x (omega arith) (subst (λ (p : Parts). x ≡ get_or p.edges.items e x) c.deref.ensures c.index-rows.ensures) in
-    let s : IsStored x = c.self.invariant.fragment.stored x (slice_get_in edges e x n) in
-    record { filed = filed_there x s; parted = s.parted }
+pub sources-requires-clause-known : goal.sources-requires-clause-known
+sources-requires-clause-known c = told_known c.self.inside.stored c.args.self.now c.self.view_is c.self.invariant c.rows_fit_the_table.ensures.now c.args.edge c.shape.result c.shape.ensures c.in-Some.lower c.in-Some.is
 
-pub returns : goal.returns
-returns c =
-    let edges : List EdgeRows = c.self.inside.parts.value.edges.items in
-    let e : ℕ = c.args.edge in
-    let x : EdgeRows = c.index-rows.result.now in
-    let l : e < length (shapes edges) = subst (λ (z : FragmentRows). e < length z.table) (sym c.self.view_is) c.requires in
-    let m : length (shapes edges) ≡ length edges = length-map edges (λ (z : EdgeRows). z.shape) in
-    let n : slice_get edges e ≡ Some x = found_edge edges e x (omega arith) (subst (λ (p : Parts). x ≡ get_or p.edges.items e x) c.deref.ensures c.index-rows.ensures) in
-    if_ok_from c.rows_at.result c.rows_at.ensures (λ found is.
-    subst (λ (z : FragmentRows). (shape : EdgeShape) → HasShape z.table e shape → IsScan shape z.now e c.args.source.now found) c.self.view_is
-    (rows_law edges c.self.invariant.fragment.stored e x n c.args.source.now found is))
+pub sources-requires-clause-some : goal.sources-requires-clause-some
+sources-requires-clause-some c = told_some c.self.inside.stored c.args.self.now c.self.view_is c.self.invariant c.rows_fit_the_table.ensures.now c.args.edge c.shape.result c.shape.ensures c.in-Some.lower c.in-Some.is
+
+pub returns-in-None : goal.returns-in-None
+returns-in-None c = if_ok_from c.rows_at.result c.rows_at.ensures (λ rows h. kept_scan c.self.inside.stored c.args.self.now c.self.view_is c.self.invariant c.rows_fit_the_table.ensures.now c.args.edge c.shape.result c.shape.ensures c.in-None.is c.args.source.now rows h)
+
+pub returns-then-is_empty : goal.returns-then-is_empty
+returns-then-is_empty c = if_ok_from c.sources.result c.sources.ensures (λ rows h. told_scan c.self.inside.stored c.args.self.now c.self.view_is c.self.invariant c.rows_fit_the_table.ensures.now c.args.edge c.shape.result c.shape.ensures c.in-Some.lower c.in-Some.is c.args.source.now rows (nil_from_length c.args.source.now (eqb-true (length c.args.source.now) 0 (sym c.is_empty.ensures ∙ c.if-is_empty.true))) h)
+
+pub returns-else-is_empty : goal.returns-else-is_empty
+returns-else-is_empty c = told_no_scan c.self.inside.stored c.args.self.now c.self.view_is c.self.invariant c.rows_fit_the_table.ensures.now c.args.edge c.shape.result c.shape.ensures c.in-Some.lower c.in-Some.is c.args.source.now c.new.result (λ q. false≢true (sym (sym c.is_empty.ensures ∙ c.if-is_empty.false) ∙ eq-eqb (length c.args.source.now) 0 (ap length q))) c.new.ensures

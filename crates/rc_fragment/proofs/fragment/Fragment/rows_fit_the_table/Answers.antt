@@ -1,26 +1,15 @@
 use Rattle.std.proofs.Common.{subst}
-use Rattle.std.specs.Prelude.{List}
-use Rattle.rc_fragment.specs.Container.{now_in}
 use Rattle.rc_fragment.specs.Fragment.{AreRowsOf}
 use Rattle.rc_fragment.specs.FragmentRows.{FragmentRows}
-use Rattle.rc_fragment.specs.declared.edge_rows.EdgeRows.{EdgeRows}
-use Rattle.rc_fragment.specs.Listing.{listing, shapes}
-use Rattle.rc_fragment.specs.Notes.{changes_of}
-use Rattle.rc_fragment.specs.declared.fragment.Parts.{Parts}
-use Rattle.rc_fragment.proofs.PlaceLemmas.{noted_of_table}
-use Rattle.rc_fragment.proofs.RowLemmas.{filed_now, rows_of_table}
-use Rattle.rc_fragment.proofs.UndoLemmas.{rows_undone}
+use Rattle.rc_fragment.specs.ImpliedReadsLaws.{full_fit}
 use Rattle.rc_fragment.proofs.fragment.Fragment.rows_fit_the_table.Goals as goal
 
 pub returns-clause-now : goal.returns-clause-now
 returns-clause-now c =
-    let edges : List EdgeRows = c.self.inside.parts.value.edges.items in
-    subst (λ (z : FragmentRows). AreRowsOf z.table z.now) c.self.view_is (rows_of_table now_in edges (filed_now edges c.self.invariant.fragment.stored))
+    let f : FragmentRows = c.self.inside.stored in
+    subst (λ (z : FragmentRows). AreRowsOf z.table z.now) c.self.view_is (full_fit f.table c.self.invariant f.now c.rows_fit_the_table.ensures.now)
 
 pub returns-clause-taken : goal.returns-clause-taken
 returns-clause-taken c =
-    let p : Parts = c.self.inside.parts.value in
-    let edges : List EdgeRows = p.edges.items in
-    subst (λ (z : FragmentRows). AreRowsOf z.table z.taken) c.self.view_is
-    (rows_undone (shapes edges) (changes_of (shapes edges) p.noted.items p.notes.items) (listing now_in edges)
-    (noted_of_table edges p.noted.items p.notes.items c.self.invariant.fragment.noted) (rows_of_table now_in edges (filed_now edges c.self.invariant.fragment.stored)))
+    let f : FragmentRows = c.self.inside.stored in
+    subst (λ (z : FragmentRows). AreRowsOf z.table z.taken) c.self.view_is (full_fit f.table c.self.invariant f.taken c.rows_fit_the_table.ensures.taken)

@@ -1,26 +1,18 @@
-use Rattle.std.proofs.Common.{◌≡◌, ◌<◌, ℕ, length, Some, sym, subst, arith, get_or}
-use Rattle.std.specs.Prelude.{List}
-use Rattle.std.specs.List.{slice_get}
-use Rattle.std.proofs.lemmas.List.{length-map}
-use Rattle.rc_fragment.specs.Fragment.{HasShape, HasScanned}
-use Rattle.rc_fragment.specs.FragmentRows.{FragmentRows}
-use Rattle.rc_fragment.specs.Listing.{shapes}
-use Rattle.rc_fragment.specs.declared.edge_rows.EdgeRows.{EdgeRows}
-use Rattle.rc_fragment.specs.declared.fragment.Parts.{Parts}
-use Rattle.rc_fragment.specs.declared.shape.EdgeShape.{EdgeShape}
-use Rattle.rc_fragment.proofs.ChangeLemmas.{found_edge}
-use Rattle.rc_fragment.proofs.LookupLemmas.{scan_law}
+use Rattle.std.proofs.Common.{length, sym, ap, ◌∙◌}
+use Rattle.std.proofs.lemmas.Bool.{eq-eqb, eqb-true, false≢true}
+use Rattle.std.proofs.lemmas.List.{nil_from_length}
+use Rattle.rc_fragment.proofs.FullReadLemmas.{kept_scanned, told_known, told_none_scanned, told_scanned}
 use Rattle.rc_fragment.proofs.SourcesLemmas.{on_ok_from}
 use Rattle.rc_fragment.proofs.fragment.Fragment.scan.Goals as goal
 
-pub returns-clause-ok : goal.returns-clause-ok
-returns-clause-ok c =
-    let edges : List EdgeRows = c.self.inside.parts.value.edges.items in
-    let e : ℕ = c.args.edge in
-    let x : EdgeRows = c.index-rows.result.now in
-    let l : e < length (shapes edges) = subst (λ (z : FragmentRows). e < length z.table) (sym c.self.view_is) c.requires in
-    let m : length (shapes edges) ≡ length edges = length-map edges (λ (z : EdgeRows). z.shape) in
-    let n : slice_get edges e ≡ Some x = found_edge edges e x (omega arith) (subst (λ (p : Parts). x ≡ get_or p.edges.items e x) c.deref.ensures c.index-rows.ensures) in
-    on_ok_from _ _ c.scan.result c.scan.ensures.ok (λ is.
-    subst (λ (z : FragmentRows). (shape : EdgeShape) → HasShape z.table e shape → HasScanned shape z.now e c.args.source.now c.args.out.now.items c.scan.new.out.items) c.self.view_is
-    (scan_law edges c.self.invariant.fragment.stored e x n c.args.source.now c.args.out.now.items c.scan.new.out.items is))
+pub push_sources-requires : goal.push_sources-requires
+push_sources-requires c = told_known c.self.inside.stored c.args.self.now c.self.view_is c.self.invariant c.rows_fit_the_table.ensures.now c.args.edge c.shape.result c.shape.ensures c.in-Some.lower c.in-Some.is
+
+pub returns-in-None-clause-ok : goal.returns-in-None-clause-ok
+returns-in-None-clause-ok c = on_ok_from _ _ c.scan.result c.scan.ensures.ok (λ h. kept_scanned c.self.inside.stored c.args.self.now c.self.view_is c.self.invariant c.rows_fit_the_table.ensures.now c.args.edge c.shape.result c.shape.ensures c.in-None.is c.args.source.now c.args.out.now.items c.scan.new.out.items h)
+
+pub returns-then-is_empty-clause-ok : goal.returns-then-is_empty-clause-ok
+returns-then-is_empty-clause-ok c = on_ok_from _ _ c.push_sources.result c.push_sources.ensures.ok (λ h. told_scanned c.self.inside.stored c.args.self.now c.self.view_is c.self.invariant c.rows_fit_the_table.ensures.now c.args.edge c.shape.result c.shape.ensures c.in-Some.lower c.in-Some.is c.args.source.now c.args.out.now.items c.push_sources.new.out.items (nil_from_length c.args.source.now (eqb-true (length c.args.source.now) 0 (sym c.is_empty.ensures ∙ c.if-is_empty.true))) h)
+
+pub returns-else-is_empty-clause-ok : goal.returns-else-is_empty-clause-ok
+returns-else-is_empty-clause-ok c = told_none_scanned c.self.inside.stored c.args.self.now c.self.view_is c.self.invariant c.rows_fit_the_table.ensures.now c.args.edge c.shape.result c.shape.ensures c.in-Some.lower c.in-Some.is c.args.source.now c.args.out.now.items (λ q. false≢true (sym (sym c.is_empty.ensures ∙ c.if-is_empty.false) ∙ eq-eqb (length c.args.source.now) 0 (ap length q)))

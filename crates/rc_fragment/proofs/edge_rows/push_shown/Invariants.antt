@@ -1,0 +1,7 @@
+use Rattle.std.proofs.Common.{◌≡◌, ◌++◌, take}
+use Rattle.std.specs.List.{flat_map}
+use Rattle.rc_fragment.specs.Sources.{shown_sources}
+use Rattle.rc_fragment.proofs.edge_rows.push_shown.Given as goal
+
+abbrev pub invariant-loop-keyed : goal.invariant-loop-keyed
+invariant-loop-keyed l = l.out.items ≡ l.fn.out.items ++ flat_map (λ s. s) (shown_sources l.tombstones (take l.keyed-index l.all))

@@ -1,0 +1,39 @@
+use Rattle.std.proofs.Common.{◌≡◌, ◌<◌, ℕ, length, Some, sym, subst, arith, get_or}
+use Rattle.std.specs.Prelude.{List}
+use Rattle.std.specs.List.{slice_get}
+use Rattle.std.proofs.lemmas.List.{length-map}
+use Rattle.rc_tuple.specs.RisingSetLaws.{slice_get_in}
+use Rattle.rc_fragment.specs.Fragment.{HasShape, IsFoundAt}
+use Rattle.rc_fragment.specs.FragmentRows.{FragmentRows}
+use Rattle.rc_fragment.specs.Listing.{IsStored, shapes}
+use Rattle.rc_fragment.specs.declared.edge_rows.EdgeRows.{EdgeRows}
+use Rattle.rc_fragment.specs.declared.stored.Parts.{Parts}
+use Rattle.rc_fragment.specs.declared.shape.EdgeShape.{EdgeShape}
+use Rattle.rc_fragment.proofs.ChangeLemmas.{found_edge}
+use Rattle.rc_fragment.proofs.KeptLemmas.{filed_there}
+use Rattle.rc_fragment.proofs.LookupLemmas.{row_law}
+use Rattle.rc_fragment.proofs.SourcesLemmas.{if_ok_from}
+use Rattle.rc_fragment.proofs.stored.Stored.row_at.Goals as goal
+
+pub row_at-requires : goal.row_at-requires
+row_at-requires c =
+    let edges : List EdgeRows = c.self.inside.parts.value.edges.items in
+    let e : ℕ = c.args.edge in
+    let x : EdgeRows = c.index-rows.result.now in
+    let l : e < length (shapes edges) = subst (λ (z : FragmentRows). e < length z.table) (sym c.self.view_is) c.requires in
+    let m : length (shapes edges) ≡ length edges = length-map edges (λ (z : EdgeRows). z.shape) in
+    let n : slice_get edges e ≡ Some x = found_edge edges e x (omega arith) (subst (λ (p : Parts). x ≡ get_or p.edges.items e x) c.deref.ensures c.index-rows.ensures) in
+    let s : IsStored x = c.self.invariant.fragment.stored x (slice_get_in edges e x n) in
+    record { filed = filed_there x s; parted = s.parted }
+
+pub returns : goal.returns
+returns c =
+    let edges : List EdgeRows = c.self.inside.parts.value.edges.items in
+    let e : ℕ = c.args.edge in
+    let x : EdgeRows = c.index-rows.result.now in
+    let l : e < length (shapes edges) = subst (λ (z : FragmentRows). e < length z.table) (sym c.self.view_is) c.requires in
+    let m : length (shapes edges) ≡ length edges = length-map edges (λ (z : EdgeRows). z.shape) in
+    let n : slice_get edges e ≡ Some x = found_edge edges e x (omega arith) (subst (λ (p : Parts). x ≡ get_or p.edges.items e x) c.deref.ensures c.index-rows.ensures) in
+    if_ok_from c.row_at.result c.row_at.ensures (λ found is.
+    subst (λ (z : FragmentRows). (shape : EdgeShape) → HasShape z.table e shape → IsFoundAt shape z.now e c.args.source.now c.args.key.now found) c.self.view_is
+    (row_law edges c.self.invariant.fragment.stored e x n c.args.source.now c.args.key.now found is))

@@ -1,0 +1,48 @@
+use Rattle.std.proofs.Common.{◌≡◌, zero-add, ◌<◌, ◌++◌, ◌∷◌, [], ℕ, length, sym, ap, subst, ◌∙◌, inl, inr, arith}
+use Rattle.std.specs.Prelude.{List, map}
+use Rattle.std.specs.List.{range_with_len}
+use Rattle.std.proofs.lemmas.List.{map-append}
+use Rattle.std.proofs.lemmas.List.FromFn.{map-range_with_len_more}
+use Rattle.rc_tuple.specs.RisingSet.{In}
+use Rattle.std.specs.FinMap as fin
+use Rattle.rc_tuple.specs.RisingSetLaws.{in_append}
+use Rattle.rc_spec.specs.declared.spec.Spec.{Spec}
+use Rattle.rc_fragment.specs.Fragment.{shape_of}
+use Rattle.rc_fragment.specs.FragmentLaws.{parted_edge, table_of_spec}
+use Rattle.rc_fragment.specs.ImpliedTables.{IsTable}
+use Rattle.rc_fragment.specs.Listing.{shapes}
+use Rattle.rc_fragment.specs.RowValues.{IsParted}
+use Rattle.rc_fragment.specs.Sources.{AreOfShape, sources_of}
+use Rattle.rc_fragment.specs.declared.edge_rows.EdgeRows.{EdgeRows}
+use Rattle.rc_fragment.proofs.stored.empty_edges.Goals as goal
+
+pub loop-number-preserved : goal.loop-number-preserved
+loop-number-preserved c =
+    let spec : Spec = c.args.accepted.now in
+    let n : ℕ = c.loop-number.number in
+    let old : List EdgeRows = c.loop-number.edges.items in
+    let y : EdgeRows = c.new.result in
+    let pushed : c.push.new.self.items ≡ old ++ y ∷ [] = c.in_ok-push.ensures.items in
+    let s : y.shape ≡ shape_of spec n = c.new.ensures.shape ∙ c.of.ensures in
+    let is : c.spec.result.now ≡ spec = c.spec.ensures.value in
+    let l : n < length spec.edges = subst (λ m. n < m) (ap length (c.list.ensures ∙ ap (λ (s : Spec). s.edges) is)) c.loop-number-test.true in
+    record {
+      shapes = ap shapes pushed ∙ map-append (λ (z : EdgeRows). z.shape) old (y ∷ []) ∙ (λ j. c.loop-number.invariant.shapes j ++ s j ∷ [])
+          ∙ sym (map-range_with_len_more (shape_of spec) 0 n n (zero-add n));
+      empty = λ z m. elim (in_append z old (y ∷ []) (subst (In z) pushed m)) [
+        | inl a ↦ c.loop-number.invariant.empty z a
+        | inr (inl p) ↦ subst (λ (w : EdgeRows). (sources_of w ≡ fin.empty) × AreOfShape w × IsParted w.shape) (sym p)
+            (c.new.ensures.empty, c.new.ensures.form, subst IsParted (sym s) (parted_edge spec c.spec.ensures.sealed n l))
+        | inr (inr q) ↦ absurd q
+      ];
+    }
+
+pub returns-clause-shapes : goal.returns-clause-shapes
+returns-clause-shapes c =
+    let spec : Spec = c.args.accepted.now in
+    let all : length c.list.result.now ≡ length spec.edges = ap length (c.list.ensures ∙ ap (λ (s : Spec). s.edges) c.spec.ensures.value) in
+    let end : c.loop-number.number ≡ length spec.edges = omega (arith, c.loop-number-test.false, c.loop-number.auto.number-end, all) in
+    c.loop-number.invariant.shapes ∙ ap (λ n. map (shape_of spec) (range_with_len 0 n)) end
+
+pub returns-clause-table : goal.returns-clause-table
+returns-clause-table c = subst IsTable (sym (returns-clause-shapes c)) (table_of_spec c.args.accepted.now c.spec.ensures.sealed)

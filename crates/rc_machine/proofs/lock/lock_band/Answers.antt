@@ -1,0 +1,50 @@
+use Rattle.std.proofs.Common.{◌≡◌, ◌<◌, ◌++◌, [], Err, subst, sym, ap, ◌∙◌}
+use Rattle.std.specs.Ordering.{nat_cmp}
+use Rattle.rc_tuple.specs.ColSetLaws.{rising_range}
+use Rattle.rc_tuple.specs.RisingSet.{In, IsRising}
+use Rattle.rc_spec.specs.Placement.{class_at}
+use Rattle.rc_spec.specs.Stripes.{band_start}
+use Rattle.rc_plan.specs.StripeLocks.{band}
+use Rattle.rc_plan.specs.declared.statement.Which.TheVariants as which
+use Rattle.rc_machine.specs.Locks.{HasRefusedOne}
+use Rattle.rc_machine.proofs.LentLemmas.{counted_same}
+use Rattle.rc_machine.proofs.LockLemmas.{counted_stopped, held_stop, locked_known}
+use Rattle.rc_machine.proofs.lock.lock_band.Given.{Over}
+use Rattle.rc_machine.proofs.lock.lock_band.Goals.{After-deref}
+use Rattle.rc_machine.proofs.lock.lock_band.Goals as goal
+
+-- the stripes taken are those of the class
+are : (g : Over) (c : After-deref g) → c.deref.result.now ≡ band c.args.compiled.now.spec c.args.class
+are g c = c.deref.ensures.value ∙ c.in_ok-push_band.ensures ∙ ap (λ z. z ++ band c.args.compiled.now.spec c.args.class) c.clear.ensures.items
+
+named : (g : Over) (c : After-deref g) (s : _) → In s c.deref.result.now → In s (band c.args.compiled.now.spec c.args.class)
+named g c s m = subst (In s) (are g c) m
+
+pub take_all-requires-clause-known : goal.take_all-requires-clause-known
+take_all-requires-clause-known g c s m =
+    subst (λ z. s < z) (sym c.requires.total) (locked_known c.args.compiled.now.spec c.requires.sealed.accepted.placed c.args.class which.All [] c.requires.known s (named g c s m))
+
+pub take_all-requires-clause-rising : goal.take_all-requires-clause-rising
+take_all-requires-clause-rising g c =
+    subst (IsRising nat_cmp) (sym (are g c)) (rising_range (band_start c.args.compiled.now.spec c.args.class) (class_at c.args.compiled.now.spec c.args.class).stripes)
+
+pub take_all-requires-clause-lent : goal.take_all-requires-clause-lent
+take_all-requires-clause-lent g c s m = c.requires.lent s (named g c s m)
+
+pub take_all-requires-clause-above : goal.take_all-requires-clause-above
+take_all-requires-clause-above g c s m = c.requires.above s (named g c s m)
+
+pub returns-in_err-take_all-clause-refused : goal.returns-in_err-take_all-clause-refused
+returns-in_err-take_all-clause-refused g c h e =
+    let given = c.from_residual-in_err-take_all.ensures.1 in
+    let is = rw e at given in
+    subst (λ z. HasRefusedOne (g.H.Holder.seen c.args.holder.now) (g.H.Holder.seen c.take_all.new.holder) z c.args.mode h) (are g (goal.at.returns-in_err-take_all-clause-refused g c).After-deref)
+    (c.in_err-take_all.ensures.refused h (ap Err (held_stop c.in_err-take_all.field-0.0 h is)))
+
+pub returns-in_err-push_band-clause-counted : goal.returns-in_err-push_band-clause-counted
+returns-in_err-push_band-clause-counted g c spec h = counted_same _ _
+
+pub returns-in_err-take_all-clause-counted : goal.returns-in_err-take_all-clause-counted
+returns-in_err-take_all-clause-counted g c spec h =
+    counted_stopped c.from_residual-in_err-take_all.result c.in_err-take_all.field-0.0 (g.H.Holder.seen c.args.holder.now) (g.H.Holder.seen c.take_all.new.holder)
+    c.from_residual-in_err-take_all.ensures.0 c.from_residual-in_err-take_all.ensures.1 (c.in_err-take_all.ensures.counted spec h)
