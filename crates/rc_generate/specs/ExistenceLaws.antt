@@ -5,8 +5,9 @@ use Rattle.rc_spec.specs.declared.spec.Spec.{Spec}
 use Rattle.rc_rel.specs.declared.entry.Step.{Step}
 use Rattle.rc_rel.specs.declared.entry.Entry.{Entry}
 use Rattle.rc_rel.specs.History.{steps_of, AreLegalFrom, IsLegal, own}
-use Rattle.rc_generate.specs.Shards.{shard_of, calls_in, steps_in, MakesShards, plain_steps}
-use Rattle.rc_generate.specs.ShardLaws.{plain_are_legal, calls_of_plain}
+use Rattle.rc_work.specs.Made.{plain_steps}
+use Rattle.rc_work.specs.MadeLaws.{calls_of_plain, plain_are_legal}
+use Rattle.rc_generate.specs.Shards.{shard_of, calls_in, steps_in, MakesShards}
 use Rattle.rc_generate.specs.FilterLaws.{map-filter}
 
 abbrev entries_of : ℕ → (ℕ → ℕ) → List Step → List Entry

@@ -18,26 +18,14 @@ use Rattle.rc_rel.specs.declared.entry.Step.{Step}
 use Rattle.rc_rel.specs.declared.entry.Entry.{Entry}
 use Rattle.rc_rel.specs.History.{steps_of, AreLegalFrom, IsLegal, after_steps, replay, own, calls_of, StepsFit, AllFit}
 use Rattle.rc_rel.specs.HistoryLaws.{StepsFit-steps_of}
-use Rattle.rc_generate.specs.Shards.{IsSharded, shard_of, tuples_in, calls_in, steps_in, KeepsShards, IsSharedOut, MakesShards, CallsFit, plain_steps, IsAsOneThread}
+use Rattle.rc_work.specs.Made.{plain_steps}
+use Rattle.rc_work.specs.MadeLaws.{calls_of_plain, legal_are_plain, plain_are_legal}
+use Rattle.rc_generate.specs.Shards.{IsSharded, shard_of, tuples_in, calls_in, steps_in, KeepsShards, IsSharedOut, MakesShards, CallsFit, IsAsOneThread}
 use Rattle.rc_generate.specs.FilterLaws.{filter-every, filter-none, map-filter}
 use Rattle.rc_generate.specs.CallLaws.{has_key, own_reply, own_tuples, other_tuples, plain_rising}
 use Rattle.rc_generate.specs.PartLaws.{permutation_from_parts}
 
 -- ---- calls made in order
-
-pub legal_are_plain : (spec : Spec) (r : List Pairs) (steps : List Step) → AreLegalFrom spec r steps → steps ≡ plain_steps spec r (map (λ s. s.call) steps)
-legal_are_plain spec r [] legal = refl
-legal_are_plain spec r (s ∷ steps) legal =
-    ap (λ p. (let t : Step = record { call = s.call; reply = p } in t) ∷ steps) legal.0
-    ∙ ap (λ l. (let t : Step = record { call = s.call; reply = (plain spec r s.call).reply } in t) ∷ l) (legal_are_plain spec (plain spec r s.call).relation steps legal.1)
-
-pub plain_are_legal : (spec : Spec) (r : List Pairs) (calls : List Call) → AreLegalFrom spec r (plain_steps spec r calls)
-plain_are_legal spec r [] = tt
-plain_are_legal spec r (c ∷ calls) = (refl, plain_are_legal spec (plain spec r c).relation calls)
-
-pub calls_of_plain : (spec : Spec) (r : List Pairs) (calls : List Call) → map (λ s. s.call) (plain_steps spec r calls) ≡ calls
-calls_of_plain spec r [] = refl
-calls_of_plain spec r (c ∷ calls) = ap (λ l. c ∷ l) (calls_of_plain spec (plain spec r c).relation calls)
 
 plain_fit : (spec : Spec) (r : List Pairs) (calls : List Call) → CallsFit spec calls → StepsFit spec (plain_steps spec r calls)
 plain_fit spec r [] h = tt

@@ -1,5 +1,5 @@
 -- Shards: the tuples, calls and steps whose value at one column, the key, is shared out to one number.
-use Rattle.std.specs.Prelude.{◌≡◌, ℕ, ◌==◌, List, [], ◌∷◌, filter, IsPermutation}
+use Rattle.std.specs.Prelude.{◌≡◌, ℕ, ◌==◌, List, [], filter, IsPermutation}
 use Rattle.std.specs.List.{AllByRecursion}
 use Rattle.rc_tuple.specs.RisingSet.{In}
 use Rattle.rc_tuple.specs.Tuple.{Pairs, value}
@@ -8,10 +8,10 @@ use Rattle.rc_spec.specs.declared.items.Op.{Op}
 use Rattle.rc_spec.specs.declared.call.Call.{Call}
 use Rattle.rc_spec.specs.declared.spec.Spec.{Spec}
 use Rattle.rc_spec.specs.Calls.{Fits}
-use Rattle.rc_spec.specs.Plain.{plain}
 use Rattle.rc_rel.specs.declared.entry.Step.{Step}
 use Rattle.rc_rel.specs.declared.entry.Entry.{Entry}
 use Rattle.rc_rel.specs.History.{steps_of, IsLegal, AllFit, after_steps, replay, own, calls_of}
+use Rattle.rc_work.specs.Made.{plain_steps}
 
 -- each operation's pattern has the key column, and so has the left side of each dependency
 pub record IsSharded (spec : Spec) (key : ℕ) : Type 0 where
@@ -51,12 +51,7 @@ MakesShards key share calls history = (pass : ℕ) → calls_of (own history pas
 abbrev pub CallsFit : Spec → List Call → Type 0
 CallsFit spec calls = AllByRecursion (Fits spec) calls
 
--- the steps of one thread that makes the calls in order, from a relation on
-abbrev pub plain_steps : Spec → List Pairs → List Call → List Step
-plain_steps spec r [] = []
-plain_steps spec r (c ∷ calls) = record { call = c; reply = (plain spec r c).reply } ∷ plain_steps spec (plain spec r c).relation calls
-
--- the relation that it leaves
+-- the relation that one thread leaves which makes the calls in order, from a relation on
 abbrev pub after_calls : Spec → List Pairs → List Call → List Pairs
 after_calls spec r calls = after_steps spec r (plain_steps spec r calls)
 

@@ -9,7 +9,8 @@ use Rattle.rc_rel.specs.declared.entry.Step.{Step}
 use Rattle.rc_rel.specs.declared.entry.Entry.{Entry}
 use Rattle.rc_rel.specs.History.{steps_of}
 use Rattle.rc_generate.specs.declared.summary.Summary.{Summary}
-use Rattle.rc_generate.specs.Shards.{plain_steps, after_calls}
+use Rattle.rc_work.specs.Made.{plain_steps}
+use Rattle.rc_generate.specs.Shards.{after_calls}
 
 -- ---- what one reply counts for
 

@@ -22,9 +22,10 @@ use Rattle.rc_rel.specs.declared.entry.Step.{Step}
 use Rattle.rc_rel.specs.declared.entry.Entry.{Entry}
 use Rattle.rc_rel.specs.History.{steps_of, IsLegal, AreLegalFrom, after_steps, replay, calls_of}
 use Rattle.rc_generate.specs.declared.summary.Summary.{Summary}
-use Rattle.rc_generate.specs.Shards.{IsAsOneThread, plain_steps, after_calls}
+use Rattle.rc_work.specs.Made.{plain_steps}
+use Rattle.rc_generate.specs.Shards.{IsAsOneThread, after_calls}
 use Rattle.rc_generate.specs.Summary.{one_call, one_inserted, one_present, one_conflict, one_removed, one_updated, one_absent, one_query, rows_in, one_many, counted, summary_of, summary, one_thread_summary}
-use Rattle.rc_generate.specs.ShardLaws.{legal_are_plain, calls_of_plain}
+use Rattle.rc_work.specs.MadeLaws.{legal_are_plain, calls_of_plain}
 
 same_counted : (count : Reply → ℕ) (xs ys : List Step) → IsPermutation xs ys → counted count xs ≡ counted count ys
 same_counted count xs ys p = sym (sum_by-IsPermutation (λ (s : Step). count s.reply) xs ys p)

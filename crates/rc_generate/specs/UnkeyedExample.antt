@@ -3,7 +3,7 @@ use Rattle.std.specs.Prelude.{◌≡◌, [], ◌∷◌}
 use Rattle.std.proofs.Common.{refl}
 use Rattle.rc_spec.specs.declared.call.Reply.TheVariants.{Inserted, Conflict}
 use Rattle.rc_spec.specs.declared.spec.Spec.{Spec}
-use Rattle.rc_generate.specs.Shards.{plain_steps}
+use Rattle.rc_work.specs.Made.{plain_steps}
 use Rattle.rc_generate.specs.Sample.{sample_graph}
 use Rattle.rc_generate.specs.Generated.{insert_call}
 

@@ -2,3 +2,4 @@ pub mod CallLemmas
 pub mod RawLemmas
 pub mod WordLemmas
 pub mod ReadingLemmas
+pub mod PartLemmas

@@ -1,3 +1,4 @@
+pub mod CutLaws
 pub mod Printed
 pub mod PrintedLaws
 pub mod Report
@@ -5,6 +6,9 @@ pub mod ReportLaws
 pub mod Fitting
 pub mod Runs
 pub mod RunsLaws
+pub mod Made
+pub mod MadeLaws
+pub mod RunLengthLaws
 pub mod RawTurns
 pub mod RawTurnsLaws
 pub mod UnfilledGroups
@@ -21,6 +25,8 @@ pub mod Drafts
 pub mod DraftsLaws
 pub mod GroupsLaws
 pub mod Ranking
+pub mod PartGrammar
+pub mod PartLaws
 pub mod FirstBroken
 pub mod ReadingLaws
 pub mod Limits
@@ -33,3 +39,4 @@ pub mod PrefixCutLaws
 pub mod PrefixLineLaws
 pub mod PrefixLaws
 pub mod PrefixLastLaws
+pub mod PartReadingLaws

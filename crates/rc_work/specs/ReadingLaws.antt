@@ -84,7 +84,7 @@ module _ (also : Also) (past_end : ℕ) (spec : Spec) where
   means-head line others (Ok threads) = means-reading_from also past_end spec (draft_of threads) others
   means-head line others (Err rule) = refl
 
-  means-content : (lines : List ContentLine) → ContentMeans also past_end spec lines (work_by spec (reading_all also past_end spec lines))
+  pub means-content : (lines : List ContentLine) → ContentMeans also past_end spec lines (work_by spec (reading_all also past_end spec lines))
   means-content [] = refl
   means-content (line ∷ others) = means-head line others (threads_of line.bytes)
 

@@ -2,6 +2,8 @@
 use Rattle.std.proofs.Common.{◌≡◌, ℕ, zero, suc, ◌+◌, ◌-◌, ◌<◌, ◌≤◌, List, [], ◌∷◌, ◌++◌, length, map, Some, refl, sym, ap, ◌∙◌, arith}
 use Rattle.std.specs.Prelude.{codes}
 use Rattle.std.specs.List.{flat_map, slice_get, enumerate_from}
+use Rattle.std.specs.Option.{option_map}
+use Rattle.std.proofs.lemmas.Option.{slice_get-map}
 use Rattle.std.proofs.lemmas.List.{length-map, length-append}
 use Rattle.std.proofs.lemmas.List.Concat.{flat_map-append}
 use Rattle.rc_tuple.specs.Tuple.{Pairs}
@@ -9,7 +11,7 @@ use Rattle.rc_text.specs.Lines.{printed_lines}
 use Rattle.rc_spec.specs.declared.spec.Spec.{Spec}
 use Rattle.rc_rel.specs.declared.entry.Entry.{Entry}
 use Rattle.rc_work.specs.Printed.{row_text}
-use Rattle.rc_work.specs.Report.{entry_lines, journal_lines, count_line, report, entry_parts, final_parts, parts}
+use Rattle.rc_work.specs.Report.{entry_lines, journal_lines, count_line, final_lines, report, entry_parts, final_parts, parts}
 
 -- ---- places in two lists, one after the other
 
@@ -75,33 +77,43 @@ part_after spec texts history rows number h le =
     ∙ slice_get_right (entry_parts spec texts history) (final_parts spec texts rows) (number - 1) (omega (arith, length-entry_parts spec texts history))
     ∙ ap (λ n. slice_get (final_parts spec texts rows) (number - 1 - n)) (length-entry_parts spec texts history)
 
-mapped_at : (f : Pairs → List (List ℕ)) (rows : List Pairs) (i : ℕ) (t : Pairs) → slice_get rows i ≡ Some t → slice_get (map f rows) i ≡ Some (f t)
-mapped_at f [] i t h = cc
-mapped_at f (x ∷ rows) zero t h = ap (λ w. Some (f w)) (some_same x t h)
-  where
-    some_same : (x t : Pairs) → Some x ≡ Some t → x ≡ t
-    some_same x t h = cc
-mapped_at f (x ∷ rows) (suc i) t h = mapped_at f rows i t h
+mapped_at : (f : Pairs → List ℕ) (rows : List Pairs) (i : ℕ) (t : Pairs) → slice_get rows i ≡ Some t → slice_get (map f rows) i ≡ Some (f t)
+mapped_at f rows i t h = slice_get-map f rows i ∙ ap (option_map f) h
+
+pub final_row : (spec : Spec) (texts : List (List ℕ)) (rows : List Pairs) (number : ℕ) (t : Pairs) → (number ≡ 0 → ⊥) → number - 1 < length rows
+    → slice_get rows (number - 1) ≡ Some t → slice_get (final_lines spec texts rows) number ≡ Some (row_text spec texts t)
+final_row spec texts rows number t h lt e =
+    slice_get_later (count_line (codes "final") (length rows)) (map (row_text spec texts) rows ++ codes "end" ∷ []) number h
+    ∙ slice_get_left (map (row_text spec texts) rows) (codes "end" ∷ []) (number - 1) (omega (arith, lt, length-map rows (row_text spec texts)))
+    ∙ mapped_at (row_text spec texts) rows (number - 1) t e
+
+pub final_after : (spec : Spec) (texts : List (List ℕ)) (rows : List Pairs) (number : ℕ) → (number ≡ 0 → ⊥) → length rows ≤ number - 1
+    → slice_get (final_lines spec texts rows) number ≡ slice_get (codes "end" ∷ []) (number - 1 - length rows)
+final_after spec texts rows number h le =
+    slice_get_later (count_line (codes "final") (length rows)) (map (row_text spec texts) rows ++ codes "end" ∷ []) number h
+    ∙ slice_get_right (map (row_text spec texts) rows) (codes "end" ∷ []) (number - 1) (omega (arith, le, length-map rows (row_text spec texts)))
+    ∙ ap (λ n. slice_get (codes "end" ∷ []) (number - 1 - n)) (length-map rows (row_text spec texts))
+
+-- each line of the final relation is a part by itself
+abbrev alone : List ℕ → List (List ℕ)
+alone line = line ∷ []
+
+rows_alone : (spec : Spec) (texts : List (List ℕ)) (rows : List Pairs)
+    → map (λ t. row_text spec texts t ∷ []) rows ++ (codes "end" ∷ []) ∷ [] ≡ map alone (map (row_text spec texts) rows ++ codes "end" ∷ [])
+rows_alone spec texts [] = refl
+rows_alone spec texts (t ∷ rows) = ap (λ l. alone (row_text spec texts t) ∷ l) (rows_alone spec texts rows)
+
+pub final_part : (spec : Spec) (texts : List (List ℕ)) (rows : List Pairs) (number : ℕ)
+    → slice_get (final_parts spec texts rows) number ≡ option_map alone (slice_get (final_lines spec texts rows) number)
+final_part spec texts rows number =
+    ap (λ l. slice_get (alone (count_line (codes "final") (length rows)) ∷ l) number) (rows_alone spec texts rows)
+    ∙ slice_get-map alone (final_lines spec texts rows) number
 
 abbrev row_part : Spec → List (List ℕ) → Pairs → List (List ℕ)
 row_part spec texts t = row_text spec texts t ∷ []
 
 abbrev end_part : List (List ℕ)
 end_part = codes "end" ∷ []
-
-pub final_row : (spec : Spec) (texts : List (List ℕ)) (rows : List Pairs) (number : ℕ) (t : Pairs) → (number ≡ 0 → ⊥) → number - 1 < length rows
-    → slice_get rows (number - 1) ≡ Some t → slice_get (final_parts spec texts rows) number ≡ Some (row_text spec texts t ∷ [])
-final_row spec texts rows number t h lt e =
-    slice_get_later (count_line (codes "final") (length rows) ∷ []) (map (row_part spec texts) rows ++ end_part ∷ []) number h
-    ∙ slice_get_left (map (row_part spec texts) rows) (end_part ∷ []) (number - 1) (omega (arith, length-map rows (row_part spec texts)))
-    ∙ mapped_at (row_part spec texts) rows (number - 1) t e
-
-pub final_after : (spec : Spec) (texts : List (List ℕ)) (rows : List Pairs) (number : ℕ) → (number ≡ 0 → ⊥) → length rows ≤ number - 1
-    → slice_get (final_parts spec texts rows) number ≡ slice_get ((codes "end" ∷ []) ∷ []) (number - 1 - length rows)
-final_after spec texts rows number h le =
-    slice_get_later (count_line (codes "final") (length rows) ∷ []) (map (row_part spec texts) rows ++ end_part ∷ []) number h
-    ∙ slice_get_right (map (row_part spec texts) rows) (end_part ∷ []) (number - 1) (omega (arith, length-map rows (row_part spec texts)))
-    ∙ ap (λ n. slice_get (end_part ∷ []) (number - 1 - n)) (length-map rows (row_part spec texts))
 
 pub length-parts : (spec : Spec) (texts : List (List ℕ)) (history : List Entry) (rows : List Pairs)
     → length (parts spec texts history rows) ≡ length history + length rows + 3

@@ -1,5 +1,8 @@
+ghost use Rattle.rc_work.specs.PartLaws.{PartsAreRefused, PartsAreWorks};
+ghost use Rattle.rc_work.specs.PartReadingLaws.{WorksAreParts};
 ghost use Rattle.rc_work.specs.PrintedLaws.{TextsPrintAsWritten};
 ghost use Rattle.rc_work.specs.RankingLaws.{TurnsWithoutGroupsAreSingle};
+ghost use Rattle.rc_work.specs.RunLengthLaws.{RunsHaveAllTurns};
 ghost use Rattle.rc_work.specs.RunsLaws.{EntriesAreTurns, RunsMakeCalls, RunsMakeTurns, SingleTurnsAreSingleSteps};
 
 /// In a run of a workload each thread's calls over all rounds stand once and in its order.
@@ -10,6 +13,11 @@ pub fn runs_make_calls()
 /// And so do its turns: each is an entry, whose steps make the turn's calls.
 pub fn runs_make_turns()
     ensures { RunsMakeTurns }
+{}
+
+/// A run has as many entries as the workload has turns.
+pub fn runs_have_all_turns()
+    ensures { RunsHaveAllTurns }
 {}
 
 /// Each entry of a run has the calls of a turn of its thread.
@@ -31,4 +39,13 @@ pub fn single_turns_are_single_steps()
 /// quotes.
 pub fn texts_print_as_written()
     ensures { TextsPrintAsWritten }
+{}
+
+/// A workload that is read up to its `end` is that of its lines up to there; where it is refused, so
+/// is the whole, for the same rule and line; and where the first lines are a workload, it is read,
+/// whatever stands behind it.
+pub fn parts_are_works()
+    ensures works { PartsAreWorks }
+    ensures refused { PartsAreRefused }
+    ensures found { WorksAreParts }
 {}

@@ -7,6 +7,7 @@ mod columns;
 mod draft;
 mod forms;
 mod laws;
+mod part;
 mod prefix_laws;
 mod printing;
 mod ranking;
@@ -22,12 +23,13 @@ pub use also::Also;
 pub use calls::refill_call;
 pub use columns::written_columns_at;
 pub use laws::{
-    entries_are_turns, runs_make_calls, runs_make_turns, single_turns_are_single_steps,
-    texts_print_as_written, turns_without_groups_are_single,
+    entries_are_turns, parts_are_works, runs_have_all_turns, runs_make_calls, runs_make_turns,
+    single_turns_are_single_steps, texts_print_as_written, turns_without_groups_are_single,
 };
+pub use part::read_work_part;
 pub use prefix_laws::{cut_texts_are_refused, last_letter_is_there};
-pub use printing::{print_step, print_tuple};
+pub use printing::{print_step, print_tuple, push_count_line, push_step_line};
 pub use reading::read_work;
-pub use reading_laws::first_broken_work_line;
-pub use report::Report;
+pub use reading_laws::{first_broken_part_line, first_broken_work_line};
+pub use report::{Report, print_final_line};
 pub use work::{Calls, Round, Rounds, Turn, Work};

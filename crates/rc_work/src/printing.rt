@@ -3,6 +3,7 @@ ghost use Rattle.std.specs.List.{zip};
 ghost use Rattle.rc_tuple.specs.Tuple.{value};
 ghost use Rattle.rc_spec.specs.Calls.{Fits};
 ghost use Rattle.rc_work.specs.Printed.{spaced, kind_at, value_text, pair_text, pair_words, row_text, bounds_given, given, outs_of, reply_words, values_and_reply, words_text, step_words};
+ghost use Rattle.rc_work.specs.Report.{count_line, step_line};
 
 use rc_rel::Step;
 use rc_spec::{Call, ColKind, Op, OpKind, Range, Reply, RowList, Spec};
@@ -239,18 +240,41 @@ pub fn print_step(alloc: Global, spec: &Spec, ranks: &Ranks, step: &Step) -> Res
 }
 
 /// Appends the words of a step, each after a space.
-pub(crate) fn push_step(
-    out: &mut Vec<u8>,
-    spec: &Spec,
-    ranks: &Ranks,
-    step: &Step,
-) -> Result<(), Memory>
+fn push_step(out: &mut Vec<u8>, spec: &Spec, ranks: &Ranks, step: &Step) -> Result<(), Memory>
     requires { Fits spec.now step.now.call }
-    ensures { OnOk result (out.new.items ≡ out.old.items ++ spaced (step_words spec.now ranks.now step.now)) }
+    ensures { OnOk result (out.new.items
+        ≡ out.old.items ++ spaced (step_words spec.now ranks.now step.now)) }
 {
     let op = spec.op(step.call.op);
     push_spaced(out, op.name.list())?;
     push_values_and_reply(out, spec, ranks, op, step)
+}
+
+/// Appends the line of a step, without a line feed: the place and the thread of its entry, and the
+/// step.
+pub fn push_step_line(
+    out: &mut Vec<u8>,
+    spec: &Spec,
+    ranks: &Ranks,
+    place: u64,
+    thread: u32,
+    step: &Step,
+) -> Result<(), Memory>
+    requires { Fits spec.now step.now.call }
+    ensures { OnOk result (out.new.items
+        ≡ out.old.items ++ step_line spec.now ranks.now place thread step.now) }
+{
+    push_u64(out, place)?;
+    push_spaced_u64(out, u64::from(thread))?;
+    push_step(out, spec, ranks, step)
+}
+
+/// Appends the line of a word with a count, without a line feed.
+pub fn push_count_line(out: &mut Vec<u8>, word: &[u8], count: u64) -> Result<(), Memory>
+    ensures { OnOk result (out.new.items ≡ out.old.items ++ count_line word.now count) }
+{
+    push_bytes(out, word)?;
+    push_spaced_u64(out, count)
 }
 
 /// Appends the values of a step's call, `->` and the reply, each after a space.

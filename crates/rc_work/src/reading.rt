@@ -62,7 +62,7 @@ fn threads_of(alloc: Global, bytes: &[u8]) -> Result<u32, LineFault>
 }
 
 /// Passes the header, which is the first content line, and answers the number of threads.
-fn read_header(alloc: Global, lines: &mut Lines<'_>) -> Result<u32, ReadRefusal>
+pub(crate) fn read_header(alloc: Global, lines: &mut Lines<'_>) -> Result<u32, ReadRefusal>
     ensures ok { IfOk result (λ threads. headed (past_end_of lines.old.text) (content_from lines.old)
         ≡ Ok (record { threads = threads; others = content_from lines.new })) }
     ensures err { IfErr result (λ refusal. Refuses refusal (headed (past_end_of lines.old.text) (content_from lines.old))) }
@@ -103,10 +103,10 @@ fn read_line(
 
 /// The lines behind the header, as a language that reads them into a draft. None ends the reading.
 #[derive(Clone, Copy, Debug)]
-struct DraftLines<'a> {
-    alloc: Global,
-    also: Also,
-    spec: &'a Spec,
+pub(crate) struct DraftLines<'a> {
+    pub(crate) alloc: Global,
+    pub(crate) also: Also,
+    pub(crate) spec: &'a Spec,
 }
 
 impl<'a> Language for DraftLines<'a> {

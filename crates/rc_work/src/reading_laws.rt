@@ -1,4 +1,4 @@
-//! A law of reading, in the words of the format.
+//! Laws of reading, in the words of the format.
 
 ghost use Rattle.std.specs.Prelude.{◌≡◌, ◌↔◌, Result};
 ghost use Rattle.rc_text.specs.Lines.{TextPlace};
@@ -7,11 +7,20 @@ ghost use Rattle.rc_reader.specs.Grammar.{Broken};
 ghost use Rattle.rc_work.specs.declared.also.Also.{Also};
 ghost use Rattle.rc_work.specs.declared.work.Work.{Work};
 ghost use Rattle.rc_work.specs.Ranking.{work_reading};
-ghost use Rattle.rc_work.specs.FirstBroken.{WorkMeans};
+ghost use Rattle.rc_work.specs.FirstBroken.{PartMeans, WorkMeans};
+ghost use Rattle.rc_work.specs.PartGrammar.{WorkPart, part_reading};
 
 /// A workload is read where the header stands first, each line behind it breaks no rule, and `end` is one of them;
 /// else the refusal is of the first line that breaks a rule, or the lines run out. Nothing else is what lines give.
 pub fn first_broken_work_line()
     ensures { (also : Also) (spec : Spec) (place : TextPlace) (gives : Result Work Broken)
         → (work_reading also spec place ≡ gives) ↔ WorkMeans also spec place gives }
+{}
+
+/// A workload is read up to its `end` where the header stands first, `end` is one of the lines behind
+/// it, and none up to there breaks a rule; else the refusal is of the first line that breaks a rule, or
+/// the lines run out. What stands behind `end` is left open.
+pub fn first_broken_part_line()
+    ensures { (also : Also) (spec : Spec) (place : TextPlace) (gives : Result WorkPart Broken)
+        → (part_reading also spec place ≡ gives) ↔ PartMeans also spec place gives }
 {}

@@ -3,12 +3,12 @@ ghost use Rattle.std.specs.Option.{option_map};
 ghost use Rattle.rc_text.specs.Lines.{printed_lines};
 ghost use Rattle.rc_rel.specs.History.{AllFit, StepsFit};
 ghost use Rattle.rc_spec.specs.Calls.{Fits};
-ghost use Rattle.rc_work.specs.Report.{parts, step_line, group_head, head_lines, entry_lines, final_parts, count_line};
+ghost use Rattle.rc_work.specs.Report.{parts, step_line, group_head, head_lines, entry_lines, final_lines, final_parts, count_line};
 
-use crate::printing::{print_tuple, push_spaced, push_spaced_u64, push_step};
+use crate::printing::{print_tuple, push_count_line, push_spaced, push_spaced_u64, push_step_line};
 use rc_rel::{Entry, Step};
 use rc_spec::Spec;
-use rc_text::{push_bytes, push_u64};
+use rc_text::push_u64;
 use rc_tuple::{Memory, Tuple};
 use rc_values::Ranks;
 use std::alloc::Global;
@@ -59,18 +59,10 @@ impl<'a> Report<'a> {
             ≡ option_map printed_lines (slice_get (final_parts self.now.spec.now self.now.ranks.now
             self.now.rows.now) number)) }
     {
-        if number == 0 {
-            return Ok(Some(counted(alloc, b"final", self.rows.len() as u64)?));
+        match print_final_line(alloc, self.spec, self.ranks, self.rows, number)? {
+            Some(line) => Ok(Some(with_feed(line)?)),
+            None => Ok(None),
         }
-        let place = number - 1;
-        if place < self.rows.len() {
-            let line = print_tuple(alloc, self.spec, self.ranks, &self.rows[place])?;
-            return Ok(Some(with_feed(line)?));
-        }
-        if place == self.rows.len() {
-            return Ok(Some(with_feed(word(alloc, b"end")?)?));
-        }
-        Ok(None)
     }
 
     /// The lines of an entry with its place.
@@ -99,30 +91,38 @@ impl<'a> Report<'a> {
             steps.now)) }
     {
         for step in steps {
-            self.push_step_line(text, place, thread, step)?;
+            push_step_line(text, self.spec, self.ranks, place as u64, thread, step)?;
+            text.push(b'\n')?;
         }
         Ok(())
     }
+}
 
-    /// Appends the line of a step.
-    fn push_step_line(
-        &self,
-        text: &mut Vec<u8>,
-        place: usize,
-        thread: u32,
-        step: &Step,
-    ) -> Result<(), Memory>
-        requires { Fits self.now.spec.now step.now.call }
-        ensures { OnOk result (text.new.items ≡ text.old.items
-            ++ printed_lines (step_line self.now.spec.now self.now.ranks.now place thread step.now
-            ∷ [])) }
-    {
-        push_u64(text, place as u64)?;
-        push_spaced_u64(text, u64::from(thread))?;
-        push_step(text, self.spec, self.ranks, step)?;
-        text.push(b'\n')?;
-        Ok(())
+/// The line of a final relation with this number, counted from that with the number of tuples: the
+/// tuples, in order, and then `end`. `None` exactly where there is no such line.
+pub fn print_final_line(
+    alloc: Global,
+    spec: &Spec,
+    ranks: &Ranks,
+    rows: &[Tuple],
+    number: usize,
+) -> Result<Option<Vec<u8>>, Memory>
+    ensures { IfOk result (λ line. option_map (λ bytes. bytes.items) line
+        ≡ slice_get (final_lines spec.now ranks.now rows.now) number) }
+{
+    if number == 0 {
+        let mut line = Vec::new(alloc);
+        push_count_line(&mut line, b"final", rows.len() as u64)?;
+        return Ok(Some(line));
     }
+    let place = number - 1;
+    if place < rows.len() {
+        return Ok(Some(print_tuple(alloc, spec, ranks, &rows[place])?));
+    }
+    if place == rows.len() {
+        return Ok(Some(Vec::from_slice(alloc, b"end")?));
+    }
+    Ok(None)
 }
 
 /// Appends the line that says how many steps an entry with this place has, where they are two or more.
@@ -151,19 +151,11 @@ fn with_feed(line: Vec<u8>) -> Result<Vec<u8>, Memory>
     Ok(text)
 }
 
-/// The line of a word with a count.
+/// The line of a word with a count, with its line feed.
 fn counted(alloc: Global, name: &[u8], count: u64) -> Result<Vec<u8>, Memory>
     ensures { IfOk result (λ text. text.items ≡ printed_lines (count_line name.now count ∷ [])) }
 {
-    let mut line = word(alloc, name)?;
-    push_spaced_u64(&mut line, count)?;
-    with_feed(line)
-}
-
-fn word(alloc: Global, name: &[u8]) -> Result<Vec<u8>, Memory>
-    ensures { IfOk result (λ line. line.items ≡ name.now) }
-{
     let mut line = Vec::new(alloc);
-    push_bytes(&mut line, name)?;
-    Ok(line)
+    push_count_line(&mut line, name, count)?;
+    with_feed(line)
 }

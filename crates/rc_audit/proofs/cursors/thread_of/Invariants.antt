@@ -1,0 +1,7 @@
+use Rattle.std.proofs.Common.{ℕ, ◌<◌}
+use Rattle.rc_audit.specs.Cursors.{HasLeft}
+use Rattle.rc_audit.specs.Judging.{IsOfThread}
+use Rattle.rc_audit.proofs.cursors.thread_of.Given as goal
+
+abbrev pub invariant-loop-thread : goal.invariant-loop-thread
+invariant-loop-thread l = (thread : ℕ) → thread < l.thread → HasLeft l.round l.cursors thread → IsOfThread l.place l.line thread → ⊥

@@ -1,0 +1,10 @@
+use Rattle.std.proofs.Common.{sym, subst}
+use Rattle.rc_tuple.specs.RisingSet.{In}
+use Rattle.rc_tuple.specs.RisingSetLaws.{get_or_in}
+use Rattle.rc_plan.specs.declared.statement.Statement.{Statement}
+use Rattle.rc_audit.proofs.opening.push_statements.Goals as goal
+
+pub push_statement-requires : goal.push_statement-requires
+push_statement-requires c =
+    c.requires c.statement-item.result
+    (subst (λ (x : Statement). In x c.args.plan.now) (sym c.statement-item.is) (get_or_in c.args.plan.now c.loop-statement.statement-index c.statement-item.result c.loop-statement-test.true))

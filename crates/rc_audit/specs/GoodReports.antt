@@ -1,0 +1,67 @@
+-- Good reports of a specification with its plans and a workload, and the verdict on a list of content lines.
+use Rattle.std.specs.Prelude.{◌≡◌, ◌⊎◌, ℕ, List, [], ◌∷◌, ◌++◌, length, map, codes}
+use Rattle.std.specs.List.{flat_map, range_with_len}
+use Rattle.rc_text.specs.Lines.{ContentLine, bytes_of_content}
+use Rattle.rc_spec.specs.declared.spec.Spec.{Spec}
+use Rattle.rc_spec.specs.Placement.{op_at}
+use Rattle.rc_plan.specs.declared.statement.Statement.{Statement}
+use Rattle.rc_plan.specs.Compiled.{SpecWithPlans, plan_at}
+use Rattle.rc_plan.specs.PlanText.{statement_text}
+use Rattle.rc_rel.specs.declared.entry.Entry.{Entry}
+use Rattle.rc_rel.specs.History.{replay}
+use Rattle.rc_work.specs.declared.work.Work.{Work}
+use Rattle.rc_work.specs.Report.{report}
+use Rattle.rc_work.specs.Runs.{Runs}
+use Rattle.rc_audit.specs.declared.verdict.Verdict.{Verdict}
+use Rattle.rc_audit.specs.declared.verdict.Verdict.TheVariants.{Legal, Bad}
+
+-- the lines of an operation's plan, by its number
+abbrev pub op_lines : Spec → List (List Statement) → ℕ → List (List ℕ)
+op_lines spec plans op = (codes "plan " ++ (op_at spec op).name) ∷ map (statement_text spec) (plan_at plans op)
+
+-- those of all plans, in the order in which the operations are written
+abbrev pub plans_in_lines : SpecWithPlans → List (List ℕ)
+plans_in_lines compiled = flat_map (op_lines compiled.spec compiled.plans) (range_with_len 0 (length compiled.spec.ops))
+
+-- the lines that are printed of a history: the plans, and the report with the relation that the history leaves
+abbrev pub run_lines : SpecWithPlans → Work → List Entry → List (List ℕ)
+run_lines compiled work history = plans_in_lines compiled ++ report compiled.spec work.ranks history (replay compiled.spec history)
+
+-- The lines of a good report: all that is printed of a run of the workload, with so many entries, the plans among them. Each
+-- entry has one step where each turn of the workload has one call.
+pub record IsGoodReport (compiled : SpecWithPlans) (work : Work) (lines : List (List ℕ)) (entries : ℕ) : Type 0 where
+  pub history : List Entry
+  pub run : Runs compiled.spec work history
+  pub printed : lines ≡ run_lines compiled work history
+  pub count : length history ≡ entries
+
+-- the lines begin a good report
+pub record BeginsGood (compiled : SpecWithPlans) (work : Work) (lines : List (List ℕ)) : Type 0 where
+  pub others : List (List ℕ)
+  pub entries : ℕ
+  pub good : IsGoodReport compiled work (lines ++ others) entries
+
+-- ---- the verdict
+
+-- a line such that the lines before it begin a good report, and with it they begin none
+pub record IsFirstBadLine (compiled : SpecWithPlans) (work : Work) (lines : List ContentLine) (number : ℕ) : Type 0 where
+  pub front : List ContentLine
+  pub line : ContentLine
+  pub others : List ContentLine
+  pub whole : lines ≡ front ++ line ∷ others
+  pub before : BeginsGood compiled work (bytes_of_content front)
+  pub bad : BeginsGood compiled work (bytes_of_content front ++ line.bytes ∷ []) → ⊥
+  pub number_is : line.number ≡ number
+
+-- all lines begin a good report and are none: the line is one past the text's last, which may be blank or a comment
+pub record AreTooFew (compiled : SpecWithPlans) (work : Work) (past_end : ℕ) (lines : List ContentLine) (number : ℕ) : Type 0 where
+  pub begin : BeginsGood compiled work (bytes_of_content lines)
+  pub none : (entries : ℕ) → IsGoodReport compiled work (bytes_of_content lines) entries → ⊥
+  pub number_is : past_end ≡ number
+
+-- Legal, with the number of entries; or bad, by the first line such that no good report begins with the lines so far, or
+-- one past the text's last where more lines are wanted.
+abbrev pub IsVerdict : SpecWithPlans → Work → ℕ → List ContentLine → Verdict → Type 0
+IsVerdict compiled work past_end lines (Legal entries) = IsGoodReport compiled work (bytes_of_content lines) entries
+IsVerdict compiled work past_end lines (Bad number) =
+    IsFirstBadLine compiled work lines number ⊎ AreTooFew compiled work past_end lines number

@@ -1,0 +1,69 @@
+-- What the lines so far tell of a run.
+use Rattle.std.specs.Prelude.{◌≡◌, ℕ, List, [], ◌∷◌, ◌++◌, codes, length, sum_by}
+use Rattle.std.specs.List.{enumerate_from, flat_map}
+use Rattle.rc_spec.specs.declared.spec.Spec.{Spec}
+use Rattle.rc_spec.specs.declared.call.Call.{Call}
+use Rattle.rc_spec.specs.Plain.{plain}
+use Rattle.rc_plan.specs.Compiled.{SpecWithPlans}
+use Rattle.rc_rel.specs.declared.entry.Entry.{Entry}
+use Rattle.rc_rel.specs.declared.entry.Step.{Step}
+use Rattle.rc_rel.specs.History.{replay}
+use Rattle.rc_work.specs.declared.work.Turn.{Turn}
+use Rattle.rc_work.specs.declared.work.Work.{Work}
+use Rattle.rc_work.specs.Fitting.{HasThreads, RoundsFit}
+use Rattle.rc_work.specs.Limits.{HasSingleTurns, KeepsLimits}
+use Rattle.rc_work.specs.Report.{count_line, entry_lines, final_lines, journal_lines, step_line}
+use Rattle.rc_work.specs.Runs.{Runs}
+use Rattle.rc_audit.specs.GoodReports.{plans_in_lines, run_lines}
+use Rattle.rc_audit.specs.Standing.{Stands}
+
+-- a workload whose reports are judged: it keeps the limits, its calls fit, and each turn has one
+pub record IsJudgeable (spec : Spec) (work : Work) : Type 0 where
+  pub threads : HasThreads work
+  pub limits : KeepsLimits work
+  pub fit : RoundsFit spec work.rounds
+  pub single : HasSingleTurns work
+
+-- the call with the plain reply after a history
+abbrev pub step_after : Spec → List Entry → Call → Step
+step_after spec done call = record { call = call; reply = (plain spec (replay spec done) call).reply }
+
+-- the lines of entries with their places, of which the first has this one
+abbrev pub entry_lines_from : Spec → List (List ℕ) → ℕ → List Entry → List (List ℕ)
+entry_lines_from spec texts n history = flat_map (λ e. entry_lines spec texts e.0 e.1) (enumerate_from n history)
+
+module _ (compiled : SpecWithPlans) (work : Work) where
+  -- the lines up to that with the number of entries
+  abbrev pub opening_lines : List (List ℕ)
+  opening_lines = plans_in_lines compiled ++ count_line (codes "journal") (sum_by length work.rounds) ∷ []
+
+  -- the lines up to the last entry that is done
+  abbrev pub lines_done : List Entry → List (List ℕ)
+  lines_done done = opening_lines ++ journal_lines compiled.spec work.ranks done
+
+  -- the lines of the relation that a history leaves, with which its report ends
+  abbrev pub closing_lines : List Entry → List (List ℕ)
+  closing_lines history = final_lines compiled.spec work.ranks (replay compiled.spec history)
+
+  -- the lines behind the entries that are done, of a history that goes on
+  abbrev pub lines_behind : List Entry → List Entry → List (List ℕ)
+  lines_behind done more = entry_lines_from compiled.spec work.ranks (length done) more ++ closing_lines (done ++ more)
+
+  -- the line of a thread's call behind the entries that are done
+  abbrev pub next_line : List Entry → ℕ → Call → List ℕ
+  next_line done thread call = step_line compiled.spec work.ranks (length done) thread (step_after compiled.spec done call)
+
+  -- These lines are those up to the last entry that is done, from where a run goes on as it stands; and each good report
+  -- that begins with them is of a run that begins with these entries.
+  pub record IsJudged (done : List Entry) (left : ℕ → List (List Call)) (rounds : List (List Turn)) (front : List (List ℕ)) : Type 0 where
+    pub stands : Stands compiled.spec work done left rounds
+    pub lines : front ≡ lines_done done
+    pub told : (history : List Entry) (others : List (List ℕ)) → Runs compiled.spec work history
+        → run_lines compiled work history ≡ front ++ others → (more : List Entry) × (history ≡ done ++ more)
+
+  -- where nothing is left, the entries that are done are a run, and the only one whose report begins with the lines so far
+  pub record IsWhole (done : List Entry) (front : List (List ℕ)) : Type 0 where
+    pub run : Runs compiled.spec work done
+    pub printed : run_lines compiled work done ≡ front ++ closing_lines done
+    pub only : (history : List Entry) (others : List (List ℕ)) → Runs compiled.spec work history
+        → run_lines compiled work history ≡ front ++ others → (history ≡ done) × (others ≡ closing_lines done)

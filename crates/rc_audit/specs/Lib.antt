@@ -1,0 +1,14 @@
+pub mod GoodReports
+pub mod PlanLinesLaws
+pub mod Left
+pub mod LeftLaws
+pub mod Standing
+pub mod Next
+pub mod Judged
+pub mod JudgedLaws
+pub mod WantedLaws
+pub mod VerdictLaws
+pub mod Cursors
+pub mod CursorsLaws
+pub mod Keeping
+pub mod Judging
