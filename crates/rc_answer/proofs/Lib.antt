@@ -4,3 +4,4 @@ pub mod PlanLemmas
 pub mod WriteLemmas
 pub mod RanLemmas
 pub mod SummingLemmas
+pub mod AuditLemmas

@@ -1,6 +1,6 @@
 -- What may be written for an input, with which status.
 use Rattle.std.specs.Prelude.{◌≡◌, ℕ, ◌⊎◌, List, [], ◌∷◌, ◌++◌, Option, Some, None, Result, Ok, Err, decimal, codes}
-use Rattle.rc_text.specs.Lines.{printed_lines}
+use Rattle.rc_text.specs.Lines.{ContentLine, past_end_of, printed_lines}
 use Rattle.rc_spec.specs.declared.refusal.Refusal.{Refusal}
 use Rattle.rc_spec.specs.declared.spec.Spec.{Spec}
 use Rattle.rc_spec.specs.Acceptance.{IsAccepted, IsFirstBroken}
@@ -17,16 +17,20 @@ use Rattle.rc_work.specs.declared.also.Also.{Also}
 use Rattle.rc_work.specs.declared.also.Also.TheVariants.{Nothing, Groups}
 use Rattle.rc_work.specs.declared.work.Work.{Work}
 use Rattle.rc_work.specs.LineRules.{op_number}
+use Rattle.rc_work.specs.PartGrammar.{WorkPart, part_reading}
 use Rattle.rc_work.specs.Printed.{words_text}
 use Rattle.rc_work.specs.Ranking.{work_reading}
 use Rattle.rc_work.specs.Report.{report}
 use Rattle.rc_work.specs.Runs.{Runs}
 use Rattle.rc_work.specs.WholeText.{place_after}
+use Rattle.rc_audit.specs.declared.verdict.Verdict.{Verdict}
+use Rattle.rc_audit.specs.declared.verdict.Verdict.TheVariants as verdicts
+use Rattle.rc_audit.specs.GoodReports.{IsVerdict}
 use Rattle.rc_answer.specs.Plans.{ArePlanned, plans_and_end, plans_text}
 use Rattle.rc_command.specs.declared.command.TextCommand.{TextCommand}
-use Rattle.rc_command.specs.declared.command.TextCommand.TheVariants.{Check, Plan, Run, Group, Dot, DotPlan}
+use Rattle.rc_command.specs.declared.command.TextCommand.TheVariants.{Check, Plan, Run, Group, Audit, Dot, DotPlan}
 use Rattle.rc_answer.specs.declared.status.Status.{Status}
-use Rattle.rc_answer.specs.declared.status.Status.TheVariants.{Done, Refused}
+use Rattle.rc_answer.specs.declared.status.Status.TheVariants.{Done, Bad, Refused}
 
 abbrev pub accepted_text : List ℕ
 accepted_text = printed_lines (codes "accepted" ∷ [])
@@ -120,18 +124,51 @@ abbrev pub AnswersRun : Also → List ℕ → Result Reading Broken → List ℕ
 AnswersRun also input (Err broken) text status = IsRefusal broken text status
 AnswersRun also input (Ok reading) text status = AnswersRules reading.spec (AnswersWork reading.spec (work_reading also reading.spec (place_after input reading))) text status
 
+-- ---- audit
+
+-- what is said of a report
+abbrev pub verdict_text : Verdict → List ℕ
+verdict_text (verdicts.Legal entries) = printed_lines (words_text (codes "legal" ∷ decimal entries ∷ []) ∷ [])
+verdict_text (verdicts.Bad line) = printed_lines (words_text (codes "bad" ∷ codes "line" ∷ decimal line ∷ []) ∷ [])
+
+abbrev pub verdict_status : Verdict → Status
+verdict_status (verdicts.Legal entries) = Done
+verdict_status (verdicts.Bad line) = Bad
+
+abbrev pub IsVerdictText : Verdict → List ℕ → Status → Type 0
+IsVerdictText verdict text status = (text ≡ verdict_text verdict) × (status ≡ verdict_status verdict)
+
+-- the verdict on the lines behind a workload, by the planned plan of each operation
+pub record IsJudgement (spec : Spec) (work : Work) (past_end : ℕ) (lines : List ContentLine) (text : List ℕ) (status : Status) : Type 0 where
+  pub plans : List (List Statement)
+  pub planned : ArePlanned spec plans
+  pub verdict : Verdict
+  pub is : IsVerdict (record { spec = spec; plans = plans }) work past_end lines verdict
+  pub written : IsVerdictText verdict text status
+
+abbrev pub AnswersPart : Spec → ℕ → Result WorkPart Broken → List ℕ → Status → Type 0
+AnswersPart spec past_end (Err broken) text status = IsRefusal broken text status
+AnswersPart spec past_end (Ok part) text status = IsJudgement spec part.work past_end part.others text status
+
+-- what is written of a specification, a workload of single calls and the lines behind that
+abbrev pub AnswersAudit : List ℕ → Result Reading Broken → List ℕ → Status → Type 0
+AnswersAudit input (Err broken) text status = IsRefusal broken text status
+AnswersAudit input (Ok reading) text status =
+    AnswersRules reading.spec (AnswersPart reading.spec (past_end_of input) (part_reading Nothing reading.spec (place_after input reading))) text status
+
 -- ---- all commands that read a text
 
 -- What an input that is not too long may have written. `check`, `plan` and `dot` read a specification alone: the refusal of its
 -- first broken line rule, then of its first broken rule of acceptance, else `accepted`, the plans, or the drawing. Where an
 -- operation is named, the drawing has its plan; where none has the name, the name is refused. `run` and `group` read a workload
 -- behind it, `group` one in which groups may stand, and refuse by its line rules last; else they write the plans and the report
--- of a run.
+-- of a run. `audit` reads a workload up to its `end`, refuses as `run` does, and else judges the lines behind that.
 abbrev pub Answers : TextCommand → List ℕ → List ℕ → Status → Type 0
 Answers Check input text status = AnswersAlone (λ spec. IsAcceptedText) (spec_of input) text status
 Answers Plan input text status = AnswersAlone IsPlansText (spec_of input) text status
 Answers Run input text status = AnswersRun Nothing input (spec_reading input) text status
 Answers Group input text status = AnswersRun Groups input (spec_reading input) text status
+Answers Audit input text status = AnswersAudit input (spec_reading input) text status
 Answers Dot input text status = AnswersAlone IsDrawing (spec_of input) text status
 Answers (DotPlan op) input text status = AnswersAlone (IsPlanDrawingNamed op) (spec_of input) text status
 
@@ -141,6 +178,7 @@ MakesCalls Check = ⊥
 MakesCalls Plan = ⊥
 MakesCalls Run = Unit {0}
 MakesCalls Group = Unit {0}
+MakesCalls Audit = ⊥
 MakesCalls Dot = ⊥
 MakesCalls (DotPlan op) = ⊥
 
@@ -150,6 +188,7 @@ also_of Check = Nothing
 also_of Plan = Nothing
 also_of Run = Nothing
 also_of Group = Groups
+also_of Audit = Nothing
 also_of Dot = Nothing
 also_of (DotPlan op) = Nothing
 

@@ -1,13 +1,16 @@
--- THE HEADLINE: what `relc run` and `relc group` have done with a text, and `relc check` with a specification, in one place.
+-- THE HEADLINE: what `relc run`, `relc group` and `relc audit` have done with a text, and `relc check` with a specification, in
+-- one place.
 --
 --   A specification is accepted exactly where the written rules hold, and a refusal names the first broken one. For an accepted
 --   one the printed journal is one legal history, in which each thread's calls stand once, in its order and after all calls of
 --   earlier rounds; every reply is that of the plain relation at its place; and every state satisfies the dependencies.
 --   Where groups are read, the calls of a group stand there as one entry, between which there is no other; each other call is an
 --   entry by itself, and so is every call of `run`.
+--   `relc audit` judges lines that stand behind a workload: they are legal exactly where they are what is printed of some run,
+--   and else exactly one line is the first with which no such text begins.
 --
--- The call `relc` (rc_top/src/top.rt, clauses `headline`, `group_headline` and `check_headline`) promises it where the words say
--- so, the source tells its bytes, these are at most 2^24, and the status is Done or Refused. Read this file to its end, and then
+-- The call `relc` (rc_top/src/top.rt, clauses `headline`, `group_headline`, `check_headline` and `audit_headline`) promises it
+-- where the words say so, the source tells its bytes, these are at most 2^24, and the status is Done, Refused or, of `audit`, Bad. Read this file to its end, and then
 -- what its words stand on, in this order (docs/BELIEVING.md lists each file):
 --   the rules           rc_spec: Acceptance (IsAccepted, IsFirstBroken), Adequacy (A1 to A7), Placement (P1 to P6, O1 to O3)
 --   the plain relation  rc_spec: Plain; rc_tuple: Relation (Satisfies, Follows), Tuple
@@ -15,31 +18,36 @@
 --   the grammar         rc_reader: Grammar (spec_reading); rc_work: Ranking (work_reading)
 --   the printed forms   rc_work: Report; rc_spec: RefusalText; rc_plan: PlanText
 --   planned plans       rc_query: Planned (IsPlanned)
-use Rattle.std.specs.Prelude.{◌≡◌, ℕ, suc, ◌<◌, List, [], ◌∷◌, ◌++◌, ◌⊎◌, Option, None, Some, Result, Ok, Err}
+--   good reports        rc_audit: GoodReports (IsGoodReport, IsVerdict)
+use Rattle.std.specs.Prelude.{◌≡◌, ◌↔◌, ℕ, suc, ◌<◌, List, [], ◌∷◌, ◌++◌, ◌⊎◌, Option, None, Some, Result, Ok, Err}
 use Rattle.std.specs.List.{flat_map, slice_get}
 use Rattle.rc_tuple.specs.RisingSet.{In}
 use Rattle.rc_tuple.specs.Relation.{Satisfies}
 use Rattle.rc_tuple.specs.Tuple.{Pairs}
-use Rattle.rc_text.specs.Lines.{printed_lines}
+use Rattle.rc_text.specs.Lines.{ContentLine, bytes_of_content, past_end_of, printed_lines}
 use Rattle.rc_io.specs.Bytes.{Adds}
 use Rattle.rc_spec.specs.declared.refusal.Refusal.{Refusal}
 use Rattle.rc_spec.specs.declared.spec.Spec.{Spec}
 use Rattle.rc_spec.specs.Acceptance.{IsAccepted, IsFirstBroken}
 use Rattle.rc_spec.specs.RefusalText as rules
+use Rattle.rc_plan.specs.declared.statement.Statement.{Statement}
 use Rattle.rc_rel.specs.declared.entry.Entry.{Entry}
 use Rattle.rc_rel.specs.History.{AllFit, AreLegalFrom, after_steps, calls_of, own, relation_at, replay}
 use Rattle.rc_reader.specs.Grammar.{Broken, Reading, spec_of, spec_reading}
 use Rattle.rc_work.specs.declared.also.Also.{Also}
 use Rattle.rc_work.specs.declared.also.Also.TheVariants.{Nothing}
 use Rattle.rc_work.specs.declared.work.Work.{Work}
+use Rattle.rc_work.specs.PartGrammar.{WorkPart, part_reading}
 use Rattle.rc_work.specs.Ranking.{work_reading}
 use Rattle.rc_work.specs.Report.{report}
 use Rattle.rc_work.specs.Runs.{HasSingleSteps, MakesRounds, thread_calls, thread_turns, turns_of}
 use Rattle.rc_work.specs.WholeText.{place_after}
+use Rattle.rc_audit.specs.declared.verdict.Verdict.{Verdict}
+use Rattle.rc_audit.specs.GoodReports.{IsGoodReport, IsVerdict}
 use Rattle.rc_answer.specs.declared.outcome.Outcome.{Outcome}
 use Rattle.rc_answer.specs.declared.outcome.Ran.{Ran}
 use Rattle.rc_answer.specs.declared.status.Status.TheVariants.{Done, Refused}
-use Rattle.rc_answer.specs.Answers.{accepted_text, line_refusal_text}
+use Rattle.rc_answer.specs.Answers.{accepted_text, line_refusal_text, verdict_status, verdict_text}
 use Rattle.rc_answer.specs.Plans.{ArePlanned, plans_text}
 
 -- ---- one legal history
@@ -95,6 +103,24 @@ pub record HasRunOnce (also : Also) (spec : Spec) (work : Work) (old new : Optio
   pub last : ran.last ≡ replay spec journal
   pub printed : Adds old (plans_text spec ran.closed.compiled.plans ++ printed_lines (report spec work.ranks journal ran.last)) new
 
+-- The sink has gained the one verdict on the lines behind a workload, by the planned plans, and no run is left: `legal` with
+-- the number of entries exactly where they are those of a good report, and else the one line that is the first bad one.
+pub record HasJudged (spec : Spec) (work : Work) (past_end : ℕ) (lines : List ContentLine) (old new : Option (List ℕ)) (outcome : Outcome) : Type 0 where
+  pub plans : List (List Statement)
+  pub planned : ArePlanned spec plans
+  pub verdict : Verdict
+  pub is : IsVerdict (record { spec = spec; plans = plans }) work past_end lines verdict
+  pub only : (other : Verdict) → IsVerdict (record { spec = spec; plans = plans }) work past_end lines other → other ≡ verdict
+  pub good : (outcome.status ≡ Done) ↔ ((entries : ℕ) × IsGoodReport (record { spec = spec; plans = plans }) work (bytes_of_content lines) entries)
+  pub status : outcome.status ≡ verdict_status verdict
+  pub none : outcome.ran ≡ None
+  pub printed : Adds old (verdict_text verdict) new
+
+-- a workload that breaks a line rule up to its `end` is refused, and behind any other the lines are judged
+abbrev pub OfPart : Spec → ℕ → Result WorkPart Broken → Option (List ℕ) → Option (List ℕ) → Outcome → Type 0
+OfPart spec past_end (Err broken) old new outcome = Refuses (line_refusal_text broken) old new outcome
+OfPart spec past_end (Ok part) old new outcome = HasJudged spec part.work past_end part.others old new outcome
+
 -- a workload that breaks a line rule is refused, and any other is run
 abbrev pub OfWork : Also → Spec → Result Work Broken → Option (List ℕ) → Option (List ℕ) → Outcome → Type 0
 OfWork also spec (Err broken) old new outcome = Refuses (line_refusal_text broken) old new outcome
@@ -118,6 +144,12 @@ abbrev pub OfAlone : Result Spec Broken → Option (List ℕ) → Option (List �
 OfAlone (Err broken) old new outcome = Refuses (line_refusal_text broken) old new outcome
 OfAlone (Ok spec) old new outcome = OfSpec spec Accepts old new outcome
 
+-- behind a specification that is accepted stand a workload and lines to judge
+abbrev pub OfJudged : List ℕ → Result Reading Broken → Option (List ℕ) → Option (List ℕ) → Outcome → Type 0
+OfJudged input (Err broken) old new outcome = Refuses (line_refusal_text broken) old new outcome
+OfJudged input (Ok reading) old new outcome =
+    OfSpec reading.spec (OfPart reading.spec (past_end_of input) (part_reading Nothing reading.spec (place_after input reading))) old new outcome
+
 -- ---- the headline
 
 -- of `run`, which reads no groups (`Nothing`), and of `group`, which does (`Groups`)
@@ -127,3 +159,7 @@ Headline also input old new outcome = OfReading also input (spec_reading input) 
 -- and of `check`
 abbrev pub CheckHeadline : List ℕ → Option (List ℕ) → Option (List ℕ) → Outcome → Type 0
 CheckHeadline input old new outcome = OfAlone (spec_of input) old new outcome
+
+-- and of `audit`
+abbrev pub AuditHeadline : List ℕ → Option (List ℕ) → Option (List ℕ) → Outcome → Type 0
+AuditHeadline input old new outcome = OfJudged input (spec_reading input) old new outcome

@@ -1,16 +1,17 @@
--- The headline holds of what `run`, `group` and `check` answer with the status Done or Refused.
+-- The headline holds of what `run`, `group` and `check` answer with the status Done or Refused, and `audit` also with Bad.
 use Rattle.std.proofs.Common.{◌≡◌, ◌↔◌, ℕ, suc, ◌+◌, List, [], ◌∷◌, ◌++◌, take, drop, Option, Some, None, Result, Ok, Err, refl, sym, ap, subst, ◌∙◌, inl, inr, arith}
 use Rattle.std.specs.Prelude.{IfSome, IsSome}
 use Rattle.std.specs.List.{slice_get}
 use Rattle.std.proofs.lemmas.List.{take-append-drop, take_more}
 use Rattle.std.proofs.lemmas.Option.{get_or_from_slice_get, slice_get_within}
 use Rattle.rc_tuple.specs.Tuple.{Pairs}
-use Rattle.rc_text.specs.Lines.{printed_lines}
+use Rattle.rc_text.specs.Lines.{ContentLine, TextPlace, bytes_of_content, content_from, past_end_of, printed_lines}
 use Rattle.rc_io.specs.Bytes.{Adds}
 use Rattle.rc_spec.specs.declared.spec.Spec.{Spec}
 use Rattle.rc_spec.specs.AcceptanceLaws.{refused_not_accepted}
 use Rattle.rc_spec.specs.RefusalText as rules
 use Rattle.rc_spec.specs.Plain.{plain}
+use Rattle.rc_plan.specs.Compiled.{SpecWithPlans}
 use Rattle.rc_rel.specs.declared.entry.Entry.{Entry}
 use Rattle.rc_rel.specs.declared.entry.Step.{Step}
 use Rattle.rc_rel.specs.History.{AllFit, AreLegalFrom, IsLegal, after_steps, relation_at, replay, steps_of}
@@ -20,23 +21,33 @@ use Rattle.rc_reader.specs.Grammar.{Broken, Reading, spec_of, spec_reading}
 use Rattle.rc_work.specs.declared.also.Also.{Also}
 use Rattle.rc_work.specs.declared.also.Also.TheVariants.{Nothing}
 use Rattle.rc_work.specs.declared.work.Work.{Work}
+use Rattle.rc_work.specs.DraftsLaws.{IsDraft-reading_all}
+use Rattle.rc_work.specs.Fitting.{HasThreads}
 use Rattle.rc_work.specs.Limits.{HasSingleTurns}
-use Rattle.rc_work.specs.Ranking.{work_reading}
+use Rattle.rc_work.specs.PartGrammar.{WorkPart, part_reading}
+use Rattle.rc_work.specs.PartLaws.{parts_are_works}
+use Rattle.rc_work.specs.Ranking.{work_by, work_of, work_reading}
+use Rattle.rc_work.specs.RankingLaws.{HasThreads-work_with}
 use Rattle.rc_work.specs.Report.{report}
 use Rattle.rc_work.specs.Runs.{HasSingleSteps, Runs}
 use Rattle.rc_work.specs.RunsLaws.{runs_make_calls, runs_make_turns, single_turns_are_single_steps}
 use Rattle.rc_work.specs.WholeText.{place_after}
-use Rattle.rc_command.specs.declared.command.TextCommand.TheVariants.{Check}
+use Rattle.rc_work.specs.WorkGrammar.{draft_of, reading_all}
+use Rattle.rc_audit.specs.declared.verdict.Verdict.{Verdict}
+use Rattle.rc_audit.specs.declared.verdict.Verdict.TheVariants as verdicts
+use Rattle.rc_audit.specs.GoodReports.{IsGoodReport, IsVerdict}
+use Rattle.rc_audit.specs.VerdictLaws.{one_verdict}
+use Rattle.rc_command.specs.declared.command.TextCommand.TheVariants.{Audit, Check}
 use Rattle.rc_answer.specs.declared.outcome.Outcome.{Outcome}
 use Rattle.rc_answer.specs.declared.outcome.Ran.{Ran}
 use Rattle.rc_answer.specs.declared.status.Status.{Status}
-use Rattle.rc_answer.specs.declared.status.Status.TheVariants.{Done, Refused}
-use Rattle.rc_answer.specs.Answers.{Answers, AnswersAlone, AnswersRules, AnswersRun, AnswersWork, IsAcceptedText, accepted_text, line_refusal_text}
+use Rattle.rc_answer.specs.declared.status.Status.TheVariants.{Done, Bad, Refused}
+use Rattle.rc_answer.specs.Answers.{Answers, AnswersAlone, AnswersAudit, AnswersPart, AnswersRules, AnswersRun, AnswersWork, IsAcceptedText, IsJudgement, accepted_text, line_refusal_text, verdict_status}
 use Rattle.rc_answer.specs.Plans.{plans_text}
 use Rattle.rc_answer.specs.Ran.{HasRunText, IsRunOf, entries_in, run_text}
 use Rattle.rc_answer.specs.RanLaws.{single_without_groups}
 use Rattle.rc_answer.specs.Writes.{WritesWhole}
-use Rattle.rc_answer.specs.Headline.{Accepts, CheckHeadline, Headline, HasRunOnce, IsAnswered, IsOneLegalHistory, OfAlone, OfReading, OfSpec, OfWork, Refuses}
+use Rattle.rc_answer.specs.Headline.{Accepts, AuditHeadline, CheckHeadline, Headline, HasJudged, HasRunOnce, IsAnswered, IsOneLegalHistory, OfAlone, OfJudged, OfPart, OfReading, OfSpec, OfWork, Refuses}
 
 -- ---- one legal history
 
@@ -134,6 +145,78 @@ module _ (old new : Option (List ℕ)) (outcome : Outcome) (none : outcome.ran �
 
   pub check_headline : (input : List ℕ) → WritesWhole (Answers Check input) old new outcome.status → CheckHeadline input old new outcome
   check_headline input (out, answers, adds) = of_alone (spec_of input) out answers adds
+
+-- ---- audit
+
+-- what the lines of a workload give first, which its crate keeps to itself
+abbrev Target : {A B : Type 0} → (A → B) → Type 0
+Target {A} {B} f = B
+
+abbrev Draft : Type 0
+Draft = Target draft_of
+
+-- each thread of a workload that was read up to its `end` is one of it
+threads_by : (spec : Spec) (past_end : ℕ) (lines : List ContentLine) (found : Result Draft Broken) (work : Work) → reading_all Nothing past_end spec lines ≡ found
+    → work_by spec found ≡ Ok work → HasThreads work
+threads_by spec past_end lines (Err broken) work is e = absurd cc
+threads_by spec past_end lines (Ok draft) work is e =
+    let same : work_of spec draft ≡ work = cc in
+    subst HasThreads same (HasThreads-work_with spec _ draft (IsDraft-reading_all Nothing past_end spec lines draft is))
+
+pub part_threads : (spec : Spec) (place : TextPlace) (part : WorkPart) → part_reading Nothing spec place ≡ Ok part → HasThreads part.work
+part_threads spec place part e =
+    let of = parts_are_works Nothing spec place part e in
+    threads_by spec (past_end_of place.text) (of.front ++ part.last ∷ []) (reading_all Nothing (past_end_of place.text) spec (of.front ++ part.last ∷ [])) part.work refl of.gives
+
+bad_is_not_done : Bad ≡ Done → ⊥
+bad_is_not_done e = cc
+
+legal_is_not_bad : (entries line : ℕ) → verdicts.Legal entries ≡ verdicts.Bad line → ⊥
+legal_is_not_bad entries line e = cc
+
+module _ (compiled : SpecWithPlans) (work : Work) (past_end : ℕ) (lines : List ContentLine) (threads : HasThreads work) where
+  -- the status is Done exactly where the lines are those of a good report
+  good_exactly : (verdict : Verdict) → IsVerdict compiled work past_end lines verdict → (status : Status) → status ≡ verdict_status verdict
+      → (status ≡ Done) ↔ ((entries : ℕ) × IsGoodReport compiled work (bytes_of_content lines) entries)
+  good_exactly (verdicts.Legal entries) is status e = ((λ done. (entries, is)), (λ good. e))
+  good_exactly (verdicts.Bad line) is status e = (
+    (λ done. absurd (bad_is_not_done (sym e ∙ done))),
+    (λ good. absurd (legal_is_not_bad good.0 line (one_verdict compiled work past_end lines (verdicts.Legal good.0) (verdicts.Bad line) threads good.1 is))),
+  )
+
+module _ (old new : Option (List ℕ)) (outcome : Outcome) (none : outcome.ran ≡ None) where
+  judged : (spec : Spec) (work : Work) (past_end : ℕ) (lines : List ContentLine) (out : List ℕ) → HasThreads work
+      → IsJudgement spec work past_end lines out outcome.status → Adds old out new → HasJudged spec work past_end lines old new outcome
+  judged spec work past_end lines out threads h adds =
+      let compiled : SpecWithPlans = record { spec = spec; plans = h.plans } in
+      record {
+        plans = h.plans;
+        planned = h.planned;
+        verdict = h.verdict;
+        is = h.is;
+        only = λ other is. one_verdict compiled work past_end lines other h.verdict threads is h.is;
+        good = good_exactly compiled work past_end lines threads h.verdict h.is outcome.status h.written.1;
+        status = h.written.1;
+        none = none;
+        printed = subst (λ (l : List ℕ). Adds old l new) h.written.0 adds;
+      }
+
+  of_part : (spec : Spec) (place : TextPlace) (past_end : ℕ) (found : Result WorkPart Broken) → part_reading Nothing spec place ≡ found
+      → (out : List ℕ) → AnswersPart spec past_end found out outcome.status → Adds old out new → OfPart spec past_end found old new outcome
+  of_part spec place past_end (Err broken) is out (printed, refused) adds =
+      refuses old new outcome (line_refusal_text broken) out none printed refused adds
+  of_part spec place past_end (Ok part) is out answers adds = judged spec part.work past_end part.others out (part_threads spec place part is) answers adds
+
+  of_judged : (input : List ℕ) (read : Result Reading Broken) (out : List ℕ) → AnswersAudit input read out outcome.status → Adds old out new
+      → OfJudged input read old new outcome
+  of_judged input (Err broken) out (printed, refused) adds = refuses old new outcome (line_refusal_text broken) out none printed refused adds
+  of_judged input (Ok reading) out answers adds =
+      let found = part_reading Nothing reading.spec (place_after input reading) in
+      of_rules old new outcome reading.spec (AnswersPart reading.spec (past_end_of input) found) (OfPart reading.spec (past_end_of input) found) out (λ refused. none)
+      (λ h. of_part reading.spec (place_after input reading) (past_end_of input) found refl out h adds) answers adds
+
+  pub audit_headline : (input : List ℕ) → WritesWhole (Answers Audit input) old new outcome.status → AuditHeadline input old new outcome
+  audit_headline input (out, answers, adds) = of_judged input (spec_reading input) out answers adds
 
 -- ---- run and group
 

@@ -1,7 +1,8 @@
 //! Answers a text as a command asks: reads it, tests its rules, plans its operations, makes its calls and its groups of calls,
-//! and writes the plans and the report, or a drawing, or the refusal of the first broken rule.
+//! and writes the plans and the report, or a drawing, or the refusal of the first broken rule. Judges a printed run.
 #![tactic(auto)]
 
+mod auditing;
 mod drawing;
 mod laws;
 mod outcome;

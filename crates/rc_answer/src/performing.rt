@@ -12,6 +12,7 @@ ghost use Rattle.rc_answer.specs.Ran.{HasRunText, IsOfItsStore, IsRunOf, done_in
 ghost use Rattle.rc_answer.specs.Writes.{CountsFaults, Writes};
 ghost use Rattle.rc_answer.specs.Asked.{IsAskedText};
 
+use crate::auditing::answer_audit;
 use crate::drawing::{write_drawing, write_drawn_plan};
 use crate::outcome::{Outcome, Ran, with_run, without_run};
 use crate::planning::{write_planned, write_plans};
@@ -199,9 +200,10 @@ fn run<R: Threads + Wait + Sync, K: Sink, G: Gate + Sync>(
 
 /// Answers a text of at most 2^24 bytes as the command asks, and writes the answer line by line: what the command asks of
 /// a text that keeps its rules, else the refusal of the first broken one. `run` makes the calls of its workload by threads
-/// that run beside each other, and hands out what they left; `group` does so too, and makes the calls of each group as one. The
-/// gate is told of each point that a turn reaches, and the seed is that of the store's hash tables. Costs the text's length
-/// and, for these two, what the plans of the calls cost.
+/// that run beside each other, and hands out what they left; `group` does so too, and makes the calls of each group as one.
+/// `audit` makes the calls of a report one after another, on a relation of its own. The gate is told of each point that a turn
+/// reaches, and the seed is that of the hash tables. Costs the text's length and, for these three, what the plans of the calls
+/// cost.
 ///
 /// `Err` where memory is wanted, with nothing or a first part of the answer written, and where a write fails, with a first
 /// part written.
@@ -228,6 +230,7 @@ pub fn answer<R: Threads + Wait + Sync, K: Sink, G: Gate + Sync>(
         TextCommand::Plan => without_run(answer_alone(alloc, Asked::Plans, text, sink)),
         TextCommand::Run => run(rt, alloc, hash_seed, Also::Nothing, text, sink, gate),
         TextCommand::Group => run(rt, alloc, hash_seed, Also::Groups, text, sink, gate),
+        TextCommand::Audit => without_run(answer_audit(alloc, hash_seed, text, sink)),
         TextCommand::Dot => without_run(answer_alone(alloc, Asked::Drawing, text, sink)),
         TextCommand::DotPlan { op } => {
             without_run(answer_alone(alloc, Asked::DrawnPlan { op }, text, sink))

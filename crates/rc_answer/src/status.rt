@@ -9,6 +9,8 @@ use rc_tuple::Memory;
 pub enum Status {
     /// It did all that was asked, and wrote the whole text.
     Done,
+    /// The judged report isn't that of a run; its first bad line is written.
+    Bad,
     /// The words are no command; the usage line is written.
     Usage,
     /// A rule is broken, or the text is too long; the refusal is written.
@@ -30,6 +32,7 @@ impl Status {
     {
         match self {
             Status::Done => 0,
+            Status::Bad => 1,
             Status::Usage => 2,
             Status::Refused => 3,
             Status::SourceFailed => 4,

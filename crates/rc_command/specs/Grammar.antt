@@ -30,15 +30,19 @@ big_app = with_rule (with_rule (new_app (codes "big")) (required_word (codes "SE
 abbrev pub dot_app : App
 dot_app = with_rule (new_app (codes "dot")) (new_rule (codes "OP"))
 
--- the program with the commands that take no further word
-abbrev pub program_alone : App
-program_alone =
+-- `audit`, which takes no word
+abbrev pub audit_app : App
+audit_app = new_app (codes "audit")
+
+-- the program with the commands that make something of what they read, and take no further word
+abbrev pub program_making : App
+program_making =
     with_subcommand (with_subcommand (with_subcommand (with_subcommand program (new_app (codes "check")).top) (new_app (codes "plan")).top)
     (new_app (codes "run")).top) (new_app (codes "group")).top
 
 -- the program with its commands
 abbrev pub grammar : App
-grammar = with_subcommand (with_subcommand program_alone dot_app.top) big_app.top
+grammar = with_subcommand (with_subcommand (with_subcommand program_making audit_app.top) dot_app.top) big_app.top
 
 -- the word begins with a hyphen, 45
 abbrev pub is_flag : List ℕ → Bool

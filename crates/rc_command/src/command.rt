@@ -5,7 +5,7 @@ ghost use Rattle.clap.specs.Words.{app_of, first_value, found_of, rows_of, subco
 ghost use Rattle.rc_text.specs.Numbers.{u64_of};
 ghost use Rattle.rc_command.specs.declared.command.Command.TheVariants.{OfText};
 ghost use Rattle.rc_command.specs.Command.{IsWithinLimits, big_of, command_named, command_of, dot_of};
-ghost use Rattle.rc_command.specs.Grammar.{big_app, big_words, dot_app, dot_words, grammar, is_flag, met, met_as};
+ghost use Rattle.rc_command.specs.Grammar.{audit_app, big_app, big_words, dot_app, dot_words, grammar, is_flag, met, met_as};
 
 use clap::error::ErrorKind;
 use clap::{Arg, ArgMatches};
@@ -25,6 +25,9 @@ pub enum TextCommand {
     Run,
     /// Does so with a workload in which some calls may stand as groups, which are made as one.
     Group,
+    /// Reads a specification, a workload and what `run` is said to have printed for them, and says
+    /// whether it may have.
+    Audit,
     /// Reads a specification alone, and prints its drawing.
     Dot,
     /// Reads a specification alone, and prints its drawing with the plan of an operation.
@@ -95,8 +98,17 @@ fn reader<'a>(alloc: Global) -> Result<clap::Command<'a>, AllocError>
         .subcommand(plan)?
         .subcommand(run)?
         .subcommand(group)?;
+    let program = add_audit(alloc, program)?;
     let program = add_dot(alloc, program)?;
     add_big(alloc, program)
+}
+
+/// Adds `audit`, which takes no word.
+fn add_audit<'a>(alloc: Global, program: clap::Command<'a>) -> Result<clap::Command<'a>, AllocError>
+    ensures { IfOk result (λ c. app_of c ≡ with_subcommand (app_of program.entry) audit_app.top) }
+{
+    let audit = clap::Command::new(alloc, "audit");
+    program.subcommand(audit)
 }
 
 /// Adds `dot`, which takes a word that may be left out.
@@ -208,6 +220,7 @@ fn command_named(name: &str) -> Option<TextCommand>
         "plan" => Some(TextCommand::Plan),
         "run" => Some(TextCommand::Run),
         "group" => Some(TextCommand::Group),
+        "audit" => Some(TextCommand::Audit),
         _ => None,
     }
 }

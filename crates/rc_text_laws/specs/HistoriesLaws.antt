@@ -15,7 +15,7 @@ use Rattle.rc_rel.specs.declared.entry.Entry.{Entry}
 use Rattle.rc_rel.specs.History.{own, IsNumbered}
 use Rattle.rc_work.specs.Printed.{spaced, words_text, row_text, given, outs_of, pair_words, reply_words, values_and_reply, step_words_at, step_words}
 use Rattle.rc_work.specs.Report.{step_line, group_head, entry_lines, count_line, final_lines, report}
-use Rattle.rc_text_laws.specs.CutLaws.{AreTexts, cut, decimal_one}
+use Rattle.rc_work.specs.CutLaws.{AreTexts, cut, decimal_one}
 use Rattle.rc_text_laws.specs.LinesLaws.{AreShown, row_one, tail_of}
 use Rattle.rc_text_laws.specs.StepsLaws.{IsStepShown, name_bytes, step_one, ends_of}
 

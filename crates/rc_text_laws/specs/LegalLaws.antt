@@ -34,7 +34,7 @@ use Rattle.rc_rel.specs.HistoryLaws.{after_steps-append}
 use Rattle.rc_work.specs.Printed.{bounds_given, kind_at}
 use Rattle.rc_work.specs.Report.{report}
 use Rattle.rc_text.specs.Lines.{printed_lines}
-use Rattle.rc_text_laws.specs.CutLaws.{AreTexts}
+use Rattle.rc_work.specs.CutLaws.{AreTexts}
 use Rattle.rc_text_laws.specs.LinesLaws.{IsShown, AreShown, IsReplyOf, RowIsShown}
 use Rattle.rc_text_laws.specs.StepsLaws.{IsStepShown}
 use Rattle.rc_text_laws.specs.HistoriesLaws.{IsEntryShown, IsRowShown, IsShownBy}
@@ -258,7 +258,7 @@ length-steps_of spec texts [] h = omega arith
 length-steps_of spec texts (e ∷ history) h =
     omega (arith, h.0.some, length-steps_of spec texts history h.1, length-append e.steps (steps_of history))
 
-journal_shown : (spec : Spec) (texts : List (List ℕ)) (history : List Entry) → IsInRange spec
+pub journal_shown : (spec : Spec) (texts : List (List ℕ)) (history : List Entry) → IsInRange spec
     → IsJournal spec texts history
     → IsShownBy spec texts history (replay spec history) × (length (replay spec history) < 2 ^ 64)
 journal_shown spec texts history ranged j =

@@ -1,5 +1,4 @@
 pub mod CountLaws
-pub mod CutLaws
 pub mod FormOfLaws
 pub mod HasFormLaws
 pub mod HistoriesLaws
@@ -20,6 +19,9 @@ pub mod SectionsLaws
 pub mod SpecLaws
 pub mod StepsLaws
 pub mod TextsLaws
+pub mod BehindLaws
+pub mod PrintedRunLaws
+pub mod AuditsLaws
 pub mod WordsLaws
 pub mod Written
 pub mod WrittenExample

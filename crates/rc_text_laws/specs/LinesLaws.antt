@@ -13,7 +13,7 @@ use Rattle.rc_spec.specs.declared.call.Reply.{Reply}
 use Rattle.rc_spec.specs.declared.call.Reply.TheVariants.{Rows, Many, Inserted, Present, Conflict, Removed, Updated, Absent}
 use Rattle.rc_spec.specs.declared.spec.Spec.{Spec}
 use Rattle.rc_work.specs.Printed.{spaced, words_text, kind_at, value_text, pair_text, pair_words, row_text}
-use Rattle.rc_text_laws.specs.CutLaws.{Ends, AreTexts, decimal_one, rank_one}
+use Rattle.rc_work.specs.CutLaws.{Ends, AreTexts, decimal_one, rank_one}
 
 -- ---- one value
 

@@ -34,7 +34,7 @@ use Rattle.rc_work.specs.DraftsLaws.{IsThreadCount, IsDraft-after_bytes, IsDraft
 use Rattle.rc_work.specs.FirstBroken.{work_language, AreTaken, LinesMean, ContentMeans}
 use Rattle.rc_work.specs.Ranking.{texts_in_value, texts_in_call, texts_in_turn, texts_in_round, texts_in, ranked_value, work_of, work_reading}
 use Rattle.rc_work.specs.ReadingLaws.{are_whole, work_means}
-use Rattle.rc_text_laws.specs.CutLaws.{AreTexts}
+use Rattle.rc_work.specs.CutLaws.{AreTexts}
 
 -- ---- the words of a line
 

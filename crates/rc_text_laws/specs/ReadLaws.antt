@@ -21,7 +21,7 @@ use Rattle.rc_work.specs.Limits.{KeepsLimits, KnowsTexts}
 use Rattle.rc_work.specs.RawTurns.{count_raw}
 use Rattle.rc_work.specs.Ranking.{texts_in_value, texts_in_call, texts_in_turn, texts_in_round, texts_in, ranked_value, ranked_call, ranked_round, ranked_rounds, work_of, work_reading}
 use Rattle.rc_work.specs.RankingLaws.{KeepsLimits-work_with, RoundsFit-ranked_rounds, KnowsTexts-work_of}
-use Rattle.rc_text_laws.specs.CutLaws.{AreTexts}
+use Rattle.rc_work.specs.CutLaws.{AreTexts}
 use Rattle.rc_text_laws.specs.LegalLaws.{length-gather-le}
 use Rattle.rc_text_laws.specs.QuotableLaws.{WorkValue, WorkCall, WorkTurn, WorkDraft, IsReadValue, HasReadValues, TurnHasReadValues, HaveReadValues, IsReadDraft, draft_texts, work_of_draft}
 

@@ -10,7 +10,7 @@ use Rattle.rc_spec.specs.declared.call.Reply.{Reply}
 use Rattle.rc_spec.specs.declared.call.Reply.TheVariants.{Rows, Many, Inserted, Present, Conflict, Removed, Updated, Absent}
 use Rattle.rc_spec.specs.declared.spec.Spec.{Spec}
 use Rattle.rc_work.specs.Printed.{spaced, row_text, reply_words, outs_of}
-use Rattle.rc_text_laws.specs.CutLaws.{AreTexts, decimal_one, decimal_not}
+use Rattle.rc_work.specs.CutLaws.{AreTexts, decimal_one, decimal_not}
 use Rattle.rc_text_laws.specs.LinesLaws.{IsReplyOf, rows_one, row_one, tail_of}
 
 head_of : (x y : ℕ) (xs ys : List ℕ) → x ∷ xs ≡ y ∷ ys → x ≡ y

@@ -30,7 +30,7 @@ use Rattle.rc_work.specs.Report.{report}
 use Rattle.rc_work.specs.Runs.{Runs}
 use Rattle.rc_work.specs.Runs.{HasTurn}
 use Rattle.rc_work.specs.RunsLaws.{entries_are_turns}
-use Rattle.rc_text_laws.specs.CutLaws.{AreTexts}
+use Rattle.rc_work.specs.CutLaws.{AreTexts}
 use Rattle.rc_text_laws.specs.LinesLaws.{IsShown, AreShown}
 use Rattle.rc_text_laws.specs.CountLaws.{few_steps}
 use Rattle.rc_text_laws.specs.LegalLaws.{HasCallsShown, IsCallShown, IsJournal, one_report_one_journal}
@@ -111,7 +111,7 @@ OneReportOneRun =
     ≡ printed_lines (report spec work.ranks other (replay spec other))
     → history ≡ other
 
-journal : (spec : Spec) (work : Work) (history : List Entry) → KeepsLimits work
+pub journal : (spec : Spec) (work : Work) (history : List Entry) → KeepsLimits work
     → KnowsTexts spec work → RoundsFit spec work.rounds → Runs spec work history
     → IsJournal spec work.ranks history
 journal spec work history limits knows fit run = record {

@@ -21,7 +21,7 @@ use Rattle.rc_rel.specs.declared.entry.Step.{Step}
 use Rattle.rc_spec.specs.Ranges.{range_column, range_columns}
 use Rattle.rc_spec.specs.declared.range.Range.{Range}
 use Rattle.rc_work.specs.Printed.{spaced, kind_at, pair_words, bounds_given, given, outs_of, reply_words, values_and_reply, step_words_at, step_words}
-use Rattle.rc_text_laws.specs.CutLaws.{Ends, AreTexts, cut, ends_stop}
+use Rattle.rc_work.specs.CutLaws.{Ends, AreTexts, cut, ends_stop}
 use Rattle.rc_text_laws.specs.LinesLaws.{IsShown, AreShown, IsReplyOf, values_one, tail_of}
 use Rattle.rc_text_laws.specs.RepliesLaws.{reply_one}
 

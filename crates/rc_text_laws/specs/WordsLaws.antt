@@ -25,7 +25,7 @@ byte_between b low high = rw (
   ne_eqb b 32 (omega arith),
 ) refl
 
-digit_is_plain : (b : ℕ) → is_ascii_digit b ≡ true → is_plain_byte b ≡ true
+pub digit_is_plain : (b : ℕ) → is_ascii_digit b ≡ true → is_plain_byte b ≡ true
 digit_is_plain b e =
     let parts = and_parts (leb 48 b) (leb b 57) e in
     byte_between b (omega (arith, leb-true 48 b parts.0)) (omega (arith, leb-true b 57 parts.1))
@@ -36,7 +36,7 @@ letter_is_plain b e =
     byte_between b (omega (arith, leb-true 97 b parts.0)) (omega (arith, leb-true b 122 parts.1))
 
 -- a byte of a name may stand in a plain word
-name_byte_is_plain : (b : ℕ) → is_name_byte b ≡ true → is_plain_byte b ≡ true
+pub name_byte_is_plain : (b : ℕ) → is_name_byte b ≡ true → is_plain_byte b ≡ true
 name_byte_is_plain b e = elim (or_cases (is_ascii_lowercase b) _ e) [
   | inl letter ↦ letter_is_plain b letter
   | inr other ↦ elim (or_cases (is_ascii_digit b) (eqb b 95) other) [
@@ -125,7 +125,7 @@ text_bytes (b ∷ bs) all =
     let parts = and_parts (is_plain_byte b) (list_all is_plain_byte bs) all in
     rw ((and_parts (is_text_byte b) (not (is_blank b)) parts.0).0) (text_bytes bs parts.1)
 
-text_word : (word : List ℕ) → IsPlain word → list_all is_text_byte word ≡ true
+pub text_word : (word : List ℕ) → IsPlain word → list_all is_text_byte word ≡ true
 text_word [] plain = absurd plain
 text_word (b ∷ bs) plain = text_bytes (b ∷ bs) plain.1
 

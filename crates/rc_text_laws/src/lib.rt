@@ -6,8 +6,9 @@ mod reports;
 mod specifications;
 
 pub use reports::{
-    one_report_one_history, one_report_one_journal, one_report_one_run, one_text_one_history,
-    printed_texts_have_one_history, printed_texts_tell_runs, reports_tell_runs, texts_are_quotable,
+    audits_are_one, one_report_one_history, one_report_one_journal, one_report_one_run,
+    one_text_one_history, printed_texts_have_one_history, printed_texts_tell_runs,
+    reports_tell_runs, run_lines_are_written, runs_are_legal, texts_are_quotable,
 };
 pub use specifications::{
     forms_are_exact, limits_and_order_are_told_by_kinds, lines_do_what_they_say,

@@ -1,5 +1,6 @@
 //! What a reader may conclude from a printed report.
 
+ghost use Rattle.rc_text_laws.specs.AuditsLaws.{AuditsAreOne, RunLinesAreWritten, RunsAreLegal};
 ghost use Rattle.rc_text_laws.specs.HistoriesLaws.{OneReportOneHistory};
 ghost use Rattle.rc_text_laws.specs.LegalLaws.{OneReportOneJournal};
 ghost use Rattle.rc_text_laws.specs.QuotableLaws.{TextsAreQuotable};
@@ -54,4 +55,21 @@ pub fn printed_texts_tell_runs()
 /// other record of the run.
 pub fn printed_texts_have_one_history()
     ensures { PrintedTextsHaveOneHistory }
+{}
+
+/// The lines that `audit` wants of a run, each with a line feed behind it, are what `run` prints of
+/// it.
+pub fn run_lines_are_written()
+    ensures { RunLinesAreWritten }
+{}
+
+/// Whatever `run` may write for an input that ends with a line feed is legal where it stands behind
+/// that input. (`audit` reads both together where they have at most 2^24 bytes.)
+pub fn runs_are_legal()
+    ensures { RunsAreLegal }
+{}
+
+/// `audit` may write one text for an input, with one status: a text has one verdict, or one refusal.
+pub fn audits_are_one()
+    ensures { AuditsAreOne }
 {}

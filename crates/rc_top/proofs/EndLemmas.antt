@@ -13,62 +13,70 @@ use Rattle.rc_work.specs.declared.also.Also.TheVariants.{Nothing, Groups}
 use Rattle.rc_work.specs.declared.work.Work.{Work}
 use Rattle.std.specs.Prelude.{IsSome}
 use Rattle.rc_work.specs.LineRules.{op_number}
+use Rattle.rc_work.specs.PartGrammar.{WorkPart, part_reading}
 use Rattle.rc_work.specs.Ranking.{work_reading}
-use Rattle.rc_answer.specs.Answers.{Answers, AnswersAlone, AnswersRules, AnswersRun, AnswersWork, IsAcceptedText, IsPlanDrawingNamed, IsDrawing, IsPlanDrawingOrRefusal, IsPlansText, IsSizeRefusal}
+use Rattle.rc_text.specs.Lines.{past_end_of}
+use Rattle.rc_audit.specs.declared.verdict.Verdict.{Verdict}
+use Rattle.rc_audit.specs.declared.verdict.Verdict.TheVariants as verdicts
+use Rattle.rc_answer.specs.Answers.{Answers, AnswersAlone, AnswersAudit, AnswersPart, AnswersRules, AnswersRun, AnswersWork, IsAcceptedText, IsPlanDrawingNamed, IsDrawing, IsPlanDrawingOrRefusal, IsPlansText, IsSizeRefusal, verdict_status}
 use Rattle.rc_work.specs.WholeText.{place_after}
 use Rattle.rc_answer.specs.Big.{IsBigText, big_text}
 use Rattle.rc_answer.specs.Writes.{Writes}
-use Rattle.rc_top.specs.Answer.{IsAnswer, IsGoodReading, IsGoodSpec, IsGoodSpecWith, IsGoodWork, KeepsRules}
+use Rattle.rc_top.specs.Answer.{IsAnswer, IsAnswered, IsGoodPart, IsGoodReading, IsGoodReadingUpToEnd, IsGoodSpec, IsGoodSpecWith, IsGoodWork, KeepsRules}
 use Rattle.rc_top.specs.Asks.{LeavesAllBut}
 use Rattle.rc_top.specs.Ends.{Ends, EndsBig, status_of}
 use Rattle.rc_command.specs.declared.command.Command.TheVariants.{OfText}
 use Rattle.rc_command.specs.declared.command.TextCommand.{TextCommand}
-use Rattle.rc_command.specs.declared.command.TextCommand.TheVariants.{Check, Plan, Run, Group, Dot, DotPlan}
+use Rattle.rc_command.specs.declared.command.TextCommand.TheVariants.{Check, Plan, Run, Group, Audit, Dot, DotPlan}
 use Rattle.rc_answer.specs.declared.status.Status.{Status}
-use Rattle.rc_answer.specs.declared.status.Status.TheVariants.{Done, Usage, Refused, SourceFailed, SinkFailed, OutOfMemory}
+use Rattle.rc_answer.specs.declared.status.Status.TheVariants.{Done, Bad, Usage, Refused, SourceFailed, SinkFailed, OutOfMemory}
 use Rattle.rc_answer.specs.declared.status.Stop.{Stop}
 use Rattle.rc_answer.specs.declared.status.Stop.TheVariants.{Memory, Sink}
 
 -- the status of a text that was written
 abbrev pub IsWritten : Status → Type 0
-IsWritten status = (status ≡ Done) ⊎ (status ≡ Refused)
+IsWritten Done = Unit {0}
+IsWritten Bad = Unit {0}
+IsWritten Usage = ⊥
+IsWritten Refused = Unit {0}
+IsWritten SourceFailed = ⊥
+IsWritten SinkFailed = ⊥
+IsWritten OutOfMemory = ⊥
+
+-- of another command than `audit`
+abbrev pub IsDoneOrRefused : Status → Type 0
+IsDoneOrRefused status = (status ≡ Done) ⊎ (status ≡ Refused)
+
+pub done_or_refused : (status : Status) → IsDoneOrRefused status → IsWritten status
+done_or_refused status (inl e) = subst IsWritten (sym e) tt
+done_or_refused status (inr e) = subst IsWritten (sym e) tt
+
+pub done_bad_or_refused : (status : Status) → (status ≡ Done) ⊎ ((status ≡ Bad) ⊎ (status ≡ Refused)) → IsWritten status
+done_bad_or_refused status (inl e) = subst IsWritten (sym e) tt
+done_bad_or_refused status (inr (inl e)) = subst IsWritten (sym e) tt
+done_bad_or_refused status (inr (inr e)) = subst IsWritten (sym e) tt
 
 -- a writer of one kind of text ends as one of a wider kind
 pub ends_wider : (A B : List ℕ → Status → Type 0) (old new : Option (List ℕ)) (r : Result Status Stop)
     → ((text : List ℕ) (status : Status) → A text status → B text status × IsWritten status)
     → Writes A old new r → Ends B old new (status_of r)
 ends_wider A B old new (Ok Done) wider (text, is, adds) = (text, (wider text Done is).0, adds)
+ends_wider A B old new (Ok Bad) wider (text, is, adds) = (text, (wider text Bad is).0, adds)
 ends_wider A B old new (Ok Refused) wider (text, is, adds) = (text, (wider text Refused is).0, adds)
-ends_wider A B old new (Ok Usage) wider (text, is, adds) = absurd (unwritten (wider text Usage is).1)
-  where
-    unwritten : IsWritten Usage → ⊥
-    unwritten (inl e) = cc
-    unwritten (inr e) = cc
-ends_wider A B old new (Ok SourceFailed) wider (text, is, adds) = absurd (unwritten (wider text SourceFailed is).1)
-  where
-    unwritten : IsWritten SourceFailed → ⊥
-    unwritten (inl e) = cc
-    unwritten (inr e) = cc
-ends_wider A B old new (Ok SinkFailed) wider (text, is, adds) = absurd (unwritten (wider text SinkFailed is).1)
-  where
-    unwritten : IsWritten SinkFailed → ⊥
-    unwritten (inl e) = cc
-    unwritten (inr e) = cc
-ends_wider A B old new (Ok OutOfMemory) wider (text, is, adds) = absurd (unwritten (wider text OutOfMemory is).1)
-  where
-    unwritten : IsWritten OutOfMemory → ⊥
-    unwritten (inl e) = cc
-    unwritten (inr e) = cc
+ends_wider A B old new (Ok Usage) wider (text, is, adds) = absurd (wider text Usage is).1
+ends_wider A B old new (Ok SourceFailed) wider (text, is, adds) = absurd (wider text SourceFailed is).1
+ends_wider A B old new (Ok SinkFailed) wider (text, is, adds) = absurd (wider text SinkFailed is).1
+ends_wider A B old new (Ok OutOfMemory) wider (text, is, adds) = absurd (wider text OutOfMemory is).1
 ends_wider A B old new (Err Memory) wider (inl same) = inl same
 ends_wider A B old new (Err Memory) wider (inr (text, status, is, part)) = inr (text, status, (wider text status is).0, part)
 ends_wider A B old new (Err Sink) wider (text, status, is, part) = (text, status, (wider text status is).0, part)
 
-written_work : (spec : Spec) (reading : Result Work Broken) (text : List ℕ) (status : Status) → AnswersWork spec reading text status → IsWritten status
+written_work : (spec : Spec) (reading : Result Work Broken) (text : List ℕ) (status : Status) → AnswersWork spec reading text status → IsDoneOrRefused status
 written_work spec (Err broken) text status is = inr is.1
 written_work spec (Ok work) text status is = inl is.done
 
-written_rules : (spec : Spec) (IfAccepted : List ℕ → Status → Type 0) (text : List ℕ) (status : Status) → (IfAccepted text status → IsWritten status)
-    → AnswersRules spec IfAccepted text status → IsWritten status
+written_rules : (spec : Spec) (IfAccepted : List ℕ → Status → Type 0) (text : List ℕ) (status : Status) → (IfAccepted text status → IsDoneOrRefused status)
+    → AnswersRules spec IfAccepted text status → IsDoneOrRefused status
 written_rules spec IfAccepted text status written (inl (accepted, is)) = written is
 written_rules spec IfAccepted text status written (inr (refusal, first, is)) = inr is.1
 
@@ -86,30 +94,94 @@ dot_done : EndsDone IsDrawing
 dot_done spec text status (printed, done) = done
 
 -- a drawing with a plan, or the refusal of its operation
-drawn_written : (spec : Spec) (op : Option ℕ) (text : List ℕ) (status : Status) → IsPlanDrawingOrRefusal spec op text status → IsWritten status
+drawn_written : (spec : Spec) (op : Option ℕ) (text : List ℕ) (status : Status) → IsPlanDrawingOrRefusal spec op text status → IsDoneOrRefused status
 drawn_written spec (Some op) text status (plan, planned, printed, done) = inl done
 drawn_written spec None text status (printed, refused) = inr refused
 
 written_alone : (OfAccepted : Spec → List ℕ → Status → Type 0) (reading : Result Spec Broken) (text : List ℕ) (status : Status)
-    → ((spec : Spec) → OfAccepted spec text status → IsWritten status) → AnswersAlone OfAccepted reading text status → IsWritten status
+    → ((spec : Spec) → OfAccepted spec text status → IsDoneOrRefused status) → AnswersAlone OfAccepted reading text status → IsDoneOrRefused status
 written_alone OfAccepted (Err broken) text status ends is = inr is.1
 written_alone OfAccepted (Ok spec) text status ends is = written_rules spec (OfAccepted spec) text status (ends spec) is
 
 written_run : (also : Also) (input : List ℕ) (reading : Result Reading Broken) (text : List ℕ) (status : Status) → AnswersRun also input reading text status
-    → IsWritten status
+    → IsDoneOrRefused status
 written_run also input (Err broken) text status is = inr is.1
 written_run also input (Ok reading) text status is =
     let work : Result Work Broken = work_reading also reading.spec (place_after input reading) in
     written_rules reading.spec (AnswersWork reading.spec work) text status (written_work reading.spec work text status) is
 
-written : (command : TextCommand) (input text : List ℕ) (status : Status) → Answers command input text status → IsWritten status
+-- what is said of a report ends well
+verdict_ends : (verdict : Verdict) → IsWritten (verdict_status verdict)
+verdict_ends (verdicts.Legal entries) = tt
+verdict_ends (verdicts.Bad line) = tt
+
+written_part : (spec : Spec) (past_end : ℕ) (found : Result WorkPart Broken) (text : List ℕ) (status : Status) → AnswersPart spec past_end found text status → IsWritten status
+written_part spec past_end (Err broken) text status is = subst IsWritten (sym is.1) tt
+written_part spec past_end (Ok part) text status is = subst IsWritten (sym is.written.1) (verdict_ends is.verdict)
+
+written_audit : (input : List ℕ) (reading : Result Reading Broken) (text : List ℕ) (status : Status) → AnswersAudit input reading text status → IsWritten status
+written_audit input (Err broken) text status is = subst IsWritten (sym is.1) tt
+written_audit input (Ok reading) text status (inl (accepted, is)) =
+    written_part reading.spec (past_end_of input) (part_reading Nothing reading.spec (place_after input reading)) text status is
+written_audit input (Ok reading) text status (inr (refusal, first, is)) = subst IsWritten (sym is.1) tt
+
+-- the status of a command's text
+abbrev EndsBy : TextCommand → Status → Type 0
+EndsBy Check status = IsDoneOrRefused status
+EndsBy Plan status = IsDoneOrRefused status
+EndsBy Run status = IsDoneOrRefused status
+EndsBy Group status = IsDoneOrRefused status
+EndsBy Audit status = IsWritten status
+EndsBy Dot status = IsDoneOrRefused status
+EndsBy (DotPlan op) status = IsDoneOrRefused status
+
+written : (command : TextCommand) (input text : List ℕ) (status : Status) → Answers command input text status → EndsBy command status
 written Check input text status is = written_alone (λ spec. IsAcceptedText) (spec_of input) text status (λ spec h. inl (accepted_done spec text status h)) is
 written Plan input text status is = written_alone IsPlansText (spec_of input) text status (λ spec h. inl (plans_done spec text status h)) is
 written Run input text status is = written_run Nothing input (spec_reading input) text status is
 written Group input text status is = written_run Groups input (spec_reading input) text status is
+written Audit input text status is = written_audit input (spec_reading input) text status is
 written Dot input text status is = written_alone IsDrawing (spec_of input) text status (λ spec h. inl (dot_done spec text status h)) is
 written (DotPlan op) input text status is =
     written_alone (IsPlanDrawingNamed op) (spec_of input) text status (λ spec h. drawn_written spec (op_number spec op) text status h) is
+
+by_written : (command : TextCommand) (status : Status) → EndsBy command status → IsWritten status
+by_written Check status h = done_or_refused status h
+by_written Plan status h = done_or_refused status h
+by_written Run status h = done_or_refused status h
+by_written Group status h = done_or_refused status h
+by_written Audit status h = h
+by_written Dot status h = done_or_refused status h
+by_written (DotPlan op) status h = done_or_refused status h
+
+no_bad : IsDoneOrRefused Bad → ⊥
+no_bad (inl e) = cc
+no_bad (inr e) = cc
+
+-- no other command tells of a bad report
+by_bad : (command : TextCommand) → EndsBy command Bad → command ≡ Audit
+by_bad Check h = absurd (no_bad h)
+by_bad Plan h = absurd (no_bad h)
+by_bad Run h = absurd (no_bad h)
+by_bad Group h = absurd (no_bad h)
+by_bad Audit h = refl
+by_bad Dot h = absurd (no_bad h)
+by_bad (DotPlan op) h = absurd (no_bad h)
+
+bad_is_audit : (command : TextCommand) (input text : List ℕ) → Answers command input text Bad → command ≡ Audit
+bad_is_audit command input text is = by_bad command (written command input text Bad is)
+
+pub bad_ends_audit : (command : TextCommand) (input : List ℕ) (old new : Option (List ℕ)) (r : Result Status Stop) → Writes (Answers command input) old new r
+    → status_of r ≡ Bad → command ≡ Audit
+bad_ends_audit command input old new (Ok status) (text, is, adds) e = bad_is_audit command input text (subst (Answers command input text) e is)
+bad_ends_audit command input old new (Err Memory) h e = absurd (let f : OutOfMemory ≡ Bad = e in cc)
+bad_ends_audit command input old new (Err Sink) h e = absurd (let f : SinkFailed ≡ Bad = e in cc)
+
+-- and a text that is too long isn't judged
+pub size_is_not_bad : (old new : Option (List ℕ)) (r : Result Status Stop) → Writes IsSizeRefusal old new r → status_of r ≡ Bad → ⊥
+size_is_not_bad old new (Ok status) (text, is, adds) e = let f : Refused ≡ Bad = sym is.1 ∙ e in cc
+size_is_not_bad old new (Err Memory) h e = cc
+size_is_not_bad old new (Err Sink) h e = cc
 
 -- told bytes that were read whole are answered
 pub read_ends : (command : TextCommand) (input bytes : List ℕ) (told left : Option (List ℕ)) (old new : Option (List ℕ)) (r : Result Status Stop)
@@ -124,7 +196,7 @@ read_ends command input bytes told left old new r is_told taken empty within wri
     wider : (text : List ℕ) (status : Status) → Answers command bytes text status → IsAnswer command input text status × IsWritten status
     wider text status is = (
       record { read = λ short. subst (λ (read : List ℕ). Answers command read text status) same is; long = λ long. absurd (too_long long) },
-      written command bytes text status is,
+      by_written command status (written command bytes text status is),
     )
       where
         too_long : 2 ^ 24 < length input → ⊥
@@ -143,7 +215,7 @@ long_ends command input bytes told left old new r is_told taken beyond writes =
     wider : (text : List ℕ) (status : Status) → IsSizeRefusal text status → IsAnswer command input text status × IsWritten status
     wider text status is = (
       record { read = λ short. absurd (too_short short); long = λ long. is },
-      inr is.1,
+      subst IsWritten (sym is.1) tt,
     )
       where
         too_short : length input ≤ 2 ^ 24 → ⊥
@@ -203,18 +275,44 @@ refused_run also input (Ok reading) text good is =
     let work : Result Work Broken = work_reading also reading.spec (place_after input reading) in
     refused_rules reading.spec (AnswersWork reading.spec work) text good.0 (refused_work work reading.spec text good.1) is
 
+refused_verdict : (verdict : Verdict) → Refused ≡ verdict_status verdict → ⊥
+refused_verdict (verdicts.Legal entries) e = cc
+refused_verdict (verdicts.Bad line) e = cc
+
+refused_part : (spec : Spec) (past_end : ℕ) (found : Result WorkPart Broken) (text : List ℕ) → IsGoodPart found → AnswersPart spec past_end found text Refused → ⊥
+refused_part spec past_end (Err broken) text good is = absurd good
+refused_part spec past_end (Ok part) text good is = refused_verdict is.verdict is.written.1
+
+refused_audit : (input : List ℕ) (reading : Result Reading Broken) (text : List ℕ) → IsGoodReadingUpToEnd input reading → AnswersAudit input reading text Refused → ⊥
+refused_audit input (Err broken) text good is = absurd good
+refused_audit input (Ok reading) text good is =
+    let found = part_reading Nothing reading.spec (place_after input reading) in
+    refused_rules reading.spec (AnswersPart reading.spec (past_end_of input) found) text good.0 (refused_part reading.spec (past_end_of input) found text good.1) is
+
 refused_text : (command : TextCommand) (input text : List ℕ) → KeepsRules command input → Answers command input text Refused → ⊥
 refused_text Check input text good is = refused_alone (λ spec. IsAcceptedText) (spec_of input) text accepted_done good is
 refused_text Plan input text good is = refused_alone IsPlansText (spec_of input) text plans_done good is
 refused_text Run input text good is = refused_run Nothing input (spec_reading input) text good is
 refused_text Group input text good is = refused_run Groups input (spec_reading input) text good is
+refused_text Audit input text good is = refused_audit input (spec_reading input) text good is
 refused_text Dot input text good is = refused_alone IsDrawing (spec_of input) text dot_done good is
 refused_text (DotPlan op) input text good is = refused_plan op (spec_of input) text good is
 
+done_is_answered : (command : TextCommand) → IsAnswered command Done
+done_is_answered Check = refl
+done_is_answered Plan = refl
+done_is_answered Run = refl
+done_is_answered Group = refl
+done_is_answered Audit = inl refl
+done_is_answered Dot = refl
+done_is_answered (DotPlan op) = refl
+
 -- a text that keeps all rules is answered, where nothing fails
 pub answered : (command : TextCommand) (input : List ℕ) (old new : Option (List ℕ)) (status : Status) → length input ≤ 2 ^ 24 → KeepsRules command input
-    → Ends (IsAnswer command input) old new status → (status ≡ Usage → ⊥) → (status ≡ SourceFailed → ⊥) → (status ≡ SinkFailed → ⊥) → (status ≡ Done) ⊎ (status ≡ OutOfMemory)
-answered command input old new Done short good ends usage source sink = inl refl
+    → Ends (IsAnswer command input) old new status → (status ≡ Usage → ⊥) → (status ≡ SourceFailed → ⊥) → (status ≡ SinkFailed → ⊥) → IsAnswered command status ⊎ (status ≡ OutOfMemory)
+answered command input old new Done short good ends usage source sink = inl (done_is_answered command)
+answered command input old new Bad short good (text, is, adds) usage source sink =
+    inl (subst (λ (k : TextCommand). IsAnswered k Bad) (sym (bad_is_audit command input text (is.read short))) (inr refl))
 answered command input old new Usage short good ends usage source sink = absurd (usage refl)
 answered command input old new Refused short good (text, is, adds) usage source sink = absurd (refused_text command input text good (is.read short))
 answered command input old new SourceFailed short good ends usage source sink = absurd (source refl)
@@ -229,6 +327,7 @@ one_command a b e = cc
 -- what is written of one ends as its text does
 pub big_ends : (seed calls : ℕ) (old new : Option (List ℕ)) (r : Result Status Stop) → Writes (IsBigText seed calls) old new r → EndsBig seed calls old new (status_of r)
 big_ends seed calls old new (Ok Done) (text, is, adds) = subst (λ (t : List ℕ). Adds old t new) is.0 adds
+big_ends seed calls old new (Ok Bad) (text, is, adds) = let e : Bad ≡ Done = is.1 in cc
 big_ends seed calls old new (Ok Usage) (text, is, adds) = let e : Usage ≡ Done = is.1 in cc
 big_ends seed calls old new (Ok Refused) (text, is, adds) = let e : Refused ≡ Done = is.1 in cc
 big_ends seed calls old new (Ok SourceFailed) (text, is, adds) = let e : SourceFailed ≡ Done = is.1 in cc

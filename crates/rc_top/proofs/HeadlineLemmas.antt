@@ -4,14 +4,14 @@ use Rattle.std.specs.Prelude.{IfSome, IsSome}
 use Rattle.rc_answer.specs.declared.outcome.Outcome.{Outcome}
 use Rattle.rc_answer.specs.declared.outcome.Ran.{Ran}
 use Rattle.rc_answer.specs.declared.status.Status.{Status}
-use Rattle.rc_answer.specs.declared.status.Status.TheVariants.{Done, Usage, Refused, SourceFailed, SinkFailed, OutOfMemory}
+use Rattle.rc_answer.specs.declared.status.Status.TheVariants.{Done, Bad, Usage, Refused, SourceFailed, SinkFailed, OutOfMemory}
 use Rattle.rc_answer.specs.Answers.{Answers, MakesCalls, also_of}
-use Rattle.rc_answer.specs.Headline.{CheckHeadline, Headline}
-use Rattle.rc_answer.specs.HeadlineLaws.{check_headline, headline}
+use Rattle.rc_answer.specs.Headline.{AuditHeadline, CheckHeadline, Headline}
+use Rattle.rc_answer.specs.HeadlineLaws.{audit_headline, check_headline, headline}
 use Rattle.rc_answer.specs.Ran.{HasRunText}
 use Rattle.rc_answer.specs.Writes.{WritesWhole}
 use Rattle.rc_command.specs.declared.command.TextCommand.{TextCommand}
-use Rattle.rc_command.specs.declared.command.TextCommand.TheVariants.{Check, Run, Group}
+use Rattle.rc_command.specs.declared.command.TextCommand.TheVariants.{Audit, Check, Run, Group}
 use Rattle.rc_top.specs.Answer.{IsAnswer}
 use Rattle.rc_top.specs.Ends.{Ends}
 use Rattle.rc_top.proofs.EndLemmas.{IsWritten}
@@ -19,14 +19,12 @@ use Rattle.rc_top.proofs.EndLemmas.{IsWritten}
 -- what was written is a whole text
 whole : (A : List ℕ → Status → Type 0) (old new : Option (List ℕ)) (status : Status) → IsWritten status → Ends A old new status → WritesWhole A old new status
 whole A old new Done written ends = ends
+whole A old new Bad written ends = ends
 whole A old new Usage written ends = ends
 whole A old new Refused written ends = ends
-whole A old new SourceFailed (inl e) ends = absurd (let f : SourceFailed ≡ Done = e in cc)
-whole A old new SourceFailed (inr e) ends = absurd (let f : SourceFailed ≡ Refused = e in cc)
-whole A old new SinkFailed (inl e) ends = absurd (let f : SinkFailed ≡ Done = e in cc)
-whole A old new SinkFailed (inr e) ends = absurd (let f : SinkFailed ≡ Refused = e in cc)
-whole A old new OutOfMemory (inl e) ends = absurd (let f : OutOfMemory ≡ Done = e in cc)
-whole A old new OutOfMemory (inr e) ends = absurd (let f : OutOfMemory ≡ Refused = e in cc)
+whole A old new SourceFailed written ends = absurd written
+whole A old new SinkFailed written ends = absurd written
+whole A old new OutOfMemory written ends = absurd written
 
 no_run : (o : Option Ran) → (IsSome o → ⊥) → o ≡ None
 no_run None h = refl
@@ -55,4 +53,9 @@ module _ (command : TextCommand) (input : List ℕ) (old new : Option (List ℕ)
   pub checked_headline : command ≡ Check → CheckHeadline input old new outcome
   checked_headline is =
       check_headline old new outcome (no_run outcome.ran (λ some. subst MakesCalls is (has.0 some).0)) input
+      (subst (λ (k : TextCommand). WritesWhole (Answers k input) old new outcome.status) is answers)
+
+  pub judged_headline : command ≡ Audit → AuditHeadline input old new outcome
+  judged_headline is =
+      audit_headline old new outcome (no_run outcome.ran (λ some. subst MakesCalls is (has.0 some).0)) input
       (subst (λ (k : TextCommand). WritesWhole (Answers k input) old new outcome.status) is answers)

@@ -1,5 +1,5 @@
 -- What the whole of an input may have written, with which status.
-use Rattle.std.specs.Prelude.{ℕ, ◌<◌, ◌≤◌, ◌^◌, List, [], ◌∷◌, length, Result, Ok, Err, IsSome, codes}
+use Rattle.std.specs.Prelude.{◌≡◌, ◌⊎◌, ℕ, ◌<◌, ◌≤◌, ◌^◌, List, [], ◌∷◌, length, Result, Ok, Err, IsSome, codes}
 use Rattle.rc_text.specs.Lines.{printed_lines}
 use Rattle.rc_spec.specs.declared.spec.Spec.{Spec}
 use Rattle.rc_spec.specs.Acceptance.{IsAccepted}
@@ -8,15 +8,17 @@ use Rattle.rc_work.specs.declared.also.Also.{Also}
 use Rattle.rc_work.specs.declared.also.Also.TheVariants.{Nothing, Groups}
 use Rattle.rc_work.specs.declared.work.Work.{Work}
 use Rattle.rc_work.specs.LineRules.{op_number}
+use Rattle.rc_work.specs.PartGrammar.{WorkPart, part_reading}
 use Rattle.rc_work.specs.Ranking.{work_reading}
 use Rattle.rc_answer.specs.Answers.{Answers, IsSizeRefusal}
 use Rattle.rc_work.specs.WholeText.{place_after}
 use Rattle.rc_command.specs.declared.command.TextCommand.{TextCommand}
-use Rattle.rc_command.specs.declared.command.TextCommand.TheVariants.{Check, Plan, Run, Group, Dot, DotPlan}
+use Rattle.rc_command.specs.declared.command.TextCommand.TheVariants.{Check, Plan, Run, Group, Audit, Dot, DotPlan}
 use Rattle.rc_answer.specs.declared.status.Status.{Status}
+use Rattle.rc_answer.specs.declared.status.Status.TheVariants.{Done, Bad}
 
 abbrev pub usage_text : List ℕ
-usage_text = printed_lines (codes "usage: relc check, plan, run, dot [OP], group or big SEED N" ∷ [])
+usage_text = printed_lines (codes "usage: relc check, plan, run, dot [OP], audit, group or big SEED N" ∷ [])
 
 -- a workload was read
 abbrev pub IsGoodWork : Result Work Broken → Type 0
@@ -26,6 +28,15 @@ IsGoodWork (Ok work) = Unit {0}
 abbrev pub IsGoodReading : Also → List ℕ → Result Reading Broken → Type 0
 IsGoodReading also input (Err broken) = ⊥
 IsGoodReading also input (Ok reading) = IsAccepted reading.spec × IsGoodWork (work_reading also reading.spec (place_after input reading))
+
+-- a workload was read up to its `end`
+abbrev pub IsGoodPart : Result WorkPart Broken → Type 0
+IsGoodPart (Err broken) = ⊥
+IsGoodPart (Ok part) = Unit {0}
+
+abbrev pub IsGoodReadingUpToEnd : List ℕ → Result Reading Broken → Type 0
+IsGoodReadingUpToEnd input (Err broken) = ⊥
+IsGoodReadingUpToEnd input (Ok reading) = IsAccepted reading.spec × IsGoodPart (part_reading Nothing reading.spec (place_after input reading))
 
 abbrev pub IsGoodSpec : Result Spec Broken → Type 0
 IsGoodSpec (Err broken) = ⊥
@@ -42,8 +53,19 @@ KeepsRules Check input = IsGoodSpec (spec_of input)
 KeepsRules Plan input = IsGoodSpec (spec_of input)
 KeepsRules Run input = IsGoodReading Nothing input (spec_reading input)
 KeepsRules Group input = IsGoodReading Groups input (spec_reading input)
+KeepsRules Audit input = IsGoodReadingUpToEnd input (spec_reading input)
 KeepsRules Dot input = IsGoodSpec (spec_of input)
 KeepsRules (DotPlan op) input = IsGoodSpecWith op (spec_of input)
+
+-- the status of an input that breaks none: `audit` alone has two
+abbrev pub IsAnswered : TextCommand → Status → Type 0
+IsAnswered Check status = status ≡ Done
+IsAnswered Plan status = status ≡ Done
+IsAnswered Run status = status ≡ Done
+IsAnswered Group status = status ≡ Done
+IsAnswered Audit status = (status ≡ Done) ⊎ (status ≡ Bad)
+IsAnswered Dot status = status ≡ Done
+IsAnswered (DotPlan op) status = status ≡ Done
 
 -- what any input may have written, with its status
 pub record IsAnswer (command : TextCommand) (input text : List ℕ) (status : Status) : Type 0 where

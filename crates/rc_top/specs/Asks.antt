@@ -6,7 +6,7 @@ use Rattle.rc_work.specs.declared.also.Also.{Also}
 use Rattle.rc_work.specs.declared.also.Also.TheVariants.{Nothing}
 use Rattle.rc_answer.specs.Answers.{MakesCalls, also_of}
 use Rattle.rc_answer.specs.declared.status.Status.{Status}
-use Rattle.rc_answer.specs.declared.status.Status.TheVariants.{Done, Usage, Refused, SourceFailed, SinkFailed, OutOfMemory}
+use Rattle.rc_answer.specs.declared.status.Status.TheVariants.{Done, Bad, Usage, Refused, SourceFailed, SinkFailed, OutOfMemory}
 
 -- words that are no command read nothing, and neither does a command without a text
 abbrev pub ReadsNothing : Option Command → Type 0
@@ -29,6 +29,7 @@ also_asked (Some (Big seed calls)) = Nothing
 -- the status of a text that was read to its end, or as far as texts are read
 abbrev pub HasRead : Status → Type 0
 HasRead Done = Unit {0}
+HasRead Bad = Unit {0}
 HasRead Usage = ⊥
 HasRead Refused = Unit {0}
 HasRead SourceFailed = ⊥

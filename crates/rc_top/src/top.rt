@@ -2,12 +2,12 @@
 
 ghost use Rattle.std.specs.Prelude.{◌≡◌, ◌≤◌, ◌^◌, ◌+◌, ◌⊎◌, ◌↔◌, ℕ, List, Some, None, IfSome, IsSome, drop, length, map, string_bytes};
 ghost use Rattle.rc_io.specs.Counts.{Rose};
-ghost use Rattle.rc_top.specs.Answer.{IsAnswer, KeepsRules};
+ghost use Rattle.rc_top.specs.Answer.{IsAnswer, IsAnswered, KeepsRules};
 ghost use Rattle.rc_top.specs.Asks.{HasRead, LeavesAllBut, MakesRun, ReadsNothing, also_asked};
 ghost use Rattle.rc_top.specs.Ends.{Ends, EndsBig, EndsUsage, status_of};
 ghost use Rattle.rc_answer.specs.Answers.{MakesCalls, also_of};
 ghost use Rattle.rc_answer.specs.Big.{HasSummaryText};
-ghost use Rattle.rc_answer.specs.Headline.{CheckHeadline, Headline};
+ghost use Rattle.rc_answer.specs.Headline.{AuditHeadline, CheckHeadline, Headline};
 ghost use Rattle.rc_answer.specs.Ran.{HasRunText, IsOneHistory, ran_in, status_in};
 ghost use Rattle.rc_command.specs.Command.{command_of};
 ghost use Rattle.rc_command.specs.declared.command.Command.TheVariants.{Big, OfText};
@@ -26,20 +26,21 @@ use std::alloc::Global;
 use std::sync::Wait;
 use std::thread::Threads;
 
-/// Does what the words ask. `words[0]` is the program's name. The commands `check`, `plan`, `run`, `group` and `dot` read the
-/// source to its end, or until 2^24 + 1 bytes are taken, and never more; `big SEED N` and other words take nothing from
-/// it.
+/// Does what the words ask. `words[0]` is the program's name. The commands `check`, `plan`, `run`, `group`, `audit` and `dot`
+/// read the source to its end, or until 2^24 + 1 bytes are taken, and never more; `big SEED N` and other words take nothing
+/// from it.
 ///
 /// Over the bytes that the source tells to be left at entry, `check` writes `accepted` where the specification keeps
 /// all rules, `plan` the planned plan of each of its operations and then `end`, `dot` its drawing, `dot OP` the drawing
 /// with the planned plan of the operation of this name, and `run` the same plans as `plan` and then the report of a
 /// journal that is a run of the workload and of the rows of its replay. `group` is `run` on a workload in which calls may
-/// stand in groups, each of which is one entry of the journal. Where a rule is broken, each writes the refusal
-/// of the first, where no operation has the name `refused operation`, and of more than 2^24 bytes `refused size`. `big`
+/// stand in groups, each of which is one entry of the journal. `audit` reads a workload up to its `end`, and writes `legal N`
+/// exactly where the lines behind that are what `run` may print for the text up to there, with N entries, and else
+/// `bad line L` for the first line with which no such text begins. Where a rule is broken, each writes the refusal of the first, where no operation has the name `refused operation`, and of more than 2^24 bytes `refused size`. `big`
 /// writes the summary of the workload that the seed generates, which is that of one thread that makes the calls in
 /// order. Other words write the usage line.
 ///
-/// The status is `Done` or `Refused` with the whole text, `Usage` with the usage line, `SourceFailed` with nothing
+/// The status is `Done` or `Refused` with the whole text, `Bad` where that is `bad line L`, `Usage` with the usage line, `SourceFailed` with nothing
 /// written, `SinkFailed` with a prefix of such a text, and `OutOfMemory` with nothing or a prefix, where no read or write
 /// was counted as failed.
 ///
@@ -63,11 +64,13 @@ pub fn relc<R: Threads + Wait + Sync, S: Source, K: Sink, G: Gate + Sync>(
         → EndsUsage (K.held sink.old) (K.held sink.new) result.status }
     ensures only_usage { result.status ≡ Status.Usage
         → command_of (map string_bytes words.now) ≡ None }
+    ensures only_audit { result.status ≡ Status.Bad
+        → command_of (map string_bytes words.now) ≡ Some (OfText commands.Audit) }
     ensures untouched { ReadsNothing (command_of (map string_bytes words.now))
         → source.new ≡ source.old }
 
-    // THE HEADLINE (rc_answer/specs/Headline.antt): the words say `run`, `group` or `check`, the source tells its bytes, and
-    // all of them were read and answered.
+    // THE HEADLINE (rc_answer/specs/Headline.antt): the words say `run`, `group`, `check` or `audit`, the source tells its
+    // bytes, and all of them were read and answered.
     ensures headline { command_of (map string_bytes words.now) ≡ Some (OfText commands.Run)
         → (input : List ℕ) → S.left source.old ≡ Some input → length input ≤ 2 ^ 24
         → (result.status ≡ Status.Done) ⊎ (result.status ≡ Status.Refused)
@@ -80,6 +83,10 @@ pub fn relc<R: Threads + Wait + Sync, S: Source, K: Sink, G: Gate + Sync>(
         → (input : List ℕ) → S.left source.old ≡ Some input → length input ≤ 2 ^ 24
         → (result.status ≡ Status.Done) ⊎ (result.status ≡ Status.Refused)
         → CheckHeadline input (K.held sink.old) (K.held sink.new) result }
+    ensures audit_headline { command_of (map string_bytes words.now) ≡ Some (OfText commands.Audit)
+        → (input : List ℕ) → S.left source.old ≡ Some input → length input ≤ 2 ^ 24
+        → (result.status ≡ Status.Done) ⊎ ((result.status ≡ Status.Bad) ⊎ (result.status ≡ Status.Refused))
+        → AuditHeadline input (K.held sink.old) (K.held sink.new) result }
 
     // What is written of told bytes, how many are taken, and what is left of them.
     ensures answers { (command : TextCommand)
@@ -131,7 +138,7 @@ pub fn relc<R: Threads + Wait + Sync, S: Source, K: Sink, G: Gate + Sync>(
         → length input ≤ 2 ^ 24 → KeepsRules command input
         → (Rose (S.faults source.old) (S.faults source.new) → ⊥)
         → (Rose (K.faults sink.old) (K.faults sink.new) → ⊥)
-        → (result.status ≡ Status.Done) ⊎ (result.status ≡ Status.OutOfMemory) }
+        → IsAnswered command result.status ⊎ (result.status ≡ Status.OutOfMemory) }
 {
     match command_in(alloc, words) {
         Ok(Some(Command::OfText(command))) => answer_text(
@@ -154,7 +161,7 @@ fn usage<K: Sink>(sink: &mut K) -> Status
 {
     match write_all(
         sink,
-        b"usage: relc check, plan, run, dot [OP], group or big SEED N\n",
+        b"usage: relc check, plan, run, dot [OP], audit, group or big SEED N\n",
     ) {
         Ok(()) => Status::Usage,
         Err(WriteFault::Sink) => Status::SinkFailed,
@@ -223,6 +230,7 @@ fn answer_text<R: Threads + Wait + Sync, S: Source, K: Sink, G: Gate + Sync>(
     ensures left { (input : List ℕ) → S.left source.old ≡ Some input → HasRead result.status
         → S.left source.new ≡ Some (drop (2 ^ 24 + 1) input) }
     ensures not_usage { result.status ≡ Status.Usage → ⊥ }
+    ensures only_audit { result.status ≡ Status.Bad → command ≡ commands.Audit }
     ensures has_ran { IsSome result.ran ↔ MakesCalls command × (result.status ≡ Status.Done) }
     ensures history { IfSome result.ran (IsOneHistory (also_of command)) }
     ensures report { (input : List ℕ) → S.left source.old ≡ Some input → IfSome result.ran

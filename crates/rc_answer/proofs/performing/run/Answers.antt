@@ -7,7 +7,7 @@ use Rattle.rc_work.specs.Ranking.{work_reading}
 use Rattle.rc_answer.specs.Answers.{AnswersRun, IsReport}
 use Rattle.rc_answer.specs.Ran.{done_in, status_in}
 use Rattle.rc_answer.specs.Writes.{Writes}
-use Rattle.rc_answer.proofs.AnswerLemmas.{refusal_answers, report_answers, writes_wider}
+use Rattle.rc_answer.proofs.AnswerLemmas.{refusal_answers, report_answers, spec_refusal_answers, writes_wider}
 use Rattle.rc_answer.proofs.RanLemmas.{done_has_ran, done_ran, done_status, read_as}
 use Rattle.rc_answer.proofs.performing.run.Goals as goal
 
@@ -54,3 +54,8 @@ returns-in-Err-read_work-clause-written g c =
     (g.K.Sink.held c.args.sink.now) (g.K.Sink.held c.refuse_run-in-Err-read_work.new.sink) (status_in c.refuse_run-in-Err-read_work.result)
     (subst (λ (s : Spec). ReadsAs (Err c.in-Err-read_work.refusal) (work_reading c.args.also s (rest_place text c.in-Ok.read.1))) c.spec.ensures.value c.in-Err-read_work.ensures.exact)
     c.refuse_run-in-Err-read_work.ensures.written
+
+pub returns-in-Err-clause-written : goal.returns-in-Err-clause-written
+returns-in-Err-clause-written g c =
+    spec_refusal_answers c.args.also c.args.text.now c.in-Err.refusal (g.K.Sink.held c.args.sink.now) (g.K.Sink.held c.refuse_run.new.sink)
+    (status_in c.refuse_run.result) c.in-Err.ensures.exact c.refuse_run.ensures.written

@@ -1,7 +1,7 @@
 use Rattle.std.proofs.Common.{◌≡◌, ◌∙◌, rules, ap, ap₂}
 use Rattle.std.proofs.lemmas.Result.{IfOk-weaker}
 use Rattle.clap.specs.Words.{App, app_of, with_subcommand}
-use Rattle.rc_command.specs.Grammar.{big_app, dot_app, program, program_alone}
+use Rattle.rc_command.specs.Grammar.{audit_app, big_app, dot_app, program, program_making}
 use Rattle.rc_command.proofs.command.reader.Goals as goal
 
 pub returns : goal.returns
@@ -11,7 +11,8 @@ returns c =
     let with_check = c.in_ok-subcommand.ensures.shape (search rules) ∙ ap₂ with_subcommand top_is (ap top c.new-check.ensures.app) in
     let with_plan = c.in_ok-subcommand-2.ensures.shape (search rules) ∙ ap₂ with_subcommand with_check (ap top c.new-plan.ensures.app) in
     let with_run = c.in_ok-subcommand-3.ensures.shape (search rules) ∙ ap₂ with_subcommand with_plan (ap top c.new-run.ensures.app) in
-    let with_group : app_of c.in_ok-program.program ≡ program_alone =
+    let with_group : app_of c.in_ok-program.program ≡ program_making =
     c.in_ok-program.ensures.shape (search rules) ∙ ap₂ with_subcommand with_run (ap top c.new-group.ensures.app) in
-    IfOk-weaker c.add_big.result _ _
-    (λ r h. h ∙ ap (λ (a : App). with_subcommand a big_app.top) (c.in_ok-program-2.ensures ∙ ap (λ (a : App). with_subcommand a dot_app.top) with_group)) c.add_big.ensures
+    let with_audit = c.in_ok-program-2.ensures ∙ ap (λ (a : App). with_subcommand a audit_app.top) with_group in
+    let with_dot = c.in_ok-program-3.ensures ∙ ap (λ (a : App). with_subcommand a dot_app.top) with_audit in
+    IfOk-weaker c.add_big.result _ _ (λ r h. h ∙ ap (λ (a : App). with_subcommand a big_app.top) with_dot) c.add_big.ensures

@@ -12,7 +12,7 @@ use Rattle.rc_answer.specs.declared.status.Status.TheVariants.{Done}
 use Rattle.rc_io.specs.Bytes.{Takes}
 use Rattle.rc_io.specs.Faults.{IsCountTaken}
 use Rattle.rc_io.specs.declared.source.ReadFault.{ReadFault}
-use Rattle.rc_top.proofs.EndLemmas.{all_read, leaves, limit_read, long_ends, read_ends}
+use Rattle.rc_top.proofs.EndLemmas.{all_read, bad_ends_audit, leaves, limit_read, long_ends, read_ends, size_is_not_bad}
 use Rattle.rc_top.proofs.RanLemmas.{history_left, left_exactly, none_left, run_left, size_not_done}
 use Rattle.rc_top.proofs.CountLemmas.{quiet_runner, quiet_writer}
 use Rattle.rc_top.proofs.top.answer_text.Goals as goal
@@ -116,3 +116,13 @@ returns-in-Err-TooLong-clause-memory g c = λ is. (
   quiet_writer (g.K.Sink.faults c.args.sink.now) (g.K.Sink.faults c.refuse_size.new.sink) c.refuse_size.result c.refuse_size.ensures.faults
       (sym (ap (λ (o : Outcome). o.status) c.without_run.ensures ∙ c.status_of.ensures) ∙ is),
 )
+
+pub returns-in-Ok-clause-only_audit : goal.returns-in-Ok-clause-only_audit
+returns-in-Ok-clause-only_audit g c = λ is.
+    bad_ends_audit c.args.command c.deref.result.now (g.K.Sink.held c.args.sink.now) (g.K.Sink.held c.answer.new.sink) (status_in c.answer.result) c.answer.ensures.written
+    (sym c.outcome_of.ensures.status ∙ is)
+
+pub returns-in-Err-TooLong-clause-only_audit : goal.returns-in-Err-TooLong-clause-only_audit
+returns-in-Err-TooLong-clause-only_audit g c = λ is.
+    absurd (size_is_not_bad (g.K.Sink.held c.args.sink.now) (g.K.Sink.held c.refuse_size.new.sink) c.refuse_size.result c.refuse_size.ensures.written
+    (sym (ap (λ (o : Outcome). o.status) c.without_run.ensures ∙ c.status_of.ensures) ∙ is))

@@ -1,21 +1,24 @@
 use Rattle.std.proofs.Common.{◌≡◌, Some, None, ap, sym, ◌∙◌, subst}
-use Rattle.std.specs.Prelude.{IfSome}
+use Rattle.std.specs.Prelude.{◌⊎◌, IfSome}
 use Rattle.rc_answer.specs.declared.outcome.Outcome.{Outcome}
 use Rattle.rc_answer.specs.Answers.{also_of}
 use Rattle.rc_answer.specs.Ran.{HasRunText}
 use Rattle.rc_command.specs.declared.command.Command.TheVariants.{Big, OfText}
 use Rattle.rc_command.specs.declared.command.TextCommand.{TextCommand}
-use Rattle.rc_command.specs.declared.command.TextCommand.TheVariants.{Check, Run, Group}
-use Rattle.rc_top.specs.Answer.{KeepsRules}
+use Rattle.rc_command.specs.declared.command.TextCommand.TheVariants.{Audit, Check, Run, Group}
+use Rattle.rc_top.specs.Answer.{IsAnswered, KeepsRules}
+use Rattle.rc_answer.specs.declared.status.Status.{Status}
+use Rattle.rc_answer.specs.declared.status.Status.TheVariants.{OutOfMemory}
 use Rattle.rc_top.specs.Asks.{HasRead}
-use Rattle.rc_top.proofs.EndLemmas.{answered, one_command}
-use Rattle.rc_top.proofs.HeadlineLemmas.{checked_headline, group_headline, run_headline}
+use Rattle.rc_top.specs.Ends.{EndsBig, EndsUsage}
+use Rattle.rc_top.proofs.EndLemmas.{answered, done_bad_or_refused, done_or_refused, one_command}
+use Rattle.rc_top.proofs.HeadlineLemmas.{checked_headline, group_headline, judged_headline, run_headline}
 use Rattle.rc_top.proofs.top.relc.Goals as goal
 
 pub returns-in-Ok-Some-OfText-clause-headline : goal.returns-in-Ok-Some-OfText-clause-headline
 returns-in-Ok-Some-OfText-clause-headline g c = λ named input told short written.
     run_headline c.in-Ok-Some-OfText.command input (g.K.Sink.held c.args.sink.now) (g.K.Sink.held c.answer_text.new.sink) c.answer_text.result
-    short written (c.answer_text.ensures.answers input told) c.answer_text.ensures.has_ran
+    short (done_or_refused c.answer_text.result.status written) (c.answer_text.ensures.answers input told) c.answer_text.ensures.has_ran
     (one_command c.in-Ok-Some-OfText.command Run
     (sym (ap Some c.in-Ok-Some-OfText.field-0-0-is) ∙ sym c.in-Ok-Some-OfText.field-0-is ∙ c.in-Ok-Some-OfText.ensures.value ∙ named))
     (c.answer_text.ensures.report input told)
@@ -23,7 +26,7 @@ returns-in-Ok-Some-OfText-clause-headline g c = λ named input told short writte
 pub returns-in-Ok-Some-OfText-clause-group_headline : goal.returns-in-Ok-Some-OfText-clause-group_headline
 returns-in-Ok-Some-OfText-clause-group_headline g c = λ named input told short written.
     group_headline c.in-Ok-Some-OfText.command input (g.K.Sink.held c.args.sink.now) (g.K.Sink.held c.answer_text.new.sink) c.answer_text.result
-    short written (c.answer_text.ensures.answers input told) c.answer_text.ensures.has_ran
+    short (done_or_refused c.answer_text.result.status written) (c.answer_text.ensures.answers input told) c.answer_text.ensures.has_ran
     (one_command c.in-Ok-Some-OfText.command Group
     (sym (ap Some c.in-Ok-Some-OfText.field-0-0-is) ∙ sym c.in-Ok-Some-OfText.field-0-is ∙ c.in-Ok-Some-OfText.ensures.value ∙ named))
     (c.answer_text.ensures.report input told)
@@ -31,16 +34,28 @@ returns-in-Ok-Some-OfText-clause-group_headline g c = λ named input told short 
 pub returns-in-Ok-Some-OfText-clause-check_headline : goal.returns-in-Ok-Some-OfText-clause-check_headline
 returns-in-Ok-Some-OfText-clause-check_headline g c = λ named input told short written.
     checked_headline c.in-Ok-Some-OfText.command input (g.K.Sink.held c.args.sink.now) (g.K.Sink.held c.answer_text.new.sink) c.answer_text.result
-    short written (c.answer_text.ensures.answers input told) c.answer_text.ensures.has_ran
+    short (done_or_refused c.answer_text.result.status written) (c.answer_text.ensures.answers input told) c.answer_text.ensures.has_ran
     (one_command c.in-Ok-Some-OfText.command Check
     (sym (ap Some c.in-Ok-Some-OfText.field-0-0-is) ∙ sym c.in-Ok-Some-OfText.field-0-is ∙ c.in-Ok-Some-OfText.ensures.value ∙ named))
+
+pub returns-in-Ok-Some-OfText-clause-audit_headline : goal.returns-in-Ok-Some-OfText-clause-audit_headline
+returns-in-Ok-Some-OfText-clause-audit_headline g c = λ named input told short written.
+    judged_headline c.in-Ok-Some-OfText.command input (g.K.Sink.held c.args.sink.now) (g.K.Sink.held c.answer_text.new.sink) c.answer_text.result
+    short (done_bad_or_refused c.answer_text.result.status written) (c.answer_text.ensures.answers input told) c.answer_text.ensures.has_ran
+    (one_command c.in-Ok-Some-OfText.command Audit
+    (sym (ap Some c.in-Ok-Some-OfText.field-0-0-is) ∙ sym c.in-Ok-Some-OfText.field-0-is ∙ c.in-Ok-Some-OfText.ensures.value ∙ named))
+
+pub returns-in-Ok-Some-OfText-clause-only_audit : goal.returns-in-Ok-Some-OfText-clause-only_audit
+returns-in-Ok-Some-OfText-clause-only_audit g c = λ is.
+    sym c.in-Ok-Some-OfText.ensures.value ∙ c.in-Ok-Some-OfText.field-0-is ∙ ap Some (c.in-Ok-Some-OfText.field-0-0-is ∙ ap OfText (c.answer_text.ensures.only_audit is))
 
 pub returns-in-Ok-Some-OfText-clause-complete : goal.returns-in-Ok-Some-OfText-clause-complete
 returns-in-Ok-Some-OfText-clause-complete g c = λ command named input told short good no_source no_sink.
     let same : c.in-Ok-Some-OfText.command ≡ command = one_command c.in-Ok-Some-OfText.command command (sym (ap Some c.in-Ok-Some-OfText.field-0-0-is) ∙ sym c.in-Ok-Some-OfText.field-0-is ∙ c.in-Ok-Some-OfText.ensures.value ∙ named) in
-    answered c.in-Ok-Some-OfText.command input (g.K.Sink.held c.args.sink.now) (g.K.Sink.held c.answer_text.new.sink) c.answer_text.result.status short
+    subst (λ (k : TextCommand). IsAnswered k c.answer_text.result.status ⊎ (c.answer_text.result.status ≡ OutOfMemory)) same
+    (answered c.in-Ok-Some-OfText.command input (g.K.Sink.held c.args.sink.now) (g.K.Sink.held c.answer_text.new.sink) c.answer_text.result.status short
     (subst (λ (k : TextCommand). KeepsRules k input) (sym same) good) (c.answer_text.ensures.answers input told) c.answer_text.ensures.not_usage
-    (λ e. no_source (c.answer_text.ensures.source_failed e)) (λ e. no_sink (c.answer_text.ensures.sink_failed e))
+    (λ e. no_source (c.answer_text.ensures.source_failed e)) (λ e. no_sink (c.answer_text.ensures.sink_failed e)))
 
 pub returns-in-Ok-Some-OfText-clause-report : goal.returns-in-Ok-Some-OfText-clause-report
 returns-in-Ok-Some-OfText-clause-report g c = λ command named input told.
@@ -84,6 +99,16 @@ returns-in-Ok-Some-Big-clause-check_headline g c = λ named input told short wri
     sym (ap Some c.in-Ok-Some-Big.field-0-0-is) ∙ sym c.in-Ok-Some-Big.field-0-is ∙ c.in-Ok-Some-Big.ensures.value ∙ named in
     absurd cc
 
+pub returns-in-Ok-Some-Big-clause-audit_headline : goal.returns-in-Ok-Some-Big-clause-audit_headline
+returns-in-Ok-Some-Big-clause-audit_headline g c = λ named input told short written.
+    let e : Some (Big c.in-Ok-Some-Big.seed c.in-Ok-Some-Big.calls) ≡ Some (OfText Audit) =
+    sym (ap Some c.in-Ok-Some-Big.field-0-0-is) ∙ sym c.in-Ok-Some-Big.field-0-is ∙ c.in-Ok-Some-Big.ensures.value ∙ named in
+    absurd cc
+
+pub returns-in-Ok-Some-Big-clause-only_audit : goal.returns-in-Ok-Some-Big-clause-only_audit
+returns-in-Ok-Some-Big-clause-only_audit g c = λ is.
+    absurd (subst (λ (status : Status). EndsBig c.in-Ok-Some-Big.seed c.in-Ok-Some-Big.calls (g.K.Sink.held c.args.sink.now) (g.K.Sink.held c.big.new.sink) status) is c.big.ensures.big)
+
 pub returns-in-Ok-None-clause-headline : goal.returns-in-Ok-None-clause-headline
 returns-in-Ok-None-clause-headline g c = λ named input told short written.
     let e : None ≡ Some (OfText Run) = sym c.in-Ok-None.field-0-is ∙ c.in-Ok-None.ensures.value ∙ named in
@@ -98,3 +123,13 @@ pub returns-in-Ok-None-clause-check_headline : goal.returns-in-Ok-None-clause-ch
 returns-in-Ok-None-clause-check_headline g c = λ named input told short written.
     let e : None ≡ Some (OfText Check) = sym c.in-Ok-None.field-0-is ∙ c.in-Ok-None.ensures.value ∙ named in
     absurd cc
+
+pub returns-in-Ok-None-clause-audit_headline : goal.returns-in-Ok-None-clause-audit_headline
+returns-in-Ok-None-clause-audit_headline g c = λ named input told short written.
+    let e : None ≡ Some (OfText Audit) = sym c.in-Ok-None.field-0-is ∙ c.in-Ok-None.ensures.value ∙ named in
+    absurd cc
+
+pub returns-in-Ok-None-clause-only_audit : goal.returns-in-Ok-None-clause-only_audit
+returns-in-Ok-None-clause-only_audit g c = λ is.
+    absurd (subst (λ (status : Status). EndsUsage (g.K.Sink.held c.args.sink.now) (g.K.Sink.held c.usage.new.sink) status)
+    (sym (ap (λ (o : Outcome). o.status) c.without_run.ensures) ∙ is) c.usage.ensures.ends)

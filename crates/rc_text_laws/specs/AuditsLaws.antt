@@ -1,0 +1,212 @@
+-- What `run` may write for an input is legal behind it, and `audit` has one answer to an input.
+use Rattle.std.proofs.Common.{◌≡◌, ℕ, suc, ◌<◌, List, [], ◌∷◌, ◌++◌, length, Result, Ok, Err, refl, sym, ap, ◌∙◌, subst, inl, inr, arith}
+use Rattle.std.specs.List.{AllByRecursion, flat_map, range_with_len}
+use Rattle.std.proofs.lemmas.Grind.{flat_map-append}
+use Rattle.rc_tuple.specs.ColSetLaws.{in_range_bounds}
+use Rattle.rc_tuple.specs.RisingSet.{In}
+use Rattle.rc_text.specs.Lines.{ContentLine, IsPrintable, TextPlace, bytes_of_content, past_end_of, printed_lines}
+use Rattle.rc_text.specs.LinesLaws.{content-printed}
+use Rattle.rc_spec.specs.Acceptance.{IsAccepted, IsSealed}
+use Rattle.rc_spec.specs.AcceptanceLaws.{one_first_broken, refused_not_accepted}
+use Rattle.rc_spec.specs.Placement.{op_at}
+use Rattle.rc_spec.specs.RefusalText.{refusal_text}
+use Rattle.rc_spec.specs.declared.refusal.Refusal.{Refusal}
+use Rattle.rc_spec.specs.declared.spec.Spec.{Spec}
+use Rattle.rc_plan.specs.Compiled.{plan_at}
+use Rattle.rc_plan.specs.declared.statement.Statement.{Statement}
+use Rattle.rc_query.specs.PlannedLaws.{one_planned, planned_accepted}
+use Rattle.rc_rel.specs.History.{replay}
+use Rattle.rc_rel.specs.declared.entry.Entry.{Entry}
+use Rattle.rc_reader.specs.Grammar.{Broken, Reading, spec_reading}
+use Rattle.rc_work.specs.Fitting.{HasThreads}
+use Rattle.rc_work.specs.PartGrammar.{WorkPart, part_reading}
+use Rattle.rc_work.specs.Ranking.{work_reading}
+use Rattle.rc_work.specs.Report.{report}
+use Rattle.rc_work.specs.Runs.{Runs}
+use Rattle.rc_work.specs.WholeText.{place_after}
+use Rattle.rc_work.specs.declared.also.Also.TheVariants.{Nothing}
+use Rattle.rc_work.specs.declared.work.Work.{Work}
+use Rattle.rc_command.specs.declared.command.TextCommand.TheVariants.{Audit, Run}
+use Rattle.rc_audit.specs.GoodReports.{IsVerdict, op_lines, plans_in_lines, run_lines}
+use Rattle.rc_audit.specs.PlanLinesLaws.{plan_lines_are_written}
+use Rattle.rc_audit.specs.VerdictLaws.{one_verdict}
+use Rattle.rc_audit.specs.declared.verdict.Verdict.TheVariants.{Legal}
+use Rattle.rc_answer.specs.Answers.{Answers, AnswersAudit, AnswersPart, AnswersRun, AnswersWork, IsJudgement, IsReport, plans_and_report, verdict_status, verdict_text}
+use Rattle.rc_answer.specs.HeadlineLaws.{part_threads}
+use Rattle.rc_answer.specs.Plans.{ArePlanned, op_text}
+use Rattle.rc_answer.specs.declared.status.Status.{Status}
+use Rattle.rc_answer.specs.declared.status.Status.TheVariants.{Done, Refused}
+use Rattle.rc_text_laws.specs.BehindLaws.{IsEnded, content_behind, read_behind}
+use Rattle.rc_text_laws.specs.LegalLaws.{journal_shown}
+use Rattle.rc_text_laws.specs.PrintedRunLaws.{content_report, printable, printable_append, printable_plan}
+use Rattle.rc_text_laws.specs.ReadLaws.{is_read_work}
+use Rattle.rc_text_laws.specs.RunsLaws.{journal}
+use Rattle.rc_text_laws.specs.SpecLaws.{reading_can_be_written}
+use Rattle.rc_text_laws.specs.TextsLaws.{text_report}
+
+-- ---- the lines that a judge wants are those that are printed
+
+plans_written : (spec : Spec) (plans : List (List Statement)) (ops : List ℕ)
+    → printed_lines (flat_map (op_lines spec plans) ops) ≡ flat_map (op_text spec plans) ops
+plans_written spec plans [] = refl
+plans_written spec plans (op ∷ ops) =
+    flat_map-append (λ line. line ++ 10 ∷ []) (op_lines spec plans op) (flat_map (op_lines spec plans) ops)
+    ∙ (λ i. plan_lines_are_written spec plans op i ++ plans_written spec plans ops i)
+
+-- the lines of a run that a judge wants, each with a line feed behind it, are what `run` prints of it
+abbrev pub RunLinesAreWritten : Type 0
+RunLinesAreWritten = (spec : Spec) (plans : List (List Statement)) (work : Work) (history : List Entry)
+    → printed_lines (run_lines (record { spec = spec; plans = plans }) work history) ≡ plans_and_report spec work plans history
+
+pub run_lines_are_written : RunLinesAreWritten
+run_lines_are_written spec plans work history =
+    let lines = report spec work.ranks history (replay spec history) in
+    flat_map-append (λ line. line ++ 10 ∷ []) (plans_in_lines (record { spec = spec; plans = plans })) lines
+    ∙ ap (λ text. text ++ printed_lines lines) (plans_written spec plans (range_with_len 0 (length spec.ops)))
+
+-- ---- they are read again
+
+plans_printable : (spec : Spec) (plans : List (List Statement)) (ops : List ℕ)
+    → ((op : ℕ) → In op ops → AllByRecursion IsPrintable (op_lines spec plans op)) → AllByRecursion IsPrintable (flat_map (op_lines spec plans) ops)
+plans_printable spec plans [] each = tt
+plans_printable spec plans (op ∷ ops) each =
+    printable_append (op_lines spec plans op) (flat_map (op_lines spec plans) ops) (each op (inl refl))
+    (plans_printable spec plans ops (λ o m. each o (inr m)))
+
+module _ (input : List ℕ) (reading : Reading) (work : Work) (read : spec_reading input ≡ Ok reading) (accepted : IsAccepted reading.spec)
+    (works : work_reading Nothing reading.spec (place_after input reading) ≡ Ok work) where
+  abbrev given : Spec
+  given = reading.spec
+
+  run_printable : (plans : List (List Statement)) (history : List Entry) → ArePlanned given plans → Runs given work history
+      → AllByRecursion IsPrintable (run_lines (record { spec = given; plans = plans }) work history)
+  run_printable plans history planned run =
+      let is = reading_can_be_written input reading read in
+      let sealed : IsSealed given = record { in_range = is.in_range; populated = is.populated; accepted = accepted } in
+      let of = is_read_work Nothing given (place_after input reading) work is.well_named is.in_range works in
+      let shown = journal_shown given work.ranks history is.in_range (journal given work history of.limits of.known of.fit run) in
+      let rows = replay given history in
+      printable_append (plans_in_lines (record { spec = given; plans = plans })) (report given work.ranks history rows)
+      (plans_printable given plans (range_with_len 0 (length given.ops)) (λ op m.
+      let below : op < length given.ops = omega (arith, (in_range_bounds 0 (length given.ops) op m).1) in
+      printable_plan given is.well_named is.in_range op (plan_at plans op) (planned_accepted given sealed op below (plan_at plans op) (planned.each op below)).known))
+      (printable (report given work.ranks history rows) (text_report given work.ranks of.texts history rows is.well_named shown.1 shown.0)
+      (content_report given work.ranks history rows shown.0.count))
+
+  -- the lines of what was printed, wherever it stands
+  printed_content : (out : List ℕ) (plans : List (List Statement)) (history : List Entry) → ArePlanned given plans → Runs given work history
+      → out ≡ plans_and_report given work plans history
+      → bytes_of_content (content_behind input out) ≡ run_lines (record { spec = given; plans = plans }) work history
+  printed_content out plans history planned run printed =
+      let lines = run_lines (record { spec = given; plans = plans }) work history in
+      ap (λ (text : List ℕ). bytes_of_content (content_behind input text)) (printed ∙ sym (run_lines_are_written given plans work history))
+      ∙ content-printed (length input) (past_end_of input) lines (run_printable plans history planned run)
+
+  legal_behind : (out : List ℕ) → IsEnded input → IsReport given work out Done
+      → (entries : ℕ) × AnswersAudit (input ++ out) (spec_reading (input ++ out)) (verdict_text (Legal entries)) Done
+  legal_behind out ended is =
+      let behind = read_behind Nothing input out reading work ended read works in
+      let more = content_behind input out in
+      let judged : IsJudgement given work (past_end_of (input ++ out)) more (verdict_text (Legal (length is.history))) Done = record {
+        plans = is.plans;
+        planned = is.planned;
+        verdict = Legal (length is.history);
+        is = record {
+          history = is.history;
+          run = is.runs;
+          printed = printed_content out is.plans is.history is.planned is.runs is.printed;
+          count = refl;
+        };
+        written = (refl, refl);
+      } in (
+        length is.history,
+        subst (λ (r : Result Reading Broken). AnswersAudit (input ++ out) r (verdict_text (Legal (length is.history))) Done) (sym behind.read)
+            (inl (
+              accepted,
+              subst (λ (r : Result WorkPart Broken). AnswersPart given (past_end_of (input ++ out)) r (verdict_text (Legal (length is.history))) Done)
+                  (sym behind.part) judged,
+            )),
+      )
+
+done_is_not_refused : Done ≡ Refused → ⊥
+done_is_not_refused e = cc
+
+legal_work : (input out : List ℕ) (reading : Reading) (found : Result Work Broken) → IsEnded input → spec_reading input ≡ Ok reading → IsAccepted reading.spec
+    → work_reading Nothing reading.spec (place_after input reading) ≡ found → AnswersWork reading.spec found out Done
+    → (entries : ℕ) × AnswersAudit (input ++ out) (spec_reading (input ++ out)) (verdict_text (Legal entries)) Done
+legal_work input out reading (Err broken) ended read accepted works is = absurd (done_is_not_refused is.1)
+legal_work input out reading (Ok work) ended read accepted works is = legal_behind input reading work read accepted works out ended is
+
+legal_reading : (input out : List ℕ) (found : Result Reading Broken) → IsEnded input → spec_reading input ≡ found → AnswersRun Nothing input found out Done
+    → (entries : ℕ) × AnswersAudit (input ++ out) (spec_reading (input ++ out)) (verdict_text (Legal entries)) Done
+legal_reading input out (Err broken) ended read is = absurd (done_is_not_refused is.1)
+legal_reading input out (Ok reading) ended read (inl (accepted, is)) =
+    legal_work input out reading (work_reading Nothing reading.spec (place_after input reading)) ended read accepted refl is
+legal_reading input out (Ok reading) ended read (inr (refusal, first, is)) = absurd (done_is_not_refused is.1)
+
+-- Whatever `run` may write for an input that ends with a line feed is legal where it stands behind that input.
+abbrev pub RunsAreLegal : Type 0
+RunsAreLegal = (input out : List ℕ) → IsEnded input → Answers Run input out Done
+    → (entries : ℕ) × Answers Audit (input ++ out) (verdict_text (Legal entries)) Done
+
+pub runs_are_legal : RunsAreLegal
+runs_are_legal input out ended is = legal_reading input out (spec_reading input) ended refl is
+
+-- ---- one input has one answer
+
+same_lists : (xs ys : List (List Statement)) → length xs ≡ length ys → ((op : ℕ) → op < length xs → plan_at xs op ≡ plan_at ys op) → xs ≡ ys
+same_lists [] [] count each = refl
+same_lists [] (y ∷ ys) count each = absurd (omega (arith, count))
+same_lists (x ∷ xs) [] count each = absurd (omega (arith, count))
+same_lists (x ∷ xs) (y ∷ ys) count each =
+    let rest = same_lists xs ys (omega (arith, count)) (λ op below. each (suc op) (omega (arith, below))) in
+    (λ i. each 0 (omega arith) i ∷ rest i)
+
+-- the planned plans of a specification are one list
+same_plans : (spec : Spec) (plans others : List (List Statement)) → IsSealed spec → ArePlanned spec plans → ArePlanned spec others → plans ≡ others
+same_plans spec plans others sealed planned kept =
+    same_lists plans others (planned.count ∙ sym kept.count) (λ op below.
+    let known : op < length spec.ops = omega (arith, below, planned.count) in
+    one_planned spec sealed (op_at spec op) (plan_at plans op) (plan_at others op) (planned.each op known) (kept.each op known))
+
+-- two answers are the same text with the same status
+abbrev AreOne : List ℕ → Status → List ℕ → Status → Type 0
+AreOne text status other again = (text ≡ other) × (status ≡ again)
+
+one_judgement : (spec : Spec) (work : Work) (past_end : ℕ) (lines : List ContentLine) (text other : List ℕ) (status again : Status) → IsSealed spec → HasThreads work
+    → IsJudgement spec work past_end lines text status → IsJudgement spec work past_end lines other again → AreOne text status other again
+one_judgement spec work past_end lines text other status again sealed threads a b =
+    let plans = same_plans spec a.plans b.plans sealed a.planned b.planned in
+    let same : a.verdict ≡ b.verdict =
+    one_verdict (record { spec = spec; plans = b.plans }) work past_end lines a.verdict b.verdict threads
+    (subst (λ (p : List (List Statement)). IsVerdict (record { spec = spec; plans = p }) work past_end lines a.verdict) plans a.is) b.is in
+    (a.written.0 ∙ ap verdict_text same ∙ sym b.written.0, a.written.1 ∙ ap verdict_status same ∙ sym b.written.1)
+
+one_part : (spec : Spec) (place : TextPlace) (past_end : ℕ) (found : Result WorkPart Broken) (text other : List ℕ) (status again : Status) → IsSealed spec
+    → part_reading Nothing spec place ≡ found → AnswersPart spec past_end found text status → AnswersPart spec past_end found other again
+    → AreOne text status other again
+one_part spec place past_end (Err broken) text other status again sealed is a b = (a.0 ∙ sym b.0, a.1 ∙ sym b.1)
+one_part spec place past_end (Ok part) text other status again sealed is a b =
+    one_judgement spec part.work past_end part.others text other status again sealed (part_threads spec place part is) a b
+
+one_audit : (input : List ℕ) (found : Result Reading Broken) (text other : List ℕ) (status again : Status) → spec_reading input ≡ found
+    → AnswersAudit input found text status → AnswersAudit input found other again → AreOne text status other again
+one_audit input (Err broken) text other status again read a b = (a.0 ∙ sym b.0, a.1 ∙ sym b.1)
+one_audit input (Ok reading) text other status again read (inl a) (inl b) =
+    let is = reading_can_be_written input reading read in
+    let sealed : IsSealed reading.spec = record { in_range = is.in_range; populated = is.populated; accepted = a.0 } in
+    one_part reading.spec (place_after input reading) (past_end_of input) (part_reading Nothing reading.spec (place_after input reading)) text other status again
+    sealed refl a.1 b.1
+one_audit input (Ok reading) text other status again read (inl a) (inr b) = absurd (refused_not_accepted reading.spec b.0 b.1 a.0)
+one_audit input (Ok reading) text other status again read (inr a) (inl b) = absurd (refused_not_accepted reading.spec a.0 a.1 b.0)
+one_audit input (Ok reading) text other status again read (inr a) (inr b) =
+    let same = one_first_broken reading.spec a.0 b.0 a.1 b.1 in
+    (a.2.0 ∙ ap (λ (r : Refusal). printed_lines (refusal_text reading.spec r ∷ [])) same ∙ sym b.2.0, a.2.1 ∙ sym b.2.1)
+
+-- `audit` may write one text for an input, with one status: one verdict, or one refusal.
+abbrev pub AuditsAreOne : Type 0
+AuditsAreOne = (input text other : List ℕ) (status again : Status) → Answers Audit input text status → Answers Audit input other again
+    → (text ≡ other) × (status ≡ again)
+
+pub audits_are_one : AuditsAreOne
+audits_are_one input text other status again a b = one_audit input (spec_reading input) text other status again refl a b
