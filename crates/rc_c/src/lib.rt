@@ -12,11 +12,12 @@ ghost use Rattle.rc_embed.specs.Frames.{AnswersGroup, AnswersLearn};
 ghost use Rattle.rc_embed.specs.OpenFrames.{HasOpened, IsRefusedBy, KeepsAsked};
 ghost use Rattle.rc_embed.specs.OpenGroupFrames.{AnswersCallOpen, AnswersOpenGroup};
 ghost use Rattle.rc_embed.specs.Opened.{OpenSeen};
-ghost use Rattle.rc_embed.specs.Session.{HasCancelled, IsIdle, SessionSeen};
+ghost use Rattle.rc_embed.specs.Session.{IsIdle, SessionSeen};
 ghost use Rattle.rc_embed.specs.contracts.opening.OpenStore as stores;
 ghost use Rattle.rc_embed.specs.contracts.session.Session as sessions;
 ghost use Rattle.rc_c.specs.Answered.{AnswersSameFrame, AnswersSameOperation, AnswersSamePick};
 ghost use Rattle.rc_c.specs.Answered.{AnswersSameRow, AnswersSameRows, AnswersSession, lies_again};
+ghost use Rattle.rc_c.specs.GivenBack.{AnswersGivenBack, Handles, HasSettled};
 
 use rc_embed::{
     DONE, Frame, MEMORY, NotPrepared, OpenFrame, OpenStore, OperationFrame, Page, Session, open_by,
@@ -330,9 +331,7 @@ pub unsafe extern "C" fn relc_end_store(store: *mut u8)
 
 /// Cancels what the session has prepared or opened, if anything.
 fn settled(session: Session) -> Session
-    ensures idle { IsIdle result.state }
-    ensures same { IsIdle session.state → result ≡ session }
-    ensures cancelled { (IsIdle session.state → ⊥) → HasCancelled session result }
+    ensures { HasSettled session result }
 {
     let mut session = session;
     match session.cancel() {
@@ -363,4 +362,37 @@ pub unsafe extern "C" fn relc_end_session(session: *mut u8)
     ensures* { sem 𝓛 (room_at sessions.the_row session) }
 {
     let_session_go(std::ptr::read(session as *const Session))
+}
+
+/// Takes the session back, and cancels before what it has prepared or opened, if anything. A store that
+/// has all its passes takes none, and the session ends. (This doesn't come where the session is the
+/// store's: a session of it is outside then.)
+fn take_back_on(store: &mut OpenStore, session: Session) -> u32
+    requires { session.store ≡ store.old.store }
+    ensures { AnswersGivenBack store.old session store.new result }
+{
+    match store.take_back(settled(session)) {
+        Ok(()) => {}
+        Err(session) => let_idle_go(session),
+    }
+    DONE
+}
+
+/// Takes the session at the second pointer back to its store, the one at the first, and cancels before
+/// what it has prepared or opened, if anything. The memory behind the session's pointer is the caller's
+/// again, to be freed.
+#[unsafe(no_mangle)]
+pub unsafe extern "C" fn relc_take_back(store: *mut u8, session: *mut u8) -> u32
+    ghost held: { Handles }
+    requires its_own { held.session.store ≡ held.store.store }
+    requires* store { sem 𝓛 (lies_at stores.the_row full_share store held.store) }
+    requires* session { sem 𝓛 (lies_at sessions.the_row full_share session held.session) }
+    ensures* store { sem 𝓛 (lies_again stores.the_row store
+        (λ after. AnswersGivenBack held.store held.session after result)) }
+    ensures* session { sem 𝓛 (room_at sessions.the_row session) }
+{
+    take_back_on(
+        &mut *(store as *mut OpenStore),
+        std::ptr::read(session as *const Session),
+    )
 }

@@ -20,6 +20,7 @@ pub returns-in-Ok : goal.returns-in-Ok
 returns-in-Ok c =
     let h : HasCancelled c.args.session c.cancel.new.self = c.in-Ok.ensures.cancelled in
     record {
+      store = c.cancel.ensures.store;
       idle = subst IsIdle (sym h.is) tt;
       same = λ is. absurd (not_idle c.args.session c.cancel.new.self h is);
       cancelled = λ _. h;
