@@ -8,7 +8,7 @@
 # seeds, over few values (so that much is refused) and over more. Without words it does so for the specifications of examples/, for
 # split.relc, and for those below: edges that meet in one node, lists, keys of several columns, singletons, texts, ranges, updates, and an
 # edge that no other determines. Its last line is 'N passed, M failed'.
-here=$(cd "$(dirname "$0")" && pwd)
+here=$(CDPATH= cd -- "$(dirname "$0")" && pwd)
 library=$here/../bindings/out
 if [ ! -f "$library/librelc.a" ]; then
     echo "agree.sh: there is no $library/librelc.a. Make it first: bindings/build.sh" >&2

@@ -7,7 +7,7 @@
 # Nanoseconds are the least of RUNS runs of each, which take turns. Instructions are counted by valgrind in one run of each, which
 # takes minutes, so that less is measured there: fewer calls, between fewer nodes, that a node has about as many edges. NODES and
 # CALLS say how large the graphs are and how many calls a thread makes.
-here=$(cd "$(dirname "$0")" && pwd)
+here=$(CDPATH= cd -- "$(dirname "$0")" && pwd)
 what=nanoseconds nodes=256 calls=20000
 if [ "$1" = instructions ]; then
     what=instructions nodes=64 calls=5000

@@ -8,7 +8,7 @@
 # Prints a table in thousands of calls a second, of all threads together: the most of RUNS runs of
 # each, which take turns. NODES and CALLS say how large the graphs are and how many calls a thread
 # makes.
-here=$(cd "$(dirname "$0")" && pwd)
+here=$(CDPATH= cd -- "$(dirname "$0")" && pwd)
 library=$here/../bindings/out
 if [ ! -f "$library/librelc.a" ]; then
     echo "embed.sh: there is no $library/librelc.a. Make it first: bindings/build.sh" >&2

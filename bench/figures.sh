@@ -5,7 +5,7 @@
 #     sh bench/figures.sh
 #
 # Nanoseconds are the least of RUNS runs.
-here=$(cd "$(dirname "$0")" && pwd)
+here=$(CDPATH= cd -- "$(dirname "$0")" && pwd)
 library=$here/../bindings/out
 if [ ! -f "$library/librelc.a" ]; then
     echo "figures.sh: there is no $library/librelc.a. Make it first: bindings/build.sh" >&2

@@ -3,7 +3,7 @@
 # compares the answer with what crates/rc_cases/data/hostile.py, a second reading of the line rules, says of the text:
 # hostile.sh [PROGRAM [SEED [COUNT]]]. A text that keeps the line rules is refused for no line, and where its specification is
 # accepted the journal has the calls of the text. Prints each text that is answered otherwise. Build first: ./relc-build
-here=$(cd "$(dirname "$0")" && pwd)
+here=$(CDPATH= cd -- "$(dirname "$0")" && pwd)
 program=${1:-$here/../crates/relc/out/relc}
 exec python3 -B - "$program" "$here/.." "${2:-1}" "${3:-5000}" <<'END'
 import collections, glob, random, re, subprocess, sys, time

@@ -6,7 +6,7 @@
 #
 # Nanoseconds are the least of RUNS runs. The first edge has a key for each source, 16 tuples each, and the second one for each
 # tuple; the third is a singleton, which is inlined. A list costs its length, so that a list of sources is measured with few.
-here=$(cd "$(dirname "$0")" && pwd)
+here=$(CDPATH= cd -- "$(dirname "$0")" && pwd)
 library=$here/../bindings/out
 if [ ! -f "$library/librelc.a" ]; then
     echo "kinds.sh: there is no $library/librelc.a. Make it first: bindings/build.sh" >&2

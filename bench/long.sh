@@ -5,7 +5,7 @@
 #     sh bench/long.sh
 #
 # NODES and CALLS say how large the graph is and how many calls there are, TIMES how often they are made.
-here=$(cd "$(dirname "$0")" && pwd)
+here=$(CDPATH= cd -- "$(dirname "$0")" && pwd)
 library=$here/../bindings/out
 if [ ! -f "$library/librelc.a" ]; then
     echo "long.sh: there is no $library/librelc.a. Make it first: bindings/build.sh" >&2

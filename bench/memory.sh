@@ -3,7 +3,7 @@
 #
 # `relc run` on an example has to end with status 0 and the whole text, or with status 6 and a first part of it.
 # Build first: ./relc-build. memory.sh [PROGRAM [STEP]]
-here=$(cd "$(dirname "$0")" && pwd)
+here=$(CDPATH= cd -- "$(dirname "$0")" && pwd)
 program=${1:-$here/../crates/relc/out/relc}
 python3 - "$program" "$here" "${2:-1}" <<'END'
 import collections, os, subprocess, sys, tempfile

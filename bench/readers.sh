@@ -5,7 +5,7 @@
 #     sh bench/readers.sh [PROGRAM]
 #
 # Lines THREADS RELC_NS HAND_NS RATIO, of the least nanoseconds of a thread's turn in RUNS runs of each, which take turns.
-here=$(cd "$(dirname "$0")" && pwd)
+here=$(CDPATH= cd -- "$(dirname "$0")" && pwd)
 program=${1:-$here/../crates/bench_store/out/bench_store}
 if [ ! -x "$program" ]; then
     echo "readers.sh: there is no program $program. Prove and build it first: cd crates/bench_store && rt run" >&2

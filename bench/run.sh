@@ -1,6 +1,6 @@
 #!/bin/sh
 # Time and peak memory of `relc run` on texts of texts.py, and of `relc big`: the least of three runs. Build first: ./relc-build
-here=$(cd "$(dirname "$0")" && pwd)
+here=$(CDPATH= cd -- "$(dirname "$0")" && pwd)
 program=${1:-$here/../crates/relc/out/relc}
 exec python3 - "$program" "$here/texts.py" <<'END'
 import os, resource, subprocess, sys, tempfile, time

@@ -1,7 +1,7 @@
 #!/bin/sh
 # Time of a call of `relc run` at several sizes of the relation: the least of seven runs of a text of texts.py, without what
 # another text takes, over the calls between them. Build first: ./relc-build
-here=$(cd "$(dirname "$0")" && pwd)
+here=$(CDPATH= cd -- "$(dirname "$0")" && pwd)
 program=${1:-$here/../crates/relc/out/relc}
 python3 - "$program" "$here/texts.py" <<'END'
 import subprocess, sys, time

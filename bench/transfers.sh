@@ -7,7 +7,7 @@
 #
 # Each count is the difference of a run with TRANSFERS transfers to one without, by transfer; the times are the least of RUNS runs,
 # which take turns. peers/transfers.rs has the transfers.
-here=$(cd "$(dirname "$0")" && pwd)
+here=$(CDPATH= cd -- "$(dirname "$0")" && pwd)
 if [ ! -f "$here/../bindings/out/librelc.a" ]; then
     echo "transfers.sh: there is no $here/../bindings/out/librelc.a. Make it first: bindings/build.sh" >&2
     exit 1

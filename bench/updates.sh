@@ -5,7 +5,7 @@
 #     sh bench/updates.sh
 #
 # Each is the difference of a run with CHANGES changes to one without, by change. peers/updates.c has the calls.
-here=$(cd "$(dirname "$0")" && pwd)
+here=$(CDPATH= cd -- "$(dirname "$0")" && pwd)
 library=$here/../bindings/out
 if [ ! -f "$library/librelc.a" ]; then
     echo "updates.sh: there is no $library/librelc.a. Make it first: bindings/build.sh" >&2

@@ -1,11 +1,11 @@
 #!/bin/sh
 # Makes bindings/out/librelc.a and librelc.so: the proved archive of crates/rc_c, with close.c,
-# heap.c and relc_wait.c. Where the libraries below rc_c are there, as `rt ci` leaves them in a
+# heap.c, relc_words.c, relc_texts.c and relc_wait.c. Where the libraries below rc_c are there, as `rt ci` leaves them in a
 # fresh clone, and no source of theirs is newer, rc_c alone is proved again. Else `rt lib` first
 # proves the libraries that it has none of, or none of these sources, which takes long. With
 # RELC_ARCHIVE=FILE an archive is taken that was made before. Wants the kit, a C compiler and `ar`.
 set -e
-here=$(cd "$(dirname "$0")" && pwd)
+here=$(CDPATH= cd -- "$(dirname "$0")" && pwd)
 crates=$here/../crates
 out=$here/out
 archive=$RELC_ARCHIVE
@@ -69,11 +69,14 @@ if [ -z "$archive" ]; then
         archive=$crates/rc_c/out/librc_c.a
     fi
 fi
-for part in close heap relc_wait; do
+for part in close heap relc_words relc_texts relc_wait; do
     ${CC:-cc} -std=c11 -D_POSIX_C_SOURCE=200809L -O2 -fPIC -Wall -Wextra -c "$here/c/$part.c" \
         -o "$out/$part.o"
 done
 cp "$archive" "$out/librelc.a"
-ar rs "$out/librelc.a" "$out/close.o" "$out/heap.o" "$out/relc_wait.o"
-${CC:-cc} -shared -o "$out/librelc.so" -Wl,--version-script="$here/c/relc.map" \
+ar rs "$out/librelc.a" "$out/close.o" "$out/heap.o" "$out/relc_words.o" \
+    "$out/relc_texts.o" "$out/relc_wait.o"
+version=$(sed -n 's/^#define RELC_VERSION //p' "$here/c/relc.h")
+${CC:-cc} -shared -o "$out/librelc.so" -Wl,-soname,librelc.so."$version" -Wl,--version-script="$here/c/relc.map" \
     -Wl,-z,defs -Wl,--whole-archive "$out/librelc.a" -Wl,--no-whole-archive -lpthread
+ln -sf librelc.so "$out/librelc.so.$version"

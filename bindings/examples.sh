@@ -3,7 +3,7 @@
 # rust/examples. Each compares what it finds with what it did, and fails where that differs. It
 # builds librelc first by build.sh, but where RELC_BUILT says that this was done just now. Its last
 # line is 'N passed, M failed', in which each step of the building counts, and each example.
-here=$(cd "$(dirname "$0")" && pwd)
+here=$(CDPATH= cd -- "$(dirname "$0")" && pwd)
 out=$here/out
 passed=0
 failed=0

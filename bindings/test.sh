@@ -2,7 +2,7 @@
 # Builds librelc, tests it from C and from Rust, and runs the examples, where gcc or clang, cargo
 # and valgrind are there; what is left out is said. Its last line is 'N passed, M failed', in which
 # each step of the building counts, each program, each example, and all tests of the crate as one.
-here=$(cd "$(dirname "$0")" && pwd)
+here=$(CDPATH= cd -- "$(dirname "$0")" && pwd)
 out=$here/out
 passed=0
 failed=0
@@ -32,12 +32,34 @@ compile -o "$out/wakes" "$here/c/wakes.c" "$out/librelc.a" || exit 1
 run "$out/wakes"
 compile -o "$out/patience" "$here/c/patience.c" "$out/librelc.a" || exit 1
 run "$out/patience"
+compile -o "$out/texts" "$here/c/texts.c" "$out/librelc.a" || exit 1
+run "$out/texts"
 compile -o "$out/memory" "$here/c/memory.c" "$out/librelc.a" || exit 1
 run "$out/memory"
 run env CALLS=1000 SEEDS=1 sh "$here/../bench/agree.sh"
+if has python3 "the page of refusals and what is made of its text"; then
+    run python3 "$here/../checks/refusals.py" --check
+    if [ -x "$here/../crates/relc/out/relc" ]; then
+        run python3 "$here/../checks/refusals.py" --try "$here/../crates/relc/out/relc"
+    fi
+fi
 if has valgrind "the tests in C once more, for memory"; then
     run valgrind -q --error-exitcode=1 --leak-check=full "$out/test"
     run valgrind -q --error-exitcode=1 --leak-check=full "$out/memory"
+    run valgrind -q --error-exitcode=1 --leak-check=full "$out/texts"
+fi
+if has make "installing"; then
+    run make -s -C "$here" install DESTDIR="$out/installed" PREFIX=/usr
+    if has c++ "the headers in C++"; then
+        cat >"$out/installed/try.cpp" <<'END_OF_CPP'
+#include <relc.h>
+#include <relc_texts.h>
+#include <relc_wait.h>
+int main() { return relc_version() != RELC_VERSION; }
+END_OF_CPP
+        run c++ -Wall -Wextra -o "$out/installed/try" "$out/installed/try.cpp" -I"$out/installed/usr/include" \
+            -L"$out/installed/usr/lib" -lrelc -Wl,-rpath,"$out/installed/usr/lib" && run "$out/installed/try"
+    fi
 fi
 if has cargo "the tests in Rust"; then
     run sh -c "cd '$here/rust' && cargo test --offline --release"

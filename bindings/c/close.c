@@ -1,10 +1,11 @@
-/* What librelc has beside the exports of crates/rc_c: its version, and how handles are closed. What
- * is behind a handle ends, and then its block is given back to the allocator that librelc took it
- * from. */
+/* What librelc has beside the exports of crates/rc_c: its version, and how handles are closed, or
+ * given back. What is behind a handle ends, and then its block is given back to the allocator that
+ * librelc took it from. */
 #include "relc.h"
 
 void relc_end_store(relc_store *store);
 void relc_end_session(relc_session *session);
+uint32_t relc_take_back(relc_store *store, relc_session *session);
 void rattle_dealloc(void *block);
 
 uint32_t relc_version(void)
@@ -26,4 +27,13 @@ void relc_close_session(relc_session *session)
         return;
     relc_end_session(session);
     rattle_dealloc(session);
+}
+
+uint32_t relc_give_back(relc_store *store, relc_session *session)
+{
+    if (session == NULL)
+        return RELC_DONE;
+    uint32_t code = relc_take_back(store, session);
+    rattle_dealloc(session);
+    return code;
 }

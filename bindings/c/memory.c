@@ -471,12 +471,32 @@ static void test_closing(void)
     close_sessions();
 }
 
+/* So does one that is given back, which takes no memory either; the next one has its pass. */
+static void test_giving_back(void)
+{
+    relc_open_frame open = {.passes = 2, .limit = 1000, .seed = {1, 2}};
+    relc_store *store = NULL;
+    CHECK(relc_open((const uint8_t *)GRAPH, strlen(GRAPH), &open, &store) == RELC_DONE);
+    CHECK(relc_open_session(store, &session) == RELC_DONE);
+    CHECK(relc_open_session(store, &other) == RELC_DONE);
+    relc_frame put = CALLS[0].asked;
+    CHECK(relc_begin(session, &put) == RELC_DONE);
+    CHECK(relc_try_call(other, &put) == RELC_BUSY);
+    unsigned asked = memory.asked;
+    CHECK(relc_give_back(store, session) == RELC_DONE && memory.asked == asked);
+    CHECK(relc_try_call(other, &put) == RELC_DONE && put.kind == RELC_INSERTED);
+    CHECK(relc_open_session(store, &session) == RELC_DONE);
+    relc_close_store(store);
+    close_sessions();
+}
+
 int main(void)
 {
     unsigned refused = 0;
     for (size_t at = 0; at < COUNT_OF_TRIALS; at++)
         refused += test_failing(&TRIALS[at], 0) + test_failing(&TRIALS[at], 1);
     test_closing();
+    test_giving_back();
     printf("relc.h with %u allocations that fail: %zu passed, 0 failed\n", refused,
         2 * COUNT_OF_TRIALS + 1);
     return 0;

@@ -3,14 +3,17 @@
  *
  * Ownership.  relc_open gives a store, relc_open_session a session of it: a thread's own end.
  *             Whoever opens closes, by relc_close_session and relc_close_store, each handle once,
- *             in any order: sessions live on when their store is closed. Nothing that a call takes
- *             is kept: texts, names, values and frames are read and written during the call alone.
+ *             in any order: sessions live on when their store is closed. Before it is a session may
+ *             be given back to it by relc_give_back, in place of being closed. Nothing that a call
+ *             takes is kept: texts, names, values and frames are read and written during the call
+ *             alone.
  * Threads.    A session is used by one call at a time. It may move to another thread, where the
  *             move is ordered, as by a lock or by the start or the end of a thread. Different
  *             sessions are used at the same time. Of the functions that take a store one is called
  *             at a time for that store, beside calls on its sessions. A frame, too, is lent to one
  *             call at a time.
- * Codes.      Each function answers a code, but relc_version and those that close; RELC_DONE is 0.
+ * Codes.      Each function of this header answers a code, but relc_version, the two that answer
+ *             texts and those that close; RELC_DONE is 0.
  *             A call that is refused has changed nothing in the store, nor in the session but for
  *             RELC_UNSEEN, and for RELC_NO_CALL of relc_commit and RELC_MEMORY of relc_call_open,
  *             which end an open group; a relc_frame or a relc_operation_frame is as before but for
@@ -76,7 +79,7 @@ enum relc_code {
     RELC_TOO_LONG = 10,    /* the text is longer than 2^24 bytes */
     RELC_LINE = 11,        /* the text breaks a line rule: refusal of the frame */
     RELC_RULE = 12,        /* the specification breaks a rule of acceptance: the same */
-    RELC_NONE_LEFT = 13,   /* as many sessions were begun as the store has passes */
+    RELC_NONE_LEFT = 13,   /* of the store's passes none is left to begin a session with */
     RELC_UNSEEN = 14,      /* the session has seen less than what was to be learned */
     RELC_COUNT = 15,       /* a group has no call, or would have more than RELC_GROUP */
     RELC_NOT_OPEN = 16,    /* no group is open */
@@ -96,7 +99,7 @@ enum relc_kind {
     RELC_UPDATED = 7   /* the tuple is in the place of another, whose values are row 0 */
 };
 
-/* what a busy stripe had; session number n is the one that was begun as the n-th, from 0 */
+/* what a busy stripe had; for session numbers see relc_open_session */
 enum relc_found {
     RELC_WRITER = 0,  /* session number `who` writes it */
     RELC_READERS = 1, /* `who` sessions read it; one that finds a writer counts until it is out */
@@ -174,13 +177,20 @@ uint32_t relc_version(void);
  * written. */
 uint32_t relc_open(const uint8_t *text, size_t length, relc_open_frame *frame, relc_store **store);
 
+/* Of a refusal that relc_open told with RELC_LINE or RELC_RULE: what the rule asks, what the item or line
+ * that it names does, and what to try, as docs/REFUSALS.md has it. NULL where the frame tells none. */
+const char *relc_rule_text(const relc_open_frame *frame);
+
+/* What a code means, in a few words. Neither this text nor the one above is ever freed. */
+const char *relc_code_text(uint32_t code);
+
 /* Looks an operation up by its name, once. RELC_DONE or RELC_OPERATION. */
 uint32_t relc_operation(relc_store *store, relc_operation_frame *frame);
 
-/* Begins a session, the n-th of its store with number n, from 0. RELC_DONE: *session is the
- * caller's. Else RELC_NONE_LEFT or RELC_MEMORY, and *session is not written. The pass of a session
- * that was closed is not given to another: keep sessions, and hand them on from thread to
- * thread. */
+/* Begins a session, with the lowest number that is left of its store's, from 0: the n-th has number n
+ * where none was given back. RELC_DONE: *session is the caller's. Else RELC_NONE_LEFT or RELC_MEMORY,
+ * and *session is not written. The pass of a session, and its number, serve another one where it was
+ * given back (relc_give_back), and are lost where it was closed. */
 uint32_t relc_open_session(relc_store *store, relc_session **session);
 
 /* Calls an operation, and waits for nobody. RELC_DONE: the call stands in the history of all calls
@@ -262,8 +272,15 @@ uint32_t relc_rows(relc_session *session, relc_page *page);
 void relc_close_store(relc_store *store);
 
 /* Closes a session, where it isn't NULL, and cancels the call or the group that it has prepared or opened,
- * where there is one. */
+ * where there is one. No later session has its pass: so close a spent one. */
 void relc_close_session(relc_session *session);
+
+/* Gives a session back to its store, where it isn't NULL, and cancels first what it has prepared or opened.
+ * The handle ends. A session that is opened later has its pass and its number: its calls count on, `nth` and
+ * the store's limit, and stand after all that the pass had seen. So one that has made all its calls is spent
+ * again: close it. The store is the one that the session was opened of, and isn't closed. It takes no memory.
+ * Always RELC_DONE. */
+uint32_t relc_give_back(relc_store *store, relc_session *session);
 
 #ifdef __cplusplus
 }

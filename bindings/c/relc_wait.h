@@ -60,9 +60,9 @@ uint32_t relc_open_group_waiting_until(relc_waiting *waiting, relc_session *sess
     relc_frame *frames, size_t count, uint64_t nanoseconds);
 
 /* Wakes those that wait: to be called after each relc_try_call, relc_try_group, relc_commit (also
- * where it answers RELC_NO_CALL), relc_cancel or relc_close_session that stands alone, after each relc_begin, relc_begin_group or
- * relc_open_group that is refused, and after a relc_call_open that answers RELC_MEMORY. Where nobody
- * waits it costs one load. */
+ * where it answers RELC_NO_CALL), relc_cancel, relc_close_session or relc_give_back that stands alone,
+ * after each relc_begin, relc_begin_group or relc_open_group that is refused, and after a
+ * relc_call_open that answers RELC_MEMORY. Where nobody waits it costs one load. */
 void relc_ring(relc_waiting *waiting);
 
 #ifdef __cplusplus

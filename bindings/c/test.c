@@ -114,6 +114,9 @@ static uint32_t refused(const char *text, uint32_t passes, const char *refusal)
     uint32_t code = relc_open((const uint8_t *)text, strlen(text), &frame, &store);
     CHECK(code != RELC_DONE && frame.length == strlen(refusal));
     CHECK(memcmp(frame.refusal, refusal, frame.length) == 0);
+    const char *why = relc_rule_text(&frame);
+    CHECK((why != NULL) == (*refusal != 0));
+    CHECK(why == NULL || strlen(why) > 100);
     return code;
 }
 
@@ -139,6 +142,11 @@ static void test_opening(void)
 {
     char *wrong = strdup(GRAPH);
     memcpy(strstr(wrong, "lock k2 4 src"), "lock k2 4 dst", 13);
+    relc_open_frame told = {0};
+    CHECK(relc_rule_text(&told) == NULL);
+    CHECK(strcmp(relc_code_text(RELC_DONE), "done") == 0);
+    for (uint32_t code = RELC_MEMORY; code <= RELC_NO_CALL; code++)
+        CHECK(strcmp(relc_code_text(code), relc_code_text(RELC_NO_CALL + 1)) != 0);
     CHECK(refused("relc 3\n", 1, "refused S1 line 1") == RELC_LINE);
     CHECK(refused(wrong, 1, "refused P5 edge e2") == RELC_RULE);
     CHECK(refused(GRAPH, 0, "") == RELC_OPTIONS);
@@ -652,6 +660,41 @@ static void test_open_groups(void)
     relc_close_session(other);
 }
 
+/* One of two sessions is given back and opened again, 300 times: its calls count on, up to the limit, and
+ * what it had prepared or opened is cancelled. */
+static void test_giving_back(void)
+{
+    enum { TIMES = 300 };
+    relc_store *store = opened(2, TIMES);
+    relc_session *kept = session_of(store), *session = NULL, *none = NULL;
+    uint32_t ins = operation(store, "ins").op, succ = operation(store, "succ").op;
+    relc_frame read = {0}, frame = {0};
+    ask(&read, succ, 1, 1, 0, 0);
+    for (uint64_t time = 0; time < TIMES; time++) {
+        session = session_of(store);
+        CHECK(relc_open_session(store, &none) == RELC_NONE_LEFT);
+        ask(&frame, ins, 3, 1, time, 7);
+        CHECK(relc_try_call(session, &frame) == RELC_DONE && frame.kind == RELC_INSERTED);
+        CHECK(frame.nth == time && frame.place == 2 * time);
+        if (time + 1 < TIMES) { /* else it is spent */
+            ask(&frame, ins, time % 2 == 0 ? 3 : 2, 1, TIMES + time, 7);
+            CHECK((time % 2 == 0 ? relc_begin(session, &frame)
+                                 : relc_open_group(session, &frame, 1)) == RELC_DONE);
+            CHECK(relc_try_call(kept, &read) == RELC_BUSY && read.found == RELC_WRITER);
+            CHECK(read.who == 1);
+        }
+        CHECK(relc_give_back(store, session) == RELC_DONE);
+        CHECK(relc_try_call(kept, &read) == RELC_DONE && read.number == time + 1);
+    }
+    session = session_of(store);
+    CHECK(relc_try_call(session, &frame) == RELC_SPENT);
+    relc_close_session(session);
+    CHECK(relc_open_session(store, &none) == RELC_NONE_LEFT && none == NULL);
+    CHECK(relc_give_back(store, kept) == RELC_DONE);
+    CHECK(relc_give_back(store, NULL) == RELC_DONE);
+    relc_close_store(store);
+}
+
 /* What closes, closes nothing where there is nothing. */
 static void test_closing(void)
 {
@@ -802,6 +845,7 @@ int main(void)
     test_groups_are_refused();
     test_groups();
     test_open_groups();
+    test_giving_back();
     test_closing();
     test_waiting();
     test_latch();
@@ -810,6 +854,6 @@ int main(void)
     CHECK(waiting != NULL);
     test_threads(waiting);
     relc_close_waiting(waiting);
-    puts("relc.h: 15 passed, 0 failed");
+    puts("relc.h: 16 passed, 0 failed");
     return 0;
 }

@@ -1,9 +1,11 @@
 //! Errors.
 
+use crate::refusal::Refusal;
 use std::fmt;
 
 /// What stood in the way of a call. A session's number is that of `Session::number`.
 #[derive(Clone, Copy, Debug, PartialEq, Eq)]
+#[non_exhaustive]
 pub enum Found {
     /// The session with this number writes the stripe.
     Writer(u32),
@@ -11,6 +13,17 @@ pub enum Found {
     Readers(u32),
     /// The session with this number begins to read it.
     Latch(u32),
+}
+
+impl fmt::Display for Found {
+    fn fmt(&self, f: &mut fmt::Formatter<'_>) -> fmt::Result {
+        match self {
+            Found::Writer(session) => write!(f, "session {session} writes it"),
+            Found::Readers(1) => write!(f, "one session reads it"),
+            Found::Readers(sessions) => write!(f, "{sessions} sessions read it"),
+            Found::Latch(session) => write!(f, "session {session} begins to read it"),
+        }
+    }
 }
 
 /// A query has more rows than its store was opened to list: so many.
@@ -28,6 +41,7 @@ impl std::error::Error for Many {}
 /// Why something isn't done. The store is as before, and so is the session but for `Unseen`, and for
 /// `Memory` of a call of a transaction, which is over then; only `Many` speaks of a call that was made.
 #[derive(Clone, Debug, PartialEq, Eq)]
+#[non_exhaustive]
 pub enum Error {
     /// Memory was wanted.
     Memory,
@@ -35,19 +49,29 @@ pub enum Error {
     Options,
     /// The text is longer than 2^24 bytes.
     TooLong,
-    /// The specification is refused: the first broken rule, with its line or its item, as
-    /// `relc check` prints it.
-    Refused(String),
+    /// The specification is refused: the first broken rule, with its line or its item, and why.
+    Refused(Refusal),
     /// No operation has this name.
     Unknown(String),
     /// The operation is of another kind.
     Kind(String),
     /// The operation takes, or its rows have, another number of values.
     Arity {
+        /// The operation's name.
+        name: String,
         /// How many values there are.
         has: usize,
         /// How many were asked for.
         asked: usize,
+    },
+    /// The operation is of other columns.
+    Columns {
+        /// The operation's name.
+        name: String,
+        /// Its columns.
+        has: Vec<String>,
+        /// Those that were asked for.
+        asked: Vec<String>,
     },
     /// All sessions are out, or spent.
     NoneLeft,
@@ -95,13 +119,22 @@ impl fmt::Display for Error {
             Error::Memory => write!(f, "memory was wanted"),
             Error::Options => write!(f, "1 to 255 sessions, and 1 to 2^48 calls each"),
             Error::TooLong => write!(f, "the text is longer than 2^24 bytes"),
-            Error::Refused(why) => write!(f, "{why}"),
+            Error::Refused(refusal) => refusal.fmt(f),
             Error::Unknown(name) => write!(f, "no operation is named {name}"),
             Error::Kind(name) => write!(f, "the operation {name} is of another kind"),
-            Error::Arity { has, asked } => write!(f, "{has} values, and {asked} were asked for"),
+            Error::Arity { name, has, asked } => {
+                write!(f, "{name} has {has} values, and {asked} were asked for")
+            }
+            Error::Columns { name, has, asked } => {
+                let (has, asked) = (has.join(" "), asked.join(" "));
+                write!(
+                    f,
+                    "{name} is of the columns {has}, and {asked} were asked for"
+                )
+            }
             Error::NoneLeft => write!(f, "all sessions are out, or spent"),
             Error::Foreign => write!(f, "the operation, or what was seen, is another store's"),
-            Error::Busy { stripe, found } => write!(f, "busy at stripe {stripe}: {found:?}"),
+            Error::Busy { stripe, found } => write!(f, "busy at stripe {stripe}: {found}"),
             Error::Spent => write!(f, "the session has made all its calls"),
             Error::Prepared => write!(f, "a prepared call, or a transaction, was forgotten"),
             Error::Count => write!(f, "a group or a transaction has 1 to 16 calls"),

@@ -37,16 +37,22 @@
 
 mod error;
 mod group;
+mod names;
 mod operation;
+mod refusal;
+mod row;
 mod session;
 mod store;
 mod sys;
+mod texts;
 mod transaction;
 mod waiting;
 
 pub use error::{Error, Found, Many};
 pub use group::{Done, Group, PreparedGroup, Slot};
 pub use operation::{Answer, Insert, Inserted, Operation, Query, Reading, Remove, Update, Updated};
+pub use refusal::Refusal;
 pub use session::{Position, Prepared, Rows, Seen, Session};
 pub use store::{Options, Store};
+pub use texts::Texts;
 pub use transaction::{Declared, Transaction};

@@ -172,6 +172,19 @@ impl<const N: usize> Answer<N> {
             Answer::Many(number) => Err(Many(number)),
         }
     }
+
+    /// How many rows it has, listed or not.
+    pub fn count(&self) -> u64 {
+        match self {
+            Answer::Rows(rows) => rows.len() as u64,
+            Answer::Many(number) => *number,
+        }
+    }
+
+    /// Whether it has no row.
+    pub fn is_empty(&self) -> bool {
+        self.count() == 0
+    }
 }
 
 impl<const K: usize, const N: usize> Operation<K> for Query<K, N> {

@@ -5,6 +5,7 @@ use crate::operation::{Operation, Query, Reading, Told};
 use crate::store::{Begun, Shared};
 use crate::sys::{self, Frame, Page};
 use std::ffi::c_void;
+use std::fmt;
 use std::mem::ManuallyDrop;
 use std::sync::Arc;
 use std::time::{Duration, Instant};
@@ -87,6 +88,15 @@ pub struct Session {
     pub(crate) frames: Vec<Frame>,
     /// Where rows are read, many at a time; none before the first.
     page: Option<Box<Page>>,
+}
+
+impl fmt::Debug for Session {
+    fn fmt(&self, f: &mut fmt::Formatter<'_>) -> fmt::Result {
+        f.debug_struct("Session")
+            .field("number", &self.number())
+            .field("spent", &self.spent)
+            .finish_non_exhaustive()
+    }
 }
 
 impl Drop for Session {
@@ -315,6 +325,39 @@ impl Session {
             sys::MANY => Err(Error::Many(Many(number))),
             _ => Ok(Rows::new(self, number)),
         }
+    }
+
+    /// Calls the query as `call` does: its first row, the least one, if it has a row. The reply has all rows, as
+    /// with `query`, and costs as much; `Many` where they are more than the store was opened for.
+    pub fn first<const K: usize, const N: usize>(
+        &mut self,
+        query: Query<K, N>,
+        values: [u64; K],
+    ) -> Result<Option<[u64; N]>, Error> {
+        Ok(self.query(query, values)?.next())
+    }
+
+    /// Calls the query as `call` does: how many rows it has, also where they are more than the store was
+    /// opened for. Costs what `query` does.
+    pub fn count<const K: usize, const N: usize>(
+        &mut self,
+        query: Query<K, N>,
+        values: [u64; K],
+    ) -> Result<u64, Error> {
+        match self.query(query, values) {
+            Ok(rows) => Ok(rows.len() as u64),
+            Err(Error::Many(Many(number))) => Ok(number),
+            Err(error) => Err(error),
+        }
+    }
+
+    /// Calls the query as `call` does: whether it has a row. Costs what `query` does.
+    pub fn contains<const K: usize, const N: usize>(
+        &mut self,
+        query: Query<K, N>,
+        values: [u64; K],
+    ) -> Result<bool, Error> {
+        Ok(self.count(query, values)? > 0)
     }
 
     /// Calls the operation, and waits for nobody: the reply, with the call's place in the history.

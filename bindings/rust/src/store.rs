@@ -1,11 +1,14 @@
 //! Stores.
 
 use crate::error::Error;
+use crate::names::Names;
 use crate::operation::{Insert, Number, Query, Remove, Update};
+use crate::refusal::Refusal;
 use crate::session::Session;
 use crate::sys;
 use crate::waiting::EventCount;
 use std::ffi::c_void;
+use std::fmt;
 use std::hash::{BuildHasher, Hasher, RandomState};
 use std::num::NonZeroU32;
 use std::ptr::{self, NonNull};
@@ -17,7 +20,8 @@ use std::sync::{Arc, Mutex, MutexGuard, PoisonError};
 pub struct Options {
     /// How many sessions there may be at a time, 1 to 255.
     pub sessions: u32,
-    /// How many calls each may make over all that it is handed out to, 1 to 2^48.
+    /// How many calls each may make over all that it is handed out to, 1 to 2^48. The session that was dropped last is
+    /// handed out first, however few are left to it.
     pub limit: u64,
     /// The most rows that a query lists; of more it answers their number. None sets no limit.
     pub rows: Option<NonZeroU32>,
@@ -38,6 +42,14 @@ impl Options {
 #[derive(Clone)]
 pub struct Store {
     shared: Arc<Shared>,
+}
+
+impl fmt::Debug for Store {
+    fn fmt(&self, f: &mut fmt::Formatter<'_>) -> fmt::Result {
+        f.debug_struct("Store")
+            .field("columns", &self.shared.names.columns)
+            .finish_non_exhaustive()
+    }
 }
 
 /// A handle of the archive's.
@@ -74,6 +86,7 @@ pub(crate) struct Shared {
     number: u64,
     /// How many calls each session may make.
     pub(crate) limit: u64,
+    names: Names,
     store: Mutex<Opened>,
     /// Sessions that were dropped before they were spent, to be handed out again.
     idle: Mutex<Vec<Begun>>,
@@ -135,9 +148,8 @@ impl Store {
             sys::TOO_LONG => return Err(Error::TooLong),
             sys::LINE | sys::RULE => {
                 let refusal = &frame.refusal[..frame.length as usize];
-                return Err(Error::Refused(
-                    String::from_utf8_lossy(refusal).into_owned(),
-                ));
+                let said = String::from_utf8_lossy(refusal).into_owned();
+                return Err(Error::Refused(Refusal::new(said, text)));
             }
             sys::MEMORY => return Err(Error::Memory),
             code => unreachable!("a store is never refused by code {code}"),
@@ -145,6 +157,7 @@ impl Store {
         let shared = Shared {
             number: STORES.fetch_add(1, Relaxed),
             limit: options.limit,
+            names: Names::of(text),
             store: Mutex::new(Opened {
                 handle: Handle(NonNull::new(store).ok_or(Error::Memory)?),
                 begun: 0,
@@ -157,9 +170,12 @@ impl Store {
         })
     }
 
-    /// A session, for one thread at a time: a new one while there is one, and then one that was
-    /// dropped before it was spent.
+    /// A session, for one thread at a time: one that was dropped before it was spent, where there is one,
+    /// and else a new one.
     pub fn session(&self) -> Result<Session, Error> {
+        if let Some(begun) = locked(&self.shared.idle).pop() {
+            return Ok(Session::new(self.shared.clone(), begun));
+        }
         let mut store = locked(&self.shared.store);
         let mut session = ptr::null_mut();
         // SAFETY: the lock lets one call at a time use the store.
@@ -172,6 +188,7 @@ impl Store {
                 store.begun += 1;
                 Ok(Session::new(self.shared.clone(), begun))
             }
+            // (one may have been dropped meanwhile)
             sys::NONE_LEFT => match locked(&self.shared.idle).pop() {
                 Some(begun) => Ok(Session::new(self.shared.clone(), begun)),
                 None => Err(Error::NoneLeft),
@@ -179,6 +196,82 @@ impl Store {
             sys::MEMORY => Err(Error::Memory),
             code => unreachable!("a session is never refused by code {code}"),
         }
+    }
+
+    /// The names of the columns, in the order of the specification.
+    pub fn columns(&self) -> &[String] {
+        &self.shared.names.columns
+    }
+
+    /// The insert with this name, of tuples of these columns, which are all, in the specification's order. Others
+    /// are `Error::Columns`, also where they are more or fewer.
+    pub fn insert_of<const N: usize>(
+        &self,
+        name: &str,
+        columns: [&str; N],
+    ) -> Result<Insert<N>, Error> {
+        self.same(name, &self.shared.names.columns, &columns)?;
+        self.insert(name)
+    }
+
+    /// The update with this name, to tuples of these columns, which are all, in the specification's order.
+    pub fn update_of<const N: usize>(
+        &self,
+        name: &str,
+        columns: [&str; N],
+    ) -> Result<Update<N>, Error> {
+        self.same(name, &self.shared.names.columns, &columns)?;
+        self.update(name)
+    }
+
+    /// The remove with this name, by a pattern of these columns, in the order in which it is written, of
+    /// tuples of these, which are all.
+    pub fn remove_of<const K: usize, const N: usize>(
+        &self,
+        name: &str,
+        pattern: [&str; K],
+        columns: [&str; N],
+    ) -> Result<Remove<K, N>, Error> {
+        self.same(name, &self.given(name)?, &pattern)?;
+        self.same(name, &self.shared.names.columns, &columns)?;
+        self.remove(name)
+    }
+
+    /// The query with this name, by these columns, in the order in which they are written, those of its
+    /// pattern and then each range column twice, with rows of these.
+    pub fn query_of<const K: usize, const N: usize>(
+        &self,
+        name: &str,
+        given: [&str; K],
+        rows: [&str; N],
+    ) -> Result<Query<K, N>, Error> {
+        let frame = self.look_up(name)?;
+        if frame.kind == sys::QUERY {
+            self.same(name, &self.given(name)?, &given)?;
+            self.same(name, self.shared.names.outputs(name), &rows)?;
+        }
+        self.query(name)
+    }
+
+    /// The names of the columns of what a call of the operation gives.
+    fn given(&self, name: &str) -> Result<Vec<String>, Error> {
+        let frame = self.look_up(name)?;
+        let columns = frame.columns[..frame.count as usize].iter();
+        Ok(columns
+            .map(|column| self.shared.names.columns[*column as usize].clone())
+            .collect())
+    }
+
+    /// Refuses other columns than those that the operation has.
+    fn same(&self, name: &str, has: &[String], asked: &[&str]) -> Result<(), Error> {
+        if has == asked {
+            return Ok(());
+        }
+        Err(Error::Columns {
+            name: name.into(),
+            has: has.to_vec(),
+            asked: asked.iter().map(|column| column.to_string()).collect(),
+        })
     }
 
     /// The insert with this name, of tuples of `N` values.
@@ -256,7 +349,8 @@ impl Store {
         for (has, asked) in [(u64::from(frame.count), Some(count)), (frame.width, width)] {
             if let Some(asked) = asked.filter(|asked| *asked != has as usize) {
                 let has = has as usize;
-                return Err(Error::Arity { has, asked });
+                let name = name.into();
+                return Err(Error::Arity { name, has, asked });
             }
         }
         Ok(Number {

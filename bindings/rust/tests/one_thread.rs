@@ -74,16 +74,33 @@ fn follows_a_map() {
 #[test]
 fn refuses_texts() {
     let open = |text: &str| Store::open(text, Options::sessions(1)).err();
-    let refused = |why: &str| Some(Error::Refused(why.into()));
-    assert_eq!(open("relc 3\n"), refused("refused S1 line 1"));
-    assert_eq!(
-        open(&specification().replace("col weight num", "col weight what")),
-        refused("refused S2 line 5")
+    let refused = |text: &str| match open(text) {
+        Some(Error::Refused(refusal)) => refusal,
+        other => panic!("{other:?}"),
+    };
+    assert_eq!(refused("relc 3\n").as_str(), "refused S1 line 1");
+    let what = refused(&specification().replace("col weight num", "col weight what"));
+    assert_eq!(what.as_str(), "refused S2 line 5");
+    assert_eq!((what.rule(), what.line_number()), ("S2", Some(5)));
+    assert_eq!(what.forms(), ["col NAME num", "col NAME text"]);
+    assert!(what.to_string().contains("`col weight what`"));
+    let marked = refused(&format!("\u{feff}{}", specification()));
+    assert_eq!(marked.as_str(), "refused S1 line 1");
+    assert!(marked.to_string().contains("(`\\u{feff}"));
+    let unknown = refused(&specification().replace("col weight num", "column weight num"));
+    assert!(unknown.forms().len() > 10);
+    let placed = refused(&specification().replace("lock k2 4 src", "lock k2 4 dst"));
+    assert_eq!(placed.as_str(), "refused P5 edge e2");
+    let item = (
+        placed.rule(),
+        placed.kind(),
+        placed.item(),
+        placed.line_number(),
     );
-    assert_eq!(
-        open(&specification().replace("lock k2 4 src", "lock k2 4 dst")),
-        refused("refused P5 edge e2")
-    );
+    assert_eq!(item, ("P5", "edge", "e2", None));
+    for part in [placed.asks(), placed.does(), placed.advice()] {
+        assert!(!part.is_empty() && placed.to_string().contains(part));
+    }
     assert_eq!(open(&"#".repeat((1 << 24) + 1)), Some(Error::TooLong));
     for sessions in [0, 256] {
         assert_eq!(
@@ -119,12 +136,46 @@ fn refuses_operations() {
     );
     assert_eq!(
         store.insert::<2>("ins").err(),
-        Some(Error::Arity { has: 3, asked: 2 })
+        Some(Error::Arity {
+            name: "ins".into(),
+            has: 3,
+            asked: 2
+        })
     );
     assert_eq!(
         store.query::<1, 3>("succ").err(),
-        Some(Error::Arity { has: 2, asked: 3 })
+        Some(Error::Arity {
+            name: "succ".into(),
+            has: 2,
+            asked: 3
+        })
     );
+    assert_eq!(store.columns(), ["src", "dst", "weight"]);
+    assert!(store.insert_of("ins", ["src", "dst", "weight"]).is_ok());
+    let columns = |name: &str, has: [&str; 3], asked: [&str; 3]| {
+        Some(Error::Columns {
+            name: name.into(),
+            has: has.map(String::from).into(),
+            asked: asked.map(String::from).into(),
+        })
+    };
+    let asked = ["dst", "src", "weight"];
+    assert_eq!(
+        store.insert_of("ins", asked).err(),
+        columns("ins", ["src", "dst", "weight"], asked)
+    );
+    assert!(
+        store
+            .remove_of("del", ["src", "dst"], ["src", "dst", "weight"])
+            .is_ok()
+    );
+    assert!(
+        store
+            .remove_of("del", ["dst", "src"], ["src", "dst", "weight"])
+            .is_err()
+    );
+    assert!(store.query_of("succ", ["src"], ["dst", "weight"]).is_ok());
+    assert!(store.query_of("succ", ["src"], ["weight", "dst"]).is_err());
     let other = Store::open(specification(), Options::sessions(1)).unwrap();
     let foreign = other.insert::<3>("ins").unwrap();
     assert_eq!(
@@ -442,4 +493,38 @@ fn sessions_outlive_their_store() {
     drop(graph);
     assert_eq!(session.call(ins, [1, 2, 3]), Ok(Inserted::Added));
     std::thread::spawn(move || drop(session)).join().unwrap();
+}
+
+#[test]
+fn rows_have_names() {
+    relc::row! {
+        #[derive(Clone, Copy, Debug, PartialEq, Eq)]
+        struct Edge { src, dst, weight }
+    }
+    // (as the other tests' text, with line ends of the other kind)
+    let text = specification().replace('\n', "\r\n");
+    let store = Store::open(&text, Options::sessions(2)).unwrap();
+    let insert = store.insert_of("ins", Edge::COLUMNS).unwrap();
+    let successors = store.query_of("succ", ["src"], ["dst", "weight"]).unwrap();
+    let mut session = store.session().unwrap();
+    assert_eq!(session.first(successors, [1]).unwrap(), None);
+    assert!(!session.contains(successors, [1]).unwrap());
+    let edge = Edge {
+        src: 1,
+        dst: 3,
+        weight: 7,
+    };
+    for values in [edge.into(), [1, 2, 9]] {
+        assert_eq!(session.call(insert, values).unwrap(), Inserted::Added);
+    }
+    assert_eq!(session.first(successors, [1]).unwrap(), Some([2, 9]));
+    assert_eq!(session.count(successors, [1]).unwrap(), 2);
+    assert!(session.contains(successors, [1]).unwrap());
+    assert_eq!(Edge::from([1, 3, 7]), edge);
+    // a session that was dropped comes before a new one
+    let number = session.number();
+    drop(session);
+    let again = store.session().unwrap();
+    assert_eq!(again.number(), number);
+    assert_ne!(store.session().unwrap().number(), number);
 }

@@ -40,8 +40,7 @@ const HOW: [How; 12] = {
 };
 
 /// The calls of one thread that weren't cancelled, with their places.
-fn work(graph: &Graph, thread: u64) -> Vec<(Position, Entry)> {
-    let mut session = graph.store.session().unwrap();
+fn work(graph: &Graph, mut session: Session, thread: u64) -> Vec<(Position, Entry)> {
     let mut random = Random(thread + 0x9e3779b97f4a7c15);
     (HOW.into_iter().cycle().take(CALLS))
         .filter_map(|how| entry(graph, &mut session, &mut random, how))
@@ -123,9 +122,14 @@ fn is_legal(map: &mut BTreeMap<(u64, u64), u64>, entry: &Entry) -> bool {
 fn calls_are_one_history() {
     let graph = graph(Options::sessions(THREADS as u32));
     let graph = &graph;
+    // (before any thread: one that ends leaves its session, which goes on counting, to one that starts)
+    let sessions: Vec<_> = (0..THREADS)
+        .map(|_| graph.store.session().unwrap())
+        .collect();
     let threads: Vec<_> = thread::scope(|scope| {
         let started: Vec<_> = (0..THREADS)
-            .map(|thread| scope.spawn(move || work(graph, thread)))
+            .zip(sessions)
+            .map(|(thread, session)| scope.spawn(move || work(graph, session, thread)))
             .collect();
         started
             .into_iter()
