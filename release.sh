@@ -1,10 +1,12 @@
 #!/bin/sh
-# release.sh [FOLDER]: makes an archive of what was proved and built in this clone, with which RELC is used without the kit: the program, both
-# libraries, headers, the crate, pages and what the last `rt ci` said; and tries it where the kit isn't on the path. It proves nothing
-# itself: `rt ci`, `./relc-build` and `bindings/build.sh` come first. Wants a C compiler and, to try the crate, cargo.
+# release.sh FOLDER: makes in this folder, outside of the repository, an archive of what was proved and built in this clone,
+# with which RELC is used without the kit: the program, both libraries, headers, the crate, pages and what the last `rt ci`
+# said; and tries it where the kit isn't on the path. It proves nothing itself: `rt ci`, `./relc-build` and
+# `bindings/build.sh` come first. Wants a C compiler and, to try the crate, cargo.
 set -e
 here=$(CDPATH= cd -- "$(dirname "$0")" && pwd)
-to=$(mkdir -p "${1:-$here/out}" && CDPATH= cd -- "${1:-$here/out}" && pwd)
+[ $# -eq 1 ] || { echo "release.sh: a folder is wanted, outside of the repository, for the archive" >&2; exit 2; }
+to=$(mkdir -p "$1" && CDPATH= cd -- "$1" && pwd)
 version=$(sed -n 's/^version = "\(.*\)"$/\1/p' "$here/bindings/rust/Cargo.toml")
 name=relc-$version-linux-x86_64
 for file in crates/relc/out/relc bindings/out/librelc.a bindings/out/librelc.so; do

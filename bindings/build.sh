@@ -79,4 +79,5 @@ ar rs "$out/librelc.a" "$out/close.o" "$out/heap.o" "$out/relc_words.o" \
 version=$(sed -n 's/^#define RELC_VERSION //p' "$here/c/relc.h")
 ${CC:-cc} -shared -o "$out/librelc.so" -Wl,-soname,librelc.so."$version" -Wl,--version-script="$here/c/relc.map" \
     -Wl,-z,defs -Wl,--whole-archive "$out/librelc.a" -Wl,--no-whole-archive -lpthread
-ln -sf librelc.so "$out/librelc.so.$version"
+# (a copy and no link, which rt ci takes for no file of the repository)
+cp "$out/librelc.so" "$out/librelc.so.$version"

@@ -21,7 +21,8 @@ has() {
 compile() {
     run ${CC:-cc} -std=c11 -D_POSIX_C_SOURCE=200809L -O2 -Wall -Wextra "$@" -lpthread
 }
-trap 'echo "$passed passed, $failed failed"' EXIT
+installed=$(mktemp -d) || exit 1
+trap 'rm -rf "$installed"; echo "$passed passed, $failed failed"' EXIT
 
 run "$here/build.sh" || exit 1
 compile -o "$out/test" "$here/c/test.c" "$out/librelc.a" || exit 1
@@ -49,16 +50,17 @@ if has valgrind "the tests in C once more, for memory"; then
     run valgrind -q --error-exitcode=1 --leak-check=full "$out/texts"
 fi
 if has make "installing"; then
-    run make -s -C "$here" install DESTDIR="$out/installed" PREFIX=/usr
+    # (outside of the repository, in which rt ci takes no links)
+    run make -s -C "$here" install DESTDIR="$installed" PREFIX=/usr
     if has c++ "the headers in C++"; then
-        cat >"$out/installed/try.cpp" <<'END_OF_CPP'
+        cat >"$installed/try.cpp" <<'END_OF_CPP'
 #include <relc.h>
 #include <relc_texts.h>
 #include <relc_wait.h>
 int main() { return relc_version() != RELC_VERSION; }
 END_OF_CPP
-        run c++ -Wall -Wextra -o "$out/installed/try" "$out/installed/try.cpp" -I"$out/installed/usr/include" \
-            -L"$out/installed/usr/lib" -lrelc -Wl,-rpath,"$out/installed/usr/lib" && run "$out/installed/try"
+        run c++ -Wall -Wextra -o "$installed/try" "$installed/try.cpp" -I"$installed/usr/include" \
+            -L"$installed/usr/lib" -lrelc -Wl,-rpath,"$installed/usr/lib" && run "$installed/try"
     fi
 fi
 if has cargo "the tests in Rust"; then
