@@ -1,6 +1,7 @@
 #!/usr/bin/env python3
 """checks/examples.py PROGRAM: whether the program prints of each text in examples/ what stands beside it, by `run`, or of a text with
-groups by `group`; and whether it accepts the specification at the top of README.md."""
+groups by `group`; whether `audit` finds what `run` printed legal behind its text, of these and of 20,000 calls that eight threads make
+beside each other; and whether it accepts the specification at the top of README.md."""
 import pathlib
 import re
 import subprocess
@@ -11,6 +12,24 @@ TOP = pathlib.Path(__file__).resolve().parent.parent
 
 def printed(program, command, text):
     return subprocess.run([program, command], input=text, capture_output=True).stdout
+
+
+def many_calls():
+    """The graph with 20,000 calls of eight threads, whose keys meet."""
+    lines = (TOP / "examples" / "graph.relc").read_text().split("\nend\n")[0].split("\n") + ["end", "work 8"]
+    for call in range(20000):
+        if call % 1000 == 0:
+            lines.append("round")
+        src, dst = call * 7 % 13, call * 11 % 17
+        values = {"ins": (src, dst, call % 5), "del": (src, dst), "succ": (src,), "find": (src, dst)}
+        op = ("ins", "find", "del", "succ")[call * 5 // 3 % 4]
+        lines.append(" ".join(map(str, (call % 8, op, *values[op]))))
+    return "\n".join(lines + ["end", ""]).encode()
+
+
+def is_legal(program, text):
+    """Whether what `run` prints of the text is legal behind it."""
+    return printed(program, "audit", text + printed(program, "run", text)).startswith(b"legal ")
 
 
 def main():
@@ -24,10 +43,14 @@ def main():
         command = "group" if re.search(rb"^\d+ & \d+$", lines, re.MULTILINE) else "run"
         if printed(program, command, lines) != text.with_suffix(".out").read_bytes():
             wrong.append(str(text.relative_to(TOP)))
+        if command == "run" and not is_legal(program, lines):
+            wrong.append(f"{text.relative_to(TOP)}, judged by audit")
+    if not is_legal(program, many_calls()):
+        wrong.append("20,000 calls, judged by audit")
     first = re.search(r"```\n(relc 1\n.*?)```", (TOP / "README.md").read_text(), re.DOTALL)
     if printed(program, "check", first.group(1).encode()) != b"accepted\n":
         wrong.append("the specification of README.md")
-    print(f"{len(texts) + 1 - len(wrong)} of {len(texts) + 1} examples are printed as they stand")
+    print(f"of {len(texts)} examples, many calls and README's specification {len(wrong)} aren't as they should be")
     if wrong:
         sys.exit("\n".join(wrong))
 
