@@ -371,39 +371,3 @@ fn made_by(ran: &Ran) -> u64 {
         .iter()
         .fold(0, |sum: u64, made| sum.wrapping_add(*made))
 }
-
-// ---- the judge
-
-/// What `audit` says of a legal run of all calls.
-const LEGAL: &[u8] = b"legal 20000\n";
-
-/// Eight threads make 20,000 calls beside each other, and `audit` finds what `run` printed legal.
-#[test]
-fn what_run_prints_is_legal(rt: HostRuntime) -> Result<(), Fail> {
-    assert!(&rt; is_judged_legal(&rt, rt.alloc())?);
-    Ok(())
-}
-
-/// Whether `audit` finds legal what `run` printed of many calls, where it stands behind their text.
-fn is_judged_legal<R: Threads + Wait + Sync>(rt: &R, alloc: Global) -> Result<bool, Memory> {
-    let gate = Watch::new(false);
-    let mut printed = MemSink::new(alloc, ROOM, 1 << 20, Vec::new(alloc))?;
-    let ran = outcome(rt, alloc, Workload::Many, &mut printed, &gate)?;
-    let mut text = Vec::new(alloc);
-    Workload::Many.push_text(&mut text)?;
-    push_bytes(&mut text, printed.bytes())?;
-    let words = words_of(alloc, &["audit"])?;
-    let mut source = MemSource::new(text, 1 << 20, Vec::new(alloc));
-    let mut verdict = MemSink::new(alloc, ROOM, 1 << 20, Vec::new(alloc))?;
-    let judged = relc(
-        rt,
-        alloc,
-        Seed::fixed(),
-        &words,
-        &mut source,
-        &mut verdict,
-        &gate,
-    );
-    let is_done = ran.status == Status::Done && judged.status == Status::Done;
-    Ok(is_done && verdict.bytes() == LEGAL)
-}
