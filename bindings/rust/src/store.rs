@@ -210,7 +210,7 @@ impl Store {
         name: &str,
         columns: [&str; N],
     ) -> Result<Insert<N>, Error> {
-        self.same(name, &self.shared.names.columns, &columns)?;
+        self.check(name, sys::INSERT, &columns, None)?;
         self.insert(name)
     }
 
@@ -220,7 +220,7 @@ impl Store {
         name: &str,
         columns: [&str; N],
     ) -> Result<Update<N>, Error> {
-        self.same(name, &self.shared.names.columns, &columns)?;
+        self.check(name, sys::UPDATE, &columns, None)?;
         self.update(name)
     }
 
@@ -232,8 +232,7 @@ impl Store {
         pattern: [&str; K],
         columns: [&str; N],
     ) -> Result<Remove<K, N>, Error> {
-        self.same(name, &self.given(name)?, &pattern)?;
-        self.same(name, &self.shared.names.columns, &columns)?;
+        self.check(name, sys::REMOVE, &pattern, Some(&columns))?;
         self.remove(name)
     }
 
@@ -245,21 +244,32 @@ impl Store {
         given: [&str; K],
         rows: [&str; N],
     ) -> Result<Query<K, N>, Error> {
-        let frame = self.look_up(name)?;
-        if frame.kind == sys::QUERY {
-            self.same(name, &self.given(name)?, &given)?;
-            self.same(name, self.shared.names.outputs(name), &rows)?;
-        }
+        self.check(name, sys::QUERY, &given, Some(&rows))?;
         self.query(name)
     }
 
-    /// The names of the columns of what a call of the operation gives.
-    fn given(&self, name: &str) -> Result<Vec<String>, Error> {
+    /// Refuses an operation of another kind, and one whose calls give, or whose rows have, other columns.
+    fn check(
+        &self,
+        name: &str,
+        kind: u32,
+        given: &[&str],
+        rows: Option<&[&str]>,
+    ) -> Result<(), Error> {
         let frame = self.look_up(name)?;
-        let columns = frame.columns[..frame.count as usize].iter();
-        Ok(columns
-            .map(|column| self.shared.names.columns[*column as usize].clone())
-            .collect())
+        if frame.kind != kind {
+            return Err(Error::Kind(name.into()));
+        }
+        let names = &self.shared.names;
+        let gives: Vec<_> = (frame.columns[..frame.count as usize].iter())
+            .map(|column| names.columns[*column as usize].clone())
+            .collect();
+        self.same(name, &gives, given)?;
+        let has = match kind {
+            sys::QUERY => names.outputs(name),
+            _ => &names.columns,
+        };
+        rows.map_or(Ok(()), |rows| self.same(name, has, rows))
     }
 
     /// Refuses other columns than those that the operation has.

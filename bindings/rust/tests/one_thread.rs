@@ -175,6 +175,8 @@ fn refuses_operations() {
             .is_err()
     );
     assert!(store.query_of("succ", ["src"], ["dst", "weight"]).is_ok());
+    let kind = store.remove_of("succ", ["src"], ["dst", "weight"]);
+    assert_eq!(kind.err(), Some(Error::Kind("succ".into())));
     assert!(store.query_of("succ", ["src"], ["weight", "dst"]).is_err());
     let other = Store::open(specification(), Options::sessions(1)).unwrap();
     let foreign = other.insert::<3>("ins").unwrap();
