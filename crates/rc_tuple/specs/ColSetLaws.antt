@@ -1,11 +1,11 @@
 -- Laws of column sets, and what a mask says of the set that it stands for.
-use Rattle.std.proofs.Common.{◌≡◌, ℕ, zero, suc, ◌+◌, ◌-◌, ◌++◌, length, Some, None, ◌*◌, ◌/◌, ◌%◌, ◌^◌, ◌<◌, ◌≤◌, Bool, true, false, cond, ◌&&◌, ◌||◌, not, min, max, eqb, leb, ltb, List, [], ◌∷◌, refl, sym, ap, ◌∙◌, ◌⊎◌, inl, inr, lit<, subst, arith}
+use Rattle.std.proofs.Common.{◌≡◌, ℕ, zero, suc, ◌+◌, ◌-◌, ◌++◌, length, Some, None, ◌*◌, ◌/◌, ◌%◌, ◌^◌, ◌<◌, ◌≤◌, Bool, true, false, cond, ◌&&◌, ◌||◌, not, min, max, eqb, leb, ltb, List, [], ◌∷◌, refl, sym, ap, ◌∙◌, ◌⊎◌, inl, inr, lit<, lit≤, subst, arith}
 use Rattle.std.specs.List.{slice_get, filter, range_with_len}
 use Rattle.std.specs.declared.cmp.Ordering.TheVariants.{Less}
 use Rattle.std.specs.Ordering.{nat_cmp}
 use Rattle.std.specs.Int.{bit_at, bit_not, w32}
 use Rattle.std.specs.Prelude.{bit_and, bit_or, count_ones, ◌==◌}
-use Rattle.std.proofs.lemmas.Nat.Bits.{bit_at_or, bit_at_and, bit_at_not, bit_at-lt, bit_at_set_same, bit_at_set_other, shr_and_one, same_from_bits_below, bit_at-zero}
+use Rattle.std.proofs.lemmas.Nat.Bits.{bit_at_or, bit_at_and, bit_at_not, bit_at-lt, bit_at_ones, bit_at_ones_above, bit_at_set_same, bit_at_set_other, shr_and_one, same_from_bits_below, bit_at-zero}
 use Rattle.std.proofs.lemmas.Map.Views.{any-filter_same}
 use Rattle.std.proofs.lemmas.Bool.{eqb-true, lt-ltb, le-ltb, ltb-true, or_cases, or_left, or_right, cond-true, eqb-false, eq-eqb, ne_eqb, cases_eq, cases_Bool, false≢true}
 use Rattle.std.proofs.lemmas.Bool.Decides.{nat_tests}
@@ -431,6 +431,48 @@ ones_from m (suc k) s h =
 pub count_ones-columns_of : (m : ℕ) → m < 2 ^ 32 → count_ones m ≡ length (columns_of m)
 unfolding columns_of
 count_ones-columns_of m h = ap count_ones (sym (div-one m)) ∙ ones_from m 32 0 (omega (arith, div-one m))
+
+-- the bits below c
+has_bit-low : (c k : ℕ) → has_bit (2 ^ c - 1) k ≡ ltb k c
+has_bit-low c k = elim (cases_below k c) [
+  | inl lt ↦ ap (λ n. eqb n 1) (bit_at_ones c k lt) ∙ sym (lt-ltb k c lt)
+  | inr ge ↦ ap (λ n. eqb n 1) (bit_at_ones_above c k ge) ∙ sym (le-ltb k c ge)
+]
+
+low_within : (a c l : Bool) → ((a && c) && l) ≡ ((a && l) && c)
+low_within true true true = refl
+low_within true true false = refl
+low_within true false true = refl
+low_within true false false = refl
+low_within false c l = refl
+
+below_range : (c k : ℕ) → (leb 0 k && ltb k (0 + c)) ≡ ltb k c
+below_range c k = grind (arith, nat_tests)
+
+columns_of-low : (m c : ℕ) → columns_of (bit_and m (2 ^ c - 1)) ≡ filter (has (columns_of m)) (range_with_len 0 c)
+columns_of-low m c =
+    same_sets (columns_of (bit_and m (2 ^ c - 1))) (filter (has (columns_of m)) (range_with_len 0 c)) (IsColSet-columns_of (bit_and m (2 ^ c - 1))).rising
+    (rising_filter nat_cmp (has (columns_of m)) (range_with_len 0 c) (rising_range 0 c))
+    (λ k. has-columns_of (bit_and m (2 ^ c - 1)) k ∙ ap (λ t. t && ltb k 32) (has_bit-and m (2 ^ c - 1) k ∙ ap (λ t. has_bit m k && t) (has_bit-low c k))
+    ∙ low_within (has_bit m k) (ltb k c) (ltb k 32)
+    ∙ sym (has-filter (has (columns_of m)) (range_with_len 0 c) k ∙ ap (λ t. t && has (range_with_len 0 c) k) (has-columns_of m k)
+    ∙ ap (λ t. (has_bit m k && ltb k 32) && t) (has-range 0 c k ∙ below_range c k)))
+
+-- the columns below c are the bits below it
+pub rank-from_mask : (m c : ℕ) (xs : List ℕ) → columns_of m ≡ xs → m < 2 ^ 32 → count_ones (bit_and m (2 ^ c - 1)) ≡ rank xs c
+rank-from_mask m c xs e h =
+    count_ones-columns_of (bit_and m (2 ^ c - 1)) (below_left m (2 ^ c - 1) h (and_le_l m (2 ^ c - 1))) ∙ ap length (columns_of-low m c) ∙ ap (λ l. rank l c) e
+
+-- at most one for each number below c
+pub rank-le : (xs : List ℕ) (c : ℕ) → rank xs c ≤ c
+rank-le xs zero = omega arith
+rank-le xs (suc c) =
+    let e : suc c ≡ c + 1 = omega arith in
+    subst (λ n. rank xs n ≤ n) (sym e) (omega (arith, rank_more xs c, rank-le xs c, one_at_most (has xs c)))
+  where
+    one_at_most : (b : Bool) → cond b 1 0 ≤ 1
+    one_at_most true = lit≤ tt
+    one_at_most false = lit≤ tt
 
 pub length-from_mask : (m : ℕ) (xs : List ℕ) → columns_of m ≡ xs → m < 2 ^ 32 → count_ones m ≡ length xs
 length-from_mask m xs e h = count_ones-columns_of m h ∙ ap length e
