@@ -201,6 +201,18 @@ remove_no_query kind k h = subst IsQuery k h
 remove_no_insert : (kind : OpKind) → kind ≡ Remove → GivesTuple kind → ⊥
 remove_no_insert kind k h = subst GivesTuple k h
 
+-- where all columns were visited a remove's bindings are the tuples that match its arguments
+pub visited_match : (spec : Spec) (sealed : IsSealed spec) (plan : List Statement) (call : Call) (rest : List Statement) (bs : List Pairs) (old : Option Pairs) (held : List HeldStripe) (at : IsAt spec plan call rest bs old held)
+    → (r : List Pairs) → AreOfRelation spec held r → (op_at spec call.op).kind ≡ Remove → Within (all_columns spec) at.progress.visited → bs ≡ filter (matches call.args) r
+visited_match spec sealed plan call rest bs old held at r a k w = go o.search.reached ∙ ap (λ s. filter (matches s) r) (o.given (remove_no_insert (op_at spec call.op).kind k))
+  where
+    o : IsOn spec r (op_at spec call.op) call.args at.progress bs old (locks_of held)
+    o = at.on r a
+
+    go : IsReached r o.sought at.progress.visited bs → bs ≡ filter (matches o.sought) r
+    go (inl e) = absurd (subst (In 0) e.0 (w 0 (in_range_below (length spec.columns) 0 sealed.populated.column)))
+    go (inr seen) = all_seen_match (all_columns spec) (rising_range 0 (length spec.columns)) r a.relation o.sought o.rising o.inside at.progress.visited bs w o.search.rising seen
+
 module _ (spec : Spec) (sealed : IsSealed spec) (plan : List Statement) (call : Call) (fits : Fits spec call) (rest : List Statement) (bs : List Pairs) (old : Option Pairs) (held : List HeldStripe) (at : IsAt spec plan call (Apply ∷ rest) bs old held)
     (r : List Pairs) (a : AreOfRelation spec held r) where
   keeps : KeepsAll spec (op_at spec call.op) at.progress Apply
@@ -229,22 +241,12 @@ module _ (spec : Spec) (sealed : IsSealed spec) (plan : List Statement) (call : 
 
   -- ---- a remove
 
-  found_match : (op_at spec call.op).kind ≡ Remove → bs ≡ filter (matches o.sought) r
-  found_match k = go o.search.reached
-    where
-      w : Within (all_columns spec) at.progress.visited
-      w = subst (λ z. FindsTuples spec z at.progress.visited) k keeps.k6
-
-      go : IsReached r o.sought at.progress.visited bs → bs ≡ filter (matches o.sought) r
-      go (inl e) = absurd (subst (In 0) e.0 (w 0 (in_range_below (length spec.columns) 0 sealed.populated.column)))
-      go (inr seen) = all_seen_match (all_columns spec) (rising_range 0 (length spec.columns)) r a.relation o.sought o.rising o.inside at.progress.visited bs w o.search.rising seen
-
   -- what is found matches the arguments
   pub found_args : (op_at spec call.op).kind ≡ Remove → bs ≡ filter (matches call.args) r
-  found_args k = found_match k ∙ ap (λ s. filter (matches s) r) (o.given (remove_no_insert (op_at spec call.op).kind k))
+  found_args k = visited_match spec sealed plan call (Apply ∷ rest) bs old held at r a k (subst (λ z. FindsTuples spec z at.progress.visited) k keeps.k6)
 
   pub found_in : (op_at spec call.op).kind ≡ Remove → (b : Pairs) → In b bs → In b r
-  found_in k b m = (in_filter (matches o.sought) b r (subst (In b) (found_match k) m)).0
+  found_in k b m = (in_filter (matches call.args) b r (subst (In b) (found_args k) m)).0
 
   pub found_whole : (op_at spec call.op).kind ≡ Remove → (b : Pairs) → In b bs → cols_of b ≡ all_columns spec
   found_whole k b m = (a.relation.each b (found_in k b m)).over

@@ -1,9 +1,10 @@
 -- Inserts, removes and updates that are answered from the rows of one edge.
-use Rattle.std.specs.Prelude.{◌≡◌, ℕ, zero, suc, ◌++◌, Bool, true, false, List, [], ◌∷◌, None, Option, Some, Result, Ok, Err, IsErr, drop, filter, length, map}
+use Rattle.std.specs.Prelude.{◌≡◌, ℕ, zero, suc, ◌+◌, ◌-◌, ◌≤◌, ◌++◌, Bool, true, false, List, [], ◌∷◌, None, Option, Some, Result, Ok, Err, IfErr, IsErr, IsErrAnd, drop, filter, length, map, take}
 use Rattle.std.specs.List.{list_any}
 use Rattle.std.specs.Ordering.{nat_cmp}
-use Rattle.std.proofs.Common.{inl, inr, refl, sym, ap, subst, ◌∙◌}
+use Rattle.std.proofs.Common.{inl, inr, refl, sym, ap, subst, ◌∙◌, arith}
 use Rattle.std.proofs.lemmas.Bool.{or_parts}
+use Rattle.std.proofs.lemmas.List.{length-drop}
 use Rattle.rc_tuple.specs.ColSet.{Within}
 use Rattle.rc_tuple.specs.ColSetLaws.{in_range_below, rising_range, union_left, union_right}
 use Rattle.rc_tuple.specs.MergeLaws.{project_all}
@@ -32,10 +33,13 @@ use Rattle.rc_spec.specs.Stripes.{physical_stripe}
 use Rattle.rc_fragment.specs.Fragment.{IsThereWith, shape_of}
 use Rattle.rc_fragment.specs.FragmentLaws.{parted_edge}
 use Rattle.rc_fragment.specs.FragmentRows.{FragmentRows}
-use Rattle.rc_fragment.specs.Holder.{AreOfOneRelation, AreOfRelation, HeldStripe, Holding, IsLent, held_of}
+use Rattle.rc_fragment.specs.Holder.{AreOfOneRelation, AreOfRelation, GoesOn, HeldStripe, Holding, IsLent, held_of}
+use Rattle.rc_fragment.specs.HoldingLaws.{goes_on_again}
 use Rattle.rc_fragment.specs.RowValues.{IsParted, values_at}
+use Rattle.rc_fragment.specs.declared.held.Held.{Held}
 use Rattle.rc_fragment.specs.declared.shape.EdgeShape.{EdgeShape}
-use Rattle.rc_plan.specs.Access.{Asks, InsertsRow, RemovesRow, UpdatesRow, is_dep_check}
+use Rattle.rc_plan.specs.Access.{AreLate, Asks, InsertsRow, MayBeLate, RemovesRow, UpdatesRow, is_dep_check, is_lock}
+use Rattle.rc_plan.specs.AccessLaws.{none_late}
 use Rattle.rc_plan.specs.Compiled.{SpecWithPlans, plan_at}
 use Rattle.rc_plan.specs.PlanRules.{IsInsert, IsQuery, IsUpdate, pattern_columns}
 use Rattle.rc_plan.specs.StripeLocksLaws.{physical_stripe-agreeing}
@@ -44,18 +48,23 @@ use Rattle.rc_plan.specs.declared.access.AccessPath.{AccessPath}
 use Rattle.rc_plan.specs.declared.statement.ReadMode.{ReadMode}
 use Rattle.rc_plan.specs.declared.statement.ReadMode.TheVariants.{Lookup, Scan}
 use Rattle.rc_plan.specs.declared.statement.Statement.{Statement}
-use Rattle.rc_machine.specs.Access.{HasAnsweredByPath, HasLockedPath, IsRowFound, IsTupleFound, leaving}
-use Rattle.rc_machine.specs.Applied.{CanInsert, CanRemove, CanReplace, HasRemoved, HasReplaced, replaced_in}
+use Rattle.rc_machine.specs.Access.{HasAnsweredByPath, HasLockedPath, HasRunByPath, IsBehind, IsOnlyMatch, IsRowFound, IsTupleFound, leaving}
+use Rattle.rc_machine.specs.Applied.{CanInsert, CanReplace, HasReplaced, replaced_in}
 use Rattle.rc_machine.specs.Apply.{IsSameButLent, all_changed}
-use Rattle.rc_machine.specs.Machine.{AreTakenAsOffered, HasReplied}
+use Rattle.rc_machine.specs.Machine.{AreAsTaken, AreTakenAsOffered, HasRefusedCall, HasReplied}
+use Rattle.rc_machine.specs.Stopped.{CountsIfHeld}
 use Rattle.rc_machine.specs.Stripes.{AreStripesOf}
+use Rattle.rc_machine.specs.declared.stop.Stop.{Stop}
+use Rattle.rc_machine.specs.declared.stop.Stop.TheVariants as stop
 use Rattle.rc_machine.specs.declared.stripe.ClassStripe.{ClassStripe}
 use Rattle.rc_machine.proofs.AccessLemmas.{match_of, no_member, row_of}
 use Rattle.rc_machine.proofs.AccessRunLemmas.{args_are, args_striped, lent_over, lent_rows, path_replies, pattern_in_args}
 use Rattle.rc_machine.proofs.ArriveLemmas.{ComesToApply, arrives, old_kept}
-use Rattle.rc_machine.proofs.ConditionLemmas.{found_args}
 use Rattle.rc_machine.proofs.EdgeRowLemmas.{inside, same_all}
-use Rattle.rc_machine.proofs.GoLemmas.{applied_replies, can_apply}
+use Rattle.rc_machine.proofs.GoLemmas.{applied_replies, can_apply, refused_since}
+use Rattle.rc_machine.proofs.LateLemmas.{arrives_absent, remove_replies, stands}
+use Rattle.rc_machine.proofs.LentLemmas.{counted_lent, lent_goes_on}
+use Rattle.rc_machine.proofs.LockLemmas.{counted_stop_since, memory_alone}
 use Rattle.rc_machine.proofs.StripeLemmas.{args_below, stripes_of_more}
 
 -- ---- what a path of a change asks
@@ -105,6 +114,10 @@ module _ (compiled : SpecWithPlans) (call : Call) (p : AccessPath) (stripe : ℕ
 
   abbrev pattern : List ℕ
   pattern = pattern_columns (op_at spec call.op)
+
+  -- an operation that is no remove has no Lock behind its first ones
+  pub others : ((op_at spec call.op).kind ≡ Remove → ⊥) → list_any is_lock (drop p.locks plan) ≡ false
+  others no_remove = none_late (op_at spec call.op).kind no_remove p.edge p.late (drop p.locks plan) locked.path.locks.late locked.path.locks.others
 
   -- what is found, as a list
   abbrev found_list : Option Pairs → List Pairs
@@ -200,6 +213,9 @@ module _ (compiled : SpecWithPlans) (call : Call) (p : AccessPath) (stripe : ℕ
   -- ---- an insert
 
   module _ (kind : (op_at spec call.op).kind ≡ Insert) where
+    insert_no_remove : (op_at spec call.op).kind ≡ Remove → ⊥
+    insert_no_remove is = let same : Insert ≡ Remove = sym kind ∙ is in cc
+
     insert_row : InsertsRow spec (op_at spec call.op) plan edge
     insert_row = inserts_row spec (op_at spec call.op) plan edge p.mode (subst (λ k. Asks k p.mode spec (op_at spec call.op) plan edge) kind locked.path.asks)
 
@@ -217,7 +233,7 @@ module _ (compiled : SpecWithPlans) (call : Call) (p : AccessPath) (stripe : ℕ
       -- a row found is a tuple with the values at the pattern
       pub present_replies : (values : List ℕ) → IsRowFound shape fragment.now p.edge call.args (Some values) → HasReplied spec plan call (held_of s) Present
       present_replies values look =
-          path_replies spec locked.sealed call locked.fits plan locked.planned (drop p.locks plan) locked.path.locks.others (held_of s) locked.run one Present
+          path_replies spec locked.sealed call locked.fits plan locked.planned (drop p.locks plan) (others insert_no_remove) (held_of s) locked.run one Present
           (λ r a. present r a fragment.now (lent_rows compiled call p stripe s locked fragment lent r a) values look (lent_over compiled call p stripe s locked fragment lent one))
 
       module _ (nowhere : IsRowFound shape fragment.now p.edge call.args None) where
@@ -225,7 +241,7 @@ module _ (compiled : SpecWithPlans) (call : Call) (p : AccessPath) (stripe : ℕ
         insert_arrives =
             arrives spec locked.sealed plan call locked.fits (held_of s) one (λ q. subst IsQuery kind q)
             (λ i. nothing_found insert_row.given one.0 one.1 fragment.now (lent_rows compiled call p stripe s locked fragment lent one.0 one.1) nowhere) (λ u. absurd (subst IsUpdate kind u))
-            (drop p.locks plan) locked.path.locks.others (λ gives. none_dropped is_dep_check p.locks plan insert_row.unchecked) (call.args ∷ []) None locked.run
+            (drop p.locks plan) (others insert_no_remove) (λ gives. none_dropped is_dep_check p.locks plan insert_row.unchecked) (call.args ∷ []) None locked.run
 
         -- where none is found the tuple can be added
         pub can_insert : CanInsert spec call.args (held_of s)
@@ -246,70 +262,63 @@ module _ (compiled : SpecWithPlans) (call : Call) (p : AccessPath) (stripe : ℕ
     pub remove_whole : bound spec edge.to ≡ all_columns spec
     remove_whole = remove_row.whole
 
+    -- the late statements of its plan
+    pub late_within : p.late ≤ length (drop p.locks plan)
+    late_within =
+        let long : length (drop p.locks plan) ≡ length plan - p.locks = length-drop p.locks plan in
+        let inside : p.locks + p.late ≤ length plan = locked.path.locks.within in
+        omega (arith, long, inside)
+
+    pub are_late : AreLate p.edge (take p.late (drop p.locks plan))
+    are_late = subst (λ k. MayBeLate k p.edge (take p.late (drop p.locks plan))) kind locked.path.locks.late
+
+    striped : Within (class_at spec (class_of spec p.edge)).cols (cols_of call.args)
+    striped = args_striped spec locked.sealed call locked.fits plan p locked.path
+
     module _ (fragment : FragmentRows) (lent : IsLent s stripe fragment) where
-      abbrev r : List Pairs
-      r = one.0
+      module _ (r : List Pairs) (a : AreOfRelation spec (held_of s) r) where
+        rows_are : fragment.now ≡ fragment_of spec r fall
+        rows_are = lent_rows compiled call p stripe s locked fragment lent r a
 
-      relation : IsRelation (all_columns spec) r
-      relation = one.1.relation
+        there : (t : Pairs) → In t (filter (matches call.args) r) → IsThereWith shape fragment.now p.edge (values_at shape.source call.args) (values_at shape.key call.args) (project shape.target t)
+        there t m =
+            let q : In t r × (matches call.args t ≡ true) = in_filter (matches call.args) t r m in
+            row_of spec locked.sealed p.edge locked.path.locks.edge call.args args striped r a.relation fragment.now rows_are remove_given t q.0 q.1
 
-      rows_are : fragment.now ≡ fragment_of spec r fall
-      rows_are = lent_rows compiled call p stripe s locked fragment lent r one.1
+        -- what is found is the tuple that matches the arguments
+        matching : (u : Pairs) → IsTupleFound shape fragment.now p.edge call.args (Some u) → In u (filter (matches call.args) r)
+        matching u found =
+            let columns : cols_of u ≡ shape.target = lent_over compiled call p stripe s locked fragment lent one (p.edge, u, found.0.there.0) found.0.there.1 in
+            let t : (t : Pairs) × In t r × (matches call.args t ≡ true) × (u ≡ project shape.target t) =
+            match_of spec locked.sealed p.edge locked.path.locks.edge call.args args striped r a.relation fragment.now rows_are
+            (inside spec locked.sealed p.edge locked.path.locks.edge call.args args remove_given) u found.0.there
+            (same_all spec locked.sealed p.edge locked.path.locks.edge call.args args remove_given fragment.now u found.0 columns) in
+            subst (λ z. In z (filter (matches call.args) r)) (sym (t.3 ∙ itself remove_whole r a.relation t.0 t.1)) (filter_in (matches call.args) t.0 r t.1 t.2)
 
-      striped : Within (class_at spec (class_of spec p.edge)).cols (cols_of call.args)
-      striped = args_striped spec locked.sealed call locked.fits plan p locked.path
+        found_matches : (found : Option Pairs) → IsTupleFound shape fragment.now p.edge call.args found → filter (matches call.args) r ≡ found_list found
+        found_matches None nowhere = no_member (filter (matches call.args) r) (λ t m. nowhere (project shape.target t) (there t m))
+        found_matches (Some u) found =
+            same_rising tuple_cmp tuple_order (filter (matches call.args) r) (u ∷ []) (rising_filter tuple_cmp (matches call.args) r a.relation.rising) ((λ y m. absurd m), tt)
+            (λ t m. inl (sym (itself remove_whole r a.relation t (in_filter (matches call.args) t r m).0) ∙ found.1 (project shape.target t) (there t m)))
+            (λ t m. elim m [ inl e ↦ subst (λ z. In z (filter (matches call.args) r)) (sym e) (matching u found) | inr z ↦ absurd z ])
 
-      there : (t : Pairs) → In t (filter (matches call.args) r) → IsThereWith shape fragment.now p.edge (values_at shape.source call.args) (values_at shape.key call.args) (project shape.target t)
-      there t m =
-          let q : In t r × (matches call.args t ≡ true) = in_filter (matches call.args) t r m in
-          row_of spec locked.sealed p.edge locked.path.locks.edge call.args args striped r relation fragment.now rows_are remove_given t q.0 q.1
+      pub only_match : (u : Pairs) → IsTupleFound shape fragment.now p.edge call.args (Some u) → IsOnlyMatch spec (held_of s) call.args u
+      only_match u found r a = found_matches r a (Some u) found
 
-      -- what is found is the tuple that matches the arguments
-      pub matching : (u : Pairs) → IsTupleFound shape fragment.now p.edge call.args (Some u) → In u (filter (matches call.args) r)
-      matching u found =
-          let columns : cols_of u ≡ shape.target = lent_over compiled call p stripe s locked fragment lent one (p.edge, u, found.0.there.0) found.0.there.1 in
-          let t : (t : Pairs) × In t r × (matches call.args t ≡ true) × (u ≡ project shape.target t) =
-          match_of spec locked.sealed p.edge locked.path.locks.edge call.args args striped r relation fragment.now rows_are
-          (inside spec locked.sealed p.edge locked.path.locks.edge call.args args remove_given) u found.0.there
-          (same_all spec locked.sealed p.edge locked.path.locks.edge call.args args remove_given fragment.now u found.0 columns) in
-          subst (λ z. In z (filter (matches call.args) r)) (sym (t.3 ∙ itself remove_whole r relation t.0 t.1)) (filter_in (matches call.args) t.0 r t.1 t.2)
-
-      found_matches : (found : Option Pairs) → IsTupleFound shape fragment.now p.edge call.args found → filter (matches call.args) r ≡ found_list found
-      found_matches None nowhere = no_member (filter (matches call.args) r) (λ t m. nowhere (project shape.target t) (there t m))
-      found_matches (Some u) found =
-          same_rising tuple_cmp tuple_order (filter (matches call.args) r) (u ∷ []) (rising_filter tuple_cmp (matches call.args) r relation.rising) ((λ y m. absurd m), tt)
-          (λ t m. inl (sym (itself remove_whole r relation t (in_filter (matches call.args) t r m).0) ∙ found.1 (project shape.target t) (there t m)))
-          (λ t m. elim m [ inl e ↦ subst (λ z. In z (filter (matches call.args) r)) (sym e) (matching u found) | inr z ↦ absurd z ])
-
-      remove_arrives : ComesToApply spec locked.sealed plan call locked.fits (held_of s) one
-      remove_arrives =
-          arrives spec locked.sealed plan call locked.fits (held_of s) one (λ q. subst IsQuery kind q) (λ i. absurd (subst IsInsert kind i)) (λ u. absurd (subst IsUpdate kind u))
-          (drop p.locks plan) locked.path.locks.others (λ gives. absurd (subst GivesTuple kind gives)) (call.args ∷ []) None locked.run
-
-      -- and what the plan's Reads find
-      same_found : (found : Option Pairs) → IsTupleFound shape fragment.now p.edge call.args found → remove_arrives.1 ≡ found_list found
-      same_found found is = found_args spec locked.sealed plan call locked.fits remove_arrives.0 remove_arrives.1 remove_arrives.2 (held_of s) remove_arrives.3 one.0 one.1 kind ∙ found_matches found is
-
-      pub can_remove : (u : Pairs) → IsTupleFound shape fragment.now p.edge call.args (Some u) → CanRemove spec u (held_of s)
-      can_remove u found =
-          can_apply spec locked.sealed plan call locked.fits locked.planned remove_arrives.0 remove_arrives.1 remove_arrives.2 (held_of s) one remove_arrives.3 Remove kind u (subst (In u) (sym (same_found (Some u) found)) (inl refl))
-
-      remove_replies : (found : Option Pairs) → IsTupleFound shape fragment.now p.edge call.args found → (new : List HeldStripe) (answer : Reply) → HasRemoved spec (found_list found) (held_of s) new answer → AreOfOneRelation spec new → HasReplied spec plan call new answer
-      remove_replies found is new answer removed one' =
-          applied_replies spec locked.sealed plan call locked.fits locked.planned remove_arrives.0 (held_of s) remove_arrives.1 remove_arrives.2 remove_arrives.3 one Remove kind new answer
-          (subst (λ bs. HasRemoved spec bs (held_of s) new answer) (sym (same_found found is)) removed) one'
-
-      pub removed_replies : (u : Pairs) → IsTupleFound shape fragment.now p.edge call.args (Some u) → (new : List HeldStripe) → new ≡ all_changed lowered spec u (edge_numbers spec) (held_of s) → AreOfOneRelation spec new → HasReplied spec plan call new (Removed u)
-      removed_replies u found new is one' = remove_replies (Some u) found new (Removed u) (refl, is) one'
-
+      -- where none is found, the late Locks take nothing
       pub absent_replies : IsTupleFound shape fragment.now p.edge call.args None → HasReplied spec plan call (held_of s) Absent
-      absent_replies nowhere = remove_replies None nowhere (held_of s) Absent (refl, refl) one
+      absent_replies nowhere =
+          let none : filter (matches call.args) one.0 ≡ [] = found_matches one.0 one.1 None nowhere in
+          let stand : IsBehind spec plan call p.edge [] (drop p.locks plan) (held_of s) = stands spec locked.sealed plan call p.edge remove_whole kind (drop p.locks plan) (held_of s) locked.run in
+          let arrived : ComesToApply spec locked.sealed plan call locked.fits (held_of s) one =
+          arrives_absent spec locked.sealed plan call p.edge remove_whole kind locked.fits (held_of s) one none p.late [] (drop p.locks plan) are_late locked.path.locks.others stand in
+          remove_replies spec locked.sealed plan call locked.fits locked.planned kind (held_of s) one arrived [] none (held_of s) Absent (refl, refl) one
 
       -- the stripes on which the arguments fall are the tuple's
       pub stripes_of_removed : (stripes : List ClassStripe) → AreStripesOf spec call.args stripes → (u : Pairs) → IsTupleFound shape fragment.now p.edge call.args (Some u) → AreStripesOf spec u stripes
       stripes_of_removed stripes are u found =
-          let q : In u r × (matches call.args u ≡ true) = in_filter (matches call.args) u r (matching u found) in
-          let over : cols_of u ≡ all_columns spec = (relation.each u q.0).over in
+          let q : In u one.0 × (matches call.args u ≡ true) = in_filter (matches call.args) u one.0 (matching one.0 one.1 u found) in
+          let over : cols_of u ≡ all_columns spec = (one.1.relation.each u q.0).over in
           stripes_of_more spec call.args u stripes
           (λ c m. subst (In c) (sym over) (in_range_below (length spec.columns) c (args_below spec locked.sealed call locked.fits c m)))
           (λ x y m n e. one_pair u (subst (IsRising nat_cmp) (sym over) (rising_range 0 (length spec.columns))) x y
@@ -318,6 +327,9 @@ module _ (compiled : SpecWithPlans) (call : Call) (p : AccessPath) (stripe : ℕ
   -- ---- an update
 
   module _ (kind : (op_at spec call.op).kind ≡ Update) where
+    update_no_remove : (op_at spec call.op).kind ≡ Remove → ⊥
+    update_no_remove is = let same : Update ≡ Remove = sym kind ∙ is in cc
+
     update_row : UpdatesRow spec (op_at spec call.op) plan edge
     update_row = updates_row spec (op_at spec call.op) plan edge p.mode (subst (λ k. Asks k p.mode spec (op_at spec call.op) plan edge) kind locked.path.asks)
 
@@ -355,7 +367,7 @@ module _ (compiled : SpecWithPlans) (call : Call) (p : AccessPath) (stripe : ℕ
       -- where no row is found no tuple is replaced
       pub unfound_replies : IsTupleFound shape fragment.now p.edge call.args None → HasReplied spec plan call (held_of s) Absent
       unfound_replies nowhere =
-          path_replies spec locked.sealed call locked.fits plan locked.planned (drop p.locks plan) locked.path.locks.others (held_of s) locked.run one Absent
+          path_replies spec locked.sealed call locked.fits plan locked.planned (drop p.locks plan) (others update_no_remove) (held_of s) locked.run one Absent
           (λ r a. plain-known spec r call (op_at spec call.op) (fits_at_op spec call locked.fits).known
           ∙ ap (λ k. plain_by spec.most_rows k (op_at spec call.op).pattern spec.deps call.args call.ranges r) kind
           ∙ update-absent spec.most_rows (op_at spec call.op).pattern spec.deps call.args call.ranges r (agreeing r a None nowhere))
@@ -367,7 +379,7 @@ module _ (compiled : SpecWithPlans) (call : Call) (p : AccessPath) (stripe : ℕ
         update_arrives : ComesToApply spec locked.sealed plan call locked.fits (held_of s) one
         update_arrives =
             arrives spec locked.sealed plan call locked.fits (held_of s) one (λ q. subst IsQuery kind q) (λ i. absurd (subst IsInsert kind i)) (λ u. (old, is_old))
-            (drop p.locks plan) locked.path.locks.others (λ gives. none_dropped is_dep_check p.locks plan update_row.unchecked) (call.args ∷ []) None locked.run
+            (drop p.locks plan) (others update_no_remove) (λ gives. none_dropped is_dep_check p.locks plan update_row.unchecked) (call.args ∷ []) None locked.run
 
         -- and the plan's statements keep this tuple
         keeps_old : update_arrives.2 ≡ Some old
@@ -386,3 +398,45 @@ module _ (compiled : SpecWithPlans) (call : Call) (p : AccessPath) (stripe : ℕ
 pub unanswered : {E : Type 0} (compiled : SpecWithPlans) (call : Call) (old new : Holding) (result : Result Reply E) → IsErr result → AreTakenAsOffered new → IsSameButLent old new → HasAnsweredByPath compiled call old new result
 unanswered compiled call old new (Ok answer) is told lent = absurd cc
 unanswered compiled call old new (Err e) is told lent = record { answered = tt; taken = told; lent = lent }
+
+-- ---- what is answered in place is one way to run a call, and so is one behind stripes that were taken
+
+pub run_in_place : (compiled : SpecWithPlans) (call : Call) (old new : Holding) (result : Result Reply Stop) → IfErr result (λ s. s ≡ stop.Memory) → HasAnsweredByPath compiled call old new result → HasRunByPath compiled call old new result
+run_in_place compiled call old new result memory by = record {
+  answered = by.answered;
+  taken = by.taken;
+  stopped = λ h e. absurd (memory_alone result h memory e);
+  refused = λ h e. absurd (memory_alone result h memory e);
+  counted = counted_lent result old new by.lent;
+  goes_on = lent_goes_on old new by.lent;
+}
+
+pub run_since : (compiled : SpecWithPlans) (call : Call) (first old new : Holding) (result : Result Reply Stop) → GoesOn first old → old.refusals ≡ first.refusals → HasRunByPath compiled call old new result → HasRunByPath compiled call first new result
+run_since compiled call first old new result on same by = record {
+  answered = by.answered;
+  taken = by.taken;
+  stopped = by.stopped;
+  refused = λ h e. refused_since compiled.spec (plan_at compiled.plans call.op) call first old new h on (by.refused h e);
+  counted = counted_stop_since result first old new same by.counted;
+  goes_on = goes_on_again first old new on by.goes_on;
+}
+
+-- a stop that is handed on
+pub run_stopped : (compiled : SpecWithPlans) (call : Call) (old new : Holding) (result : Result Reply Stop) (x : Stop) → IsErr result → IsErrAnd result (λ y. y ≡ x) → AreTakenAsOffered new → ((h : Held) → x ≡ stop.Held h → AreAsTaken (held_of new))
+    → ((h : Held) → x ≡ stop.Held h → HasRefusedCall compiled call old new h) → CountsIfHeld x old new → GoesOn old new → HasRunByPath compiled call old new result
+run_stopped compiled call old new (Ok answer) x is gives told stopped refused counted on = absurd cc
+run_stopped compiled call old new (Err e) x is gives told stopped refused counted on = record {
+  answered = tt;
+  taken = told;
+  stopped = λ h q. stopped h (sym gives ∙ same_stop e (stop.Held h) q);
+  refused = λ h q. refused h (sym gives ∙ same_stop e (stop.Held h) q);
+  counted = subst (λ z. CountsIfHeld z old new) (sym gives) counted;
+  goes_on = on;
+}
+  where
+    same_stop : (a b : Stop) → ◌≡◌ {A = Result Reply Stop} (Err a) (Err b) → a ≡ b
+    same_stop a b q = cc
+
+pub if_stopped : (result : Result Reply Stop) (x : Stop) → IsErrAnd result (λ y. y ≡ x) → IfErr result (λ y. y ≡ x)
+if_stopped (Ok answer) x gives = tt
+if_stopped (Err e) x gives = gives

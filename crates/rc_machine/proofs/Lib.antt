@@ -25,4 +25,5 @@ mod EdgeRowLemmas
 mod AccessLemmas
 mod AccessRunLemmas
 mod ArriveLemmas
+mod LateLemmas
 mod EdgeChangeLemmas

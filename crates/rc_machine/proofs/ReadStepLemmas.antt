@@ -156,3 +156,7 @@ module _ (spec : Spec) (sealed : IsSealed spec) (plan : List Statement) (call : 
       runs = λ r a stripes w.
           at.runs r a stripes w ∙ ap (λ z. run spec (op_at spec call.op) call rest (updating old z (locks_of held) (rows_on spec r stripes))) (same_at r a stripes w ∙ sym (joined_all r a));
     }
+
+    pub read_progress : (r : List Pairs) (a : AreOfRelation spec held r) → (read_step r a).progress ≡ after spec at.progress (Read e mode)
+    unfolding read_step
+    read_progress r a = refl

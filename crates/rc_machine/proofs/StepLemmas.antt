@@ -234,3 +234,7 @@ module _ (spec : Spec) (sealed : IsSealed spec) (plan : List Statement) (call : 
             w s (subst (λ z. In z (stripes_held new)) (sym q.2) (map_in (λ (h : HeldStripe). h.stripe) q.0 new (subst (In q.0) (sym f.beside) (append_in_left q.0 held f.more q.1)))))
             ∙ ap (λ ns. run spec (op_at spec call.op) call rest (updating old bs ns (rows_on spec r stripes))) (sym locks_are);
       }
+
+      pub lock_progress : lock_step.progress ≡ after spec at.progress (Lock c choice mode)
+      unfolding lock_step
+      lock_progress = refl

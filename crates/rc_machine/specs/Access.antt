@@ -1,14 +1,15 @@
 -- What a call takes and answers from the rows of one edge, on the stripe on which its arguments fall.
-use Rattle.std.specs.Prelude.{◌≡◌, ℕ, List, [], ◌∷◌, ◌++◌, IfOk, None, Option, Result, Some, drop, map, true}
+use Rattle.std.specs.Prelude.{◌≡◌, ℕ, List, [], ◌∷◌, ◌++◌, Err, IfOk, None, Option, Result, Some, drop, filter, map, true}
 use Rattle.std.specs.List.{list_any, zip}
+use Rattle.rc_tuple.specs.ColSet.{Within}
 use Rattle.rc_tuple.specs.RisingSet.{In}
-use Rattle.rc_tuple.specs.Tuple.{Pairs, pick}
+use Rattle.rc_tuple.specs.Tuple.{Pairs, matches, pick}
 use Rattle.rc_spec.specs.declared.call.Call.{Call}
 use Rattle.rc_spec.specs.declared.call.Reply.{Reply}
 use Rattle.rc_spec.specs.declared.call.Reply.TheVariants.{Rows}
 use Rattle.rc_spec.specs.declared.spec.Spec.{Spec}
 use Rattle.rc_spec.specs.Acceptance.{IsSealed}
-use Rattle.rc_spec.specs.Calls.{Fits}
+use Rattle.rc_spec.specs.Calls.{Fits, all_columns}
 use Rattle.rc_spec.specs.Fragments.{EdgeRow}
 use Rattle.rc_spec.specs.Placement.{class_of, op_at}
 use Rattle.rc_spec.specs.Plain.{Outcome, at_most}
@@ -16,14 +17,18 @@ use Rattle.rc_spec.specs.Stripes.{physical_stripe}
 use Rattle.rc_fragment.specs.Fragment.{IsFoundAt, IsLookedUp, IsScan, edge_table}
 use Rattle.rc_fragment.specs.RowValues.{extra_columns, values_at}
 use Rattle.rc_fragment.specs.declared.shape.EdgeShape.{EdgeShape}
-use Rattle.rc_fragment.specs.Holder.{Holding, held_of}
-use Rattle.rc_plan.specs.Access.{IsAccessPath, is_lock_of}
+use Rattle.rc_fragment.specs.declared.held.Held.{Held}
+use Rattle.rc_fragment.specs.Holder.{AreOfRelation, GoesOn, HeldStripe, Holding, held_of}
+use Rattle.rc_plan.specs.Access.{IsAccessPath, is_lock_of, is_read_of}
 use Rattle.rc_plan.specs.Compiled.{IsPlanOf, SpecWithPlans, plan_at}
 use Rattle.rc_plan.specs.declared.access.AccessPath.{AccessPath}
 use Rattle.rc_plan.specs.declared.statement.Statement.{Statement}
 use Rattle.rc_machine.specs.Apply.{IsSameButLent}
-use Rattle.rc_machine.specs.Machine.{AreTakenAsOffered, HasAnswered, stripes_held}
+use Rattle.rc_machine.specs.Machine.{AreAsTaken, AreTakenAsOffered, HasAnswered, HasRefusedCall, stripes_held}
 use Rattle.rc_machine.specs.Run.{IsAt}
+use Rattle.rc_machine.specs.Stopped.{CountsOnlyHeld}
+use Rattle.rc_machine.specs.declared.stop.Stop.{Stop}
+use Rattle.rc_machine.specs.declared.stop.Stop.TheVariants as stop
 
 -- of each class that one of the statements locks the stripe on which the tuple falls is among these
 abbrev pub AreLockedFor : Spec → Pairs → List Statement → List ℕ → Type 0
@@ -68,8 +73,27 @@ pub record HasLockedPath (compiled : SpecWithPlans) (call : Call) (p : AccessPat
   pub falls : stripe ≡ physical_stripe compiled.spec (class_of compiled.spec p.edge) call.args
   pub held : In stripe (stripes_held (held_of s))
 
+-- the tuple is the one that matches the arguments in each relation of which the held stripes have fragments
+abbrev pub IsOnlyMatch : Spec → List HeldStripe → Pairs → Pairs → Type 0
+IsOnlyMatch spec held args t = (r : List Pairs) → AreOfRelation spec held r → filter (matches args) r ≡ t ∷ []
+
+-- The run of a remove stands before the rest of its plan, with some bindings, behind these late statements: where one of them read the edge, all columns were visited.
+pub record IsBehind (spec : Spec) (plan : List Statement) (call : Call) (e : ℕ) (done rest : List Statement) (held : List HeldStripe) : Type 0 where
+  pub bindings : List Pairs
+  pub run : IsAt spec plan call rest bindings None held
+  pub visited : list_any (is_read_of e) done ≡ true → Within (all_columns spec) run.progress.visited
+
 -- From there the call is answered, or memory was wanted: stripes are taken as they are offered, and all but what is lent is the same.
 pub record HasAnsweredByPath {E : Type 0} (compiled : SpecWithPlans) (call : Call) (old new : Holding) (result : Result Reply E) : Type 0 where
   pub answered : IfOk result (HasAnswered compiled call new)
   pub taken : AreTakenAsOffered new
   pub lent : IsSameButLent old new
+
+-- The same of a call that may take further stripes, of which one may be refused. Then nothing is changed.
+pub record HasRunByPath (compiled : SpecWithPlans) (call : Call) (old new : Holding) (result : Result Reply Stop) : Type 0 where
+  pub answered : IfOk result (HasAnswered compiled call new)
+  pub taken : AreTakenAsOffered new
+  pub stopped : (h : Held) → result ≡ Err (stop.Held h) → AreAsTaken (held_of new)
+  pub refused : (h : Held) → result ≡ Err (stop.Held h) → HasRefusedCall compiled call old new h
+  pub counted : CountsOnlyHeld result old new
+  pub goes_on : GoesOn old new

@@ -113,7 +113,7 @@ fn lock_given<H: Holder>(
 
 /// Takes the stripe of the class on which the tuple falls, and keeps it among those of the tuple. After a stop nothing is
 /// taken.
-fn lock_stripe<H: Holder>(
+pub(crate) fn lock_stripe<H: Holder>(
     holder: &mut H,
     compiled: &Compiled,
     class: u8,

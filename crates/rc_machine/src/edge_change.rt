@@ -1,10 +1,14 @@
 //! Inserts, removes and updates that are answered from the rows of one edge.
 
 ghost use Rattle.std.specs.Prelude.{◌≡◌, IfErr};
+ghost use Rattle.rc_spec.specs.Locks.{StripeLock};
 ghost use Rattle.rc_spec.specs.Placement.{op_at};
 ghost use Rattle.rc_spec.specs.declared.items.OpKind.TheVariants as kind;
 ghost use Rattle.rc_spec.specs.declared.spec.Spec.{Spec};
-ghost use Rattle.rc_machine.specs.Access.{HasAnsweredByPath, HasLockedPath};
+ghost use Rattle.rc_fragment.specs.Holder.{MayTake};
+ghost use Rattle.rc_plan.specs.Compiled.{plan_at};
+ghost use Rattle.rc_plan.specs.NamedStripes.{IsNamedBy};
+ghost use Rattle.rc_machine.specs.Access.{HasAnsweredByPath, HasLockedPath, HasRunByPath};
 ghost use Rattle.rc_machine.specs.Stripes.{AreStripesOf};
 ghost use Rattle.rc_machine.specs.declared.stop.Stop.TheVariants as stop;
 
@@ -12,6 +16,7 @@ use crate::Stop;
 use crate::apply::{add_rows, replace, sub_rows};
 use crate::edge_read::EdgeRead;
 use crate::edge_row::{find_row, find_tuple};
+use crate::late::lock_found;
 use crate::workspace::Workspace;
 use rc_fragment::Holder;
 use rc_plan::{AccessPath, Compiled};
@@ -50,8 +55,8 @@ pub(crate) fn insert_by_edge<H: Holder>(
     Ok(Reply::Inserted)
 }
 
-/// Takes out the tuple that the row of the path's edge with the arguments' values is, if there is one. Where memory is
-/// wanted the rows stay.
+/// Takes out the tuple that the row of the path's edge with the arguments' values is, if there is one, and before that the
+/// stripes of the plan's late Locks, on which the tuple falls. Where memory is wanted or a take refused the rows stay.
 pub(crate) fn remove_by_edge<H: Holder>(
     holder: &mut H,
     compiled: &Compiled,
@@ -64,8 +69,9 @@ pub(crate) fn remove_by_edge<H: Holder>(
     requires locked { HasLockedPath compiled.now call.now path stripe (H.seen holder.old) }
     requires stripes { AreStripesOf compiled.now.spec call.now.args space.old.class_stripes.items }
     requires sound { H.is_sound holder.old compiled.now.spec }
-    ensures answered { HasAnsweredByPath compiled.now call.now (H.seen holder.old) (H.seen holder.new) result }
-    ensures memory { IfErr result (λ s. s ≡ stop.Memory) }
+    requires lent { (lock : StripeLock) → IsNamedBy compiled.now.spec call.now.args (plan_at compiled.now.plans call.now.op) lock
+        → MayTake (H.seen holder.old).lends lock.0 lock.1 }
+    ensures run { HasRunByPath compiled.now call.now (H.seen holder.old) (H.seen holder.new) result }
     ensures sound { (spec : Spec) → H.is_sound holder.old spec → H.is_sound holder.new spec }
 {
     let alloc = space.alloc();
@@ -75,13 +81,9 @@ pub(crate) fn remove_by_edge<H: Holder>(
         return Ok(Reply::Absent);
     };
     // The stripes of the arguments are those of the tuple, which has their values.
-    sub_rows(
-        holder,
-        compiled,
-        &removed,
-        &mut space.class_stripes,
-        &mut space.places,
-    )?;
+    let stripes = &mut space.class_stripes;
+    lock_found(holder, compiled, call, path, &removed, stripes)?;
+    sub_rows(holder, compiled, &removed, stripes, &mut space.places)?;
     Ok(Reply::Removed(removed))
 }
 

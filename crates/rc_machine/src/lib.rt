@@ -10,6 +10,7 @@ mod edge_query;
 mod edge_read;
 mod edge_row;
 mod emit;
+mod late;
 mod lock;
 mod machine;
 mod path_answer;

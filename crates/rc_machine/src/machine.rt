@@ -66,14 +66,15 @@ pub fn run_plan<H: Reverts>(
 ///
 /// The holder lends whatever the plan may name at the arguments: all stripes, or those that it has.
 ///
-/// A call of an operation that has an access path costs its Locks, each of which hashes its tuple, once for each class, or
-/// takes all stripes of a class, and then: a query one look-up, or the rows of one source; an insert one look-up, and where it
-/// finds no row a change in each edge whose rows are kept; a remove one look-up, and where it finds a row the removed tuple's
-/// block and as many changes; an update one look-up, and where it finds a row the old tuple's block and twice as many changes
-/// in the classes in which the two tuples don't have all rows alike. Other calls cost, for each Read and binding, a look-up or
-/// the rows of one source, on one stripe where the binding chooses it and else on each of the class; and for an Apply a change
-/// in each edge whose rows are kept. A look-up at an edge whose rows another's tell takes a step more for each row of its
-/// source that the holder's changes took out. What the workspace has is of no matter.
+/// A call of an operation that has an access path costs its first Locks, each of which hashes its tuple, once for each
+/// class, or takes all stripes of a class, and then: a query one look-up, or the rows of one source; an insert one look-up,
+/// and where it finds no row a change in each edge whose rows are kept; a remove one look-up, and where it finds a row the
+/// removed tuple's block, its late Locks, each of which hashes that tuple, and as many changes; an update one look-up, and
+/// where it finds a row the old tuple's block and twice as many changes in the classes in which the two tuples don't have
+/// all rows alike. Other calls cost, for each Read and binding, a look-up or the rows of one source, on one stripe where
+/// the binding chooses it and else on each of the class; and for an Apply a change in each edge whose rows are kept. A
+/// look-up at an edge whose rows another's tell takes a step more for each row of its source that the holder's changes took
+/// out. What the workspace has is of no matter.
 pub fn run_statements<H: Holder>(
     compiled: &Compiled,
     call: &Call,

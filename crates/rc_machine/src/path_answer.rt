@@ -1,10 +1,12 @@
 //! Calls that are answered by an access path.
 
-ghost use Rattle.std.specs.Prelude.{◌≡◌, IfErr};
+ghost use Rattle.rc_spec.specs.Locks.{StripeLock};
 ghost use Rattle.rc_spec.specs.declared.spec.Spec.{Spec};
-ghost use Rattle.rc_machine.specs.Access.{HasAnsweredByPath, HasLockedPath};
+ghost use Rattle.rc_fragment.specs.Holder.{MayTake};
+ghost use Rattle.rc_plan.specs.Compiled.{plan_at};
+ghost use Rattle.rc_plan.specs.NamedStripes.{IsNamedBy};
+ghost use Rattle.rc_machine.specs.Access.{HasLockedPath, HasRunByPath};
 ghost use Rattle.rc_machine.specs.Stripes.{AreStripesOf};
-ghost use Rattle.rc_machine.specs.declared.stop.Stop.TheVariants as stop;
 
 use crate::Stop;
 use crate::edge_change::{insert_by_edge, remove_by_edge, update_by_edge};
@@ -14,8 +16,9 @@ use rc_fragment::Holder;
 use rc_plan::{AccessPath, Compiled};
 use rc_spec::{Call, OpKind, Reply};
 
-/// Answers the call, whose path's stripes are held, from the rows of the path's edge, on the stripe on which the arguments
-/// fall. Only want of memory stops it; then some rows may be changed; as taken they are what they were.
+/// Answers the call, of whose path the stripes of the first Locks are held, from the rows of the path's edge, on the stripe
+/// on which the arguments fall; a remove takes those of the late Locks. Where a take was refused each held stripe has its
+/// rows as taken; where memory was wanted some may be changed; as taken they are what they were.
 pub(crate) fn answer_by_path<H: Holder>(
     holder: &mut H,
     compiled: &Compiled,
@@ -27,8 +30,9 @@ pub(crate) fn answer_by_path<H: Holder>(
     requires locked { HasLockedPath compiled.now call.now path stripe (H.seen holder.old) }
     requires stripes { AreStripesOf compiled.now.spec call.now.args space.old.class_stripes.items }
     requires sound { H.is_sound holder.old compiled.now.spec }
-    ensures answered { HasAnsweredByPath compiled.now call.now (H.seen holder.old) (H.seen holder.new) result }
-    ensures memory { IfErr result (λ s. s ≡ stop.Memory) }
+    requires lent { (lock : StripeLock) → IsNamedBy compiled.now.spec call.now.args (plan_at compiled.now.plans call.now.op) lock
+        → MayTake (H.seen holder.old).lends lock.0 lock.1 }
+    ensures run { HasRunByPath compiled.now call.now (H.seen holder.old) (H.seen holder.new) result }
     ensures sound { (spec : Spec) → H.is_sound holder.old spec → H.is_sound holder.new spec }
 {
     match compiled.accepted().spec().op(call.op).kind {

@@ -5,3 +5,4 @@ mod ResolvedLemmas
 mod RowLemmas
 mod TextLemmas
 mod FirstLemmas
+mod LateLemmas

@@ -1,5 +1,5 @@
 -- How the calls of an operation are answered where its plan's statements need not be run in turn: from the rows of one edge, on the arguments' stripe. (Access paths: Selinger et al., SIGMOD 1979.)
-use Rattle.std.specs.Prelude.{◌≡◌, ℕ, ◌<◌, ◌≤◌, ◌==◌, ◌++◌, Bool, true, false, List, [], Option, None, IfSome, drop, length, take}
+use Rattle.std.specs.Prelude.{◌≡◌, ℕ, ◌+◌, ◌<◌, ◌≤◌, ◌==◌, ◌++◌, Bool, true, false, List, [], Option, None, IfSome, drop, get_or, length, take}
 use Rattle.std.specs.List.{list_all, list_any}
 use Rattle.rc_tuple.specs.ColSet.{Within, is_within, minus}
 use Rattle.rc_tuple.specs.RisingSet.{In}
@@ -76,14 +76,54 @@ is_dep_check Emit = false
 is_dep_check Commit = false
 is_dep_check (Release c) = false
 
+-- a Read of the edge
+abbrev pub is_read_of : ℕ → Statement → Bool
+is_read_of e (Lock c choice mode) = false
+is_read_of e (Probe cols) = false
+is_read_of e (Read k mode) = k == e
+is_read_of e CheckAbsent = false
+is_read_of e CheckFound = false
+is_read_of e (CheckDep dep) = false
+is_read_of e Apply = false
+is_read_of e Emit = false
+is_read_of e Commit = false
+is_read_of e (Release c) = false
+
+-- ---- late Locks
+
+-- the statement, behind these, is a Read, or a Lock of the stripes on which the bindings fall, which stands behind a Read of the edge
+abbrev pub IsLate : ℕ → List Statement → Statement → Type 0
+IsLate e before (Lock c choice mode) = (choice ≡ which.Keyed) × (list_any (is_read_of e) before ≡ true)
+IsLate e before (Probe cols) = ⊥
+IsLate e before (Read k mode) = Unit {0}
+IsLate e before CheckAbsent = ⊥
+IsLate e before CheckFound = ⊥
+IsLate e before (CheckDep dep) = ⊥
+IsLate e before Apply = ⊥
+IsLate e before Emit = ⊥
+IsLate e before Commit = ⊥
+IsLate e before (Release c) = ⊥
+
+-- so it is with each of them
+abbrev pub AreLate : ℕ → List Statement → Type 0
+AreLate e xs = (n : ℕ) → n < length xs → IsLate e (take n xs) (get_or xs n Commit)
+
+-- what may stand between the first Locks of an operation's plan and others: a remove's late statements, which lock once the edge is read; the other operations have no other Lock
+abbrev pub MayBeLate : OpKind → ℕ → List Statement → Type 0
+MayBeLate (Query outs ranges) e xs = xs ≡ []
+MayBeLate Insert e xs = xs ≡ []
+MayBeLate Remove e xs = AreLate e xs
+MayBeLate Update e xs = xs ≡ []
+
 -- ---- paths
 
--- The plan begins with so many Locks that a call's tuple alone tells, among them one of the edge's class, and has no other Lock; the tuple's values at the pattern tell the stripe of that class.
+-- The plan begins with so many Locks that a call's tuple alone tells, among them one of the edge's class; the tuple's values at the pattern tell the stripe of that class. So many statements come next that may be late, and behind them is no Lock.
 pub record IsLockedFirst (spec : Spec) (op : Op) (plan : List Statement) (p : AccessPath) : Type 0 where
   pub edge : p.edge < length spec.edges
-  pub within : p.locks ≤ length plan
+  pub within : p.locks + p.late ≤ length plan
   pub first : list_all (is_given_lock spec (given_columns spec op)) (take p.locks plan) ≡ true
-  pub others : list_any is_lock (drop p.locks plan) ≡ false
+  pub late : MayBeLate op.kind p.edge (take p.late (drop p.locks plan))
+  pub others : list_any is_lock (drop p.late (drop p.locks plan)) ≡ false
   pub locked : list_any (is_lock_of (class_of spec p.edge)) (take p.locks plan) ≡ true
   pub striped : Within (class_at spec (class_of spec p.edge)).cols (pattern_columns op)
 
@@ -136,7 +176,7 @@ Asks Remove Scan spec op plan e = ⊥
 Asks Update Lookup spec op plan e = UpdatesRow spec op plan e
 Asks Update Scan spec op plan e = ⊥
 
--- the operation's calls are answered by the edge's rows, which lie on the arguments' stripe, which the plan locks first
+-- the operation's calls are answered by the edge's rows, which lie on the arguments' stripe, which the plan locks first; what it locks late, the row that is found tells
 pub record IsAccessPath (spec : Spec) (op : Op) (plan : List Statement) (p : AccessPath) : Type 0 where
   pub locks : IsLockedFirst spec op plan p
   pub asks : Asks op.kind p.mode spec op plan (edge_at spec p.edge)

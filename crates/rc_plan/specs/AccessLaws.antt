@@ -1,9 +1,9 @@
 -- Laws of plans whose Locks come first, and of the rows of an edge that lie on the stripe of a tuple.
-use Rattle.std.specs.Prelude.{◌≡◌, ℕ, ◌<◌, Bool, true, false, ◌||◌, List, [], ◌∷◌, cond, get_or, is_some, length, take, ◌≤◌}
+use Rattle.std.specs.Prelude.{◌≡◌, ℕ, zero, suc, ◌<◌, Bool, true, false, ◌||◌, List, [], ◌∷◌, cond, drop, get_or, is_some, length, take, ◌≤◌}
 use Rattle.std.specs.List.{list_all, list_any}
 use Rattle.std.specs.Ordering.{nat_cmp}
 use Rattle.std.proofs.Common.{arith, inl, inr, refl, sym, subst, ◌∙◌}
-use Rattle.std.proofs.lemmas.List.{get_or-take, length-take-le}
+use Rattle.std.proofs.lemmas.List.{get_or-take, get_or_default, length-take-le, take-take}
 use Rattle.std.proofs.lemmas.Bool.{false≢true}
 use Rattle.rc_tuple.specs.RisingSet.{In, IsRising}
 use Rattle.rc_tuple.specs.ColSet.{Within, union}
@@ -15,6 +15,8 @@ use Rattle.rc_tuple.specs.Tuple.{Pairs, agrees, cols_of, matches, pair_cmp, proj
 use Rattle.rc_tuple.specs.TupleLaws.{Agree, agree_from, same_from_test}
 use Rattle.rc_spec.specs.declared.call.Call.{Call}
 use Rattle.rc_spec.specs.declared.items.Op.{Op}
+use Rattle.rc_spec.specs.declared.items.OpKind.{OpKind}
+use Rattle.rc_spec.specs.declared.items.OpKind.TheVariants.{Query, Insert, Remove, Update}
 use Rattle.rc_spec.specs.declared.lock.Mode.{Mode}
 use Rattle.rc_spec.specs.declared.spec.Spec.{Spec}
 use Rattle.rc_spec.specs.Adequacy.{IsAdequate}
@@ -28,7 +30,8 @@ use Rattle.rc_spec.specs.HeathLaws.{AreProjections, IsSeen, reached_more}
 use Rattle.rc_spec.specs.InRange.{IsInRange}
 use Rattle.rc_spec.specs.Placement.{class_at, class_of, IsPlaced}
 use Rattle.rc_spec.specs.Stripes.{physical_stripe}
-use Rattle.rc_plan.specs.Access.{is_given_lock, is_lock}
+use Rattle.rc_plan.specs.Access.{AreLate, IsLate, MayBeLate, is_given_lock, is_lock}
+use Rattle.rc_plan.specs.declared.statement.ReadMode.{ReadMode}
 use Rattle.rc_plan.specs.declared.statement.Statement.{Statement}
 use Rattle.rc_plan.specs.declared.statement.Which.{Which}
 use Rattle.rc_plan.specs.declared.statement.Which.TheVariants as which
@@ -150,3 +153,34 @@ pub first_at : (f : Statement → Bool) (plan : List Statement) (n at : ℕ) (d 
 first_at f plan n at d within all l =
     let long : length (take n plan) ≡ n = length-take-le n plan within in
     list_all_in f (take n plan) all (get_or plan at d) (subst (λ z. In z (take n plan)) (get_or-take n plan at d l) (get_or_in (take n plan) at d (omega (arith, l, long))))
+
+-- ---- late statements
+
+-- an operation that is no remove has no Lock behind its first ones
+pub none_late : (kind : OpKind) → (kind ≡ Remove → ⊥) → (e late : ℕ) (xs : List Statement) → MayBeLate kind e (take late xs) → list_any is_lock (drop late xs) ≡ false → list_any is_lock xs ≡ false
+none_late kind other e zero xs may none = none
+none_late kind other e (suc late) [] may none = refl
+none_late (Query outs ranges) other e (suc late) (x ∷ xs) may none = absurd (let f : x ∷ take late xs ≡ [] = may in cc)
+none_late Insert other e (suc late) (x ∷ xs) may none = absurd (let f : x ∷ take late xs ≡ [] = may in cc)
+none_late Remove other e (suc late) (x ∷ xs) may none = absurd (other refl)
+none_late Update other e (suc late) (x ∷ xs) may none = absurd (let f : x ∷ take late xs ≡ [] = may in cc)
+
+-- the statement with this number is late
+pub late_at : (e late : ℕ) (xs : List Statement) → late ≤ length xs → AreLate e (take late xs) → (n : ℕ) (d : Statement) → n < late → IsLate e (take n xs) (get_or xs n d)
+late_at e late xs within are n d l =
+    let long : length (take late xs) ≡ late = length-take-le late xs within in
+    subst (IsLate e (take n xs)) (get_or-take late xs n Commit l ∙ get_or_default xs n Commit d (omega (arith, l, within)))
+    (subst (λ (before : List Statement). IsLate e before (get_or (take late xs) n Commit)) (take-take n late xs (omega (arith, l))) (are n (omega (arith, l, long))))
+
+-- a late statement that is no Lock is a Read
+pub late_read : (e : ℕ) (before : List Statement) (x : Statement) → IsLate e before x → ((c : ℕ) (choice : Which) (mode : Mode) → x ≡ Lock c choice mode → ⊥) → (k : ℕ) × (mode : ReadMode) × (x ≡ Read k mode)
+late_read e before (Lock c choice mode) late n = absurd (n c choice mode refl)
+late_read e before (Probe cols) late n = absurd late
+late_read e before (Read k mode) late n = (k, mode, refl)
+late_read e before CheckAbsent late n = absurd late
+late_read e before CheckFound late n = absurd late
+late_read e before (CheckDep dep) late n = absurd late
+late_read e before Apply late n = absurd late
+late_read e before Emit late n = absurd late
+late_read e before Commit late n = absurd late
+late_read e before (Release c) late n = absurd late

@@ -1,6 +1,6 @@
 //! How the calls of operations are answered.
 
-ghost use Rattle.std.specs.Prelude.{◌≡◌, ◌<◌, ◌≤◌, ◌++◌, ◌↔◌, [], false, IfSome, IsTrue, None, drop, length, take, true};
+ghost use Rattle.std.specs.Prelude.{◌≡◌, ◌+◌, ◌<◌, ◌≤◌, ◌++◌, ◌↔◌, [], false, IfSome, IsTrue, None, drop, length, take, true};
 ghost use Rattle.std.specs.List.{list_all, list_any};
 ghost use Rattle.rc_tuple.specs.ColSet.{Within, union};
 ghost use Rattle.rc_spec.specs.Acceptance.{IsSealed};
@@ -8,7 +8,7 @@ ghost use Rattle.rc_spec.specs.Decomposition.{edge_at};
 ghost use Rattle.rc_spec.specs.InRange.{AreBelow};
 ghost use Rattle.rc_spec.specs.Placement.{class_at};
 ghost use Rattle.rc_spec.specs.declared.items.OpKind.TheVariants.{Query};
-ghost use Rattle.rc_plan.specs.Access.{AreAccessPaths, Asks, AsksQuery, InsertsRow, IsAccessPath, IsLockedFirst, IsPathOf, RemovesRow, UpdatesRow, is_dep_check, is_given_lock, is_lock, is_lock_of};
+ghost use Rattle.rc_plan.specs.Access.{AreAccessPaths, AreLate, Asks, AsksQuery, InsertsRow, IsAccessPath, IsLate, IsLockedFirst, IsPathOf, MayBeLate, RemovesRow, UpdatesRow, is_dep_check, is_given_lock, is_lock, is_lock_of, is_read_of};
 ghost use Rattle.rc_plan.specs.Compiled.{ArePlansOf};
 ghost use Rattle.rc_plan.specs.PlanRules.{AreKnown, IsKnown, given_columns, pattern_columns};
 ghost use Rattle.rc_plan.specs.Resolved.{AreResolvedEdges};
@@ -29,13 +29,17 @@ pub struct AccessPath {
     /// How its rows are found: by a look-up, where the operation's pattern is its source and key, or by a scan, where the
     /// pattern is its source and a query asks for key and extra columns.
     pub mode: ReadMode,
-    /// With how many Locks the plan begins: each takes the stripe on which the arguments fall, or all stripes of its class,
-    /// and no other follows.
+    /// With how many Locks the plan begins: each takes the stripe on which the arguments fall, or all stripes of its class.
     pub locks: usize,
+    /// How many statements follow up to the last Lock of all: none, but in a remove that locks further classes once the
+    /// edge is read. There they are Reads and Locks, each of which takes the stripe on which the row found falls, where one
+    /// is.
+    pub late: usize,
 }
 
 /// The path of each operation that has one, by the number of the operation. What stands behind the last is of no matter.
-/// Costs, for each operation, a walk over its plan for each edge that the plan reads.
+/// Costs, for each operation, a walk over its plan for each edge that the plan reads, and in a remove that locks further
+/// classes one more for each such Lock.
 pub(crate) fn access_paths(
     accepted: &Accepted,
     plans: &[Plan],
@@ -95,7 +99,13 @@ fn path_by(
 {
     let mode = read_mode(spec, edges, op, plan, edge)?;
     let locks = first_locks(plan);
-    let path = AccessPath { edge, mode, locks };
+    let late = late_statements(&plan[locks..]);
+    let path = AccessPath {
+        edge,
+        mode,
+        locks,
+        late,
+    };
     if is_locked_first(spec, op, plan, path) {
         Some(path)
     } else {
@@ -209,14 +219,14 @@ fn query_mode(spec: &Spec, edges: &[ResolvedEdge; MAX_EDGES], op: &Op, edge: u8)
     }
 }
 
-/// Whether the Locks of the path come first, each told by a call's tuple alone, and one of them of the class of its edge,
-/// whose stripe the values at the pattern tell.
+/// Whether Locks come first that a call's tuple alone tells, one of them of the class of the path's edge, whose stripe the
+/// values at the pattern tell, then late statements, and behind them no Lock.
 fn is_locked_first(spec: &Spec, op: &Op, plan: &[Statement], path: AccessPath) -> bool
     requires sealed { IsSealed spec.now }
     requires pattern { AreBelow 32 op.now.pattern }
     requires known { AreKnown spec.now plan.now }
     requires edge { path.edge < length spec.now.edges }
-    requires within { path.locks ≤ length plan.now }
+    requires within { path.locks + path.late ≤ length plan.now }
     ensures { IsTrue result ↔ IsLockedFirst spec.now op.now plan.now path }
 {
     let class = spec.class_of(path.edge);
@@ -224,8 +234,12 @@ fn is_locked_first(spec: &Spec, op: &Op, plan: &[Statement], path: AccessPath) -
         return false;
     }
     let given = given_columns(spec, op);
-    let (first, others) = plan.split_at(path.locks);
-    are_given_locks(spec, given, first) && has_lock_of(class, first) && !has_lock(others)
+    let (first, rest) = plan.split_at(path.locks);
+    let (late, others) = rest.split_at(path.late);
+    are_given_locks(spec, given, first)
+        && has_lock_of(class, first)
+        && may_be_late(op, path.edge, late)
+        && !has_lock(others)
 }
 
 /// Whether the values at the pattern tell a stripe of the class.
@@ -280,6 +294,52 @@ fn has_lock(statements: &[Statement]) -> bool
     statements.iter().any(is_lock)
 }
 
+/// Whether the statements may stand between the first Locks and others: those of a remove, which may lock once the edge is
+/// read.
+fn may_be_late(op: &Op, edge: u8, statements: &[Statement]) -> bool
+    ensures { IsTrue result ↔ MayBeLate op.now.kind edge statements.now }
+{
+    match op.kind {
+        OpKind::Remove => are_late(edge, statements),
+        OpKind::Query { .. } | OpKind::Insert | OpKind::Update => statements.is_empty(),
+    }
+}
+
+/// Whether each is a Read, or a Lock of the stripes on which the bindings fall that stands behind a Read of the edge.
+fn are_late(edge: u8, statements: &[Statement]) -> bool
+    ensures { IsTrue result ↔ AreLate edge statements.now }
+{
+    for (at, statement) in statements.iter().enumerate() {
+        if !is_late(edge, &statements[..at], statement) {
+            return false;
+        }
+    }
+    true
+}
+
+/// Whether the statement, behind these, is such a one.
+fn is_late(edge: u8, before: &[Statement], statement: &Statement) -> bool
+    ensures { IsTrue result ↔ IsLate edge before.now statement.now }
+{
+    match statement {
+        Statement::Lock {
+            which: Which::Keyed,
+            ..
+        } => reads(edge, before),
+        Statement::Read { .. } => true,
+        _ => false,
+    }
+}
+
+/// Whether one reads the edge.
+fn reads(edge: u8, statements: &[Statement]) -> bool
+    ensures { result ≡ list_any (is_read_of edge) statements.now }
+{
+    statements
+        .iter()
+        .any(|statement| is_read_of(edge, statement))
+}
+
 /// Whether one checks a dependency.
 fn checks_dependency(statements: &[Statement]) -> bool
     ensures { result ≡ list_any is_dep_check statements.now }
@@ -287,10 +347,11 @@ fn checks_dependency(statements: &[Statement]) -> bool
     statements.iter().any(is_dep_check)
 }
 
-/// With how many Locks the plan begins: no other number parts it into Locks and statements that are none.
+/// With how many Locks, at most, the plan begins.
 fn first_locks(plan: &[Statement]) -> usize
     ensures within { result ≤ length plan.now }
-    ensures only { (n : _) → n ≤ length plan.now → list_all is_lock (take n plan.now) ≡ true → list_any is_lock (drop n plan.now) ≡ false → n ≡ result }
+    ensures locks { list_all is_lock (take result plan.now) ≡ true }
+    ensures most { (n : _) → n ≤ length plan.now → list_all is_lock (take n plan.now) ≡ true → n ≤ result }
 {
     for (at, statement) in plan.iter().enumerate() {
         if !is_lock(statement) {
@@ -298,6 +359,21 @@ fn first_locks(plan: &[Statement]) -> usize
         }
     }
     plan.len()
+}
+
+/// Behind how many of the statements, at least, none is a Lock.
+fn late_statements(statements: &[Statement]) -> usize
+    ensures within { result ≤ length statements.now }
+    ensures none { list_any is_lock (drop result statements.now) ≡ false }
+    ensures least { (n : _) → list_any is_lock (drop n statements.now) ≡ false → result ≤ n }
+{
+    let mut late = 0;
+    for (at, statement) in statements.iter().enumerate() {
+        if is_lock(statement) {
+            late = at + 1;
+        }
+    }
+    late
 }
 
 /// Whether the arguments are source and key of the edge, and the outputs are columns of its target.
@@ -369,6 +445,16 @@ fn is_lock_of(class: u8, statement: &Statement) -> bool
 {
     match statement {
         Statement::Lock { class: locked, .. } => *locked == class,
+        _ => false,
+    }
+}
+
+/// Whether it reads the edge.
+fn is_read_of(edge: u8, statement: &Statement) -> bool
+    ensures { result ≡ is_read_of edge statement.now }
+{
+    match statement {
+        Statement::Read { edge: read, .. } => *read == edge,
         _ => false,
     }
 }

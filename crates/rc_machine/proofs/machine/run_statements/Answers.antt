@@ -3,18 +3,19 @@ use Rattle.std.specs.List.{list_all}
 use Rattle.rc_tuple.specs.RisingSet.{In}
 use Rattle.rc_spec.specs.Placement.{class_at, class_of, op_at}
 use Rattle.rc_spec.specs.Stripes.{physical_stripe}
-use Rattle.rc_fragment.specs.Holder.{held_of}
+use Rattle.rc_fragment.specs.Holder.{MayTake, held_of}
 use Rattle.rc_plan.specs.Access.{IsAccessPath, is_given_lock}
 use Rattle.rc_plan.specs.Compiled.{IsPlanOf, plan_at}
 use Rattle.rc_plan.specs.declared.statement.Statement.{Statement}
 use Rattle.std.specs.Prelude.{List, drop, take}
+use Rattle.rc_machine.specs.Access.{HasRunByPath}
 use Rattle.rc_machine.specs.Machine.{IsRefused, stripes_held}
 use Rattle.rc_machine.specs.Run.{IsAt}
 use Rattle.rc_machine.proofs.AccessRunLemmas.{args_are, args_striped}
-use Rattle.rc_machine.proofs.LockLemmas.{memory_alone}
+use Rattle.rc_machine.proofs.EdgeChangeLemmas.{run_since}
 use Rattle.rc_machine.proofs.ReadLemmas.{class_known}
 use Rattle.rc_machine.proofs.machine.run_statements.Given.{Over}
-use Rattle.rc_machine.proofs.machine.run_statements.Goals.{After-list-plan}
+use Rattle.rc_machine.proofs.machine.run_statements.Goals.{After-answer_by_path, After-list-plan}
 use Rattle.rc_machine.proofs.machine.run_statements.Goals as goal
 
 -- the call's plan is that of what is compiled
@@ -76,9 +77,31 @@ find_stripe-requires-clause-within g c k m =
     args_striped spec c.accepted.ensures.sealed c.args.call.now c.requires.fits (plan_at c.args.compiled.now.plans c.args.call.now.op) c.in-Some.path c.in-Some.ensures.some k
     (subst (λ z. In k (class_at spec z).cols) c.edge.ensures.class m)
 
--- no stripe is refused once all are held
+-- what is lent is so still
+pub answer_by_path-requires-clause-lent : goal.answer_by_path-requires-clause-lent
+answer_by_path-requires-clause-lent g c lock named = subst (λ lends. MayTake lends lock.0 lock.1) (sym c.in_ok-lock_arguments.ensures.goes_on.lends) (c.requires.lent lock named)
+
+-- the whole run
+run : (g : Over) (c : After-answer_by_path g) → HasRunByPath c.args.compiled.now c.args.call.now (g.H.Holder.seen c.args.holder.now) (g.H.Holder.seen c.answer_by_path.new.holder) c.answer_by_path.result
+run g c =
+    let locked = c.in_ok-lock_arguments.ensures in
+    run_since c.args.compiled.now c.args.call.now (g.H.Holder.seen c.args.holder.now) (g.H.Holder.seen c.lock_arguments.new.holder) (g.H.Holder.seen c.answer_by_path.new.holder) c.answer_by_path.result
+    locked.goes_on locked.counted c.answer_by_path.ensures.run
+
+pub returns-clause-answered : goal.returns-clause-answered
+returns-clause-answered g c = (run g c).answered
+
+pub returns-clause-taken : goal.returns-clause-taken
+returns-clause-taken g c = (run g c).taken
+
 pub returns-clause-stopped : goal.returns-clause-stopped
-returns-clause-stopped g c h e = absurd (memory_alone c.answer_by_path.result h c.answer_by_path.ensures.memory e)
+returns-clause-stopped g c = (run g c).stopped
 
 pub returns-clause-refused : goal.returns-clause-refused
-returns-clause-refused g c h e = absurd (memory_alone c.answer_by_path.result h c.answer_by_path.ensures.memory e)
+returns-clause-refused g c = (run g c).refused
+
+pub returns-clause-counted : goal.returns-clause-counted
+returns-clause-counted g c = (run g c).counted
+
+pub returns-clause-goes_on : goal.returns-clause-goes_on
+returns-clause-goes_on g c = (run g c).goes_on
