@@ -140,7 +140,9 @@ def judged(text, command):
     return "report", None if status == 0 and has_turns(said, rounds) else (status, said, rounds)
 
 
+# (a text with a journal behind its workload is none of `run`)
 examples = [open(path, "rb").read() for path in sorted(glob.glob(top + "/examples/*.relc"))]
+examples = [example for example in examples if b"\njournal " not in example]
 texts = [(example[:size], size < len(example.strip())) for example in examples for size in range(len(example))]
 r, kinds, wrong, begun = random.Random(seed), collections.Counter(), 0, time.monotonic()
 for _ in range(count):

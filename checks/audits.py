@@ -1,7 +1,7 @@
 #!/usr/bin/env python3
-"""checks/audits.py PROGRAM: whether `relc audit` says of a printed run what the definition says, which crates/rc_cases/data/audit.py works
-out from the reports of all schedules: of the run itself, with each byte changed, and with each line left out, doubled, and
-exchanged with its neighbour. Takes some minutes."""
+"""checks/audits.py PROGRAM: whether `relc audit` says of a printed run, and `relc audit bare` of its journal alone, what the definition
+says, which crates/rc_cases/data/audit.py works out from the reports of all schedules: of the run itself, with each byte changed, and with
+each line left out, doubled, and exchanged with its neighbour. Takes some minutes."""
 import pathlib
 import subprocess
 import sys
@@ -31,13 +31,15 @@ def main():
     if len(sys.argv) != 2:
         sys.exit(__doc__)
     tried, wrong = 0, []
-    for report in audit.good_reports(audit.GRAPH, WORK):
-        for lines in changes(report):
-            text = "".join(line + "\n" for line in audit.GRAPH + WORK + lines)
-            said = subprocess.run([sys.argv[1], "audit"], input=text.encode(), capture_output=True).stdout.decode()
-            tried += 1
-            if said != audit.judged(audit.GRAPH, WORK, text) + "\n":
-                wrong.append(text)
+    for bare in False, True:
+        command = ["audit", "bare"] if bare else ["audit"]
+        for report in audit.good_reports(audit.GRAPH, WORK, bare):
+            for lines in changes(report):
+                text = "".join(line + "\n" for line in audit.GRAPH + WORK + lines)
+                said = subprocess.run([sys.argv[1], *command], input=text.encode(), capture_output=True).stdout.decode()
+                tried += 1
+                if said != audit.judged(audit.GRAPH, WORK, text, bare) + "\n":
+                    wrong.append(text)
     print(f"{tried - len(wrong)} of {tried} reports are judged as the definition says")
     if wrong:
         sys.exit(wrong[0])

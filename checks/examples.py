@@ -1,7 +1,8 @@
 #!/usr/bin/env python3
-"""checks/examples.py PROGRAM: whether the program prints of each text in examples/ what stands beside it, by `run`, or of a text with
-groups by `group`; whether `audit` finds what `run` printed legal behind its text, of these and of 20,000 calls that eight threads make
-beside each other; and whether it accepts the specification at the top of README.md."""
+"""checks/examples.py PROGRAM: whether the program prints of each text in examples/ what stands beside it, by `run`, of a text with
+groups by `group`, and of one with a journal by `audit bare`; whether `audit` finds what `run` printed legal behind its text, and `audit
+bare` the journal in it, of these and of 20,000 calls that eight threads make beside each other; and whether it accepts the specification
+at the top of README.md."""
 import pathlib
 import re
 import subprocess
@@ -11,7 +12,14 @@ TOP = pathlib.Path(__file__).resolve().parent.parent
 
 
 def printed(program, command, text):
-    return subprocess.run([program, command], input=text, capture_output=True).stdout
+    return subprocess.run([program, *command.split()], input=text, capture_output=True).stdout
+
+
+def command_of(text):
+    """The command whose answer stands beside a text."""
+    if re.search(rb"^journal \d+$", text, re.MULTILINE):
+        return "audit bare"
+    return "group" if re.search(rb"^\d+ & \d+$", text, re.MULTILINE) else "run"
 
 
 def many_calls():
@@ -28,8 +36,12 @@ def many_calls():
 
 
 def is_legal(program, text):
-    """Whether what `run` prints of the text is legal behind it."""
-    return printed(program, "audit", text + printed(program, "run", text)).startswith(b"legal ")
+    """Whether what `run` prints of the text is legal behind it, and the journal in that, alone."""
+    report = printed(program, "run", text)
+    journal = report[report.index(b"journal ") : report.index(b"\nfinal ") + 1] + b"end\n"
+    return all(
+        printed(program, command, text + lines).startswith(b"legal ") for command, lines in (("audit", report), ("audit bare", journal))
+    )
 
 
 def main():
@@ -40,7 +52,7 @@ def main():
     wrong = []
     for text in texts:
         lines = text.read_bytes()
-        command = "group" if re.search(rb"^\d+ & \d+$", lines, re.MULTILINE) else "run"
+        command = command_of(lines)
         if printed(program, command, lines) != text.with_suffix(".out").read_bytes():
             wrong.append(str(text.relative_to(TOP)))
         if command == "run" and not is_legal(program, lines):

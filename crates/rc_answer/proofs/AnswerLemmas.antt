@@ -14,6 +14,7 @@ use Rattle.rc_work.specs.declared.work.Work.{Work}
 use Rattle.rc_work.specs.Answers.{IsRestBehind}
 use Rattle.rc_work.specs.PartGrammar.{WorkPart, part_reading}
 use Rattle.rc_work.specs.Ranking.{work_reading}
+use Rattle.rc_audit.specs.declared.form.Form.{Form}
 use Rattle.rc_answer.specs.Answers.{AnswersAlone, AnswersAudit, AnswersPart, AnswersRun, AnswersWork, IsJudgement, IsRefusal, IsReport}
 use Rattle.rc_work.specs.WholeText.{place_after}
 use Rattle.rc_answer.specs.Refusals.{WritesRefusal}
@@ -76,35 +77,35 @@ spec_refusal_answers also input refusals.Memory old new r made (is_memory, same)
 spec_refusal_answers also input (refusals.Line rule line) old new r made written =
     subst (λ (read : Result Reading Broken). Writes (AnswersRun also input read) old new r) (sym made) written
 
-module _ (input : List ℕ) (reading : Reading) (spec : Spec) (rest : Rest) (read : spec_reading input ≡ Ok reading) (is : IsRead input spec rest reading) (accepted : IsAccepted spec) where
+module _ (form : Form) (input : List ℕ) (reading : Reading) (spec : Spec) (rest : Rest) (read : spec_reading input ≡ Ok reading) (is : IsRead input spec rest reading) (accepted : IsAccepted spec) where
   -- what is written of the workload up to its `end` is what may be written of the whole
   part_answers : (found : Result WorkPart Broken) → part_reading Nothing spec (rest_place input rest) ≡ found → (text : List ℕ) (status : Status)
-      → AnswersPart spec (past_end_of input) found text status → AnswersAudit input (spec_reading input) text status
+      → AnswersPart form spec (past_end_of input) found text status → AnswersAudit form input (spec_reading input) text status
   part_answers found made text status written =
-      subst (λ (r : Result Reading Broken). AnswersAudit input r text status) (sym read)
+      subst (λ (r : Result Reading Broken). AnswersAudit form input r text status) (sym read)
       (inl (subst (λ (s : Spec). IsAccepted s) (sym is.value) accepted, answers))
     where
       behind : part_reading Nothing reading.spec (place_after input reading) ≡ found
       behind = ap (λ (s : Spec). part_reading Nothing s (place_after input reading)) is.value ∙ ap (part_reading Nothing spec) (read_place input reading spec rest is) ∙ made
 
-      answers : AnswersPart reading.spec (past_end_of input) (part_reading Nothing reading.spec (place_after input reading)) text status
+      answers : AnswersPart form reading.spec (past_end_of input) (part_reading Nothing reading.spec (place_after input reading)) text status
       answers =
-          subst (λ (r : Result WorkPart Broken). AnswersPart reading.spec (past_end_of input) r text status) (sym behind)
-          (subst (λ (s : Spec). AnswersPart s (past_end_of input) found text status) (sym is.value) written)
+          subst (λ (r : Result WorkPart Broken). AnswersPart form reading.spec (past_end_of input) r text status) (sym behind)
+          (subst (λ (s : Spec). AnswersPart form s (past_end_of input) found text status) (sym is.value) written)
 
   -- so the verdict on the lines behind it
   pub judgement_answers : (part : WorkPart) → part_reading Nothing spec (rest_place input rest) ≡ Ok part → (work : Work) (behind : Rest) → part.work ≡ work
       → IsRestBehind input rest.version behind part.last part.others → (text : List ℕ) (status : Status)
-      → IsJudgement spec work (past_end_of input) (content_from (rest_place input behind)) text status → AnswersAudit input (spec_reading input) text status
+      → IsJudgement form spec work (past_end_of input) (content_from (rest_place input behind)) text status → AnswersAudit form input (spec_reading input) text status
   judgement_answers part made work behind work_is stands text status judged =
       part_answers (Ok part) made text status
-      (subst (λ (w : Work). IsJudgement spec w (past_end_of input) part.others text status) (sym work_is)
-      (subst (λ (lines : List ContentLine). IsJudgement spec work (past_end_of input) lines text status) stands.others_are judged))
+      (subst (λ (w : Work). IsJudgement form spec w (past_end_of input) part.others text status) (sym work_is)
+      (subst (λ (lines : List ContentLine). IsJudgement form spec work (past_end_of input) lines text status) stands.others_are judged))
 
   -- and its refusal
   pub part_refusal_answers : (refusal : ReadRefusal) (old new : Option (List ℕ)) (r : Result Status Stop) → ReadsAs (Err refusal) (part_reading Nothing spec (rest_place input rest))
-      → WritesRefusal old new refusal r → Writes (AnswersAudit input (spec_reading input)) old new r
-  part_refusal_answers refusals.Memory old new r made (is_memory, same) = subst (Writes (AnswersAudit input (spec_reading input)) old new) (sym is_memory) (inl same)
+      → WritesRefusal old new refusal r → Writes (AnswersAudit form input (spec_reading input)) old new r
+  part_refusal_answers refusals.Memory old new r made (is_memory, same) = subst (Writes (AnswersAudit form input (spec_reading input)) old new) (sym is_memory) (inl same)
   part_refusal_answers (refusals.Line rule line) old new r made written =
-      writes_wider (IsRefusal (record { rule = rule; line = line })) (AnswersAudit input (spec_reading input)) old new r
+      writes_wider (IsRefusal (record { rule = rule; line = line })) (AnswersAudit form input (spec_reading input)) old new r
       (λ text status refused. part_answers (Err (record { rule = rule; line = line })) made text status refused) written

@@ -1,11 +1,12 @@
 -- A verdict that was written.
-use Rattle.std.proofs.Common.{◌≡◌, ℕ, List, [], ◌∷◌, Option, Result, Ok, Err, refl, sym, subst}
+use Rattle.std.proofs.Common.{◌≡◌, ℕ, List, [], ◌∷◌, Option, Result, refl, subst}
 use Rattle.std.specs.Result.{IsErr}
 use Rattle.rc_io.specs.Bytes.{Adds, AddsPrefix}
 use Rattle.rc_text.specs.Lines.{ContentLine, printed_lines}
 use Rattle.rc_spec.specs.declared.spec.Spec.{Spec}
 use Rattle.rc_plan.specs.Compiled.{SpecWithPlans}
 use Rattle.rc_work.specs.declared.work.Work.{Work}
+use Rattle.rc_audit.specs.declared.form.Form.{Form}
 use Rattle.rc_audit.specs.declared.verdict.Verdict.{Verdict}
 use Rattle.rc_audit.specs.GoodReports.{IsVerdict}
 use Rattle.rc_answer.specs.Answers.{IsJudgement, IsVerdictText, verdict_status, verdict_text}
@@ -30,16 +31,16 @@ module _ (verdict : Verdict) (line : List ℕ) (old new : Option (List ℕ)) whe
   verdict_written status is status_is all = (verdict_text verdict, (refl, status_is), subst (λ (t : List ℕ). Adds old t new) is all)
 
 -- what is written of a verdict by the planned plans is the judgement
-pub judgement_written : (accepted : Spec) (made : SpecWithPlans) (work : Work) (past_end : ℕ) (lines : List ContentLine) (verdict : Verdict)
+pub judgement_written : (form : Form) (accepted : Spec) (made : SpecWithPlans) (work : Work) (past_end : ℕ) (lines : List ContentLine) (verdict : Verdict)
     (old new : Option (List ℕ)) (r : Result Status Stop) → made.spec ≡ accepted → ArePlanned accepted made.plans
-    → IsVerdict made work past_end lines verdict → Writes (IsVerdictText verdict) old new r → Writes (IsJudgement accepted work past_end lines) old new r
-judgement_written accepted made work past_end lines verdict old new r same planned is written =
-    writes_wider (IsVerdictText verdict) (IsJudgement accepted work past_end lines) old new r
+    → IsVerdict form made work past_end lines verdict → Writes (IsVerdictText verdict) old new r → Writes (IsJudgement form accepted work past_end lines) old new r
+judgement_written form accepted made work past_end lines verdict old new r same planned is written =
+    writes_wider (IsVerdictText verdict) (IsJudgement form accepted work past_end lines) old new r
     (λ text status h. record {
       plans = made.plans;
       planned = planned;
       verdict = verdict;
-      is = subst (λ (s : Spec). IsVerdict (record { spec = s; plans = made.plans }) work past_end lines verdict) same is;
+      is = subst (λ (s : Spec). IsVerdict form (record { spec = s; plans = made.plans }) work past_end lines verdict) same is;
       written = h;
     })
     written

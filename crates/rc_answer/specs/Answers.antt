@@ -23,12 +23,14 @@ use Rattle.rc_work.specs.Ranking.{work_reading}
 use Rattle.rc_work.specs.Report.{report}
 use Rattle.rc_work.specs.Runs.{Runs}
 use Rattle.rc_work.specs.WholeText.{place_after}
+use Rattle.rc_audit.specs.declared.form.Form.{Form}
+use Rattle.rc_audit.specs.declared.form.Form.TheVariants as forms
 use Rattle.rc_audit.specs.declared.verdict.Verdict.{Verdict}
 use Rattle.rc_audit.specs.declared.verdict.Verdict.TheVariants as verdicts
 use Rattle.rc_audit.specs.GoodReports.{IsVerdict}
 use Rattle.rc_answer.specs.Plans.{ArePlanned, plans_and_end, plans_text}
 use Rattle.rc_command.specs.declared.command.TextCommand.{TextCommand}
-use Rattle.rc_command.specs.declared.command.TextCommand.TheVariants.{Check, Plan, Run, Group, Audit, Dot, DotPlan}
+use Rattle.rc_command.specs.declared.command.TextCommand.TheVariants.{Check, Plan, Run, Group, Audit, AuditJournal, Dot, DotPlan}
 use Rattle.rc_answer.specs.declared.status.Status.{Status}
 use Rattle.rc_answer.specs.declared.status.Status.TheVariants.{Done, Bad, Refused}
 
@@ -138,23 +140,23 @@ verdict_status (verdicts.Bad line) = Bad
 abbrev pub IsVerdictText : Verdict → List ℕ → Status → Type 0
 IsVerdictText verdict text status = (text ≡ verdict_text verdict) × (status ≡ verdict_status verdict)
 
--- the verdict on the lines behind a workload, by the planned plan of each operation
-pub record IsJudgement (spec : Spec) (work : Work) (past_end : ℕ) (lines : List ContentLine) (text : List ℕ) (status : Status) : Type 0 where
+-- the verdict on the lines behind a workload, which are of this form, by the planned plan of each operation
+pub record IsJudgement (form : Form) (spec : Spec) (work : Work) (past_end : ℕ) (lines : List ContentLine) (text : List ℕ) (status : Status) : Type 0 where
   pub plans : List (List Statement)
   pub planned : ArePlanned spec plans
   pub verdict : Verdict
-  pub is : IsVerdict (record { spec = spec; plans = plans }) work past_end lines verdict
+  pub is : IsVerdict form (record { spec = spec; plans = plans }) work past_end lines verdict
   pub written : IsVerdictText verdict text status
 
-abbrev pub AnswersPart : Spec → ℕ → Result WorkPart Broken → List ℕ → Status → Type 0
-AnswersPart spec past_end (Err broken) text status = IsRefusal broken text status
-AnswersPart spec past_end (Ok part) text status = IsJudgement spec part.work past_end part.others text status
+abbrev pub AnswersPart : Form → Spec → ℕ → Result WorkPart Broken → List ℕ → Status → Type 0
+AnswersPart form spec past_end (Err broken) text status = IsRefusal broken text status
+AnswersPart form spec past_end (Ok part) text status = IsJudgement form spec part.work past_end part.others text status
 
--- what is written of a specification, a workload of single calls and the lines behind that
-abbrev pub AnswersAudit : List ℕ → Result Reading Broken → List ℕ → Status → Type 0
-AnswersAudit input (Err broken) text status = IsRefusal broken text status
-AnswersAudit input (Ok reading) text status =
-    AnswersRules reading.spec (AnswersPart reading.spec (past_end_of input) (part_reading Nothing reading.spec (place_after input reading))) text status
+-- what is written of a specification, a workload of single calls and the lines behind that, which are of this form
+abbrev pub AnswersAudit : Form → List ℕ → Result Reading Broken → List ℕ → Status → Type 0
+AnswersAudit form input (Err broken) text status = IsRefusal broken text status
+AnswersAudit form input (Ok reading) text status =
+    AnswersRules reading.spec (AnswersPart form reading.spec (past_end_of input) (part_reading Nothing reading.spec (place_after input reading))) text status
 
 -- ---- all commands that read a text
 
@@ -162,13 +164,15 @@ AnswersAudit input (Ok reading) text status =
 -- first broken line rule, then of its first broken rule of acceptance, else `accepted`, the plans, or the drawing. Where an
 -- operation is named, the drawing has its plan; where none has the name, the name is refused. `run` and `group` read a workload
 -- behind it, `group` one in which groups may stand, and refuse by its line rules last; else they write the plans and the report
--- of a run. `audit` reads a workload up to its `end`, refuses as `run` does, and else judges the lines behind that.
+-- of a run. `audit` reads a workload up to its `end`, refuses as `run` does, and else judges the lines behind that, as what is
+-- printed of a run, or as a journal alone.
 abbrev pub Answers : TextCommand → List ℕ → List ℕ → Status → Type 0
 Answers Check input text status = AnswersAlone (λ spec. IsAcceptedText) (spec_of input) text status
 Answers Plan input text status = AnswersAlone IsPlansText (spec_of input) text status
 Answers Run input text status = AnswersRun Nothing input (spec_reading input) text status
 Answers Group input text status = AnswersRun Groups input (spec_reading input) text status
-Answers Audit input text status = AnswersAudit input (spec_reading input) text status
+Answers Audit input text status = AnswersAudit forms.Run input (spec_reading input) text status
+Answers AuditJournal input text status = AnswersAudit forms.Journal input (spec_reading input) text status
 Answers Dot input text status = AnswersAlone IsDrawing (spec_of input) text status
 Answers (DotPlan op) input text status = AnswersAlone (IsPlanDrawingNamed op) (spec_of input) text status
 
@@ -179,6 +183,7 @@ MakesCalls Plan = ⊥
 MakesCalls Run = Unit {0}
 MakesCalls Group = Unit {0}
 MakesCalls Audit = ⊥
+MakesCalls AuditJournal = ⊥
 MakesCalls Dot = ⊥
 MakesCalls (DotPlan op) = ⊥
 
@@ -189,8 +194,14 @@ also_of Plan = Nothing
 also_of Run = Nothing
 also_of Group = Groups
 also_of Audit = Nothing
+also_of AuditJournal = Nothing
 also_of Dot = Nothing
 also_of (DotPlan op) = Nothing
+
+-- the command that judges lines of this form
+abbrev pub audit_for : Form → TextCommand
+audit_for forms.Run = Audit
+audit_for forms.Journal = AuditJournal
 
 -- an input that is too long
 abbrev pub IsSizeRefusal : List ℕ → Status → Type 0

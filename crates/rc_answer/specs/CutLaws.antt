@@ -9,7 +9,7 @@ use Rattle.rc_work.specs.PrefixLaws.{cut_texts_are_refused}
 use Rattle.rc_work.specs.Ranking.{work_reading}
 use Rattle.rc_work.specs.WholeText.{Whole, place_after, text_reading, text_reading_by, whole_by}
 use Rattle.rc_command.specs.declared.command.TextCommand.{TextCommand}
-use Rattle.rc_command.specs.declared.command.TextCommand.TheVariants.{Check, Plan, Run, Group, Audit, Dot, DotPlan}
+use Rattle.rc_command.specs.declared.command.TextCommand.TheVariants.{Check, Plan, Run, Group, Audit, AuditJournal, Dot, DotPlan}
 use Rattle.rc_answer.specs.declared.status.Status.{Status}
 use Rattle.rc_answer.specs.declared.status.Status.TheVariants.{Refused}
 use Rattle.rc_answer.specs.Answers.{Answers, AnswersRules, AnswersRun, AnswersWork, MakesCalls, also_of}
@@ -44,5 +44,6 @@ cut_runs_are_refused Plan calls text whole at n is letter before out status answ
 cut_runs_are_refused Run calls text whole at n is letter before out status answers = cut_is_refused (also_of Run) text whole at n is letter before out status answers
 cut_runs_are_refused Group calls text whole at n is letter before out status answers = cut_is_refused (also_of Group) text whole at n is letter before out status answers
 cut_runs_are_refused Audit calls text whole at n is letter before out status answers = absurd calls
+cut_runs_are_refused AuditJournal calls text whole at n is letter before out status answers = absurd calls
 cut_runs_are_refused Dot calls text whole at n is letter before out status answers = absurd calls
 cut_runs_are_refused (DotPlan op) calls text whole at n is letter before out status answers = absurd calls

@@ -7,7 +7,7 @@
 --   Where groups are read, the calls of a group stand there as one entry, between which there is no other; each other call is an
 --   entry by itself, and so is every call of `run`.
 --   `relc audit` judges lines that stand behind a workload: they are legal exactly where they are what is printed of some run,
---   and else exactly one line is the first with which no such text begins.
+--   and else exactly one line is the first with which no such text begins. So `relc audit bare` judges the journal alone.
 --
 -- The call `relc` (rc_top/src/top.rt, clauses `headline`, `group_headline`, `check_headline` and `audit_headline`) promises it
 -- where the words say so, the source tells its bytes, these are at most 2^24, and the status is Done, Refused or, of `audit`, Bad. Read this file to its end, and then
@@ -42,6 +42,7 @@ use Rattle.rc_work.specs.Ranking.{work_reading}
 use Rattle.rc_work.specs.Report.{report}
 use Rattle.rc_work.specs.Runs.{HasSingleSteps, MakesRounds, thread_calls, thread_turns, turns_of}
 use Rattle.rc_work.specs.WholeText.{place_after}
+use Rattle.rc_audit.specs.declared.form.Form.{Form}
 use Rattle.rc_audit.specs.declared.verdict.Verdict.{Verdict}
 use Rattle.rc_audit.specs.GoodReports.{IsGoodReport, IsVerdict}
 use Rattle.rc_answer.specs.declared.outcome.Outcome.{Outcome}
@@ -104,22 +105,23 @@ pub record HasRunOnce (also : Also) (spec : Spec) (work : Work) (old new : Optio
   pub printed : Adds old (plans_text spec ran.closed.compiled.plans ++ printed_lines (report spec work.ranks journal ran.last)) new
 
 -- The sink has gained the one verdict on the lines behind a workload, by the planned plans, and no run is left: `legal` with
--- the number of entries exactly where they are those of a good report, and else the one line that is the first bad one.
-pub record HasJudged (spec : Spec) (work : Work) (past_end : ℕ) (lines : List ContentLine) (old new : Option (List ℕ)) (outcome : Outcome) : Type 0 where
+-- the number of entries exactly where they are those of a good report of this form, and else the one line that is the first
+-- bad one.
+pub record HasJudged (form : Form) (spec : Spec) (work : Work) (past_end : ℕ) (lines : List ContentLine) (old new : Option (List ℕ)) (outcome : Outcome) : Type 0 where
   pub plans : List (List Statement)
   pub planned : ArePlanned spec plans
   pub verdict : Verdict
-  pub is : IsVerdict (record { spec = spec; plans = plans }) work past_end lines verdict
-  pub only : (other : Verdict) → IsVerdict (record { spec = spec; plans = plans }) work past_end lines other → other ≡ verdict
-  pub good : (outcome.status ≡ Done) ↔ ((entries : ℕ) × IsGoodReport (record { spec = spec; plans = plans }) work (bytes_of_content lines) entries)
+  pub is : IsVerdict form (record { spec = spec; plans = plans }) work past_end lines verdict
+  pub only : (other : Verdict) → IsVerdict form (record { spec = spec; plans = plans }) work past_end lines other → other ≡ verdict
+  pub good : (outcome.status ≡ Done) ↔ ((entries : ℕ) × IsGoodReport form (record { spec = spec; plans = plans }) work (bytes_of_content lines) entries)
   pub status : outcome.status ≡ verdict_status verdict
   pub none : outcome.ran ≡ None
   pub printed : Adds old (verdict_text verdict) new
 
 -- a workload that breaks a line rule up to its `end` is refused, and behind any other the lines are judged
-abbrev pub OfPart : Spec → ℕ → Result WorkPart Broken → Option (List ℕ) → Option (List ℕ) → Outcome → Type 0
-OfPart spec past_end (Err broken) old new outcome = Refuses (line_refusal_text broken) old new outcome
-OfPart spec past_end (Ok part) old new outcome = HasJudged spec part.work past_end part.others old new outcome
+abbrev pub OfPart : Form → Spec → ℕ → Result WorkPart Broken → Option (List ℕ) → Option (List ℕ) → Outcome → Type 0
+OfPart form spec past_end (Err broken) old new outcome = Refuses (line_refusal_text broken) old new outcome
+OfPart form spec past_end (Ok part) old new outcome = HasJudged form spec part.work past_end part.others old new outcome
 
 -- a workload that breaks a line rule is refused, and any other is run
 abbrev pub OfWork : Also → Spec → Result Work Broken → Option (List ℕ) → Option (List ℕ) → Outcome → Type 0
@@ -145,10 +147,10 @@ OfAlone (Err broken) old new outcome = Refuses (line_refusal_text broken) old ne
 OfAlone (Ok spec) old new outcome = OfSpec spec Accepts old new outcome
 
 -- behind a specification that is accepted stand a workload and lines to judge
-abbrev pub OfJudged : List ℕ → Result Reading Broken → Option (List ℕ) → Option (List ℕ) → Outcome → Type 0
-OfJudged input (Err broken) old new outcome = Refuses (line_refusal_text broken) old new outcome
-OfJudged input (Ok reading) old new outcome =
-    OfSpec reading.spec (OfPart reading.spec (past_end_of input) (part_reading Nothing reading.spec (place_after input reading))) old new outcome
+abbrev pub OfJudged : Form → List ℕ → Result Reading Broken → Option (List ℕ) → Option (List ℕ) → Outcome → Type 0
+OfJudged form input (Err broken) old new outcome = Refuses (line_refusal_text broken) old new outcome
+OfJudged form input (Ok reading) old new outcome =
+    OfSpec reading.spec (OfPart form reading.spec (past_end_of input) (part_reading Nothing reading.spec (place_after input reading))) old new outcome
 
 -- ---- the headline
 
@@ -160,6 +162,6 @@ Headline also input old new outcome = OfReading also input (spec_reading input) 
 abbrev pub CheckHeadline : List ℕ → Option (List ℕ) → Option (List ℕ) → Outcome → Type 0
 CheckHeadline input old new outcome = OfAlone (spec_of input) old new outcome
 
--- and of `audit`
-abbrev pub AuditHeadline : List ℕ → Option (List ℕ) → Option (List ℕ) → Outcome → Type 0
-AuditHeadline input old new outcome = OfJudged input (spec_reading input) old new outcome
+-- and of `audit`, behind whose workload stands all that `run` prints (`Run`), or the journal alone (`Journal`)
+abbrev pub AuditHeadline : Form → List ℕ → Option (List ℕ) → Option (List ℕ) → Outcome → Type 0
+AuditHeadline form input old new outcome = OfJudged form input (spec_reading input) old new outcome

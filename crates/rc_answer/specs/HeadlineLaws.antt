@@ -5,7 +5,7 @@ use Rattle.std.specs.List.{slice_get}
 use Rattle.std.proofs.lemmas.List.{take-append-drop, take_more}
 use Rattle.std.proofs.lemmas.Option.{get_or_from_slice_get, slice_get_within}
 use Rattle.rc_tuple.specs.Tuple.{Pairs}
-use Rattle.rc_text.specs.Lines.{ContentLine, TextPlace, bytes_of_content, content_from, past_end_of, printed_lines}
+use Rattle.rc_text.specs.Lines.{ContentLine, TextPlace, bytes_of_content, past_end_of, printed_lines}
 use Rattle.rc_io.specs.Bytes.{Adds}
 use Rattle.rc_spec.specs.declared.spec.Spec.{Spec}
 use Rattle.rc_spec.specs.AcceptanceLaws.{refused_not_accepted}
@@ -33,16 +33,18 @@ use Rattle.rc_work.specs.Runs.{HasSingleSteps, Runs}
 use Rattle.rc_work.specs.RunsLaws.{runs_make_calls, runs_make_turns, single_turns_are_single_steps}
 use Rattle.rc_work.specs.WholeText.{place_after}
 use Rattle.rc_work.specs.WorkGrammar.{draft_of, reading_all}
+use Rattle.rc_audit.specs.declared.form.Form.{Form}
+use Rattle.rc_audit.specs.declared.form.Form.TheVariants as forms
 use Rattle.rc_audit.specs.declared.verdict.Verdict.{Verdict}
 use Rattle.rc_audit.specs.declared.verdict.Verdict.TheVariants as verdicts
 use Rattle.rc_audit.specs.GoodReports.{IsGoodReport, IsVerdict}
 use Rattle.rc_audit.specs.VerdictLaws.{one_verdict}
-use Rattle.rc_command.specs.declared.command.TextCommand.TheVariants.{Audit, Check}
+use Rattle.rc_command.specs.declared.command.TextCommand.TheVariants.{Check}
 use Rattle.rc_answer.specs.declared.outcome.Outcome.{Outcome}
 use Rattle.rc_answer.specs.declared.outcome.Ran.{Ran}
 use Rattle.rc_answer.specs.declared.status.Status.{Status}
 use Rattle.rc_answer.specs.declared.status.Status.TheVariants.{Done, Bad, Refused}
-use Rattle.rc_answer.specs.Answers.{Answers, AnswersAlone, AnswersAudit, AnswersPart, AnswersRules, AnswersRun, AnswersWork, IsAcceptedText, IsJudgement, accepted_text, line_refusal_text, verdict_status}
+use Rattle.rc_answer.specs.Answers.{Answers, AnswersAlone, AnswersAudit, AnswersPart, AnswersRules, AnswersRun, AnswersWork, IsAcceptedText, IsJudgement, audit_for, line_refusal_text, verdict_status}
 use Rattle.rc_answer.specs.Plans.{plans_text}
 use Rattle.rc_answer.specs.Ran.{HasRunText, IsRunOf, entries_in, run_text}
 use Rattle.rc_answer.specs.RanLaws.{single_without_groups}
@@ -174,49 +176,51 @@ bad_is_not_done e = cc
 legal_is_not_bad : (entries line : ℕ) → verdicts.Legal entries ≡ verdicts.Bad line → ⊥
 legal_is_not_bad entries line e = cc
 
-module _ (compiled : SpecWithPlans) (work : Work) (past_end : ℕ) (lines : List ContentLine) (threads : HasThreads work) where
+module _ (form : Form) (compiled : SpecWithPlans) (work : Work) (past_end : ℕ) (lines : List ContentLine) (threads : HasThreads work) where
   -- the status is Done exactly where the lines are those of a good report
-  good_exactly : (verdict : Verdict) → IsVerdict compiled work past_end lines verdict → (status : Status) → status ≡ verdict_status verdict
-      → (status ≡ Done) ↔ ((entries : ℕ) × IsGoodReport compiled work (bytes_of_content lines) entries)
+  good_exactly : (verdict : Verdict) → IsVerdict form compiled work past_end lines verdict → (status : Status) → status ≡ verdict_status verdict
+      → (status ≡ Done) ↔ ((entries : ℕ) × IsGoodReport form compiled work (bytes_of_content lines) entries)
   good_exactly (verdicts.Legal entries) is status e = ((λ done. (entries, is)), (λ good. e))
   good_exactly (verdicts.Bad line) is status e = (
     (λ done. absurd (bad_is_not_done (sym e ∙ done))),
-    (λ good. absurd (legal_is_not_bad good.0 line (one_verdict compiled work past_end lines (verdicts.Legal good.0) (verdicts.Bad line) threads good.1 is))),
+    (λ good. absurd (legal_is_not_bad good.0 line (one_verdict form compiled work past_end lines (verdicts.Legal good.0) (verdicts.Bad line) threads good.1 is))),
   )
 
 module _ (old new : Option (List ℕ)) (outcome : Outcome) (none : outcome.ran ≡ None) where
-  judged : (spec : Spec) (work : Work) (past_end : ℕ) (lines : List ContentLine) (out : List ℕ) → HasThreads work
-      → IsJudgement spec work past_end lines out outcome.status → Adds old out new → HasJudged spec work past_end lines old new outcome
-  judged spec work past_end lines out threads h adds =
+  judged : (form : Form) (spec : Spec) (work : Work) (past_end : ℕ) (lines : List ContentLine) (out : List ℕ) → HasThreads work
+      → IsJudgement form spec work past_end lines out outcome.status → Adds old out new → HasJudged form spec work past_end lines old new outcome
+  judged form spec work past_end lines out threads h adds =
       let compiled : SpecWithPlans = record { spec = spec; plans = h.plans } in
       record {
         plans = h.plans;
         planned = h.planned;
         verdict = h.verdict;
         is = h.is;
-        only = λ other is. one_verdict compiled work past_end lines other h.verdict threads is h.is;
-        good = good_exactly compiled work past_end lines threads h.verdict h.is outcome.status h.written.1;
+        only = λ other is. one_verdict form compiled work past_end lines other h.verdict threads is h.is;
+        good = good_exactly form compiled work past_end lines threads h.verdict h.is outcome.status h.written.1;
         status = h.written.1;
         none = none;
         printed = subst (λ (l : List ℕ). Adds old l new) h.written.0 adds;
       }
 
-  of_part : (spec : Spec) (place : TextPlace) (past_end : ℕ) (found : Result WorkPart Broken) → part_reading Nothing spec place ≡ found
-      → (out : List ℕ) → AnswersPart spec past_end found out outcome.status → Adds old out new → OfPart spec past_end found old new outcome
-  of_part spec place past_end (Err broken) is out (printed, refused) adds =
+  of_part : (form : Form) (spec : Spec) (place : TextPlace) (past_end : ℕ) (found : Result WorkPart Broken) → part_reading Nothing spec place ≡ found
+      → (out : List ℕ) → AnswersPart form spec past_end found out outcome.status → Adds old out new → OfPart form spec past_end found old new outcome
+  of_part form spec place past_end (Err broken) is out (printed, refused) adds =
       refuses old new outcome (line_refusal_text broken) out none printed refused adds
-  of_part spec place past_end (Ok part) is out answers adds = judged spec part.work past_end part.others out (part_threads spec place part is) answers adds
+  of_part form spec place past_end (Ok part) is out answers adds = judged form spec part.work past_end part.others out (part_threads spec place part is) answers adds
 
-  of_judged : (input : List ℕ) (read : Result Reading Broken) (out : List ℕ) → AnswersAudit input read out outcome.status → Adds old out new
-      → OfJudged input read old new outcome
-  of_judged input (Err broken) out (printed, refused) adds = refuses old new outcome (line_refusal_text broken) out none printed refused adds
-  of_judged input (Ok reading) out answers adds =
+  of_judged : (form : Form) (input : List ℕ) (read : Result Reading Broken) (out : List ℕ) → AnswersAudit form input read out outcome.status → Adds old out new
+      → OfJudged form input read old new outcome
+  of_judged form input (Err broken) out (printed, refused) adds = refuses old new outcome (line_refusal_text broken) out none printed refused adds
+  of_judged form input (Ok reading) out answers adds =
       let found = part_reading Nothing reading.spec (place_after input reading) in
-      of_rules old new outcome reading.spec (AnswersPart reading.spec (past_end_of input) found) (OfPart reading.spec (past_end_of input) found) out (λ refused. none)
-      (λ h. of_part reading.spec (place_after input reading) (past_end_of input) found refl out h adds) answers adds
+      of_rules old new outcome reading.spec (AnswersPart form reading.spec (past_end_of input) found) (OfPart form reading.spec (past_end_of input) found) out (λ refused. none)
+      (λ h. of_part form reading.spec (place_after input reading) (past_end_of input) found refl out h adds) answers adds
 
-  pub audit_headline : (input : List ℕ) → WritesWhole (Answers Audit input) old new outcome.status → AuditHeadline input old new outcome
-  audit_headline input (out, answers, adds) = of_judged input (spec_reading input) out answers adds
+  pub audit_headline : (form : Form) (input : List ℕ) → WritesWhole (Answers (audit_for form) input) old new outcome.status
+      → AuditHeadline form input old new outcome
+  audit_headline forms.Run input (out, answers, adds) = of_judged forms.Run input (spec_reading input) out answers adds
+  audit_headline forms.Journal input (out, answers, adds) = of_judged forms.Journal input (spec_reading input) out answers adds
 
 -- ---- run and group
 

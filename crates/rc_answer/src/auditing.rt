@@ -12,7 +12,7 @@ ghost use Rattle.rc_answer.specs.Writes.{CountsFaults, Writes};
 use crate::refusing::{refuse, refuse_spec};
 use crate::status::{Status, Stop};
 use crate::writing::write_line;
-use rc_audit::{Verdict, audit};
+use rc_audit::{Form, Verdict, audit};
 use rc_io::Sink;
 use rc_maps::Seed;
 use rc_mutate::compile;
@@ -54,11 +54,12 @@ fn write_verdict<K: Sink>(alloc: Global, sink: &mut K, verdict: Verdict) -> Resu
     Ok(verdict_status(verdict))
 }
 
-/// Plans the operations of an accepted specification, judges the lines behind a workload by these
-/// plans, and writes the verdict.
+/// Plans the operations of an accepted specification, judges the lines behind a workload, which are
+/// of this form, by these plans, and writes the verdict.
 fn write_judgement<K: Sink>(
     alloc: Global,
     hash_seed: Seed,
+    form: Form,
     accepted: Accepted,
     work: &Work,
     text: &[u8],
@@ -71,28 +72,29 @@ fn write_judgement<K: Sink>(
     requires threads { HasThreads work.now }
     requires fit { RoundsFit accepted work.now.rounds }
     requires single { HasSingleTurns work.now }
-    ensures written { Writes (IsJudgement accepted work.now (past_end_of text.now)
+    ensures written { Writes (IsJudgement form accepted work.now (past_end_of text.now)
         (content_from (rest_place text.now rest))) (K.held sink.old) (K.held sink.new) result }
     ensures faults { CountsFaults (K.faults sink.old) (K.faults sink.new) result }
 {
     let compiled = compile(alloc, accepted)?;
     let _ = compiled.accepted();
-    let verdict = audit(alloc, hash_seed, &compiled, work, text, rest)?;
+    let verdict = audit(alloc, hash_seed, form, &compiled, work, text, rest)?;
     write_verdict(alloc, sink, verdict)
 }
 
 /// Answers a specification, a workload of single calls behind it and the lines behind that, which
-/// are said to be what `run` printed: writes the verdict on them, or the refusal of the first broken
-/// rule.
+/// are said to be what `run` printed, or a journal alone: writes the verdict on them, or the refusal
+/// of the first broken rule.
 pub(crate) fn answer_audit<K: Sink>(
     alloc: Global,
     hash_seed: Seed,
+    form: Form,
     text: &[u8],
     sink: &mut K,
 ) -> Result<Status, Stop>
     requires { length text.now ≤ 2 ^ 24 }
-    ensures written { Writes (AnswersAudit text.now (spec_reading text.now)) (K.held sink.old)
-        (K.held sink.new) result }
+    ensures written { Writes (AnswersAudit form text.now (spec_reading text.now))
+        (K.held sink.old) (K.held sink.new) result }
     ensures faults { CountsFaults (K.faults sink.old) (K.faults sink.new) result }
 {
     let (spec, rest) = match read_spec(alloc, text) {
@@ -107,5 +109,5 @@ pub(crate) fn answer_audit<K: Sink>(
         Ok(read) => read,
         Err(refusal) => return refuse(alloc, sink, refusal),
     };
-    write_judgement(alloc, hash_seed, accepted, &work, text, behind, sink)
+    write_judgement(alloc, hash_seed, form, accepted, &work, text, behind, sink)
 }

@@ -19,6 +19,7 @@ use crate::planning::{write_planned, write_plans};
 use crate::refusing::{refuse, refuse_run, refuse_run_of, refuse_spec};
 use crate::status::{Status, Stop};
 use crate::writing::{write_accepted, write_report};
+use rc_audit::Form;
 use rc_command::TextCommand;
 use rc_io::Sink;
 use rc_maps::Seed;
@@ -230,7 +231,10 @@ pub fn answer<R: Threads + Wait + Sync, K: Sink, G: Gate + Sync>(
         TextCommand::Plan => without_run(answer_alone(alloc, Asked::Plans, text, sink)),
         TextCommand::Run => run(rt, alloc, hash_seed, Also::Nothing, text, sink, gate),
         TextCommand::Group => run(rt, alloc, hash_seed, Also::Groups, text, sink, gate),
-        TextCommand::Audit => without_run(answer_audit(alloc, hash_seed, text, sink)),
+        TextCommand::Audit => without_run(answer_audit(alloc, hash_seed, Form::Run, text, sink)),
+        TextCommand::AuditJournal => {
+            without_run(answer_audit(alloc, hash_seed, Form::Journal, text, sink))
+        }
         TextCommand::Dot => without_run(answer_alone(alloc, Asked::Drawing, text, sink)),
         TextCommand::DotPlan { op } => {
             without_run(answer_alone(alloc, Asked::DrawnPlan { op }, text, sink))

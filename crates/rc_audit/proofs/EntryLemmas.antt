@@ -30,6 +30,7 @@ use Rattle.rc_work.specs.RunsLaws.{single_turns_are_single_steps}
 use Rattle.rc_audit.specs.declared.entries.Entries.{Entries}
 use Rattle.rc_audit.specs.declared.fault.Fault.{Fault}
 use Rattle.rc_audit.specs.declared.fault.Fault.TheVariants as faults
+use Rattle.rc_audit.specs.declared.form.Form.{Form}
 use Rattle.rc_audit.specs.declared.relation.Relation.{Relation}
 use Rattle.rc_audit.specs.Cursors.{AreCursors, HasGoneOn, HasLeft, cursor_at, left_in, turns_from}
 use Rattle.rc_audit.specs.CursorsLaws.{IsNextTurn, goes_on, has_left_by, next_turn, none_from}
@@ -76,8 +77,8 @@ known_words spec texts place thread s op known =
     let words = values_and_reply spec texts op s in
     (op.name ++ spaced words, ap (λ o. words_text (decimal place ∷ decimal thread ∷ step_words_at o spec texts s)) known)
 
-module _ (compiled : SpecWithPlans) (work : Work) (can : IsJudgeable compiled.spec work) (relation : Relation) (entries : Entries)
-    (front : List (List ℕ)) (at : IsAmong compiled work relation entries front) where
+module _ (form : Form) (compiled : SpecWithPlans) (work : Work) (can : IsJudgeable compiled.spec work) (relation : Relation) (entries : Entries)
+    (front : List (List ℕ)) (at : IsAmong form compiled work relation entries front) where
   abbrev round : List Turn
   round = round_at work entries.round
 
@@ -130,17 +131,17 @@ module _ (compiled : SpecWithPlans) (work : Work) (can : IsJudgeable compiled.sp
           absurd (let many : length turn.calls ≡ suc (suc (length calls)) = ap length is in omega (arith, size, many))
 
   -- the line that a good report has next
-  next_good : (thread : ℕ) → HasLeft round cursors thread → (line : List ℕ) → BeginsGood compiled work (front ++ line ∷ [])
-      → IsNextLine compiled work can at.done (left_in round cursors) (drop (entries.round + 1) work.rounds) front at.judged line
+  next_good : (thread : ℕ) → HasLeft round cursors thread → (line : List ℕ) → BeginsGood form compiled work (front ++ line ∷ [])
+      → IsNextLine form compiled work can at.done (left_in round cursors) (drop (entries.round + 1) work.rounds) front at.judged line
   next_good thread has line begins =
       let h = next_call thread has in
-      judged_next compiled work can at.done (left_in round cursors) (drop (entries.round + 1) work.rounds) front at.judged thread (h.call ∷ []) _
+      judged_next form compiled work can at.done (left_in round cursors) (drop (entries.round + 1) work.rounds) front at.judged thread (h.call ∷ []) _
       (left_of compiled.spec round cursors thread h) line begins
 
   -- ---- the line is of no thread that has a turn left
 
   pub entry_none : (thread : ℕ) → HasLeft round cursors thread → (line : List ℕ) → IsChosen round cursors entries.place line None
-      → BeginsGood compiled work (front ++ line ∷ []) → ⊥
+      → BeginsGood form compiled work (front ++ line ∷ []) → ⊥
   entry_none thread has line chosen begins =
       let next = next_good thread has line begins in
       let mine = has_left_by round cursors next.thread (next.call ∷ []) next.later next.mine in
@@ -153,7 +154,7 @@ module _ (compiled : SpecWithPlans) (work : Work) (can : IsJudgeable compiled.sp
   -- ---- the line is another one than that of its thread's call
 
   pub entry_other : (thread : ℕ) (line : List ℕ) → (has : HasLeft round cursors thread) → IsOfThread entries.place line thread
-      → (line ≡ next_line compiled work at.done thread (next_call thread has).call → ⊥) → BeginsGood compiled work (front ++ line ∷ []) → ⊥
+      → (line ≡ next_line compiled work at.done thread (next_call thread has).call → ⊥) → BeginsGood form compiled work (front ++ line ∷ []) → ⊥
   entry_other thread line has of apart begins =
       let h = next_call thread has in
       let next = next_good thread has line begins in
@@ -175,7 +176,7 @@ module _ (compiled : SpecWithPlans) (work : Work) (can : IsJudgeable compiled.sp
       → line ≡ next_line compiled work at.done thread (next_call thread has).call
       → HasGoneOn round cursors new.cursors.items thread → new.round ≡ entries.round → new.place ≡ entries.place + 1
       → Keeps compiled.spec after (plain compiled.spec (replay compiled.spec at.done) (next_call thread has).call).relation
-      → IsAmong compiled work after new (front ++ line ∷ [])
+      → IsAmong form compiled work after new (front ++ line ∷ [])
   entry_met thread line new after has met gone round_is place_is keeps =
       let h = next_call thread has in
       let e = entry_after compiled.spec at.done thread (h.call ∷ []) in
@@ -183,12 +184,12 @@ module _ (compiled : SpecWithPlans) (work : Work) (can : IsJudgeable compiled.sp
       let made : IsMade (left_in round cursors) (left_in round new.cursors.items) thread (h.call ∷ []) =
       subst (IsMade (left_in round cursors) (left_in round new.cursors.items) thread) h.one (goes_on round cursors thread h.turn new.cursors.items has h.next gone) in
       let count : length new.cursors.items ≡ work.threads = gone.count ∙ at.count in
-      let judged = judged_more compiled work can at.done (left_in round cursors) rounds front at.judged (left_in round new.cursors.items) thread h.call line made
+      let judged = judged_more form compiled work can at.done (left_in round cursors) rounds front at.judged (left_in round new.cursors.items) thread h.call line made
       (none_from round new.cursors.items work.threads (omega (arith, count))) met in
       record {
         within = subst (λ k. k < length work.rounds) (sym round_is) at.within;
         done = at.done ++ e ∷ [];
-        judged = subst (λ k. IsJudged compiled work (at.done ++ e ∷ []) (left_in (round_at work k) new.cursors.items) (drop (k + 1) work.rounds) (front ++ line ∷ [])) (sym round_is) judged;
+        judged = subst (λ k. IsJudged form compiled work (at.done ++ e ∷ []) (left_in (round_at work k) new.cursors.items) (drop (k + 1) work.rounds) (front ++ line ∷ [])) (sym round_is) judged;
         place_is = let l = length-append at.done (e ∷ []) in let p = at.place_is in omega (arith, l, p, place_is);
         keeps = subst (Keeps compiled.spec after) (sym (replay-more compiled.spec at.done e)) keeps;
         count = count;
@@ -224,8 +225,8 @@ module _ (compiled : SpecWithPlans) (work : Work) (can : IsJudgeable compiled.sp
       is ∙ (λ i. step_line compiled.spec work.ranks (sym place i) thread (step_after compiled.spec at.done (same i)))
 
 -- a line that wasn't met
-pub meet_err : (X : Type 0) (compiled : SpecWithPlans) (work : Work) (front : List (List ℕ)) (line wanted : List ℕ) (after : Type 0) (fault : Fault)
-    → HasMet {X = X} wanted line (Err fault) → ((line ≡ wanted → ⊥) → BeginsGood compiled work (front ++ line ∷ []) → ⊥)
-    → Judges {X = Unit {0}} compiled work front line after (Err fault)
-meet_err X compiled work front line wanted after faults.Memory met bad = absurd met
-meet_err X compiled work front line wanted after faults.Bad met bad = bad met
+pub meet_err : (X : Type 0) (form : Form) (compiled : SpecWithPlans) (work : Work) (front : List (List ℕ)) (line wanted : List ℕ) (after : Type 0) (fault : Fault)
+    → HasMet {X = X} wanted line (Err fault) → ((line ≡ wanted → ⊥) → BeginsGood form compiled work (front ++ line ∷ []) → ⊥)
+    → Judges {X = Unit {0}} form compiled work front line after (Err fault)
+meet_err X form compiled work front line wanted after faults.Memory met bad = absurd met
+meet_err X form compiled work front line wanted after faults.Bad met bad = bad met

@@ -10,6 +10,7 @@ use Rattle.rc_work.specs.declared.work.Work.{Work}
 use Rattle.rc_audit.specs.declared.entries.Entries.{Entries}
 use Rattle.rc_audit.specs.declared.fault.Fault.{Fault}
 use Rattle.rc_audit.specs.declared.fault.Fault.TheVariants as faults
+use Rattle.rc_audit.specs.declared.form.Form.{Form}
 use Rattle.rc_audit.specs.declared.judge.Judge.{Judge}
 use Rattle.rc_audit.specs.declared.opening.Opening.{Opening}
 use Rattle.rc_audit.specs.declared.relation.Relation.{Relation}
@@ -19,28 +20,28 @@ use Rattle.rc_audit.specs.declared.verdict.Verdict.{Verdict}
 use Rattle.rc_audit.specs.declared.verdict.Verdict.TheVariants.{Bad}
 use Rattle.rc_audit.specs.GoodReports.{BeginsGood, IsGoodReport, IsVerdict}
 use Rattle.rc_audit.specs.Judged.{IsJudgeable}
-use Rattle.rc_audit.specs.Judging.{HasPassed, IsAmong, IsAtStage, IsBefore, IsOfSame, IsOpening, Judges, judged_plans, judged_work, verdict_at}
+use Rattle.rc_audit.specs.Judging.{HasPassed, IsAmong, IsAtStage, IsBefore, IsOfSame, IsOpening, Judges, judged_form, judged_plans, judged_work, verdict_at}
 use Rattle.rc_audit.specs.Keeping.{Keeps}
 use Rattle.rc_audit.proofs.StageLemmas.{among_begins, among_none, closing_begins, opening_bad, opening_begins, opening_last, opening_none}
 
-stage_begins : (compiled : SpecWithPlans) (work : Work) (relation : Relation) (stage : Stage) (front : List (List ℕ)) → IsJudgeable compiled.spec work
-    → IsAtStage compiled work relation stage front → BeginsGood compiled work front
-stage_begins compiled work relation (stages.Opening opening) front can at = opening_begins compiled work can opening front at.0
-stage_begins compiled work relation (stages.Entries entries) front can at = among_begins compiled work can relation entries front at.0
-stage_begins compiled work relation (stages.Closing closing) front can at = closing_begins compiled work can closing front at
+stage_begins : (form : Form) (compiled : SpecWithPlans) (work : Work) (relation : Relation) (stage : Stage) (front : List (List ℕ)) → IsJudgeable compiled.spec work
+    → IsAtStage form compiled work relation stage front → BeginsGood form compiled work front
+stage_begins form compiled work relation (stages.Opening opening) front can at = opening_begins form compiled work can opening front at.0
+stage_begins form compiled work relation (stages.Entries entries) front can at = among_begins form compiled work can relation entries front at.0
+stage_begins form compiled work relation (stages.Closing closing) front can at = closing_begins form compiled work can closing front at
 
 -- lines that were passed begin a good report
-pub passed_begins : (judge : Judge) (front : List (List ℕ)) → HasPassed judge front → BeginsGood (judged_plans judge) (judged_work judge) front
-passed_begins judge front passed = stage_begins (judged_plans judge) (judged_work judge) judge.relation judge.stage front passed.judgeable passed.stage_is
+pub passed_begins : (judge : Judge) (front : List (List ℕ)) → HasPassed judge front → BeginsGood (judged_form judge) (judged_plans judge) (judged_work judge) front
+passed_begins judge front passed = stage_begins (judged_form judge) (judged_plans judge) (judged_work judge) judge.relation judge.stage front passed.judgeable passed.stage_is
 
 -- so do those before a line that is passed, with it
 pub passed_line : (old new : Judge) (front : List (List ℕ)) (line : List ℕ) (result : Result (Unit {0}) Fault) → IsOfSame old new
-    → Judges (judged_plans old) (judged_work old) front line (HasPassed new (front ++ line ∷ [])) result
-    → OnOk result (BeginsGood (judged_plans old) (judged_work old) (front ++ line ∷ []))
+    → Judges (judged_form old) (judged_plans old) (judged_work old) front line (HasPassed new (front ++ line ∷ [])) result
+    → OnOk result (BeginsGood (judged_form old) (judged_plans old) (judged_work old) (front ++ line ∷ []))
 passed_line old new front line (Err fault) same judged = tt
 passed_line old new front line (Ok done) same judged =
-    subst (λ w. BeginsGood (judged_plans old) w (front ++ line ∷ [])) same.work_is
-    (subst (λ c. BeginsGood c (judged_work new) (front ++ line ∷ [])) same.compiled_is (passed_begins new (front ++ line ∷ []) judged))
+    subst (λ (z : Form × SpecWithPlans × Work). BeginsGood z.0 z.1 z.2 (front ++ line ∷ []))
+    (λ i. (same.form_is i, same.compiled_is i, same.work_is i)) (passed_begins new (front ++ line ∷ []) judged)
 
 module _ (all front now : List ContentLine) (whole : all ≡ front ++ now) where
   -- one line more
@@ -50,39 +51,39 @@ module _ (all front now : List ContentLine) (whole : all ≡ front ++ now) where
   pub bytes_more : (line : ContentLine) → bytes_of_content front ++ line.bytes ∷ [] ≡ bytes_of_content (front ++ line ∷ [])
   bytes_more line = sym (map-append (λ (l : ContentLine). l.bytes) front (line ∷ []))
 
-  module _ (judge : Judge) (compiled : SpecWithPlans) (work : Work) (past_end : ℕ) (compiled_is : judged_plans judge ≡ compiled) (work_is : judged_work judge ≡ work)
-      (passed : HasPassed judge (bytes_of_content front)) where
-    begins : BeginsGood compiled work (bytes_of_content front)
-    begins = subst (λ w. BeginsGood compiled w (bytes_of_content front)) work_is
-        (subst (λ c. BeginsGood c (judged_work judge) (bytes_of_content front)) compiled_is (passed_begins judge (bytes_of_content front) passed))
+  module _ (judge : Judge) (form : Form) (compiled : SpecWithPlans) (work : Work) (past_end : ℕ) (form_is : judged_form judge ≡ form)
+      (compiled_is : judged_plans judge ≡ compiled) (work_is : judged_work judge ≡ work) (passed : HasPassed judge (bytes_of_content front)) where
+    same : ◌≡◌ {A = Form × SpecWithPlans × Work} (judged_form judge, judged_plans judge, judged_work judge) (form, compiled, work)
+    same i = (form_is i, compiled_is i, work_is i)
+
+    begins : BeginsGood form compiled work (bytes_of_content front)
+    begins = subst (λ (z : Form × SpecWithPlans × Work). BeginsGood z.0 z.1 z.2 (bytes_of_content front)) same (passed_begins judge (bytes_of_content front) passed)
 
     -- a line with which no good report begins
     pub bad_verdict : (line : ContentLine) (new : List ContentLine) → now ≡ line ∷ new
-        → (BeginsGood (judged_plans judge) (judged_work judge) (bytes_of_content front ++ line.bytes ∷ []) → ⊥) → IsVerdict compiled work past_end all (Bad line.number)
-    unfolding begins
+        → (BeginsGood (judged_form judge) (judged_plans judge) (judged_work judge) (bytes_of_content front ++ line.bytes ∷ []) → ⊥) → IsVerdict form compiled work past_end all (Bad line.number)
+    unfolding begins same
     bad_verdict line new here bad = inl (record {
       front = front;
       line = line;
       others = new;
       whole = whole ∙ ap (λ l. front ++ l) here;
       before = begins;
-      bad = λ h. bad (subst (λ w. BeginsGood (judged_plans judge) w (bytes_of_content front ++ line.bytes ∷ [])) (sym work_is)
-          (subst (λ c. BeginsGood c work (bytes_of_content front ++ line.bytes ∷ [])) (sym compiled_is) h));
+      bad = λ h. bad (subst (λ (z : Form × SpecWithPlans × Work). BeginsGood z.0 z.1 z.2 (bytes_of_content front ++ line.bytes ∷ [])) (sym same) h);
       number_is = refl;
     })
 
     -- the lines run out too early
-    pub few_verdict : (number : ℕ) → now ≡ [] → ((entries : ℕ) → IsGoodReport (judged_plans judge) (judged_work judge) (bytes_of_content front) entries → ⊥)
-        → past_end ≡ number → IsVerdict compiled work past_end all (Bad number)
-    unfolding begins
+    pub few_verdict : (number : ℕ) → now ≡ [] → ((entries : ℕ) → IsGoodReport (judged_form judge) (judged_plans judge) (judged_work judge) (bytes_of_content front) entries → ⊥)
+        → past_end ≡ number → IsVerdict form compiled work past_end all (Bad number)
+    unfolding begins same
     few_verdict number here none number_is =
-        let same : front ≡ all = sym (whole ∙ ap (λ l. front ++ l) here ∙ append-nil front) in
+        let all_of : front ≡ all = sym (whole ∙ ap (λ l. front ++ l) here ∙ append-nil front) in
         inr (record {
-          begin = subst (λ (l : List ContentLine). BeginsGood compiled work (bytes_of_content l)) same begins;
+          begin = subst (λ (l : List ContentLine). BeginsGood form compiled work (bytes_of_content l)) all_of begins;
           none = λ entries good. none entries
-              (subst (λ w. IsGoodReport (judged_plans judge) w (bytes_of_content front) entries) (sym work_is)
-              (subst (λ c. IsGoodReport c work (bytes_of_content front) entries) (sym compiled_is)
-              (subst (λ (l : List ContentLine). IsGoodReport compiled work (bytes_of_content l) entries) (sym same) good)));
+              (subst (λ (z : Form × SpecWithPlans × Work). IsGoodReport z.0 z.1 z.2 (bytes_of_content front) entries) (sym same)
+              (subst (λ (l : List ContentLine). IsGoodReport form compiled work (bytes_of_content l) entries) (sym all_of) good));
           number_is = number_is;
         })
 
@@ -91,56 +92,56 @@ IsNotClosing (stages.Opening opening) = Unit {0}
 IsNotClosing (stages.Entries entries) = Unit {0}
 IsNotClosing (stages.Closing closing) = ⊥
 
-stage_none : (compiled : SpecWithPlans) (work : Work) (relation : Relation) (stage : Stage) (front : List (List ℕ)) → IsJudgeable compiled.spec work
-    → IsNotClosing stage → IsAtStage compiled work relation stage front → (entries : ℕ) → IsGoodReport compiled work front entries → ⊥
-stage_none compiled work relation (stages.Opening opening) front can open_still at = opening_none compiled work can opening front at.0
-stage_none compiled work relation (stages.Entries entries) front can open_still at = among_none compiled work can relation entries front at.0 at.1
-stage_none compiled work relation (stages.Closing closing) front can open_still at = absurd open_still
+stage_none : (form : Form) (compiled : SpecWithPlans) (work : Work) (relation : Relation) (stage : Stage) (front : List (List ℕ)) → IsJudgeable compiled.spec work
+    → IsNotClosing stage → IsAtStage form compiled work relation stage front → (entries : ℕ) → IsGoodReport form compiled work front entries → ⊥
+stage_none form compiled work relation (stages.Opening opening) front can open_still at = opening_none form compiled work can opening front at.0
+stage_none form compiled work relation (stages.Entries entries) front can open_still at = among_none form compiled work can relation entries front at.0 at.1
+stage_none form compiled work relation (stages.Closing closing) front can open_still at = absurd open_still
 
 -- before the closing lines no good report ends
 pub passed_none : (judge : Judge) (front : List (List ℕ)) → IsNotClosing judge.stage → HasPassed judge front → (entries : ℕ)
-    → IsGoodReport (judged_plans judge) (judged_work judge) front entries → ⊥
+    → IsGoodReport (judged_form judge) (judged_plans judge) (judged_work judge) front entries → ⊥
 passed_none judge front open_still passed =
-    stage_none (judged_plans judge) (judged_work judge) judge.relation judge.stage front passed.judgeable open_still passed.stage_is
+    stage_none (judged_form judge) (judged_plans judge) (judged_work judge) judge.relation judge.stage front passed.judgeable open_still passed.stage_is
 
 -- ---- a line
 
 opening_at : (judge : Judge) (opening : Opening) (front : List (List ℕ)) → judge.stage ≡ stages.Opening opening → HasPassed judge front
-    → IsOpening (judged_plans judge) (judged_work judge) opening front × Keeps (judged_plans judge).spec judge.relation []
-opening_at judge opening front is passed = subst (λ stage. IsAtStage (judged_plans judge) (judged_work judge) judge.relation stage front) is passed.stage_is
+    → IsOpening (judged_form judge) (judged_plans judge) (judged_work judge) opening front × Keeps (judged_plans judge).spec judge.relation []
+opening_at judge opening front is passed = subst (λ stage. IsAtStage (judged_form judge) (judged_plans judge) (judged_work judge) judge.relation stage front) is passed.stage_is
 
 -- another line than the next of the opening ones
 pub opening_is_bad : (judge : Judge) (opening : Opening) (line : List ℕ) (front : List (List ℕ)) → judge.stage ≡ stages.Opening opening → HasPassed judge front
-    → (line ≡ get_or opening.lines opening.met [] → ⊥) → BeginsGood (judged_plans judge) (judged_work judge) (front ++ line ∷ []) → ⊥
+    → (line ≡ get_or opening.lines opening.met [] → ⊥) → BeginsGood (judged_form judge) (judged_plans judge) (judged_work judge) (front ++ line ∷ []) → ⊥
 opening_is_bad judge opening line front is passed other =
-    opening_bad (judged_plans judge) (judged_work judge) passed.judgeable opening front (opening_at judge opening front is passed).0 line other
+    opening_bad (judged_form judge) (judged_plans judge) (judged_work judge) passed.judgeable opening front (opening_at judge opening front is passed).0 line other
 
 -- the last of the opening lines
 pub opening_before : (judge : Judge) (opening next : Opening) (line : List ℕ) (ended : Bool) (front : List (List ℕ)) → judge.stage ≡ stages.Opening opening
     → HasPassed judge front → line ≡ get_or opening.lines opening.met [] → next ≡ record opening { met = opening.met + 1 }
-    → ended ≡ (next.met == length next.lines) → ended ≡ true → IsBefore (judged_plans judge) (judged_work judge) judge.relation 0 0 (front ++ line ∷ [])
+    → ended ≡ (next.met == length next.lines) → ended ≡ true → IsBefore (judged_form judge) (judged_plans judge) (judged_work judge) judge.relation 0 0 (front ++ line ∷ [])
 opening_before judge opening next line ended front is passed met next_is last was =
     let at = opening_at judge opening front is passed in
     let all : next.met ≡ length next.lines = eqb-true next.met (length next.lines) (sym last ∙ was) in
     let met_is : next.met ≡ opening.met + 1 = ap (λ (o : Opening). o.met) next_is in
     let count : length next.lines ≡ length opening.lines = ap (λ (o : Opening). length o.lines) next_is in
-    opening_last (judged_plans judge) (judged_work judge) passed.judgeable opening front at.0 line judge.relation met (omega (arith, all, met_is, count)) at.1
+    opening_last (judged_form judge) (judged_plans judge) (judged_work judge) passed.judgeable opening front at.0 line judge.relation met (omega (arith, all, met_is, count)) at.1
 
 pub among_at : (judge : Judge) (entries : Entries) (front : List (List ℕ)) → judge.stage ≡ stages.Entries entries → HasPassed judge front
-    → IsAmong (judged_plans judge) (judged_work judge) judge.relation entries front
+    → IsAmong (judged_form judge) (judged_plans judge) (judged_work judge) judge.relation entries front
 among_at judge entries front is passed =
-    (subst (λ stage. IsAtStage (judged_plans judge) (judged_work judge) judge.relation stage front) is passed.stage_is).0
+    (subst (λ stage. IsAtStage (judged_form judge) (judged_plans judge) (judged_work judge) judge.relation stage front) is passed.stage_is).0
 
 -- a line that is not passed, whatever was to be so after it
-pub judges_err : (compiled : SpecWithPlans) (work : Work) (front : List (List ℕ)) (line : List ℕ) (before after : Type 0) (fault : Fault)
-    → Judges {X = Unit {0}} compiled work front line before (Err fault) → Judges {X = Unit {0}} compiled work front line after (Err fault)
-judges_err compiled work front line before after faults.Memory h = tt
-judges_err compiled work front line before after faults.Bad h = h
+pub judges_err : (form : Form) (compiled : SpecWithPlans) (work : Work) (front : List (List ℕ)) (line : List ℕ) (before after : Type 0) (fault : Fault)
+    → Judges {X = Unit {0}} form compiled work front line before (Err fault) → Judges {X = Unit {0}} form compiled work front line after (Err fault)
+judges_err form compiled work front line before after faults.Memory h = tt
+judges_err form compiled work front line before after faults.Bad h = h
 
 -- and what is said of it
-pub judged_bad : (compiled : SpecWithPlans) (work : Work) (front : List (List ℕ)) (line : List ℕ) (after : Type 0) (IsSaid : Verdict → Type 0) (number : ℕ)
+pub judged_bad : (form : Form) (compiled : SpecWithPlans) (work : Work) (front : List (List ℕ)) (line : List ℕ) (after : Type 0) (IsSaid : Verdict → Type 0) (number : ℕ)
     (fault : Fault) (said : Result Verdict Memory) → said ≡ verdict_at fault number
-    → ((BeginsGood compiled work (front ++ line ∷ []) → ⊥) → IsSaid (Bad number))
-    → Judges {X = Unit {0}} compiled work front line after (Err fault) → IfOk said IsSaid
-judged_bad compiled work front line after IsSaid number faults.Memory said said_is is h = subst (λ r. IfOk r IsSaid) (sym said_is) tt
-judged_bad compiled work front line after IsSaid number faults.Bad said said_is is h = subst (λ r. IfOk r IsSaid) (sym said_is) (is h)
+    → ((BeginsGood form compiled work (front ++ line ∷ []) → ⊥) → IsSaid (Bad number))
+    → Judges {X = Unit {0}} form compiled work front line after (Err fault) → IfOk said IsSaid
+judged_bad form compiled work front line after IsSaid number faults.Memory said said_is is h = subst (λ r. IfOk r IsSaid) (sym said_is) tt
+judged_bad form compiled work front line after IsSaid number faults.Bad said said_is is h = subst (λ r. IfOk r IsSaid) (sym said_is) (is h)

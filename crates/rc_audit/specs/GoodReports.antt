@@ -1,4 +1,4 @@
--- Good reports of a specification with its plans and a workload, and the verdict on a list of content lines.
+-- Good reports of a specification with its plans and a workload, in one of two forms, and the verdict on a list of content lines.
 use Rattle.std.specs.Prelude.{◌≡◌, ◌⊎◌, ℕ, List, [], ◌∷◌, ◌++◌, length, map, codes}
 use Rattle.std.specs.List.{flat_map, range_with_len}
 use Rattle.rc_text.specs.Lines.{ContentLine, bytes_of_content}
@@ -10,8 +10,10 @@ use Rattle.rc_plan.specs.PlanText.{statement_text}
 use Rattle.rc_rel.specs.declared.entry.Entry.{Entry}
 use Rattle.rc_rel.specs.History.{replay}
 use Rattle.rc_work.specs.declared.work.Work.{Work}
-use Rattle.rc_work.specs.Report.{report}
+use Rattle.rc_work.specs.Report.{count_line, journal_lines, report}
 use Rattle.rc_work.specs.Runs.{Runs}
+use Rattle.rc_audit.specs.declared.form.Form.{Form}
+use Rattle.rc_audit.specs.declared.form.Form.TheVariants.{Run, Journal}
 use Rattle.rc_audit.specs.declared.verdict.Verdict.{Verdict}
 use Rattle.rc_audit.specs.declared.verdict.Verdict.TheVariants.{Legal, Bad}
 
@@ -27,41 +29,51 @@ plans_in_lines compiled = flat_map (op_lines compiled.spec compiled.plans) (rang
 abbrev pub run_lines : SpecWithPlans → Work → List Entry → List (List ℕ)
 run_lines compiled work history = plans_in_lines compiled ++ report compiled.spec work.ranks history (replay compiled.spec history)
 
--- The lines of a good report: all that is printed of a run of the workload, with so many entries, the plans among them. Each
--- entry has one step where each turn of the workload has one call.
-pub record IsGoodReport (compiled : SpecWithPlans) (work : Work) (lines : List (List ℕ)) (entries : ℕ) : Type 0 where
+-- the lines of its journal alone: the number of entries, the entries, and `end`
+abbrev pub bare_lines : Spec → Work → List Entry → List (List ℕ)
+bare_lines spec work history =
+    count_line (codes "journal") (length history) ∷ (journal_lines spec work.ranks history ++ codes "end" ∷ [])
+
+-- the lines that a report of this form has of a history
+abbrev pub good_lines : Form → SpecWithPlans → Work → List Entry → List (List ℕ)
+good_lines Run compiled work history = run_lines compiled work history
+good_lines Journal compiled work history = bare_lines compiled.spec work history
+
+-- The lines of a good report of this form, of a run of the workload, with so many entries: all that is printed of the run, the
+-- plans among them, or its journal alone. Each entry has one step where each turn of the workload has one call.
+pub record IsGoodReport (form : Form) (compiled : SpecWithPlans) (work : Work) (lines : List (List ℕ)) (entries : ℕ) : Type 0 where
   pub history : List Entry
   pub run : Runs compiled.spec work history
-  pub printed : lines ≡ run_lines compiled work history
+  pub printed : lines ≡ good_lines form compiled work history
   pub count : length history ≡ entries
 
 -- the lines begin a good report
-pub record BeginsGood (compiled : SpecWithPlans) (work : Work) (lines : List (List ℕ)) : Type 0 where
+pub record BeginsGood (form : Form) (compiled : SpecWithPlans) (work : Work) (lines : List (List ℕ)) : Type 0 where
   pub others : List (List ℕ)
   pub entries : ℕ
-  pub good : IsGoodReport compiled work (lines ++ others) entries
+  pub good : IsGoodReport form compiled work (lines ++ others) entries
 
 -- ---- the verdict
 
 -- a line such that the lines before it begin a good report, and with it they begin none
-pub record IsFirstBadLine (compiled : SpecWithPlans) (work : Work) (lines : List ContentLine) (number : ℕ) : Type 0 where
+pub record IsFirstBadLine (form : Form) (compiled : SpecWithPlans) (work : Work) (lines : List ContentLine) (number : ℕ) : Type 0 where
   pub front : List ContentLine
   pub line : ContentLine
   pub others : List ContentLine
   pub whole : lines ≡ front ++ line ∷ others
-  pub before : BeginsGood compiled work (bytes_of_content front)
-  pub bad : BeginsGood compiled work (bytes_of_content front ++ line.bytes ∷ []) → ⊥
+  pub before : BeginsGood form compiled work (bytes_of_content front)
+  pub bad : BeginsGood form compiled work (bytes_of_content front ++ line.bytes ∷ []) → ⊥
   pub number_is : line.number ≡ number
 
 -- all lines begin a good report and are none: the line is one past the text's last, which may be blank or a comment
-pub record AreTooFew (compiled : SpecWithPlans) (work : Work) (past_end : ℕ) (lines : List ContentLine) (number : ℕ) : Type 0 where
-  pub begin : BeginsGood compiled work (bytes_of_content lines)
-  pub none : (entries : ℕ) → IsGoodReport compiled work (bytes_of_content lines) entries → ⊥
+pub record AreTooFew (form : Form) (compiled : SpecWithPlans) (work : Work) (past_end : ℕ) (lines : List ContentLine) (number : ℕ) : Type 0 where
+  pub begin : BeginsGood form compiled work (bytes_of_content lines)
+  pub none : (entries : ℕ) → IsGoodReport form compiled work (bytes_of_content lines) entries → ⊥
   pub number_is : past_end ≡ number
 
 -- Legal, with the number of entries; or bad, by the first line such that no good report begins with the lines so far, or
 -- one past the text's last where more lines are wanted.
-abbrev pub IsVerdict : SpecWithPlans → Work → ℕ → List ContentLine → Verdict → Type 0
-IsVerdict compiled work past_end lines (Legal entries) = IsGoodReport compiled work (bytes_of_content lines) entries
-IsVerdict compiled work past_end lines (Bad number) =
-    IsFirstBadLine compiled work lines number ⊎ AreTooFew compiled work past_end lines number
+abbrev pub IsVerdict : Form → SpecWithPlans → Work → ℕ → List ContentLine → Verdict → Type 0
+IsVerdict form compiled work past_end lines (Legal entries) = IsGoodReport form compiled work (bytes_of_content lines) entries
+IsVerdict form compiled work past_end lines (Bad number) =
+    IsFirstBadLine form compiled work lines number ⊎ AreTooFew form compiled work past_end lines number

@@ -1,6 +1,7 @@
 -- What the lines so far tell of a run.
 use Rattle.std.specs.Prelude.{◌≡◌, ℕ, List, [], ◌∷◌, ◌++◌, codes, length, sum_by}
 use Rattle.std.specs.List.{enumerate_from, flat_map}
+use Rattle.rc_tuple.specs.Tuple.{Pairs}
 use Rattle.rc_spec.specs.declared.spec.Spec.{Spec}
 use Rattle.rc_spec.specs.declared.call.Call.{Call}
 use Rattle.rc_spec.specs.Plain.{plain}
@@ -14,7 +15,9 @@ use Rattle.rc_work.specs.Fitting.{HasThreads, RoundsFit}
 use Rattle.rc_work.specs.Limits.{HasSingleTurns, KeepsLimits}
 use Rattle.rc_work.specs.Report.{count_line, entry_lines, final_lines, journal_lines, step_line}
 use Rattle.rc_work.specs.Runs.{Runs}
-use Rattle.rc_audit.specs.GoodReports.{plans_in_lines, run_lines}
+use Rattle.rc_audit.specs.declared.form.Form.{Form}
+use Rattle.rc_audit.specs.declared.form.Form.TheVariants.{Run, Journal}
+use Rattle.rc_audit.specs.GoodReports.{good_lines, plans_in_lines}
 use Rattle.rc_audit.specs.Standing.{Stands}
 
 -- a workload whose reports are judged: it keeps the limits, its calls fit, and each turn has one
@@ -32,26 +35,37 @@ step_after spec done call = record { call = call; reply = (plain spec (replay sp
 abbrev pub entry_lines_from : Spec → List (List ℕ) → ℕ → List Entry → List (List ℕ)
 entry_lines_from spec texts n history = flat_map (λ e. entry_lines spec texts e.0 e.1) (enumerate_from n history)
 
-module _ (compiled : SpecWithPlans) (work : Work) where
+-- the lines before that with the number of entries
+abbrev pub lines_before : Form → SpecWithPlans → List (List ℕ)
+lines_before Run compiled = plans_in_lines compiled
+lines_before Journal compiled = []
+
+-- the lines behind the last entry, where the entries leave this relation
+abbrev pub lines_after : Form → Spec → List (List ℕ) → List Pairs → List (List ℕ)
+lines_after Run spec texts rows = final_lines spec texts rows
+lines_after Journal spec texts rows = codes "end" ∷ []
+
+-- the line of a thread's call behind the entries that are done
+abbrev pub next_line : SpecWithPlans → Work → List Entry → ℕ → Call → List ℕ
+next_line compiled work done thread call =
+    step_line compiled.spec work.ranks (length done) thread (step_after compiled.spec done call)
+
+module _ (form : Form) (compiled : SpecWithPlans) (work : Work) where
   -- the lines up to that with the number of entries
   abbrev pub opening_lines : List (List ℕ)
-  opening_lines = plans_in_lines compiled ++ count_line (codes "journal") (sum_by length work.rounds) ∷ []
+  opening_lines = lines_before form compiled ++ count_line (codes "journal") (sum_by length work.rounds) ∷ []
 
   -- the lines up to the last entry that is done
   abbrev pub lines_done : List Entry → List (List ℕ)
   lines_done done = opening_lines ++ journal_lines compiled.spec work.ranks done
 
-  -- the lines of the relation that a history leaves, with which its report ends
+  -- the lines with which a history's report ends
   abbrev pub closing_lines : List Entry → List (List ℕ)
-  closing_lines history = final_lines compiled.spec work.ranks (replay compiled.spec history)
+  closing_lines history = lines_after form compiled.spec work.ranks (replay compiled.spec history)
 
   -- the lines behind the entries that are done, of a history that goes on
   abbrev pub lines_behind : List Entry → List Entry → List (List ℕ)
   lines_behind done more = entry_lines_from compiled.spec work.ranks (length done) more ++ closing_lines (done ++ more)
-
-  -- the line of a thread's call behind the entries that are done
-  abbrev pub next_line : List Entry → ℕ → Call → List ℕ
-  next_line done thread call = step_line compiled.spec work.ranks (length done) thread (step_after compiled.spec done call)
 
   -- These lines are those up to the last entry that is done, from where a run goes on as it stands; and each good report
   -- that begins with them is of a run that begins with these entries.
@@ -59,11 +73,11 @@ module _ (compiled : SpecWithPlans) (work : Work) where
     pub stands : Stands compiled.spec work done left rounds
     pub lines : front ≡ lines_done done
     pub told : (history : List Entry) (others : List (List ℕ)) → Runs compiled.spec work history
-        → run_lines compiled work history ≡ front ++ others → (more : List Entry) × (history ≡ done ++ more)
+        → good_lines form compiled work history ≡ front ++ others → (more : List Entry) × (history ≡ done ++ more)
 
   -- where nothing is left, the entries that are done are a run, and the only one whose report begins with the lines so far
   pub record IsWhole (done : List Entry) (front : List (List ℕ)) : Type 0 where
     pub run : Runs compiled.spec work done
-    pub printed : run_lines compiled work done ≡ front ++ closing_lines done
+    pub printed : good_lines form compiled work done ≡ front ++ closing_lines done
     pub only : (history : List Entry) (others : List (List ℕ)) → Runs compiled.spec work history
-        → run_lines compiled work history ≡ front ++ others → (history ≡ done) × (others ≡ closing_lines done)
+        → good_lines form compiled work history ≡ front ++ others → (history ≡ done) × (others ≡ closing_lines done)

@@ -19,12 +19,14 @@ use Rattle.rc_work.specs.Report.{count_line, entry_lines, journal_lines, report,
 use Rattle.rc_work.specs.RunLengthLaws.{runs_have_all_turns}
 use Rattle.rc_work.specs.Runs.{Runs}
 use Rattle.rc_work.specs.RunsLaws.{single_turns_are_single_steps}
-use Rattle.rc_audit.specs.GoodReports.{BeginsGood, IsGoodReport, plans_in_lines, run_lines}
+use Rattle.rc_audit.specs.declared.form.Form.{Form}
+use Rattle.rc_audit.specs.declared.form.Form.TheVariants.{Run, Journal}
+use Rattle.rc_audit.specs.GoodReports.{BeginsGood, IsGoodReport, good_lines}
 use Rattle.rc_audit.specs.Left.{AreNoneFrom, IsMade, NoneLeft}
 use Rattle.rc_audit.specs.LeftLaws.{turn_of}
 use Rattle.rc_audit.specs.Standing.{made_below, no_turns, stands_exist, stands_more, stands_round, stands_same, stands_start, turns_in}
 use Rattle.rc_audit.specs.Next.{ComesNext, stands_end, stands_next}
-use Rattle.rc_audit.specs.Judged.{IsJudgeable, IsJudged, IsWhole, closing_lines, lines_behind, lines_done, entry_lines_from, next_line, opening_lines, step_after}
+use Rattle.rc_audit.specs.Judged.{IsJudgeable, IsJudged, IsWhole, closing_lines, lines_before, lines_behind, lines_done, entry_lines_from, next_line, opening_lines, step_after}
 
 -- ---- a line tells its thread
 
@@ -78,24 +80,33 @@ same_first c d cs ds e = cc
 in_behind : (done : List Entry) (e : Entry) (others more : List Entry) → more ≡ e ∷ others → In e (done ++ more)
 in_behind done e others more whole = append_in_right e done more (subst (In e) (sym whole) (inl refl))
 
-module _ (compiled : SpecWithPlans) (work : Work) where
+-- a report has its journal between the lines before it and those after it
+parts_of_good : (form : Form) (compiled : SpecWithPlans) (work : Work) (history : List Entry)
+    → good_lines form compiled work history
+    ≡ lines_before form compiled
+    ++ (count_line (codes "journal") (length history) ∷ (journal_lines compiled.spec work.ranks history ++ closing_lines form compiled work history))
+unfolding report
+parts_of_good Run compiled work history = refl
+parts_of_good Journal compiled work history = refl
+
+module _ (form : Form) (compiled : SpecWithPlans) (work : Work) where
   lines_of_run : (done more : List Entry) → length (done ++ more) ≡ sum_by length work.rounds
-      → run_lines compiled work (done ++ more) ≡ lines_done compiled work done ++ lines_behind compiled work done more
-  unfolding report
+      → good_lines form compiled work (done ++ more) ≡ lines_done form compiled work done ++ lines_behind form compiled work done more
   lines_of_run done more count =
-      let plans = plans_in_lines compiled in
+      let before = lines_before form compiled in
       let journal = count_line (codes "journal") (sum_by length work.rounds) in
       let front = journal_lines compiled.spec work.ranks done in
       let behind = entry_lines_from compiled.spec work.ranks (length done) more in
-      let final = closing_lines compiled work (done ++ more) in
+      let closing = closing_lines form compiled work (done ++ more) in
       let z : 0 + length done ≡ length done = omega arith in
       let parts : journal_lines compiled.spec work.ranks (done ++ more) ≡ front ++ behind =
       lines_append compiled.spec work.ranks 0 done more ∙ ap (λ n. front ++ entry_lines_from compiled.spec work.ranks n more) z in
-      ap (λ n. plans ++ (count_line (codes "journal") n ∷ (journal_lines compiled.spec work.ranks (done ++ more) ++ final))) count
-      ∙ ap (λ l. plans ++ (journal ∷ (l ++ final))) parts
-      ∙ ap (λ l. plans ++ (journal ∷ l)) (append_assoc front behind final)
-      ∙ sym (append_assoc plans (journal ∷ []) (front ++ (behind ++ final)))
-      ∙ sym (append_assoc (plans ++ journal ∷ []) front (behind ++ final))
+      parts_of_good form compiled work (done ++ more)
+      ∙ ap (λ n. before ++ (count_line (codes "journal") n ∷ (journal_lines compiled.spec work.ranks (done ++ more) ++ closing))) count
+      ∙ ap (λ l. before ++ (journal ∷ (l ++ closing))) parts
+      ∙ ap (λ l. before ++ (journal ∷ l)) (append_assoc front behind closing)
+      ∙ sym (append_assoc before (journal ∷ []) (front ++ (behind ++ closing)))
+      ∙ sym (append_assoc (before ++ journal ∷ []) front (behind ++ closing))
 
   module _ (can : IsJudgeable compiled.spec work) where
     -- a run has as many entries as the workload has turns, so each good report begins with the same lines
@@ -103,52 +114,52 @@ module _ (compiled : SpecWithPlans) (work : Work) where
     run_count history run = runs_have_all_turns compiled.spec work history can.threads run
 
     pub run_begins : (history : List Entry) → Runs compiled.spec work history
-        → run_lines compiled work history ≡ opening_lines compiled work ++ lines_behind compiled work [] history
+        → good_lines form compiled work history ≡ opening_lines form compiled work ++ lines_behind form compiled work [] history
     run_begins history run =
         lines_of_run [] history (run_count history run)
-        ∙ ap (λ l. l ++ lines_behind compiled work [] history) (append-nil (opening_lines compiled work))
+        ∙ ap (λ l. l ++ lines_behind form compiled work [] history) (append-nil (opening_lines form compiled work))
 
     -- ---- at first, and at the next round
 
-    pub judged_start : IsJudged compiled work [] no_turns work.rounds (opening_lines compiled work)
+    pub judged_start : IsJudged form compiled work [] no_turns work.rounds (opening_lines form compiled work)
     judged_start = record {
       stands = stands_start compiled.spec work can.threads;
-      lines = sym (append-nil (opening_lines compiled work));
+      lines = sym (append-nil (opening_lines form compiled work));
       told = λ history others run e. (history, refl);
     }
 
     module _ (done : List Entry) (left : ℕ → List (List Call)) (rounds : List (List Turn)) (front : List (List ℕ)) where
-      pub judged_round : (round : List Turn) → NoneLeft left → IsJudged compiled work done left (round ∷ rounds) front
-          → IsJudged compiled work done (turns_in round) rounds front
+      pub judged_round : (round : List Turn) → NoneLeft left → IsJudged form compiled work done left (round ∷ rounds) front
+          → IsJudged form compiled work done (turns_in round) rounds front
       judged_round round none h = record {
         stands = stands_round compiled.spec work done left rounds round none h.stands;
         lines = h.lines;
         told = h.told;
       }
 
-      pub judged_same : (next : ℕ → List (List Call)) → ((thread : ℕ) → left thread ≡ next thread) → IsJudged compiled work done left rounds front
-          → IsJudged compiled work done next rounds front
+      pub judged_same : (next : ℕ → List (List Call)) → ((thread : ℕ) → left thread ≡ next thread) → IsJudged form compiled work done left rounds front
+          → IsJudged form compiled work done next rounds front
       judged_same next same h = record {
         stands = stands_same compiled.spec work done left rounds next same h.stands;
         lines = h.lines;
         told = h.told;
       }
 
-      module _ (judged : IsJudged compiled work done left rounds front) where
+      module _ (judged : IsJudged form compiled work done left rounds front) where
         -- ---- the lines so far begin a good report
 
-        pub judged_begins : BeginsGood compiled work front
+        pub judged_begins : BeginsGood form compiled work front
         judged_begins =
             let goes = stands_exist compiled.spec work done left rounds judged.stands in
             let history = done ++ goes.0 in
             record {
-              others = lines_behind compiled work done goes.0;
+              others = lines_behind form compiled work done goes.0;
               entries = length history;
               good = record {
                 history = history;
                 run = goes.1;
                 printed =
-                    ap (λ l. l ++ lines_behind compiled work done goes.0) judged.lines
+                    ap (λ l. l ++ lines_behind form compiled work done goes.0) judged.lines
                     ∙ sym (lines_of_run done goes.0 (run_count history goes.1));
                 count = refl;
               };
@@ -169,7 +180,7 @@ module _ (compiled : SpecWithPlans) (work : Work) where
 
         goes_on_by : (thread : ℕ) (c : List Call) (cs : List (List Call)) → left thread ≡ c ∷ cs
             → (history : List Entry) (others : List (List ℕ)) → Runs compiled.spec work history
-            → run_lines compiled work history ≡ front ++ others → GoesOnBy history others
+            → good_lines form compiled work history ≡ front ++ others → GoesOnBy history others
         goes_on_by thread c cs some history others run printed =
             let told = judged.told history others run printed in
             let run' = subst (Runs compiled.spec work) told.1 run in
@@ -180,12 +191,12 @@ module _ (compiled : SpecWithPlans) (work : Work) where
             let one = one_call (turn_of e) (length-map e.steps (λ (s : Step). s.call) ∙ steps) in
             let line = next_line compiled work done e.pass one.0 in
             let is : e ≡ entry_after compiled.spec done e.pass (one.0 ∷ []) = next.is ∙ ap (entry_after compiled.spec done e.pass) one.1 in
-            let tail = entry_lines_from compiled.spec work.ranks (length done + 1) next.others ++ closing_lines compiled work (done ++ told.0) in
-            let behind : lines_behind compiled work done told.0 ≡ line ∷ tail =
-            ap (λ (l : List Entry). entry_lines_from compiled.spec work.ranks (length done) l ++ closing_lines compiled work (done ++ told.0)) next.whole
-            ∙ ap (λ (x : Entry). (entry_lines compiled.spec work.ranks (length done) x ++ entry_lines_from compiled.spec work.ranks (length done + 1) next.others) ++ closing_lines compiled work (done ++ told.0)) is in
-            let lines : lines_done compiled work done ++ others ≡ lines_done compiled work done ++ lines_behind compiled work done told.0 =
-            ap (λ l. l ++ others) (sym judged.lines) ∙ sym printed ∙ ap (run_lines compiled work) told.1
+            let tail = entry_lines_from compiled.spec work.ranks (length done + 1) next.others ++ closing_lines form compiled work (done ++ told.0) in
+            let behind : lines_behind form compiled work done told.0 ≡ line ∷ tail =
+            ap (λ (l : List Entry). entry_lines_from compiled.spec work.ranks (length done) l ++ closing_lines form compiled work (done ++ told.0)) next.whole
+            ∙ ap (λ (x : Entry). (entry_lines compiled.spec work.ranks (length done) x ++ entry_lines_from compiled.spec work.ranks (length done + 1) next.others) ++ closing_lines form compiled work (done ++ told.0)) is in
+            let lines : lines_done form compiled work done ++ others ≡ lines_done form compiled work done ++ lines_behind form compiled work done told.0 =
+            ap (λ l. l ++ others) (sym judged.lines) ∙ sym printed ∙ ap (good_lines form compiled work) told.1
             ∙ lines_of_run done told.0 (run_count (done ++ told.0) run') in
             record {
               more = told.0;
@@ -194,7 +205,7 @@ module _ (compiled : SpecWithPlans) (work : Work) where
               call = one.0;
               one = one.1;
               behind = tail;
-              is = append_cancel_left (lines_done compiled work done) others (lines_behind compiled work done told.0) lines ∙ behind;
+              is = append_cancel_left (lines_done form compiled work done) others (lines_behind form compiled work done told.0) lines ∙ behind;
               small = run'.threads e there;
             }
 
@@ -208,10 +219,10 @@ module _ (compiled : SpecWithPlans) (work : Work) where
           pub is : line ≡ next_line compiled work done thread call
 
         pub judged_next : (thread : ℕ) (c : List Call) (cs : List (List Call)) → left thread ≡ c ∷ cs
-            → (line : List ℕ) → BeginsGood compiled work (front ++ line ∷ []) → IsNextLine line
+            → (line : List ℕ) → BeginsGood form compiled work (front ++ line ∷ []) → IsNextLine line
         judged_next thread c cs some line begins =
             let good = begins.good in
-            let printed : run_lines compiled work good.history ≡ front ++ (line ∷ begins.others) =
+            let printed : good_lines form compiled work good.history ≡ front ++ (line ∷ begins.others) =
             sym good.printed ∙ append_assoc front (line ∷ []) begins.others in
             let by = goes_on_by thread c cs some good.history (line ∷ begins.others) good.run printed in
             record {
@@ -225,9 +236,9 @@ module _ (compiled : SpecWithPlans) (work : Work) where
 
         -- where a thread has a turn left, no good report ends with the lines so far
         pub judged_wants : (thread : ℕ) (c : List Call) (cs : List (List Call)) → left thread ≡ c ∷ cs → (entries : ℕ)
-            → IsGoodReport compiled work front entries → ⊥
+            → IsGoodReport form compiled work front entries → ⊥
         judged_wants thread c cs some entries good =
-            let printed : run_lines compiled work good.history ≡ front ++ [] = sym good.printed ∙ sym (append-nil front) in
+            let printed : good_lines form compiled work good.history ≡ front ++ [] = sym good.printed ∙ sym (append-nil front) in
             let by = goes_on_by thread c cs some good.history [] good.run printed in
             no_line (next_line compiled work done by.next.first.pass by.call) by.behind by.is
 
@@ -235,7 +246,7 @@ module _ (compiled : SpecWithPlans) (work : Work) where
 
         pub judged_more : (next : ℕ → List (List Call)) (thread : ℕ) (call : Call) (line : List ℕ) → IsMade left next thread (call ∷ [])
             → AreNoneFrom work.threads next → line ≡ next_line compiled work done thread call
-            → IsJudged compiled work (done ++ entry_after compiled.spec done thread (call ∷ []) ∷ []) next rounds (front ++ line ∷ [])
+            → IsJudged form compiled work (done ++ entry_after compiled.spec done thread (call ∷ []) ∷ []) next rounds (front ++ line ∷ [])
         judged_more next thread call line made none is = record {
           stands = stands_more compiled.spec work done left rounds next thread (call ∷ []) judged.stands made none;
           lines = more_lines;
@@ -245,19 +256,19 @@ module _ (compiled : SpecWithPlans) (work : Work) where
             below : thread < work.threads
             below = made_below compiled.spec work done left rounds next thread (call ∷ []) judged.stands made
 
-            more_lines : front ++ line ∷ [] ≡ lines_done compiled work (done ++ entry_after compiled.spec done thread (call ∷ []) ∷ [])
+            more_lines : front ++ line ∷ [] ≡ lines_done form compiled work (done ++ entry_after compiled.spec done thread (call ∷ []) ∷ [])
             more_lines =
                 let e = entry_after compiled.spec done thread (call ∷ []) in
                 let lines = journal_lines compiled.spec work.ranks done in
                 let z : 0 + length done ≡ length done = omega arith in
                 let entries : journal_lines compiled.spec work.ranks (done ++ e ∷ []) ≡ lines ++ next_line compiled work done thread call ∷ [] =
                 lines_append compiled.spec work.ranks 0 done (e ∷ []) ∙ ap (λ n. lines ++ entry_lines_from compiled.spec work.ranks n (e ∷ [])) z in
-                ap (λ l. l ++ line ∷ []) judged.lines ∙ append_assoc (opening_lines compiled work) lines (line ∷ [])
-                ∙ ap (λ l. opening_lines compiled work ++ (lines ++ l ∷ [])) is
-                ∙ ap (λ l. opening_lines compiled work ++ l) (sym entries)
+                ap (λ l. l ++ line ∷ []) judged.lines ∙ append_assoc (opening_lines form compiled work) lines (line ∷ [])
+                ∙ ap (λ l. opening_lines form compiled work ++ (lines ++ l ∷ [])) is
+                ∙ ap (λ l. opening_lines form compiled work ++ l) (sym entries)
 
             told_more : (history : List Entry) (others : List (List ℕ)) → Runs compiled.spec work history
-                → run_lines compiled work history ≡ (front ++ line ∷ []) ++ others
+                → good_lines form compiled work history ≡ (front ++ line ∷ []) ++ others
                 → (more : List Entry) × (history ≡ (done ++ entry_after compiled.spec done thread (call ∷ []) ∷ []) ++ more)
             told_more history others run printed =
                 let e = entry_after compiled.spec done thread (call ∷ []) in
@@ -277,7 +288,7 @@ module _ (compiled : SpecWithPlans) (work : Work) where
 
         -- ---- the last entry
 
-        pub judged_end : NoneLeft left → rounds ≡ [] → IsWhole compiled work done front
+        pub judged_end : NoneLeft left → rounds ≡ [] → IsWhole form compiled work done front
         judged_end none last =
             let ends = stands_end compiled.spec work done left rounds judged.stands none last in
             let goes = stands_exist compiled.spec work done left rounds judged.stands in
@@ -292,13 +303,13 @@ module _ (compiled : SpecWithPlans) (work : Work) where
                   let more : told.0 ≡ [] = ends told.0 (subst (Runs compiled.spec work) told.1 other) in
                   let same : history ≡ done = told.1 ∙ ap (λ l. done ++ l) more ∙ append-nil done in (
                     same,
-                    append_cancel_left front others (closing_lines compiled work done) (sym lines ∙ ap (run_lines compiled work) same ∙ printed),
+                    append_cancel_left front others (closing_lines form compiled work done) (sym lines ∙ ap (good_lines form compiled work) same ∙ printed),
                   );
             }
           where
-            whole_lines : length done ≡ sum_by length work.rounds → run_lines compiled work done ≡ front ++ closing_lines compiled work done
+            whole_lines : length done ≡ sum_by length work.rounds → good_lines form compiled work done ≡ front ++ closing_lines form compiled work done
             whole_lines count =
                 let none : done ++ [] ≡ done = append-nil done in
-                ap (run_lines compiled work) (sym none) ∙ lines_of_run done [] (ap length none ∙ count)
-                ∙ ap (λ l. l ++ lines_behind compiled work done []) (sym judged.lines)
-                ∙ ap (λ (d : List Entry). front ++ closing_lines compiled work d) none
+                ap (good_lines form compiled work) (sym none) ∙ lines_of_run done [] (ap length none ∙ count)
+                ∙ ap (λ l. l ++ lines_behind form compiled work done []) (sym judged.lines)
+                ∙ ap (λ (d : List Entry). front ++ closing_lines form compiled work d) none

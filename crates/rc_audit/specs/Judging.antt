@@ -1,5 +1,5 @@
 -- Where a judge stands, and what its calls leave.
-use Rattle.std.specs.Prelude.{◌≡◌, ℕ, ◌+◌, ◌<◌, ◌≤◌, List, [], ◌∷◌, ◌++◌, drop, get_or, length, take, Option, Some, None, Result, Ok, Err, decimal}
+use Rattle.std.specs.Prelude.{◌≡◌, ℕ, ◌+◌, ◌<◌, ◌≤◌, List, [], ◌∷◌, ◌++◌, drop, get_or, length, take, Option, Some, None, Result, Ok, Err, codes, decimal}
 use Rattle.rc_tuple.specs.Tuple.{Pairs}
 use Rattle.rc_tuple.specs.declared.memory.Memory.{Memory}
 use Rattle.rc_spec.specs.declared.call.Call.{Call}
@@ -10,16 +10,19 @@ use Rattle.rc_rel.specs.declared.entry.Entry.{Entry}
 use Rattle.rc_rel.specs.History.{replay}
 use Rattle.rc_work.specs.declared.work.Turn.{Turn}
 use Rattle.rc_work.specs.declared.work.Work.{Work}
-use Rattle.rc_work.specs.Report.{step_line}
+use Rattle.rc_work.specs.Report.{final_lines, step_line}
 use Rattle.rc_audit.specs.declared.closing.Closing.{Closing}
 use Rattle.rc_audit.specs.declared.entries.Entries.{Entries}
 use Rattle.rc_audit.specs.declared.fault.Fault.{Fault}
 use Rattle.rc_audit.specs.declared.fault.Fault.TheVariants as faults
+use Rattle.rc_audit.specs.declared.form.Form.{Form}
 use Rattle.rc_audit.specs.declared.judge.Judge.{Judge}
 use Rattle.rc_audit.specs.declared.opening.Opening.{Opening}
 use Rattle.rc_audit.specs.declared.stage.Stage.{Stage}
 use Rattle.rc_audit.specs.declared.stage.Stage.TheVariants as stages
 use Rattle.rc_audit.specs.declared.relation.Relation.{Relation}
+use Rattle.rc_audit.specs.declared.tail.Tail.{Tail}
+use Rattle.rc_audit.specs.declared.tail.Tail.TheVariants as tails
 use Rattle.rc_audit.specs.declared.verdict.Verdict.{Verdict}
 use Rattle.rc_audit.specs.declared.verdict.Verdict.TheVariants.{Bad}
 use Rattle.rc_audit.specs.Cursors.{AreCursors, HasLeft, left_in}
@@ -35,16 +38,16 @@ round_at work number = get_or work.rounds number []
 -- ---- between rounds
 
 -- the lines so far are those up to the last of these entries, and no turn is left before these rounds
-pub record IsBetween (compiled : SpecWithPlans) (work : Work) (done : List Entry) (rounds : List (List Turn)) (front : List (List ℕ)) : Type 0 where
+pub record IsBetween (form : Form) (compiled : SpecWithPlans) (work : Work) (done : List Entry) (rounds : List (List Turn)) (front : List (List ℕ)) : Type 0 where
   pub left : ℕ → List (List Call)
   pub none : NoneLeft left
-  pub judged : IsJudged compiled work done left rounds front
+  pub judged : IsJudged form compiled work done left rounds front
 
 -- so before the round of this number; as many entries are done, and the relation is what they leave
-pub record IsBefore (compiled : SpecWithPlans) (work : Work) (relation : Relation) (number place : ℕ) (front : List (List ℕ)) : Type 0 where
+pub record IsBefore (form : Form) (compiled : SpecWithPlans) (work : Work) (relation : Relation) (number place : ℕ) (front : List (List ℕ)) : Type 0 where
   pub within : number ≤ length work.rounds
   pub done : List Entry
-  pub between : IsBetween compiled work done (drop number work.rounds) front
+  pub between : IsBetween form compiled work done (drop number work.rounds) front
   pub place_is : length done ≡ place
   pub keeps : Keeps compiled.spec relation (replay compiled.spec done)
 
@@ -58,16 +61,16 @@ pub record IsFirstFilled (rounds : List (List Turn)) (from number : ℕ) : Type 
 -- ---- the stages
 
 -- so many of the opening lines came, and more are to come
-pub record IsOpening (compiled : SpecWithPlans) (work : Work) (opening : Opening) (front : List (List ℕ)) : Type 0 where
-  pub lines_are : opening.lines ≡ opening_lines compiled work
+pub record IsOpening (form : Form) (compiled : SpecWithPlans) (work : Work) (opening : Opening) (front : List (List ℕ)) : Type 0 where
+  pub lines_are : opening.lines ≡ opening_lines form compiled work
   pub within : opening.met < length opening.lines
   pub front_is : front ≡ take opening.met opening.lines
 
 -- among the entries, in a round, each thread before its next turn
-pub record IsAmong (compiled : SpecWithPlans) (work : Work) (relation : Relation) (entries : Entries) (front : List (List ℕ)) : Type 0 where
+pub record IsAmong (form : Form) (compiled : SpecWithPlans) (work : Work) (relation : Relation) (entries : Entries) (front : List (List ℕ)) : Type 0 where
   pub within : entries.round < length work.rounds
   pub done : List Entry
-  pub judged : IsJudged compiled work done (left_in (round_at work entries.round) entries.cursors.items) (drop (entries.round + 1) work.rounds) front
+  pub judged : IsJudged form compiled work done (left_in (round_at work entries.round) entries.cursors.items) (drop (entries.round + 1) work.rounds) front
   pub place_is : length done ≡ entries.place
   pub keeps : Keeps compiled.spec relation (replay compiled.spec done)
   pub count : length entries.cursors.items ≡ work.threads
@@ -77,24 +80,32 @@ pub record IsAmong (compiled : SpecWithPlans) (work : Work) (relation : Relation
 abbrev pub HasSomeLeft : Work → Entries → Type 0
 HasSomeLeft work entries = (thread : ℕ) × HasLeft (round_at work entries.round) entries.cursors.items thread
 
--- all entries are done, and so many lines of the relation came that they leave
-pub record IsClosing (compiled : SpecWithPlans) (work : Work) (closing : Closing) (front : List (List ℕ)) : Type 0 where
+-- the lines that a report ends with
+abbrev pub tail_lines : Spec → List (List ℕ) → Tail → List (List ℕ)
+tail_lines spec ranks (tails.Relation rows) = final_lines spec ranks rows
+tail_lines spec ranks tails.End = codes "end" ∷ []
+
+-- all entries are done, and so many of the closing lines came
+pub record IsClosing (form : Form) (compiled : SpecWithPlans) (work : Work) (closing : Closing) (front : List (List ℕ)) : Type 0 where
   pub done : List Entry
   pub body : List (List ℕ)
-  pub whole : IsWhole compiled work done body
-  pub rows_are : closing.rows ≡ replay compiled.spec done
-  pub within : closing.met ≤ length (closing_lines compiled work done)
-  pub front_is : front ≡ body ++ take closing.met (closing_lines compiled work done)
+  pub whole : IsWhole form compiled work done body
+  pub tail_is : tail_lines compiled.spec work.ranks closing.tail ≡ closing_lines form compiled work done
+  pub within : closing.met ≤ length (closing_lines form compiled work done)
+  pub front_is : front ≡ body ++ take closing.met (closing_lines form compiled work done)
   pub count : length done ≡ closing.entries
 
-abbrev pub IsAtStage : SpecWithPlans → Work → Relation → Stage → List (List ℕ) → Type 0
-IsAtStage compiled work relation (stages.Opening opening) front = IsOpening compiled work opening front × Keeps compiled.spec relation []
-IsAtStage compiled work relation (stages.Entries entries) front = IsAmong compiled work relation entries front × HasSomeLeft work entries
-IsAtStage compiled work relation (stages.Closing closing) front = IsClosing compiled work closing front
+abbrev pub IsAtStage : Form → SpecWithPlans → Work → Relation → Stage → List (List ℕ) → Type 0
+IsAtStage form compiled work relation (stages.Opening opening) front = IsOpening form compiled work opening front × Keeps compiled.spec relation []
+IsAtStage form compiled work relation (stages.Entries entries) front = IsAmong form compiled work relation entries front × HasSomeLeft work entries
+IsAtStage form compiled work relation (stages.Closing closing) front = IsClosing form compiled work closing front
 
 -- ---- the judge
 
--- the specification with its plans, and the workload, whose report is judged
+-- the form of the report that is judged, and the specification with its plans and the workload of which it is
+abbrev pub judged_form : Judge → Form
+judged_form judge = judge.form
+
 abbrev pub judged_plans : Judge → SpecWithPlans
 judged_plans judge = judge.compiled.now
 
@@ -104,14 +115,15 @@ judged_work judge = judge.work.now
 -- these lines were passed: the judge stands behind them at its stage
 pub record HasPassed (judge : Judge) (front : List (List ℕ)) : Type 0 where
   pub judgeable : IsJudgeable (judged_plans judge).spec (judged_work judge)
-  pub stage_is : IsAtStage (judged_plans judge) (judged_work judge) judge.relation judge.stage front
+  pub stage_is : IsAtStage (judged_form judge) (judged_plans judge) (judged_work judge) judge.relation judge.stage front
 
 -- so lines that were passed begin a good report
 abbrev pub PassedLinesBegin : Type 0
-PassedLinesBegin = (judge : Judge) (front : List (List ℕ)) → HasPassed judge front → BeginsGood (judged_plans judge) (judged_work judge) front
+PassedLinesBegin = (judge : Judge) (front : List (List ℕ)) → HasPassed judge front → BeginsGood (judged_form judge) (judged_plans judge) (judged_work judge) front
 
 -- it judges the same report
 pub record IsOfSame (old new : Judge) : Type 0 where
+  pub form_is : judged_form new ≡ judged_form old
   pub compiled_is : judged_plans new ≡ judged_plans old
   pub work_is : judged_work new ≡ judged_work old
 
@@ -124,15 +136,15 @@ HasMet wanted line (Err faults.Memory) = ⊥
 HasMet wanted line (Err faults.Bad) = line ≡ wanted → ⊥
 
 -- behind these lines a line is passed, and something is so then; or with it no good report begins
-abbrev pub Judges : {X : Type 0} → SpecWithPlans → Work → List (List ℕ) → List ℕ → Type 0 → Result X Fault → Type 0
-Judges compiled work front line after (Ok done) = after
-Judges compiled work front line after (Err faults.Memory) = Unit {0}
-Judges compiled work front line after (Err faults.Bad) = BeginsGood compiled work (front ++ line ∷ []) → ⊥
+abbrev pub Judges : {X : Type 0} → Form → SpecWithPlans → Work → List (List ℕ) → List ℕ → Type 0 → Result X Fault → Type 0
+Judges form compiled work front line after (Ok done) = after
+Judges form compiled work front line after (Err faults.Memory) = Unit {0}
+Judges form compiled work front line after (Err faults.Bad) = BeginsGood form compiled work (front ++ line ∷ []) → ⊥
 
 -- these lines are a good report with so many entries, or they are none
-abbrev pub HasEntries : SpecWithPlans → Work → List (List ℕ) → Option ℕ → Type 0
-HasEntries compiled work front (Some entries) = IsGoodReport compiled work front entries
-HasEntries compiled work front None = (entries : ℕ) → IsGoodReport compiled work front entries → ⊥
+abbrev pub HasEntries : Form → SpecWithPlans → Work → List (List ℕ) → Option ℕ → Type 0
+HasEntries form compiled work front (Some entries) = IsGoodReport form compiled work front entries
+HasEntries form compiled work front None = (entries : ℕ) → IsGoodReport form compiled work front entries → ⊥
 
 -- what is said of a report at a line with this number that isn't passed
 abbrev pub verdict_at : Fault → ℕ → Result Verdict Memory

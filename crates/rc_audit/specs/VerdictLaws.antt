@@ -6,6 +6,7 @@ use Rattle.rc_plan.specs.Compiled.{SpecWithPlans}
 use Rattle.rc_work.specs.declared.work.Work.{Work}
 use Rattle.rc_work.specs.Fitting.{HasThreads}
 use Rattle.rc_work.specs.RunLengthLaws.{runs_have_all_turns}
+use Rattle.rc_audit.specs.declared.form.Form.{Form}
 use Rattle.rc_audit.specs.declared.verdict.Verdict.{Verdict}
 use Rattle.rc_audit.specs.declared.verdict.Verdict.TheVariants.{Legal, Bad}
 use Rattle.rc_audit.specs.GoodReports.{BeginsGood, IsFirstBadLine, IsVerdict}
@@ -13,8 +14,8 @@ use Rattle.rc_audit.specs.WantedLaws.{begins_shorter, good_begins}
 
 -- two verdicts on the same lines are the same
 abbrev pub OneVerdict : Type 0
-OneVerdict = (compiled : SpecWithPlans) (work : Work) (past_end : ℕ) (lines : List ContentLine) (verdict other : Verdict) → HasThreads work
-    → IsVerdict compiled work past_end lines verdict → IsVerdict compiled work past_end lines other → verdict ≡ other
+OneVerdict = (form : Form) (compiled : SpecWithPlans) (work : Work) (past_end : ℕ) (lines : List ContentLine) (verdict other : Verdict) → HasThreads work
+    → IsVerdict form compiled work past_end lines verdict → IsVerdict form compiled work past_end lines other → verdict ≡ other
 
 -- of two places in a list one is before the other, or they are one
 abbrev Apart : List ContentLine → ContentLine → List ContentLine → ContentLine → Type 0
@@ -33,19 +34,19 @@ apart (a ∷ xs) (b ∷ ys) us vs x y e =
       | inr (inr h) ↦ inr (inr (h.0, λ i. first i ∷ h.1 i))
     ]
 
-module _ (compiled : SpecWithPlans) (work : Work) where
-  begins_front : (front others : List ContentLine) (line : ContentLine) → BeginsGood compiled work (bytes_of_content (front ++ line ∷ others))
-      → BeginsGood compiled work (bytes_of_content front ++ line.bytes ∷ [])
+module _ (form : Form) (compiled : SpecWithPlans) (work : Work) where
+  begins_front : (front others : List ContentLine) (line : ContentLine) → BeginsGood form compiled work (bytes_of_content (front ++ line ∷ others))
+      → BeginsGood form compiled work (bytes_of_content front ++ line.bytes ∷ [])
   begins_front front others line h =
-      begins_shorter compiled work (bytes_of_content front ++ line.bytes ∷ []) (bytes_of_content others)
-      (subst (BeginsGood compiled work)
+      begins_shorter form compiled work (bytes_of_content front ++ line.bytes ∷ []) (bytes_of_content others)
+      (subst (BeginsGood form compiled work)
       (map-append (λ (l : ContentLine). l.bytes) front (line ∷ others)
       ∙ sym (append_assoc (bytes_of_content front) (line.bytes ∷ []) (bytes_of_content others))) h)
 
-  moved : (lines others : List ContentLine) → lines ≡ others → BeginsGood compiled work (bytes_of_content lines) → BeginsGood compiled work (bytes_of_content others)
-  moved lines others e h = subst (λ (l : List ContentLine). BeginsGood compiled work (bytes_of_content l)) e h
+  moved : (lines others : List ContentLine) → lines ≡ others → BeginsGood form compiled work (bytes_of_content lines) → BeginsGood form compiled work (bytes_of_content others)
+  moved lines others e h = subst (λ (l : List ContentLine). BeginsGood form compiled work (bytes_of_content l)) e h
 
-  first_bad : (lines : List ContentLine) (n m : ℕ) → IsFirstBadLine compiled work lines n → IsFirstBadLine compiled work lines m → n ≡ m
+  first_bad : (lines : List ContentLine) (n m : ℕ) → IsFirstBadLine form compiled work lines n → IsFirstBadLine form compiled work lines m → n ≡ m
   first_bad lines n m h k = go (apart h.front k.front h.others k.others h.line k.line (sym h.whole ∙ k.whole))
     where
       go : Apart h.front h.line k.front k.line → n ≡ m
@@ -53,18 +54,18 @@ module _ (compiled : SpecWithPlans) (work : Work) where
       go (inr (inl w)) = absurd (h.bad (begins_front h.front w.0 h.line (moved k.front (h.front ++ h.line ∷ w.0) w.1 k.before)))
       go (inr (inr w)) = absurd (k.bad (begins_front k.front w.0 k.line (moved h.front (k.front ++ k.line ∷ w.0) w.1 h.before)))
 
-  not_both : (lines : List ContentLine) (n : ℕ) → BeginsGood compiled work (bytes_of_content lines) → IsFirstBadLine compiled work lines n → ⊥
+  not_both : (lines : List ContentLine) (n : ℕ) → BeginsGood form compiled work (bytes_of_content lines) → IsFirstBadLine form compiled work lines n → ⊥
   not_both lines n begins h = h.bad (begins_front h.front h.others h.line (moved lines (h.front ++ h.line ∷ h.others) h.whole begins))
 
 pub one_verdict : OneVerdict
-one_verdict compiled work past_end lines (Legal n) (Legal m) threads h k =
+one_verdict form compiled work past_end lines (Legal n) (Legal m) threads h k =
     ap Legal (sym h.count ∙ runs_have_all_turns compiled.spec work h.history threads h.run
     ∙ sym (runs_have_all_turns compiled.spec work k.history threads k.run) ∙ k.count)
-one_verdict compiled work past_end lines (Legal n) (Bad m) threads h (inl k) = absurd (not_both compiled work lines m (good_begins compiled work (bytes_of_content lines) n h) k)
-one_verdict compiled work past_end lines (Legal n) (Bad m) threads h (inr k) = absurd (k.none n h)
-one_verdict compiled work past_end lines (Bad n) (Legal m) threads (inl h) k = absurd (not_both compiled work lines n (good_begins compiled work (bytes_of_content lines) m k) h)
-one_verdict compiled work past_end lines (Bad n) (Legal m) threads (inr h) k = absurd (h.none m k)
-one_verdict compiled work past_end lines (Bad n) (Bad m) threads (inl h) (inl k) = ap Bad (first_bad compiled work lines n m h k)
-one_verdict compiled work past_end lines (Bad n) (Bad m) threads (inl h) (inr k) = absurd (not_both compiled work lines n k.begin h)
-one_verdict compiled work past_end lines (Bad n) (Bad m) threads (inr h) (inl k) = absurd (not_both compiled work lines m h.begin k)
-one_verdict compiled work past_end lines (Bad n) (Bad m) threads (inr h) (inr k) = ap Bad (sym h.number_is ∙ k.number_is)
+one_verdict form compiled work past_end lines (Legal n) (Bad m) threads h (inl k) = absurd (not_both form compiled work lines m (good_begins form compiled work (bytes_of_content lines) n h) k)
+one_verdict form compiled work past_end lines (Legal n) (Bad m) threads h (inr k) = absurd (k.none n h)
+one_verdict form compiled work past_end lines (Bad n) (Legal m) threads (inl h) k = absurd (not_both form compiled work lines n (good_begins form compiled work (bytes_of_content lines) m k) h)
+one_verdict form compiled work past_end lines (Bad n) (Legal m) threads (inr h) k = absurd (h.none m k)
+one_verdict form compiled work past_end lines (Bad n) (Bad m) threads (inl h) (inl k) = ap Bad (first_bad form compiled work lines n m h k)
+one_verdict form compiled work past_end lines (Bad n) (Bad m) threads (inl h) (inr k) = absurd (not_both form compiled work lines n k.begin h)
+one_verdict form compiled work past_end lines (Bad n) (Bad m) threads (inr h) (inl k) = absurd (not_both form compiled work lines m h.begin k)
+one_verdict form compiled work past_end lines (Bad n) (Bad m) threads (inr h) (inr k) = ap Bad (sym h.number_is ∙ k.number_is)

@@ -5,15 +5,16 @@ use Rattle.rc_plan.specs.Compiled.{SpecWithPlans}
 use Rattle.rc_rel.specs.declared.entry.Entry.{Entry}
 use Rattle.rc_work.specs.declared.work.Work.{Work}
 use Rattle.rc_work.specs.Runs.{Runs}
-use Rattle.rc_audit.specs.GoodReports.{BeginsGood, IsGoodReport, run_lines}
+use Rattle.rc_audit.specs.declared.form.Form.{Form}
+use Rattle.rc_audit.specs.GoodReports.{BeginsGood, IsGoodReport, good_lines}
 use Rattle.rc_audit.specs.Judged.{IsJudgeable, IsWhole, closing_lines, lines_behind, opening_lines}
 use Rattle.rc_audit.specs.JudgedLaws.{judged_begins, judged_start, run_begins}
 use Rattle.rc_audit.specs.Standing.{no_turns}
 
-module _ (compiled : SpecWithPlans) (work : Work) where
+module _ (form : Form) (compiled : SpecWithPlans) (work : Work) where
   -- ---- lines that begin a good report
 
-  pub begins_shorter : (xs ys : List (List ℕ)) → BeginsGood compiled work (xs ++ ys) → BeginsGood compiled work xs
+  pub begins_shorter : (xs ys : List (List ℕ)) → BeginsGood form compiled work (xs ++ ys) → BeginsGood form compiled work xs
   begins_shorter xs ys h = record {
     others = ys ++ h.others;
     entries = h.entries;
@@ -25,7 +26,7 @@ module _ (compiled : SpecWithPlans) (work : Work) where
     };
   }
 
-  pub good_begins : (lines : List (List ℕ)) (entries : ℕ) → IsGoodReport compiled work lines entries → BeginsGood compiled work lines
+  pub good_begins : (lines : List (List ℕ)) (entries : ℕ) → IsGoodReport form compiled work lines entries → BeginsGood form compiled work lines
   good_begins lines entries good = record {
     others = [];
     entries = entries;
@@ -36,9 +37,9 @@ module _ (compiled : SpecWithPlans) (work : Work) where
 
   -- The lines so far begin a good report, and each that begins with them has this line next.
   pub record IsWanted (front : List (List ℕ)) (wanted : List ℕ) : Type 0 where
-    pub begins : BeginsGood compiled work front
+    pub begins : BeginsGood form compiled work front
     pub next : (history : List Entry) (others : List (List ℕ)) → Runs compiled.spec work history
-        → run_lines compiled work history ≡ front ++ others → (later : List (List ℕ)) × (others ≡ wanted ∷ later)
+        → good_lines form compiled work history ≡ front ++ others → (later : List (List ℕ)) × (others ≡ wanted ∷ later)
 
   same_line : (x y : List ℕ) (xs ys : List (List ℕ)) → x ∷ xs ≡ y ∷ ys → x ≡ y
   same_line x y xs ys e = cc
@@ -47,52 +48,52 @@ module _ (compiled : SpecWithPlans) (work : Work) where
   no_line x xs e = absurd cc
 
   -- with another line no good report begins
-  pub other_is_bad : (front : List (List ℕ)) (wanted line : List ℕ) → IsWanted front wanted → BeginsGood compiled work (front ++ line ∷ []) → line ≡ wanted
+  pub other_is_bad : (front : List (List ℕ)) (wanted line : List ℕ) → IsWanted front wanted → BeginsGood form compiled work (front ++ line ∷ []) → line ≡ wanted
   other_is_bad front wanted line h begins =
       let good = begins.good in
       let next = h.next good.history (line ∷ begins.others) good.run (sym good.printed ∙ append_assoc front (line ∷ []) begins.others) in
       same_line line wanted begins.others next.0 next.1
 
   -- and the lines so far are none
-  pub wanted_is_not_all : (front : List (List ℕ)) (wanted : List ℕ) → IsWanted front wanted → (entries : ℕ) → IsGoodReport compiled work front entries → ⊥
+  pub wanted_is_not_all : (front : List (List ℕ)) (wanted : List ℕ) → IsWanted front wanted → (entries : ℕ) → IsGoodReport form compiled work front entries → ⊥
   wanted_is_not_all front wanted h entries good =
       let next = h.next good.history [] good.run (sym good.printed ∙ sym (append-nil front)) in
       no_line wanted next.0 next.1
 
   -- the plans and the number of entries
   pub opening_is_wanted : IsJudgeable compiled.spec work → (front later : List (List ℕ)) (wanted : List ℕ)
-      → opening_lines compiled work ≡ front ++ wanted ∷ later → IsWanted front wanted
+      → opening_lines form compiled work ≡ front ++ wanted ∷ later → IsWanted front wanted
   opening_is_wanted can front later wanted opening = record {
-    begins = begins_shorter front (wanted ∷ later) (subst (BeginsGood compiled work) opening
-        (judged_begins compiled work can [] no_turns work.rounds (opening_lines compiled work) (judged_start compiled work can)));
+    begins = begins_shorter front (wanted ∷ later) (subst (BeginsGood form compiled work) opening
+        (judged_begins form compiled work can [] no_turns work.rounds (opening_lines form compiled work) (judged_start form compiled work can)));
     next = λ history others run printed.
-        let behind = lines_behind compiled work [] history in
+        let behind = lines_behind form compiled work [] history in
         let whole : front ++ others ≡ front ++ (wanted ∷ later ++ behind) =
-        sym printed ∙ run_begins compiled work can history run ∙ ap (λ l. l ++ behind) opening ∙ append_assoc front (wanted ∷ later) behind in
+        sym printed ∙ run_begins form compiled work can history run ∙ ap (λ l. l ++ behind) opening ∙ append_assoc front (wanted ∷ later) behind in
         (later ++ behind, append_cancel_left front others (wanted ∷ later ++ behind) whole);
   }
 
   -- ---- the final relation
 
-  module _ (done : List Entry) (front : List (List ℕ)) (whole : IsWhole compiled work done front) where
-    pub whole_is_good : IsGoodReport compiled work (front ++ closing_lines compiled work done) (length done)
+  module _ (done : List Entry) (front : List (List ℕ)) (whole : IsWhole form compiled work done front) where
+    pub whole_is_good : IsGoodReport form compiled work (front ++ closing_lines form compiled work done) (length done)
     whole_is_good = record { history = done; run = whole.run; printed = sym whole.printed; count = refl }
 
-    pub closing_is_wanted : (before later : List (List ℕ)) (wanted : List ℕ) → closing_lines compiled work done ≡ before ++ wanted ∷ later
+    pub closing_is_wanted : (before later : List (List ℕ)) (wanted : List ℕ) → closing_lines form compiled work done ≡ before ++ wanted ∷ later
         → IsWanted (front ++ before) wanted
     closing_is_wanted before later wanted parts = record {
       begins = begins_shorter (front ++ before) (wanted ∷ later) (good_begins ((front ++ before) ++ wanted ∷ later) (length done)
-          (subst (λ l. IsGoodReport compiled work l (length done)) (ap (λ l. front ++ l) parts ∙ sym (append_assoc front before (wanted ∷ later))) whole_is_good));
+          (subst (λ l. IsGoodReport form compiled work l (length done)) (ap (λ l. front ++ l) parts ∙ sym (append_assoc front before (wanted ∷ later))) whole_is_good));
       next = λ history others run printed.
           let only = whole.only history (before ++ others) run (printed ∙ append_assoc front before others) in
           (later, append_cancel_left before others (wanted ∷ later) (only.1 ∙ parts));
     }
 
     -- no line may follow
-    pub more_is_bad : (line : List ℕ) → BeginsGood compiled work ((front ++ closing_lines compiled work done) ++ line ∷ []) → ⊥
+    pub more_is_bad : (line : List ℕ) → BeginsGood form compiled work ((front ++ closing_lines form compiled work done) ++ line ∷ []) → ⊥
     more_is_bad line begins =
         let good = begins.good in
-        let all = closing_lines compiled work done in
+        let all = closing_lines form compiled work done in
         let only = whole.only good.history (all ++ (line ∷ begins.others)) good.run
         (sym good.printed ∙ append_assoc (front ++ all) (line ∷ []) begins.others ∙ append_assoc front all (line ∷ begins.others)) in
         no_line line begins.others (sym (append_cancel_left all (line ∷ begins.others) [] (only.1 ∙ sym (append-nil all))))

@@ -1,21 +1,21 @@
-//! The lines of the relation that the entries leave, with which a report ends.
+//! The closing lines of a report.
 
 ghost use Rattle.std.specs.Prelude.{◌≡◌, ◌+◌, ℕ, List, [], ◌∷◌, ◌++◌};
+ghost use Rattle.rc_audit.specs.declared.form.Form.{Form};
 ghost use Rattle.rc_audit.specs.Judged.{IsJudgeable};
 ghost use Rattle.rc_audit.specs.Judging.{IsClosing, HasEntries, Judges};
 
 use crate::fault::Fault;
 use crate::meeting::meet;
+use crate::tail::Tail;
 use rc_plan::Compiled;
-use rc_tuple::Tuples;
-use rc_work::{Work, print_final_line};
+use rc_work::Work;
 use std::alloc::Global;
 
 /// The closing lines, of which some came.
 #[derive(Debug, Drop)]
 pub(crate) struct Closing {
-    /// The tuples that the entries leave, rising.
-    pub(crate) rows: Tuples,
+    pub(crate) tail: Tail,
     /// How many of the lines came.
     pub(crate) met: usize,
     /// How many entries came before.
@@ -32,13 +32,13 @@ impl Closing {
         line: &[u8],
     ) -> Result<(), Fault>
         requires { IsJudgeable compiled.now.spec work.now }
-        ensures { (front : List (List ℕ)) → IsClosing compiled.now work.now self.old front
-            → Judges compiled.now work.now front line.now
-            (IsClosing compiled.now work.now self.new (front ++ line.now ∷ [])) result }
+        ensures { (form : Form) (front : List (List ℕ))
+            → IsClosing form compiled.now work.now self.old front
+            → Judges form compiled.now work.now front line.now
+            (IsClosing form compiled.now work.now self.new (front ++ line.now ∷ [])) result }
     {
         let spec = compiled.accepted().spec();
-        let rows = self.rows.list();
-        let Some(wanted) = print_final_line(alloc, spec, &work.ranks, rows, self.met)? else {
+        let Some(wanted) = self.tail.print_line(alloc, spec, &work.ranks, self.met)? else {
             return Err(Fault::Bad);
         };
         meet(line, &wanted)?;
@@ -49,10 +49,11 @@ impl Closing {
     /// How many entries the report has, if all of the lines came.
     pub(crate) fn entries(&self, compiled: &Compiled, work: &Work) -> Option<u64>
         requires { IsJudgeable compiled.now.spec work.now }
-        ensures { (front : List (List ℕ)) → IsClosing compiled.now work.now self.now front
-            → HasEntries compiled.now work.now front result }
+        ensures { (form : Form) (front : List (List ℕ))
+            → IsClosing form compiled.now work.now self.now front
+            → HasEntries form compiled.now work.now front result }
     {
-        if self.met == self.rows.list().len() + 2 {
+        if self.met == self.tail.count() {
             Some(self.entries)
         } else {
             None

@@ -5,6 +5,7 @@ ghost use Rattle.std.specs.Result.{result_map_both};
 ghost use Rattle.rc_tuple.specs.Tuple.{Pairs};
 ghost use Rattle.rc_spec.specs.Calls.{Fits};
 ghost use Rattle.rc_spec.specs.Plain.{plain};
+ghost use Rattle.rc_audit.specs.declared.form.Form.{Form};
 ghost use Rattle.rc_audit.specs.Judged.{IsJudgeable};
 ghost use Rattle.rc_audit.specs.Judging.{HasPrinted, HasSomeLeft, IsAmong, Judges};
 ghost use Rattle.rc_audit.specs.Keeping.{Keeps};
@@ -43,13 +44,13 @@ impl Entries {
         line: &[u8],
     ) -> Result<(), Fault>
         requires judgeable { IsJudgeable compiled.now.spec work.now }
-        requires at { (front : List (List ℕ))
-            × IsAmong compiled.now work.now relation.old self.old front }
+        requires at { (form : Form) × (front : List (List ℕ))
+            × IsAmong form compiled.now work.now relation.old self.old front }
         requires some { HasSomeLeft work.now self.old }
-        ensures { (front : List (List ℕ))
-            → IsAmong compiled.now work.now relation.old self.old front
-            → Judges compiled.now work.now front line.now
-            (IsAmong compiled.now work.now relation.new self.new (front ++ line.now ∷ [])) result }
+        ensures { (form : Form) (front : List (List ℕ))
+            → IsAmong form compiled.now work.now relation.old self.old front
+            → Judges form compiled.now work.now front line.now
+            (IsAmong form compiled.now work.now relation.new self.new (front ++ line.now ∷ [])) result }
     {
         let round = work.rounds.list()[self.round].list();
         let Some(thread) = thread_of(alloc, round, &self.cursors, self.place, line)? else {

@@ -1,14 +1,17 @@
-//! The lines with which each good report begins: the plans, and the number of entries.
+//! The lines with which each good report begins: the plans, where they belong to it, and the number of
+//! entries.
 
 ghost use Rattle.std.specs.Prelude.{◌≡◌, ◌<◌, ◌+◌, ◌==◌, [], ◌∷◌, ◌++◌, codes, get_or, length, map, sum_by, OnOk, IfOk};
 ghost use Rattle.rc_spec.specs.Placement.{op_at};
 ghost use Rattle.rc_plan.specs.PlanRules.{AreKnown};
 ghost use Rattle.rc_plan.specs.PlanText.{statement_text};
 ghost use Rattle.rc_work.specs.Limits.{KeepsLimits};
-ghost use Rattle.rc_audit.specs.Judged.{opening_lines};
+ghost use Rattle.rc_audit.specs.GoodReports.{plans_in_lines};
+ghost use Rattle.rc_audit.specs.Judged.{lines_before, opening_lines};
 ghost use Rattle.rc_audit.specs.Judging.{HasMet};
 
 use crate::fault::Fault;
+use crate::form::Form;
 use crate::meeting::meet;
 use rc_plan::{Compiled, Statement, push_statement};
 use rc_spec::{Named, Spec};
@@ -30,16 +33,17 @@ pub(crate) struct Opening {
 
 impl Opening {
     /// Before the first of the lines. Costs their bytes, and a walk over the rounds.
-    pub(crate) fn new(alloc: Global, compiled: &Compiled, work: &Work) -> Result<Opening, Memory>
+    pub(crate) fn new(
+        alloc: Global,
+        form: Form,
+        compiled: &Compiled,
+        work: &Work,
+    ) -> Result<Opening, Memory>
         requires { KeepsLimits work.now }
         ensures { IfOk result (λ opening.
-            opening ≡ record { lines = opening_lines compiled.now work.now; met = 0 }) }
+            opening ≡ record { lines = opening_lines form compiled.now work.now; met = 0 }) }
     {
-        let mut lines = TextLines::new(alloc);
-        let spec = compiled.accepted().spec();
-        for op in 0..spec.ops.list().len() as u8 {
-            push_plan(alloc, &mut lines, spec, op, compiled.plan(op).list())?;
-        }
+        let mut lines = print_before(alloc, form, compiled)?;
         let mut line = Vec::new(alloc);
         push_count_line(&mut line, b"journal", turn_count(work))?;
         lines.push(SmallList::from_vec(line))?;
@@ -57,6 +61,28 @@ impl Opening {
         self.met += 1;
         Ok(self.met == self.lines.list().len())
     }
+}
+
+/// The lines before that with the number of entries.
+fn print_before(alloc: Global, form: Form, compiled: &Compiled) -> Result<TextLines, Memory>
+    ensures { IfOk result (λ lines. lines ≡ lines_before form compiled.now) }
+{
+    match form {
+        Form::Run => print_plans(alloc, compiled),
+        Form::Journal => Ok(TextLines::new(alloc)),
+    }
+}
+
+/// The lines of all plans, in the order in which the operations are written.
+fn print_plans(alloc: Global, compiled: &Compiled) -> Result<TextLines, Memory>
+    ensures { IfOk result (λ lines. lines ≡ plans_in_lines compiled.now) }
+{
+    let mut lines = TextLines::new(alloc);
+    let spec = compiled.accepted().spec();
+    for op in 0..spec.ops.list().len() as u8 {
+        push_plan(alloc, &mut lines, spec, op, compiled.plan(op).list())?;
+    }
+    Ok(lines)
 }
 
 /// Appends the lines of an operation's plan.

@@ -1,5 +1,5 @@
 #!/usr/bin/env python3
-"""Writes audit.case: what `relc audit` says of printed runs, whole, changed and cut.
+"""Writes audit.case: what `relc audit` says of printed runs, and `relc audit bare` of journals alone, whole, changed and cut.
 
 What it is to say is told here by hand, from docs/LANGUAGE.md ("The judge"). Each answer is also
 worked out by the definition itself: the reports of all schedules of the workload are printed, by
@@ -8,6 +8,7 @@ begins. That shares nothing with the program, which goes over the lines once.
 
     python3 audit.py            writes audit.case beside itself
     python3 audit.py judge      judges the text on standard input, whose calls must be few
+    python3 audit.py judge bare     judges one with a journal alone
 """
 
 import os
@@ -91,11 +92,18 @@ def schedules(rounds):
             yield first + others
 
 
-def good_reports(spec_lines, work_lines):
-    """The lines of what each run of the workload prints."""
+def journal_of(report):
+    """The lines of a report's journal alone: the count and the entries, and then `end`."""
+    count = int(report[0].split()[1])
+    return report[: 1 + count] + ["end"]
+
+
+def good_reports(spec_lines, work_lines, bare=False):
+    """The lines of what each run of the workload prints, or of its journal alone."""
     spec = model.read_spec(list(spec_lines))
     plans = model.plans_of(spec)
-    return [plans + model.report_of(spec, calls) for calls in schedules(rounds_of(work_lines))]
+    reports = [model.report_of(spec, calls) for calls in schedules(rounds_of(work_lines))]
+    return [journal_of(report) if bare else plans + report for report in reports]
 
 
 def content(text):
@@ -107,11 +115,11 @@ def content(text):
     return [(n, line) for n, line in numbered if line.strip(" \t") and not line.strip(" \t").startswith("#")], len(lines) + 1
 
 
-def judged(spec_lines, work_lines, text):
+def judged(spec_lines, work_lines, text, bare=False):
     """The verdict on the content lines of a text that stand behind so many lines of a specification and a workload."""
     lines, past_end = content(text)
     lines = lines[len(spec_lines) + len(work_lines) :]
-    reports = good_reports(spec_lines, work_lines)
+    reports = good_reports(spec_lines, work_lines, bare)
     for count, (number, line) in enumerate(lines):
         reports = [report for report in reports if len(report) > count and report[count] == line]
         if not reports:
@@ -129,11 +137,10 @@ def judged(spec_lines, work_lines, text):
 class Cases:
     """The cases of one specification and workload, which stand behind each other in the file."""
 
-    def __init__(self, name, spec, work):
-        self.name, self.spec, self.work = name, spec, work
-        model_spec = model.read_spec(list(spec))
-        self.plans = model.plans_of(model_spec)
-        self.first = good_reports(spec, work)[0]
+    def __init__(self, name, spec, work, bare=False):
+        self.name, self.spec, self.work, self.bare = name, spec, work, bare
+        self.plans = [] if bare else model.plans_of(model.read_spec(list(spec)))
+        self.first = good_reports(spec, work, bare)[0]
         self.out = []
 
     def text(self, name, lines):
@@ -151,15 +158,15 @@ class Cases:
         ends = ends or {}
         whole = list(self.spec) + list(self.work) + list(lines)
         text = "".join(line + ends.get(number, "\n") for number, line in enumerate(whole, 1))
-        found = judged(self.spec, self.work, text)
+        found = judged(self.spec, self.work, text, self.bare)
         assert found == wanted, (title, found, wanted)
-        self.out += ["case " + title, "words relc audit"]
+        self.out += ["case " + title, "words relc audit bare" if self.bare else "words relc audit"]
         at = 0
         if not ends:
             self.out += ["use %s" % self.name]
             at = len(self.spec) + len(self.work)
             plans = len(self.plans)
-            if list(lines[:plans]) == self.plans:
+            if self.plans and list(lines[:plans]) == self.plans:
                 self.out += ["use plans_%s" % self.name]
                 at += plans
         for number, line in enumerate(whole, 1):
@@ -381,22 +388,86 @@ def refused():
     return out
 
 
+def journals():
+    work = ["work 1", "round", "0 ins 1 2 10", "0 succ 1", "end"]
+    cases = Cases("bare_graph", GRAPH, work, bare=True)
+    whole = good_reports(GRAPH, work)[0]
+    report = whole[whole.index("journal 2") :]
+    journal, got = cases.first, "1 0 succ 1 -> 1 rows (2 10)"
+    assert journal == report[:3] + ["end"] and report[3] == "final 1" and journal[2] == got
+    cases.out += heading(
+        "Journals alone",
+        "`audit bare` wants the count, the entries and `end`, and nothing else. They begin on line 28.",
+    )
+    cases.text("bare_graph", GRAPH + work)
+    cases.case("a journal alone is legal", journal, "legal 2")
+    cases.case("blank lines and comments may stand in a journal", [other for line in journal for other in (line, "", "# " + line)], "legal 2")
+    cases.case("a journal's last line needs no line feed", journal, "legal 2", {31: ""})
+    cases.case("in a journal a query has the rows that are there", changed(journal, got, "1 0 succ 1 -> 0 rows"), "bad line 30")
+    cases.case("in a journal a thread's calls keep their order", ["journal 2", "0 0 succ 1 -> 0 rows", "1 0 ins 1 2 10 -> inserted", "end"], "bad line 29")
+    cases.case("an entry that is left out of a journal is missing", without(journal, journal[1]), "bad line 29")
+    cases.case("a journal ends with its end", journal[:-1], "bad line 31")
+    cases.case("no journal at all is bad", [], "bad line 28")
+    cases.case("a journal begins with its count", journal[1:], "bad line 28")
+    cases.case("its count is that of the workload's calls", changed(journal, "journal 2", "journal 3"), "bad line 28")
+    cases.case("no plan stands before a journal", whole, "bad line 28")
+    cases.case("no relation stands behind a journal", report, "bad line 31")
+    cases.case("nothing stands behind a journal's end", journal + ["end"], "bad line 32")
+    run = Cases("bare_graph", GRAPH, work)
+    run.case("without `bare` a journal alone is bad", journal, "bad line 28")
+    return cases.out + run.out
+
+
+def journals_of_threads():
+    work = ["work 2", "round", "0 ins 1 2 10", "1 ins 1 2 11", "round", "0 find 1 2", "end"]
+    cases = Cases("bare_threads", GRAPH, work, bare=True)
+    cases.text("bare_threads", GRAPH + work)
+    a, b, find = "0 ins 1 2 10 -> ", "1 ins 1 2 11 -> ", "0 find 1 2 -> "
+    for title, entries, wanted in (
+        ("a journal with thread 0 first", (a + "inserted", b + "present", find + "1 rows (10)"), "legal 3"),
+        ("a journal with thread 1 first", (b + "inserted", a + "present", find + "1 rows (11)"), "legal 3"),
+        ("a journal with a call of the next round too early", (a + "inserted", find + "1 rows (10)", b + "present"), "bad line 32"),
+        ("a journal with a reply of another order", (b + "inserted", a + "present", find + "1 rows (10)"), "bad line 33"),
+    ):
+        cases.case(title, ["journal 3"] + ["%d %s" % (place, entry) for place, entry in enumerate(entries)] + ["end"], wanted)
+    empty = Cases("bare_empty", GRAPH, ["work 1", "end"], bare=True)
+    empty.text("bare_empty", GRAPH + empty.work)
+    empty.case("the journal of a run without a call is legal", ["journal 0", "end"], "legal 0")
+    return cases.out + empty.out
+
+
+def refused_journals():
+    out = heading("Refusals of `audit bare`", "They are those of `audit`.")
+
+    def case(title, lines, wanted):
+        return ["case " + title, "words relc audit bare"] + lines + ["status 3", "out", "|" + wanted, "run", ""]
+
+    spec = ["|" + line for line in GRAPH]
+    out += case("before a journal a workload must be there", spec, "refused S1 line 23")
+    out += case("before a journal a workload must have its end", spec + ["|work 1", "|round"], "refused S8 line 25")
+    out += case("a journal's groups are not judged", spec + ["|work 1", "|round", "|0 & 2", "|0 succ 1", "|0 succ 1", "|end"], "refused W1 line 25")
+    out += case("audit bare refuses a longer input for its size", ["fill 10 16777217"], "refused size")
+    return out
+
+
 def all_cases():
     lines = [
-        "# What `relc audit` says of printed runs, whole, changed and cut (docs/LANGUAGE.md, \"The judge\"). Written by audit.py.",
+        "# What `relc audit` says of printed runs, and `relc audit bare` of journals alone, whole, changed and cut (docs/LANGUAGE.md,",
+        "# \"The judge\"). Written by audit.py.",
         "",
     ]
     lines += heading("One thread", "The specification has 22 lines and the workload 5; the report begins on line 28, its entries on line 70.")
-    return lines + one_thread() + barrier() + orders_of_threads() + few_calls() + texts() + refused()
+    lines += one_thread() + barrier() + orders_of_threads() + few_calls() + texts() + refused()
+    return lines + journals() + journals_of_threads() + refused_journals()
 
 
 def main():
-    if sys.argv[1:] == ["judge"]:
+    if sys.argv[1:] in (["judge"], ["judge", "bare"]):
         text = sys.stdin.read()
         lines = [line for _, line in content(text)[0]]
         first = lines.index("end") + 1
         second = lines.index("end", first) + 1
-        print(judged(lines[:first], lines[first:second], text))
+        print(judged(lines[:first], lines[first:second], text, "bare" in sys.argv))
         return
     path = os.path.join(os.path.dirname(os.path.abspath(__file__)), "audit.case")
     with open(path, "w", encoding="utf-8", newline="\n") as file:

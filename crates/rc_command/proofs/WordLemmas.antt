@@ -111,15 +111,24 @@ differs xs ys e = go (bytes_eq xs ys) refl
         let flipped : bytes_eq ys xs ≡ true = (bytes_eq-Decides ys xs).1 (sym ((bytes_eq-Decides xs ys).0 t)) in
         cc
 
--- a name is one of the five behind which no word stands
+-- a name is one of the four behind which no word stands
 abbrev IsName : Text → Type 0
-IsName word = (word ≡ codes "check") ⊎ ((word ≡ codes "plan") ⊎ ((word ≡ codes "run") ⊎ ((word ≡ codes "group") ⊎ (word ≡ codes "audit"))))
+IsName word = (word ≡ codes "check") ⊎ ((word ≡ codes "plan") ⊎ ((word ≡ codes "run") ⊎ (word ≡ codes "group")))
 
 abbrev IsBig : Text → Type 0
 IsBig word = word ≡ codes "big"
 
-abbrev IsDot : Text → Type 0
-IsDot word = word ≡ codes "dot"
+-- `dot` and `audit` take a word that may be left out
+abbrev one_name : Bool → Text
+one_name true = codes "dot"
+one_name false = codes "audit"
+
+abbrev one_word : Bool → Text
+one_word true = codes "OP"
+one_word false = codes "FORM"
+
+abbrev IsOne : Text → Type 0
+IsOne word = (word ≡ codes "dot") ⊎ (word ≡ codes "audit")
 
 -- another word is none of the seven
 record IsOther (word : Text) : Type 0 where
@@ -141,16 +150,14 @@ unfolding clap_on_literals
 rest_is_left name word words (inl e) = rw e (ap (λ w. w.stopped) (sym (walk_stopped [] names (walk_from nothing_held) (codes "check") [] (word ∷ words))))
 rest_is_left name word words (inr (inl e)) = rw e (ap (λ w. w.stopped) (sym (walk_stopped [] names (walk_from nothing_held) (codes "plan") [] (word ∷ words))))
 rest_is_left name word words (inr (inr (inl e))) = rw e (ap (λ w. w.stopped) (sym (walk_stopped [] names (walk_from nothing_held) (codes "run") [] (word ∷ words))))
-rest_is_left name word words (inr (inr (inr (inl e)))) = rw e (ap (λ w. w.stopped) (sym (walk_stopped [] names (walk_from nothing_held) (codes "group") [] (word ∷ words))))
-rest_is_left name word words (inr (inr (inr (inr e)))) = rw e (ap (λ w. w.stopped) (sym (walk_stopped [] names (walk_from nothing_held) (codes "audit") [] (word ∷ words))))
+rest_is_left name word words (inr (inr (inr e))) = rw e (ap (λ w. w.stopped) (sym (walk_stopped [] names (walk_from nothing_held) (codes "group") [] (word ∷ words))))
 
 -- and that takes no word
 rest_fails : (name word : Text) (words : List Text) → IsName name → is_flag word ≡ false → entered_fault (built grammar) (Some (name, word ∷ words)) ≡ [] → ⊥
 rest_fails name word words (inl e) plain h = stray_word _ [] word words false [] refl refl plain (rw e at h)
 rest_fails name word words (inr (inl e)) plain h = stray_word _ [] word words false [] refl refl plain (rw e at h)
 rest_fails name word words (inr (inr (inl e))) plain h = stray_word _ [] word words false [] refl refl plain (rw e at h)
-rest_fails name word words (inr (inr (inr (inl e)))) plain h = stray_word _ [] word words false [] refl refl plain (rw e at h)
-rest_fails name word words (inr (inr (inr (inr e)))) plain h = stray_word _ [] word words false [] refl refl plain (rw e at h)
+rest_fails name word words (inr (inr (inr e))) plain h = stray_word _ [] word words false [] refl refl plain (rw e at h)
 
 several_words : (program name word : Text) (words : List Text) → IsName name → is_flag word ≡ false → fault_of grammar (program ∷ name ∷ word ∷ words) ≡ [] → ⊥
 several_words program name word words known plain e =
@@ -158,7 +165,7 @@ several_words program name word words known plain e =
     rest_fails name word words known plain (rw (rest_is_left name word words known) at below_is)
 
 abbrev IsWord : Text → Type 0
-IsWord word = IsName word ⊎ (IsDot word ⊎ (IsBig word ⊎ IsOther word))
+IsWord word = IsName word ⊎ (IsOne word ⊎ (IsBig word ⊎ IsOther word))
 
 name_or_other : (word : Text) → IsWord word
 name_or_other word =
@@ -170,9 +177,9 @@ name_or_other word =
     go true plan run group audit dot big c p r g a d b = inl (inl ((bytes_eq-Decides word (codes "check")).0 c))
     go false true run group audit dot big c p r g a d b = inl (inr (inl ((bytes_eq-Decides word (codes "plan")).0 p)))
     go false false true group audit dot big c p r g a d b = inl (inr (inr (inl ((bytes_eq-Decides word (codes "run")).0 r))))
-    go false false false true audit dot big c p r g a d b = inl (inr (inr (inr (inl ((bytes_eq-Decides word (codes "group")).0 g)))))
-    go false false false false true dot big c p r g a d b = inl (inr (inr (inr (inr ((bytes_eq-Decides word (codes "audit")).0 a)))))
-    go false false false false false true big c p r g a d b = inr (inl ((bytes_eq-Decides word (codes "dot")).0 d))
+    go false false false true audit dot big c p r g a d b = inl (inr (inr (inr ((bytes_eq-Decides word (codes "group")).0 g))))
+    go false false false false true dot big c p r g a d b = inr (inl (inr ((bytes_eq-Decides word (codes "audit")).0 a)))
+    go false false false false false true big c p r g a d b = inr (inl (inl ((bytes_eq-Decides word (codes "dot")).0 d)))
     go false false false false false false true c p r g a d b = inr (inr (inl ((bytes_eq-Decides word (codes "big")).0 b)))
     go false false false false false false false c p r g a d b =
         inr (inr (inr (record { not_check = c; not_plan = p; not_run = r; not_group = g; not_audit = a; not_dot = d; not_big = b })))
@@ -275,60 +282,81 @@ two_words_are : (program seed calls : Text) → is_flag seed ≡ false → is_fl
 unfolding clap_on_literals
 two_words_are program seed calls seed_plain calls_plain = ap (λ (w : Walk). met_as (codes "big") (finished big.rules w.held)) (words_walked seed calls seed_plain calls_plain)
 
--- ---- `dot` and its word
+-- ---- `dot` and `audit` with a word
 
-abbrev dot : Shape
-dot = unwrap_or (find (λ s. answers_to (codes "dot") (label_of s)) (built grammar).subs) top
+abbrev one : Bool → Shape
+one draws = unwrap_or (find (λ s. answers_to (one_name draws) (label_of s)) (built grammar).subs) top
 
--- what clap holds after the word behind `dot`
-abbrev op_held : Text → Held
-op_held op = record { rows = []; pending = Some (codes "OP", op ∷ []); skip = 0 }
+-- what clap holds after the word
+abbrev one_held : Bool → Text → Held
+one_held draws word = record { rows = []; pending = Some (one_word draws, word ∷ []); skip = 0 }
 
-op_walked : (op : Text) → is_flag op ≡ false → walk dot.rules [] nothing_held (op ∷ []) ≡ standing (op_held op) 2
-op_walked op plain = plain_walked dot.rules nothing_held 1 op plain
+one_walked : (draws : Bool) (word : Text) → is_flag word ≡ false → walk (one draws).rules [] nothing_held (word ∷ []) ≡ standing (one_held draws word) 2
+one_walked true word plain = plain_walked (one true).rules nothing_held 1 word plain
+one_walked false word plain = plain_walked (one false).rules nothing_held 1 word plain
 
-op_turn : (op : Text) (words : List Text) → is_flag op ≡ false → walk_fault dot [] (walk_from nothing_held) (op ∷ words) ≡ walk_fault dot [] (standing (op_held op) 2) words
-op_turn op words plain = plain_walk dot nothing_held 1 op words plain
+one_turn : (draws : Bool) (word : Text) (words : List Text) → is_flag word ≡ false
+    → walk_fault (one draws) [] (walk_from nothing_held) (word ∷ words) ≡ walk_fault (one draws) [] (standing (one_held draws word) 2) words
+one_turn true word words plain = plain_walk (one true) nothing_held 1 word words plain
+one_turn false word words plain = plain_walk (one false) nothing_held 1 word words plain
 
-abbrev dot_end_fault : Held → Kinds
-dot_end_fault end = or_else (settle_fault dot.rules dot.args_override_self end) (or_else (defaults_fault (settled dot.rules end).rows dot.rules) (check_fault dot (finished dot.rules end) false))
+abbrev one_end_fault : Bool → Held → Kinds
+one_end_fault draws end =
+    let s = one draws in
+    or_else (settle_fault s.rules s.args_override_self end) (or_else (defaults_fault (settled s.rules end).rows s.rules) (check_fault s (finished s.rules end) false))
 
-abbrev dot_fault : List Text → Kinds
-dot_fault words = level_fault dot [] nothing_held words false []
+abbrev one_fault : Bool → List Text → Kinds
+one_fault draws words = level_fault (one draws) [] nothing_held words false []
 
--- clap leaves the words after `dot` to `dot`
-dot_stopped : (words : List Text) → stop_at (codes "dot" ∷ words) ≡ Some (codes "dot", words)
+-- clap leaves the words after the name to its subcommand
+one_stopped : (draws : Bool) (words : List Text) → stop_at (one_name draws ∷ words) ≡ Some (one_name draws, words)
 unfolding clap_on_literals
-dot_stopped words = ap (λ w. w.stopped) (sym (walk_stopped [] names (walk_from nothing_held) (codes "dot") [] words))
+one_stopped true words = ap (λ w. w.stopped) (sym (walk_stopped [] names (walk_from nothing_held) (codes "dot") [] words))
+one_stopped false words = ap (λ w. w.stopped) (sym (walk_stopped [] names (walk_from nothing_held) (codes "audit") [] words))
 
-dot_fails : (program : Text) (words : List Text) → fault_of grammar (program ∷ codes "dot" ∷ words) ≡ [] → dot_fault words ≡ []
-dot_fails program words e =
-    let below_is : entered_fault (built grammar) (stop_at (codes "dot" ∷ words)) ≡ [] = (both_empty _ _ (both_empty _ _ e).1).0 in
-    rw (dot_stopped words) at below_is
+one_entered : (draws : Bool) (words : List Text) → entered_fault (built grammar) (Some (one_name draws, words)) ≡ one_fault draws words
+one_entered true words = refl
+one_entered false words = refl
+
+one_fails : (program : Text) (draws : Bool) (words : List Text) → fault_of grammar (program ∷ one_name draws ∷ words) ≡ [] → one_fault draws words ≡ []
+one_fails program draws words e =
+    let below_is : entered_fault (built grammar) (stop_at (one_name draws ∷ words)) ≡ [] = (both_empty _ _ (both_empty _ _ e).1).0 in
+    sym (ap (entered_fault (built grammar)) (one_stopped draws words) ∙ one_entered draws words) ∙ below_is
 
 -- two words are too many
-second_op_fails : (op other : Text) (words : List Text) → is_flag op ≡ false → is_flag other ≡ false → dot_fault (op ∷ other ∷ words) ≡ [] → ⊥
-second_op_fails op other words op_plain other_plain e =
-    let walk_is : walk_fault dot [] (walk_from nothing_held) (op ∷ other ∷ words) ≡ [] = (both_empty _ _ e).0 in
-    let turns = op_turn op (other ∷ words) op_plain ∙ plain_walk dot (op_held op) 2 other words other_plain in
-    some_fault _ _ (sym turns ∙ walk_is)
+one_stray : (draws : Bool) (word other : Text) (words : List Text) → is_flag other ≡ false
+    → walk_fault (one draws) [] (standing (one_held draws word) 2) (other ∷ words) ≡ [] → ⊥
+one_stray true word other words plain e = some_fault _ _ (sym (plain_walk (one true) (one_held true word) 2 other words plain) ∙ e)
+one_stray false word other words plain e = some_fault _ _ (sym (plain_walk (one false) (one_held false word) 2 other words plain) ∙ e)
+
+second_word_fails : (draws : Bool) (word other : Text) (words : List Text) → is_flag word ≡ false → is_flag other ≡ false → one_fault draws (word ∷ other ∷ words) ≡ [] → ⊥
+second_word_fails draws word other words plain other_plain e =
+    let walk_is : walk_fault (one draws) [] (walk_from nothing_held) (word ∷ other ∷ words) ≡ [] = (both_empty _ _ e).0 in
+    one_stray draws word other words other_plain (sym (one_turn draws word (other ∷ words) plain) ∙ walk_is)
 
 -- one is taken
-no_op_fault : (op : Text) → dot_end_fault (op_held op) ≡ []
+no_fault : (draws : Bool) (word : Text) → one_end_fault draws (one_held draws word) ≡ []
 unfolding clap_on_literals
-no_op_fault op = refl
+no_fault true word = refl
+no_fault false word = refl
 
-one_op_passes : (program op : Text) → is_flag op ≡ false → fault_of grammar (program ∷ codes "dot" ∷ op ∷ []) ≡ []
+one_level : (draws : Bool) (word : Text) → is_flag word ≡ false → one_fault draws (word ∷ []) ≡ []
 unfolding clap_on_literals
-one_op_passes program op plain =
-    let turns : walk_fault dot [] (walk_from nothing_held) (op ∷ []) ≡ [] = op_turn op [] plain in
-    let end_is = ap (λ (w : Walk). dot_end_fault w.held) (op_walked op plain) ∙ no_op_fault op in
-    let level : dot_fault (op ∷ []) ≡ [] = ap₂ or_else turns end_is in
-    ap (λ k. or_else k []) level
+one_level draws word plain =
+    let turns : walk_fault (one draws) [] (walk_from nothing_held) (word ∷ []) ≡ [] = one_turn draws word [] plain in
+    let end_is = ap (λ (w : Walk). one_end_fault draws w.held) (one_walked draws word plain) ∙ no_fault draws word in
+    ap₂ or_else turns end_is
 
-one_op_is : (program op : Text) → is_flag op ≡ false → read (program ∷ codes "dot" ∷ op ∷ []) ≡ command_of (program ∷ codes "dot" ∷ op ∷ [])
+one_word_passes : (program : Text) (draws : Bool) (word : Text) → is_flag word ≡ false → fault_of grammar (program ∷ one_name draws ∷ word ∷ []) ≡ []
 unfolding clap_on_literals
-one_op_is program op plain = ap (λ (w : Walk). met_as (codes "dot") (finished dot.rules w.held)) (op_walked op plain)
+one_word_passes program true word plain = ap (λ k. or_else k []) (one_level true word plain)
+one_word_passes program false word plain = ap (λ k. or_else k []) (one_level false word plain)
+
+one_word_is : (program : Text) (draws : Bool) (word : Text) → is_flag word ≡ false
+    → read (program ∷ one_name draws ∷ word ∷ []) ≡ command_of (program ∷ one_name draws ∷ word ∷ [])
+unfolding clap_on_literals
+one_word_is program true word plain = ap (λ (w : Walk). met_as (codes "dot") (finished (one true).rules w.held)) (one_walked true word plain)
+one_word_is program false word plain = ap (λ (w : Walk). met_as (codes "audit") (finished (one false).rules w.held)) (one_walked false word plain)
 
 -- what clap takes is a command, and clap names it
 pub taken_is_command : (words : List Text) → list_any is_flag (drop 1 words) ≡ false → fault_of grammar words ≡ [] → read words ≡ command_of words
@@ -341,9 +369,9 @@ taken_is_command (program ∷ word ∷ []) plain e = go (name_or_other word)
     go (inl (inl same)) = rw same refl
     go (inl (inr (inl same))) = rw same refl
     go (inl (inr (inr (inl same)))) = rw same refl
-    go (inl (inr (inr (inr (inl same))))) = rw same refl
-    go (inl (inr (inr (inr (inr same))))) = rw same refl
-    go (inr (inl same)) = rw same refl
+    go (inl (inr (inr (inr same)))) = rw same refl
+    go (inr (inl (inl same))) = rw same refl
+    go (inr (inl (inr same))) = rw same refl
     go (inr (inr (inl same))) = absurd (some_fault _ _ (rw same at e))
     go (inr (inr (inr other))) = absurd (other_fails program word [] other (plain_head word [] plain).0 e)
 taken_is_command (program ∷ word ∷ op ∷ []) plain e = go (name_or_other word)
@@ -356,7 +384,8 @@ taken_is_command (program ∷ word ∷ op ∷ []) plain e = go (name_or_other wo
 
     go : IsWord word → read (program ∷ word ∷ op ∷ []) ≡ command_of (program ∷ word ∷ op ∷ [])
     go (inl name) = absurd (several_words program word op [] name behind e)
-    go (inr (inl same)) = rw same (one_op_is program op behind)
+    go (inr (inl (inl same))) = rw same (one_word_is program true op behind)
+    go (inr (inl (inr same))) = rw same (one_word_is program false op behind)
     go (inr (inr (inl same))) = absurd (one_word_fails op behind (big_fails program (op ∷ []) (rw same at e)))
     go (inr (inr (inr other))) = absurd (other_fails program word (op ∷ []) other after.0 e)
 taken_is_command (program ∷ word ∷ seed ∷ calls ∷ []) plain e = go (name_or_other word)
@@ -372,7 +401,8 @@ taken_is_command (program ∷ word ∷ seed ∷ calls ∷ []) plain e = go (name
 
     go : IsWord word → read (program ∷ word ∷ seed ∷ calls ∷ []) ≡ command_of (program ∷ word ∷ seed ∷ calls ∷ [])
     go (inl name) = absurd (several_words program word seed (calls ∷ []) name behind.0 e)
-    go (inr (inl same)) = absurd (second_op_fails seed calls [] behind.0 last (dot_fails program (seed ∷ calls ∷ []) (rw same at e)))
+    go (inr (inl (inl same))) = absurd (second_word_fails true seed calls [] behind.0 last (one_fails program true (seed ∷ calls ∷ []) (rw same at e)))
+    go (inr (inl (inr same))) = absurd (second_word_fails false seed calls [] behind.0 last (one_fails program false (seed ∷ calls ∷ []) (rw same at e)))
     go (inr (inr (inl same))) = rw same (two_words_are program seed calls behind.0 last)
     go (inr (inr (inr other))) = absurd (other_fails program word (seed ∷ calls ∷ []) other after.0 e)
 taken_is_command (program ∷ word ∷ seed ∷ calls ∷ other ∷ words) plain e = absurd (go (name_or_other word))
@@ -388,7 +418,8 @@ taken_is_command (program ∷ word ∷ seed ∷ calls ∷ other ∷ words) plain
 
     go : IsWord word → ⊥
     go (inl name) = several_words program word seed (calls ∷ other ∷ words) name behind.0 e
-    go (inr (inl same)) = second_op_fails seed calls (other ∷ words) behind.0 last.0 (dot_fails program (seed ∷ calls ∷ other ∷ words) (rw same at e))
+    go (inr (inl (inl same))) = second_word_fails true seed calls (other ∷ words) behind.0 last.0 (one_fails program true (seed ∷ calls ∷ other ∷ words) (rw same at e))
+    go (inr (inl (inr same))) = second_word_fails false seed calls (other ∷ words) behind.0 last.0 (one_fails program false (seed ∷ calls ∷ other ∷ words) (rw same at e))
     go (inr (inr (inl same))) = third_word_fails seed calls other words behind.0 last.0 (plain_head other words last.1).0 (big_fails program (seed ∷ calls ∷ other ∷ words) (rw same at e))
     go (inr (inr (inr stray))) = other_fails program word (seed ∷ calls ∷ other ∷ words) stray after.0 e
 
@@ -403,22 +434,28 @@ refused_is_none (program ∷ word ∷ []) kind plain h = go (name_or_other word)
     go (inl (inl same)) = absurd (rw same at h)
     go (inl (inr (inl same))) = absurd (rw same at h)
     go (inl (inr (inr (inl same)))) = absurd (rw same at h)
-    go (inl (inr (inr (inr (inl same))))) = absurd (rw same at h)
-    go (inl (inr (inr (inr (inr same))))) = absurd (rw same at h)
-    go (inr (inl same)) = absurd (rw same at h)
+    go (inl (inr (inr (inr same)))) = absurd (rw same at h)
+    go (inr (inl (inl same))) = absurd (rw same at h)
+    go (inr (inl (inr same))) = absurd (rw same at h)
     go (inr (inr (inl same))) = rw same refl
     go (inr (inr (inr other))) = rw (other.not_check, other.not_plan, other.not_run, other.not_group, other.not_audit, other.not_dot) refl
-refused_is_none (program ∷ word ∷ op ∷ []) kind plain h = go (bytes_eq word (codes "dot")) refl
+refused_is_none (program ∷ word ∷ op ∷ []) kind plain h = go (name_or_other word)
   where
     after : (is_flag word ≡ false) × (list_any is_flag (op ∷ []) ≡ false)
     after = plain_head word (op ∷ []) plain
 
-    go : (is_dot : Bool) → bytes_eq word (codes "dot") ≡ is_dot → None ≡ command_of (program ∷ word ∷ op ∷ [])
-    go false b = rw b refl
-    go true b =
-        let same : word ≡ codes "dot" = (bytes_eq-Decides word (codes "dot")).0 b in
-        let fault = one_op_passes program op (plain_head op [] after.1).0 in
-        absurd (subst (IsAmong kind) fault (rw same at h))
+    passes : (draws : Bool) → word ≡ one_name draws → ⊥
+    passes draws same = subst (IsAmong kind) (one_word_passes program draws op (plain_head op [] after.1).0) (rw same at h)
+
+    go : IsWord word → None ≡ command_of (program ∷ word ∷ op ∷ [])
+    go (inl (inl same)) = rw same refl
+    go (inl (inr (inl same))) = rw same refl
+    go (inl (inr (inr (inl same)))) = rw same refl
+    go (inl (inr (inr (inr same)))) = rw same refl
+    go (inr (inl (inl same))) = absurd (passes true same)
+    go (inr (inl (inr same))) = absurd (passes false same)
+    go (inr (inr (inl same))) = rw same refl
+    go (inr (inr (inr other))) = rw (other.not_dot, other.not_audit) refl
 refused_is_none (program ∷ word ∷ seed ∷ calls ∷ []) kind plain h = go (bytes_eq word (codes "big")) refl
   where
     after : (is_flag word ≡ false) × (list_any is_flag (seed ∷ calls ∷ []) ≡ false)

@@ -7,19 +7,22 @@ use Rattle.rc_spec.specs.Names.{is_name}
 use Rattle.rc_command.specs.declared.command.Command.{Command}
 use Rattle.rc_command.specs.declared.command.Command.TheVariants.{OfText, Big}
 use Rattle.rc_command.specs.declared.command.TextCommand.{TextCommand}
-use Rattle.rc_command.specs.declared.command.TextCommand.TheVariants.{Check, Plan, Run, Group, Audit, Dot, DotPlan}
+use Rattle.rc_command.specs.declared.command.TextCommand.TheVariants.{Check, Plan, Run, Group, Audit, AuditJournal, Dot, DotPlan}
 
 -- the command of a name behind which no word may stand
 abbrev pub command_named : List ℕ → Option TextCommand
 command_named name = if bytes_eq name (codes "check") then Some Check
     else (if bytes_eq name (codes "plan") then Some Plan
     else (if bytes_eq name (codes "run") then Some Run
-    else (if bytes_eq name (codes "group") then Some Group
-    else (if bytes_eq name (codes "audit") then Some Audit else None))))
+    else (if bytes_eq name (codes "group") then Some Group else None)))
 
 -- `dot` with a word that an operation can have as its name
 abbrev pub dot_of : List ℕ → Option Command
 dot_of op = if is_name op then Some (OfText (DotPlan op)) else None
+
+-- `audit` with a word: what stands behind the workload is the journal alone
+abbrev pub audit_of : List ℕ → Option Command
+audit_of form = if bytes_eq form (codes "bare") then Some (OfText AuditJournal) else None
 
 -- a seed has 31 bits, and a generated workload 1 to 20,000 calls
 abbrev pub big_within : ℕ → ℕ → Option Command
@@ -30,12 +33,15 @@ big_of (Ok seed) (Ok calls) = big_within seed calls
 big_of (Ok seed) (Err fault) = None
 big_of (Err fault) calls = None
 
--- the program's name, and then a name alone, `dot` with a name that an operation can have, or `big` with a seed and a number of calls
+-- The program's name, and then a name alone, `dot` with a name that an operation can have, `audit` with a form, or `big` with a
+-- seed and a number of calls.
 abbrev pub command_of : List (List ℕ) → Option Command
 command_of [] = None
 command_of (program ∷ []) = None
-command_of (program ∷ name ∷ []) = if bytes_eq name (codes "dot") then Some (OfText Dot) else option_map OfText (command_named name)
-command_of (program ∷ name ∷ op ∷ []) = if bytes_eq name (codes "dot") then dot_of op else None
+command_of (program ∷ name ∷ []) = if bytes_eq name (codes "dot") then Some (OfText Dot)
+    else (if bytes_eq name (codes "audit") then Some (OfText Audit) else option_map OfText (command_named name))
+command_of (program ∷ name ∷ word ∷ []) = if bytes_eq name (codes "dot") then dot_of word
+    else (if bytes_eq name (codes "audit") then audit_of word else None)
 command_of (program ∷ name ∷ seed ∷ calls ∷ []) = if bytes_eq name (codes "big") then big_of (u64_of seed) (u64_of calls) else None
 command_of (program ∷ name ∷ seed ∷ calls ∷ other ∷ words) = None
 

@@ -6,7 +6,7 @@ use Rattle.rc_text.specs.Numbers.{u64_of}
 use Rattle.rc_command.specs.declared.command.Command.{Command}
 use Rattle.rc_command.specs.declared.command.Command.TheVariants as command
 use Rattle.rc_command.specs.declared.command.TextCommand.TheVariants as of_text
-use Rattle.rc_command.specs.Command.{big_of, command_named, dot_of}
+use Rattle.rc_command.specs.Command.{audit_of, big_of, command_named, dot_of}
 
 -- the program: a subcommand must be there, and neither help nor version is asked for
 abbrev pub program : App
@@ -30,9 +30,9 @@ big_app = with_rule (with_rule (new_app (codes "big")) (required_word (codes "SE
 abbrev pub dot_app : App
 dot_app = with_rule (new_app (codes "dot")) (new_rule (codes "OP"))
 
--- `audit`, which takes no word
+-- `audit` with a word that may be left out
 abbrev pub audit_app : App
-audit_app = new_app (codes "audit")
+audit_app = with_rule (new_app (codes "audit")) (new_rule (codes "FORM"))
 
 -- the program with the commands that make something of what they read, and take no further word
 abbrev pub program_making : App
@@ -60,11 +60,17 @@ abbrev pub dot_words : Option Text → Option Command
 dot_words (Some op) = dot_of op
 dot_words None = Some (command.OfText of_text.Dot)
 
+-- the command of the word behind `audit`, where there is one
+abbrev pub audit_words : Option Text → Option Command
+audit_words (Some form) = audit_of form
+audit_words None = Some (command.OfText of_text.Audit)
+
 -- the command of a subcommand's name and what clap found behind it
 abbrev pub met_as : Text → List Row → Option Command
 met_as name rows = if bytes_eq name (codes "big") then big_words (first_of (codes "SEED") rows) (first_of (codes "N") rows)
     else (if bytes_eq name (codes "dot") then dot_words (first_of (codes "OP") rows)
-    else option_map command.OfText (command_named name))
+    else (if bytes_eq name (codes "audit") then audit_words (first_of (codes "FORM") rows)
+    else option_map command.OfText (command_named name)))
 
 -- the command of the subcommand that clap met, where there is one
 abbrev pub met : Option (Text × List Row) → Option Command

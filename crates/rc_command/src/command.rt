@@ -4,8 +4,8 @@ ghost use Rattle.std.specs.List.{list_any};
 ghost use Rattle.clap.specs.Words.{app_of, first_value, found_of, rows_of, subcommand_rows_of, with_subcommand};
 ghost use Rattle.rc_text.specs.Numbers.{u64_of};
 ghost use Rattle.rc_command.specs.declared.command.Command.TheVariants.{OfText};
-ghost use Rattle.rc_command.specs.Command.{IsWithinLimits, big_of, command_named, command_of, dot_of};
-ghost use Rattle.rc_command.specs.Grammar.{audit_app, big_app, big_words, dot_app, dot_words, grammar, is_flag, met, met_as};
+ghost use Rattle.rc_command.specs.Command.{IsWithinLimits, audit_of, big_of, command_named, command_of, dot_of};
+ghost use Rattle.rc_command.specs.Grammar.{audit_app, audit_words, big_app, big_words, dot_app, dot_words, grammar, is_flag, met, met_as};
 
 use clap::error::ErrorKind;
 use clap::{Arg, ArgMatches};
@@ -28,6 +28,9 @@ pub enum TextCommand {
     /// Reads a specification, a workload and what `run` is said to have printed for them, and says
     /// whether it may have.
     Audit,
+    /// Reads a specification, a workload and the journal of a run, which stands there alone, and says
+    /// whether the workload has such a run.
+    AuditJournal,
     /// Reads a specification alone, and prints its drawing.
     Dot,
     /// Reads a specification alone, and prints its drawing with the plan of an operation.
@@ -103,11 +106,12 @@ fn reader<'a>(alloc: Global) -> Result<clap::Command<'a>, AllocError>
     add_big(alloc, program)
 }
 
-/// Adds `audit`, which takes no word.
+/// Adds `audit`, which takes a word that may be left out.
 fn add_audit<'a>(alloc: Global, program: clap::Command<'a>) -> Result<clap::Command<'a>, AllocError>
     ensures { IfOk result (λ c. app_of c ≡ with_subcommand (app_of program.entry) audit_app.top) }
 {
-    let audit = clap::Command::new(alloc, "audit");
+    let form = Arg::new(alloc, "FORM");
+    let audit = clap::Command::new(alloc, "audit").arg(form)?;
     program.subcommand(audit)
 }
 
@@ -167,6 +171,7 @@ fn command_behind(alloc: Global, name: &str, inner: &ArgMatches) -> Result<Optio
     match name {
         "big" => Ok(big_met(inner)),
         "dot" => dot_met(alloc, inner),
+        "audit" => Ok(audit_met(inner)),
         _ => Ok(alone_met(name)),
     }
 }
@@ -192,6 +197,28 @@ fn dot_in(alloc: Global, op: &str) -> Result<Option<Command>, Memory>
     }
     let op = SmallList::from_slice(alloc, op.as_bytes())?;
     Ok(Some(Command::OfText(TextCommand::DotPlan { op })))
+}
+
+/// The command of the word that clap met behind `audit`, where it met one.
+fn audit_met(matches: &ArgMatches) -> Option<Command>
+    ensures value { result ≡ audit_words (first_value (found_of matches.now) (codes "FORM")) }
+    ensures limits { IfSome result IsWithinLimits }
+{
+    match matches.get_str("FORM") {
+        Some(form) => audit_in(form),
+        None => Some(Command::OfText(TextCommand::Audit)),
+    }
+}
+
+/// The command of `audit` with a word, where the word names a form of what is judged.
+fn audit_in(form: &str) -> Option<Command>
+    ensures value { result ≡ audit_of form.now }
+    ensures limits { IfSome result IsWithinLimits }
+{
+    match form {
+        "bare" => Some(Command::OfText(TextCommand::AuditJournal)),
+        _ => None,
+    }
 }
 
 /// The command of the two words that clap met behind `big`.
@@ -220,7 +247,6 @@ fn command_named(name: &str) -> Option<TextCommand>
         "plan" => Some(TextCommand::Plan),
         "run" => Some(TextCommand::Run),
         "group" => Some(TextCommand::Group),
-        "audit" => Some(TextCommand::Audit),
         _ => None,
     }
 }

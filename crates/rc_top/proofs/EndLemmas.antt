@@ -16,9 +16,11 @@ use Rattle.rc_work.specs.LineRules.{op_number}
 use Rattle.rc_work.specs.PartGrammar.{WorkPart, part_reading}
 use Rattle.rc_work.specs.Ranking.{work_reading}
 use Rattle.rc_text.specs.Lines.{past_end_of}
+use Rattle.rc_audit.specs.declared.form.Form.{Form}
+use Rattle.rc_audit.specs.declared.form.Form.TheVariants as forms
 use Rattle.rc_audit.specs.declared.verdict.Verdict.{Verdict}
 use Rattle.rc_audit.specs.declared.verdict.Verdict.TheVariants as verdicts
-use Rattle.rc_answer.specs.Answers.{Answers, AnswersAlone, AnswersAudit, AnswersPart, AnswersRules, AnswersRun, AnswersWork, IsAcceptedText, IsPlanDrawingNamed, IsDrawing, IsPlanDrawingOrRefusal, IsPlansText, IsSizeRefusal, verdict_status}
+use Rattle.rc_answer.specs.Answers.{Answers, AnswersAlone, AnswersAudit, AnswersPart, AnswersRules, AnswersRun, AnswersWork, IsAcceptedText, IsPlanDrawingNamed, IsDrawing, IsPlanDrawingOrRefusal, IsPlansText, IsSizeRefusal, audit_for, verdict_status}
 use Rattle.rc_work.specs.WholeText.{place_after}
 use Rattle.rc_answer.specs.Big.{IsBigText, big_text}
 use Rattle.rc_answer.specs.Writes.{Writes}
@@ -27,7 +29,7 @@ use Rattle.rc_top.specs.Asks.{LeavesAllBut}
 use Rattle.rc_top.specs.Ends.{Ends, EndsBig, status_of}
 use Rattle.rc_command.specs.declared.command.Command.TheVariants.{OfText}
 use Rattle.rc_command.specs.declared.command.TextCommand.{TextCommand}
-use Rattle.rc_command.specs.declared.command.TextCommand.TheVariants.{Check, Plan, Run, Group, Audit, Dot, DotPlan}
+use Rattle.rc_command.specs.declared.command.TextCommand.TheVariants.{Check, Plan, Run, Group, Audit, AuditJournal, Dot, DotPlan}
 use Rattle.rc_answer.specs.declared.status.Status.{Status}
 use Rattle.rc_answer.specs.declared.status.Status.TheVariants.{Done, Bad, Usage, Refused, SourceFailed, SinkFailed, OutOfMemory}
 use Rattle.rc_answer.specs.declared.status.Stop.{Stop}
@@ -115,15 +117,15 @@ verdict_ends : (verdict : Verdict) → IsWritten (verdict_status verdict)
 verdict_ends (verdicts.Legal entries) = tt
 verdict_ends (verdicts.Bad line) = tt
 
-written_part : (spec : Spec) (past_end : ℕ) (found : Result WorkPart Broken) (text : List ℕ) (status : Status) → AnswersPart spec past_end found text status → IsWritten status
-written_part spec past_end (Err broken) text status is = subst IsWritten (sym is.1) tt
-written_part spec past_end (Ok part) text status is = subst IsWritten (sym is.written.1) (verdict_ends is.verdict)
+written_part : (form : Form) (spec : Spec) (past_end : ℕ) (found : Result WorkPart Broken) (text : List ℕ) (status : Status) → AnswersPart form spec past_end found text status → IsWritten status
+written_part form spec past_end (Err broken) text status is = subst IsWritten (sym is.1) tt
+written_part form spec past_end (Ok part) text status is = subst IsWritten (sym is.written.1) (verdict_ends is.verdict)
 
-written_audit : (input : List ℕ) (reading : Result Reading Broken) (text : List ℕ) (status : Status) → AnswersAudit input reading text status → IsWritten status
-written_audit input (Err broken) text status is = subst IsWritten (sym is.1) tt
-written_audit input (Ok reading) text status (inl (accepted, is)) =
-    written_part reading.spec (past_end_of input) (part_reading Nothing reading.spec (place_after input reading)) text status is
-written_audit input (Ok reading) text status (inr (refusal, first, is)) = subst IsWritten (sym is.1) tt
+written_audit : (form : Form) (input : List ℕ) (reading : Result Reading Broken) (text : List ℕ) (status : Status) → AnswersAudit form input reading text status → IsWritten status
+written_audit form input (Err broken) text status is = subst IsWritten (sym is.1) tt
+written_audit form input (Ok reading) text status (inl (accepted, is)) =
+    written_part form reading.spec (past_end_of input) (part_reading Nothing reading.spec (place_after input reading)) text status is
+written_audit form input (Ok reading) text status (inr (refusal, first, is)) = subst IsWritten (sym is.1) tt
 
 -- the status of a command's text
 abbrev EndsBy : TextCommand → Status → Type 0
@@ -132,6 +134,7 @@ EndsBy Plan status = IsDoneOrRefused status
 EndsBy Run status = IsDoneOrRefused status
 EndsBy Group status = IsDoneOrRefused status
 EndsBy Audit status = IsWritten status
+EndsBy AuditJournal status = IsWritten status
 EndsBy Dot status = IsDoneOrRefused status
 EndsBy (DotPlan op) status = IsDoneOrRefused status
 
@@ -140,7 +143,8 @@ written Check input text status is = written_alone (λ spec. IsAcceptedText) (sp
 written Plan input text status is = written_alone IsPlansText (spec_of input) text status (λ spec h. inl (plans_done spec text status h)) is
 written Run input text status is = written_run Nothing input (spec_reading input) text status is
 written Group input text status is = written_run Groups input (spec_reading input) text status is
-written Audit input text status is = written_audit input (spec_reading input) text status is
+written Audit input text status is = written_audit forms.Run input (spec_reading input) text status is
+written AuditJournal input text status is = written_audit forms.Journal input (spec_reading input) text status is
 written Dot input text status is = written_alone IsDrawing (spec_of input) text status (λ spec h. inl (dot_done spec text status h)) is
 written (DotPlan op) input text status is =
     written_alone (IsPlanDrawingNamed op) (spec_of input) text status (λ spec h. drawn_written spec (op_number spec op) text status h) is
@@ -151,6 +155,7 @@ by_written Plan status h = done_or_refused status h
 by_written Run status h = done_or_refused status h
 by_written Group status h = done_or_refused status h
 by_written Audit status h = h
+by_written AuditJournal status h = h
 by_written Dot status h = done_or_refused status h
 by_written (DotPlan op) status h = done_or_refused status h
 
@@ -159,20 +164,21 @@ no_bad (inl e) = cc
 no_bad (inr e) = cc
 
 -- no other command tells of a bad report
-by_bad : (command : TextCommand) → EndsBy command Bad → command ≡ Audit
+by_bad : (command : TextCommand) → EndsBy command Bad → (form : Form) × (command ≡ audit_for form)
 by_bad Check h = absurd (no_bad h)
 by_bad Plan h = absurd (no_bad h)
 by_bad Run h = absurd (no_bad h)
 by_bad Group h = absurd (no_bad h)
-by_bad Audit h = refl
+by_bad Audit h = (forms.Run, refl)
+by_bad AuditJournal h = (forms.Journal, refl)
 by_bad Dot h = absurd (no_bad h)
 by_bad (DotPlan op) h = absurd (no_bad h)
 
-bad_is_audit : (command : TextCommand) (input text : List ℕ) → Answers command input text Bad → command ≡ Audit
+bad_is_audit : (command : TextCommand) (input text : List ℕ) → Answers command input text Bad → (form : Form) × (command ≡ audit_for form)
 bad_is_audit command input text is = by_bad command (written command input text Bad is)
 
 pub bad_ends_audit : (command : TextCommand) (input : List ℕ) (old new : Option (List ℕ)) (r : Result Status Stop) → Writes (Answers command input) old new r
-    → status_of r ≡ Bad → command ≡ Audit
+    → status_of r ≡ Bad → (form : Form) × (command ≡ audit_for form)
 bad_ends_audit command input old new (Ok status) (text, is, adds) e = bad_is_audit command input text (subst (Answers command input text) e is)
 bad_ends_audit command input old new (Err Memory) h e = absurd (let f : OutOfMemory ≡ Bad = e in cc)
 bad_ends_audit command input old new (Err Sink) h e = absurd (let f : SinkFailed ≡ Bad = e in cc)
@@ -279,22 +285,23 @@ refused_verdict : (verdict : Verdict) → Refused ≡ verdict_status verdict →
 refused_verdict (verdicts.Legal entries) e = cc
 refused_verdict (verdicts.Bad line) e = cc
 
-refused_part : (spec : Spec) (past_end : ℕ) (found : Result WorkPart Broken) (text : List ℕ) → IsGoodPart found → AnswersPart spec past_end found text Refused → ⊥
-refused_part spec past_end (Err broken) text good is = absurd good
-refused_part spec past_end (Ok part) text good is = refused_verdict is.verdict is.written.1
+refused_part : (form : Form) (spec : Spec) (past_end : ℕ) (found : Result WorkPart Broken) (text : List ℕ) → IsGoodPart found → AnswersPart form spec past_end found text Refused → ⊥
+refused_part form spec past_end (Err broken) text good is = absurd good
+refused_part form spec past_end (Ok part) text good is = refused_verdict is.verdict is.written.1
 
-refused_audit : (input : List ℕ) (reading : Result Reading Broken) (text : List ℕ) → IsGoodReadingUpToEnd input reading → AnswersAudit input reading text Refused → ⊥
-refused_audit input (Err broken) text good is = absurd good
-refused_audit input (Ok reading) text good is =
+refused_audit : (form : Form) (input : List ℕ) (reading : Result Reading Broken) (text : List ℕ) → IsGoodReadingUpToEnd input reading → AnswersAudit form input reading text Refused → ⊥
+refused_audit form input (Err broken) text good is = absurd good
+refused_audit form input (Ok reading) text good is =
     let found = part_reading Nothing reading.spec (place_after input reading) in
-    refused_rules reading.spec (AnswersPart reading.spec (past_end_of input) found) text good.0 (refused_part reading.spec (past_end_of input) found text good.1) is
+    refused_rules reading.spec (AnswersPart form reading.spec (past_end_of input) found) text good.0 (refused_part form reading.spec (past_end_of input) found text good.1) is
 
 refused_text : (command : TextCommand) (input text : List ℕ) → KeepsRules command input → Answers command input text Refused → ⊥
 refused_text Check input text good is = refused_alone (λ spec. IsAcceptedText) (spec_of input) text accepted_done good is
 refused_text Plan input text good is = refused_alone IsPlansText (spec_of input) text plans_done good is
 refused_text Run input text good is = refused_run Nothing input (spec_reading input) text good is
 refused_text Group input text good is = refused_run Groups input (spec_reading input) text good is
-refused_text Audit input text good is = refused_audit input (spec_reading input) text good is
+refused_text Audit input text good is = refused_audit forms.Run input (spec_reading input) text good is
+refused_text AuditJournal input text good is = refused_audit forms.Journal input (spec_reading input) text good is
 refused_text Dot input text good is = refused_alone IsDrawing (spec_of input) text dot_done good is
 refused_text (DotPlan op) input text good is = refused_plan op (spec_of input) text good is
 
@@ -304,15 +311,21 @@ done_is_answered Plan = refl
 done_is_answered Run = refl
 done_is_answered Group = refl
 done_is_answered Audit = inl refl
+done_is_answered AuditJournal = inl refl
 done_is_answered Dot = refl
 done_is_answered (DotPlan op) = refl
+
+bad_is_answered : (form : Form) → IsAnswered (audit_for form) Bad
+bad_is_answered forms.Run = inr refl
+bad_is_answered forms.Journal = inr refl
 
 -- a text that keeps all rules is answered, where nothing fails
 pub answered : (command : TextCommand) (input : List ℕ) (old new : Option (List ℕ)) (status : Status) → length input ≤ 2 ^ 24 → KeepsRules command input
     → Ends (IsAnswer command input) old new status → (status ≡ Usage → ⊥) → (status ≡ SourceFailed → ⊥) → (status ≡ SinkFailed → ⊥) → IsAnswered command status ⊎ (status ≡ OutOfMemory)
 answered command input old new Done short good ends usage source sink = inl (done_is_answered command)
 answered command input old new Bad short good (text, is, adds) usage source sink =
-    inl (subst (λ (k : TextCommand). IsAnswered k Bad) (sym (bad_is_audit command input text (is.read short))) (inr refl))
+    let of = bad_is_audit command input text (is.read short) in
+    inl (subst (λ (k : TextCommand). IsAnswered k Bad) (sym of.1) (bad_is_answered of.0))
 answered command input old new Usage short good ends usage source sink = absurd (usage refl)
 answered command input old new Refused short good (text, is, adds) usage source sink = absurd (refused_text command input text good (is.read short))
 answered command input old new SourceFailed short good ends usage source sink = absurd (source refl)

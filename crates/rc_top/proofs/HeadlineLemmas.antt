@@ -1,17 +1,19 @@
 -- A text that was read and answered has the headline.
-use Rattle.std.proofs.Common.{◌≡◌, ◌↔◌, ◌≤◌, ◌^◌, ℕ, List, Option, Some, None, inl, inr, length, refl, sym, subst, ◌∙◌}
+use Rattle.std.proofs.Common.{◌≡◌, ◌↔◌, ◌≤◌, ◌^◌, ℕ, List, Option, Some, None, length, refl, sym, subst}
 use Rattle.std.specs.Prelude.{IfSome, IsSome}
+use Rattle.rc_audit.specs.declared.form.Form.{Form}
+use Rattle.rc_audit.specs.declared.form.Form.TheVariants as forms
 use Rattle.rc_answer.specs.declared.outcome.Outcome.{Outcome}
 use Rattle.rc_answer.specs.declared.outcome.Ran.{Ran}
 use Rattle.rc_answer.specs.declared.status.Status.{Status}
 use Rattle.rc_answer.specs.declared.status.Status.TheVariants.{Done, Bad, Usage, Refused, SourceFailed, SinkFailed, OutOfMemory}
-use Rattle.rc_answer.specs.Answers.{Answers, MakesCalls, also_of}
+use Rattle.rc_answer.specs.Answers.{Answers, MakesCalls, also_of, audit_for}
 use Rattle.rc_answer.specs.Headline.{AuditHeadline, CheckHeadline, Headline}
 use Rattle.rc_answer.specs.HeadlineLaws.{audit_headline, check_headline, headline}
 use Rattle.rc_answer.specs.Ran.{HasRunText}
 use Rattle.rc_answer.specs.Writes.{WritesWhole}
 use Rattle.rc_command.specs.declared.command.TextCommand.{TextCommand}
-use Rattle.rc_command.specs.declared.command.TextCommand.TheVariants.{Audit, Check, Run, Group}
+use Rattle.rc_command.specs.declared.command.TextCommand.TheVariants.{Check, Run, Group}
 use Rattle.rc_top.specs.Answer.{IsAnswer}
 use Rattle.rc_top.specs.Ends.{Ends}
 use Rattle.rc_top.proofs.EndLemmas.{IsWritten}
@@ -25,6 +27,11 @@ whole A old new Refused written ends = ends
 whole A old new SourceFailed written ends = absurd written
 whole A old new SinkFailed written ends = absurd written
 whole A old new OutOfMemory written ends = absurd written
+
+-- a judge makes no calls of a workload
+no_calls : (form : Form) → MakesCalls (audit_for form) → ⊥
+no_calls forms.Run calls = calls
+no_calls forms.Journal calls = calls
 
 no_run : (o : Option Ran) → (IsSome o → ⊥) → o ≡ None
 no_run None h = refl
@@ -55,7 +62,7 @@ module _ (command : TextCommand) (input : List ℕ) (old new : Option (List ℕ)
       check_headline old new outcome (no_run outcome.ran (λ some. subst MakesCalls is (has.0 some).0)) input
       (subst (λ (k : TextCommand). WritesWhole (Answers k input) old new outcome.status) is answers)
 
-  pub judged_headline : command ≡ Audit → AuditHeadline input old new outcome
-  judged_headline is =
-      audit_headline old new outcome (no_run outcome.ran (λ some. subst MakesCalls is (has.0 some).0)) input
+  pub judged_headline : (form : Form) → command ≡ audit_for form → AuditHeadline form input old new outcome
+  judged_headline form is =
+      audit_headline old new outcome (no_run outcome.ran (λ some. no_calls form (subst MakesCalls is (has.0 some).0))) form input
       (subst (λ (k : TextCommand). WritesWhole (Answers k input) old new outcome.status) is answers)

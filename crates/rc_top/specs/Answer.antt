@@ -13,7 +13,7 @@ use Rattle.rc_work.specs.Ranking.{work_reading}
 use Rattle.rc_answer.specs.Answers.{Answers, IsSizeRefusal}
 use Rattle.rc_work.specs.WholeText.{place_after}
 use Rattle.rc_command.specs.declared.command.TextCommand.{TextCommand}
-use Rattle.rc_command.specs.declared.command.TextCommand.TheVariants.{Check, Plan, Run, Group, Audit, Dot, DotPlan}
+use Rattle.rc_command.specs.declared.command.TextCommand.TheVariants.{Check, Plan, Run, Group, Audit, AuditJournal, Dot, DotPlan}
 use Rattle.rc_answer.specs.declared.status.Status.{Status}
 use Rattle.rc_answer.specs.declared.status.Status.TheVariants.{Done, Bad}
 
@@ -54,6 +54,7 @@ KeepsRules Plan input = IsGoodSpec (spec_of input)
 KeepsRules Run input = IsGoodReading Nothing input (spec_reading input)
 KeepsRules Group input = IsGoodReading Groups input (spec_reading input)
 KeepsRules Audit input = IsGoodReadingUpToEnd input (spec_reading input)
+KeepsRules AuditJournal input = IsGoodReadingUpToEnd input (spec_reading input)
 KeepsRules Dot input = IsGoodSpec (spec_of input)
 KeepsRules (DotPlan op) input = IsGoodSpecWith op (spec_of input)
 
@@ -64,6 +65,7 @@ IsAnswered Plan status = status ≡ Done
 IsAnswered Run status = status ≡ Done
 IsAnswered Group status = status ≡ Done
 IsAnswered Audit status = (status ≡ Done) ⊎ (status ≡ Bad)
+IsAnswered AuditJournal status = (status ≡ Done) ⊎ (status ≡ Bad)
 IsAnswered Dot status = status ≡ Done
 IsAnswered (DotPlan op) status = status ≡ Done
 

@@ -5,10 +5,11 @@ ghost use Rattle.rc_io.specs.Counts.{Rose};
 ghost use Rattle.rc_top.specs.Answer.{IsAnswer, IsAnswered, KeepsRules};
 ghost use Rattle.rc_top.specs.Asks.{HasRead, LeavesAllBut, MakesRun, ReadsNothing, also_asked};
 ghost use Rattle.rc_top.specs.Ends.{Ends, EndsBig, EndsUsage, status_of};
-ghost use Rattle.rc_answer.specs.Answers.{MakesCalls, also_of};
+ghost use Rattle.rc_answer.specs.Answers.{MakesCalls, also_of, audit_for};
 ghost use Rattle.rc_answer.specs.Big.{HasSummaryText};
 ghost use Rattle.rc_answer.specs.Headline.{AuditHeadline, CheckHeadline, Headline};
 ghost use Rattle.rc_answer.specs.Ran.{HasRunText, IsOneHistory, ran_in, status_in};
+ghost use Rattle.rc_audit.specs.declared.form.Form.{Form};
 ghost use Rattle.rc_command.specs.Command.{command_of};
 ghost use Rattle.rc_command.specs.declared.command.Command.TheVariants.{Big, OfText};
 ghost use Rattle.rc_command.specs.declared.command.TextCommand.{TextCommand};
@@ -36,7 +37,7 @@ use std::thread::Threads;
 /// journal that is a run of the workload and of the rows of its replay. `group` is `run` on a workload in which calls may
 /// stand in groups, each of which is one entry of the journal. `audit` reads a workload up to its `end`, and writes `legal N`
 /// exactly where the lines behind that are what `run` may print for the text up to there, with N entries, and else
-/// `bad line L` for the first line with which no such text begins. Where a rule is broken, each writes the refusal of the first, where no operation has the name `refused operation`, and of more than 2^24 bytes `refused size`. `big`
+/// `bad line L` for the first line with which no such text begins; `audit bare` does so with the journal alone. Where a rule is broken, each writes the refusal of the first, where no operation has the name `refused operation`, and of more than 2^24 bytes `refused size`. `big`
 /// writes the summary of the workload that the seed generates, which is that of one thread that makes the calls in
 /// order. Other words write the usage line.
 ///
@@ -64,8 +65,8 @@ pub fn relc<R: Threads + Wait + Sync, S: Source, K: Sink, G: Gate + Sync>(
         → EndsUsage (K.held sink.old) (K.held sink.new) result.status }
     ensures only_usage { result.status ≡ Status.Usage
         → command_of (map string_bytes words.now) ≡ None }
-    ensures only_audit { result.status ≡ Status.Bad
-        → command_of (map string_bytes words.now) ≡ Some (OfText commands.Audit) }
+    ensures only_audit { result.status ≡ Status.Bad → (form : Form)
+        × (command_of (map string_bytes words.now) ≡ Some (OfText (audit_for form))) }
     ensures untouched { ReadsNothing (command_of (map string_bytes words.now))
         → source.new ≡ source.old }
 
@@ -83,10 +84,11 @@ pub fn relc<R: Threads + Wait + Sync, S: Source, K: Sink, G: Gate + Sync>(
         → (input : List ℕ) → S.left source.old ≡ Some input → length input ≤ 2 ^ 24
         → (result.status ≡ Status.Done) ⊎ (result.status ≡ Status.Refused)
         → CheckHeadline input (K.held sink.old) (K.held sink.new) result }
-    ensures audit_headline { command_of (map string_bytes words.now) ≡ Some (OfText commands.Audit)
+    ensures audit_headline { (form : Form)
+        → command_of (map string_bytes words.now) ≡ Some (OfText (audit_for form))
         → (input : List ℕ) → S.left source.old ≡ Some input → length input ≤ 2 ^ 24
         → (result.status ≡ Status.Done) ⊎ ((result.status ≡ Status.Bad) ⊎ (result.status ≡ Status.Refused))
-        → AuditHeadline input (K.held sink.old) (K.held sink.new) result }
+        → AuditHeadline form input (K.held sink.old) (K.held sink.new) result }
 
     // What is written of told bytes, how many are taken, and what is left of them.
     ensures answers { (command : TextCommand)
@@ -230,7 +232,7 @@ fn answer_text<R: Threads + Wait + Sync, S: Source, K: Sink, G: Gate + Sync>(
     ensures left { (input : List ℕ) → S.left source.old ≡ Some input → HasRead result.status
         → S.left source.new ≡ Some (drop (2 ^ 24 + 1) input) }
     ensures not_usage { result.status ≡ Status.Usage → ⊥ }
-    ensures only_audit { result.status ≡ Status.Bad → command ≡ commands.Audit }
+    ensures only_audit { result.status ≡ Status.Bad → (form : Form) × (command ≡ audit_for form) }
     ensures has_ran { IsSome result.ran ↔ MakesCalls command × (result.status ≡ Status.Done) }
     ensures history { IfSome result.ran (IsOneHistory (also_of command)) }
     ensures report { (input : List ℕ) → S.left source.old ≡ Some input → IfSome result.ran

@@ -22,8 +22,8 @@ returns-clause-written g c =
     let work = c.in-Ok-read_work_part.read.0 in
     let behind = c.in-Ok-read_work_part.read.1 in
     let read = subst (λ (s : Spec). ReadsPart text c.in-Ok.read.1.version (Ok (work, behind)) (part_reading Nothing s (rest_place text c.in-Ok.read.1))) c.spec.ensures.value c.in-Ok-read_work_part.ensures.exact in
-    writes_wider (IsJudgement spec work (past_end_of text) (content_from (rest_place text behind))) (AnswersAudit text (spec_reading text)) (g.K.Sink.held c.args.sink.now) (g.K.Sink.held c.write_judgement.new.sink) c.write_judgement.result
-    (judgement_answers text found.0 spec c.in-Ok.read.1 found.1 is accepted read.0 read.1 work behind read.2 read.3) c.write_judgement.ensures.written
+    writes_wider (IsJudgement c.args.form spec work (past_end_of text) (content_from (rest_place text behind))) (AnswersAudit c.args.form text (spec_reading text)) (g.K.Sink.held c.args.sink.now) (g.K.Sink.held c.write_judgement.new.sink) c.write_judgement.result
+    (judgement_answers c.args.form text found.0 spec c.in-Ok.read.1 found.1 is accepted read.0 read.1 work behind read.2 read.3) c.write_judgement.ensures.written
 
 pub returns-in-Err-read_work_part-clause-written : goal.returns-in-Err-read_work_part-clause-written
 returns-in-Err-read_work_part-clause-written g c =
@@ -33,7 +33,7 @@ returns-in-Err-read_work_part-clause-written g c =
     let found = c.in-Ok.ensures.exact in
     let is : IsRead text spec c.in-Ok.read.1 found.0 = subst (λ (s : Spec). IsRead text s c.in-Ok.read.1 found.0) (sym same) found.2 in
     let accepted : IsAccepted spec = subst (λ (s : Spec). IsAccepted s) (sym same) (c.in-Ok-accept.ensures.accepted refl) in
-    part_refusal_answers text found.0 spec c.in-Ok.read.1 found.1 is accepted c.in-Err-read_work_part.refusal
+    part_refusal_answers c.args.form text found.0 spec c.in-Ok.read.1 found.1 is accepted c.in-Err-read_work_part.refusal
     (g.K.Sink.held c.args.sink.now) (g.K.Sink.held c.refuse-in-Err-read_work_part.new.sink) c.refuse-in-Err-read_work_part.result
     (subst (λ (s : Spec). ReadsPart text c.in-Ok.read.1.version (Err c.in-Err-read_work_part.refusal) (part_reading Nothing s (rest_place text c.in-Ok.read.1))) c.spec.ensures.value c.in-Err-read_work_part.ensures.exact)
     c.refuse-in-Err-read_work_part.ensures.written

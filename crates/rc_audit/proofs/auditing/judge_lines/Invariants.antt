@@ -1,10 +1,11 @@
 use Rattle.std.proofs.Common.{◌≡◌, ◌++◌, List, length}
 use Rattle.rc_text.specs.Lines.{ContentLine, bytes_of_content, content_from}
-use Rattle.rc_audit.specs.Judging.{HasPassed, judged_plans, judged_work}
+use Rattle.rc_audit.specs.Judging.{HasPassed, judged_form, judged_plans, judged_work}
 use Rattle.rc_audit.proofs.auditing.judge_lines.Given as goal
 
 abbrev pub invariant-loop-line : goal.invariant-loop-line
 invariant-loop-line l = record {
+  form_is : judged_form l.judge ≡ judged_form l.fn.judge;
   compiled_is : judged_plans l.judge ≡ judged_plans l.fn.judge;
   work_is : judged_work l.judge ≡ judged_work l.fn.judge;
   text : l.lines.text ≡ l.fn.lines.text;

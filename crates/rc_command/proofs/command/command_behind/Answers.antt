@@ -2,7 +2,7 @@ use Rattle.std.proofs.Common.{◌∙◌, List, ℕ, codes, sym, ap, ap₂}
 use Rattle.std.proofs.lemmas.Result.{IfOk-weaker}
 use Rattle.clap.specs.Words.{found_of, rows_of}
 use Rattle.clap.proofs.WalkLemmas.{first_value-rows}
-use Rattle.rc_command.specs.Grammar.{big_words, dot_words, met_as}
+use Rattle.rc_command.specs.Grammar.{audit_words, big_words, dot_words, met_as}
 use Rattle.rc_command.proofs.command.command_behind.Goals as goal
 
 pub returns-in-big-clause-value : goal.returns-in-big-clause-value
@@ -17,3 +17,9 @@ returns-in-dot-clause-value c =
     IfOk-weaker c.dot_met.result _ _
     (λ r h. h ∙ ap dot_words (first_value-rows found (codes "OP")) ∙ ap (λ (name : List ℕ). met_as name (rows_of found)) (sym c.in-dot.is))
     c.dot_met.ensures.value
+
+pub returns-in-audit-clause-value : goal.returns-in-audit-clause-value
+returns-in-audit-clause-value c =
+    let found = found_of c.args.inner.now in
+    c.audit_met.ensures.value ∙ ap audit_words (first_value-rows found (codes "FORM"))
+    ∙ ap (λ (name : List ℕ). met_as name (rows_of found)) (sym c.in-audit.is)

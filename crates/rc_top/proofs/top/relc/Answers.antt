@@ -1,11 +1,11 @@
 use Rattle.std.proofs.Common.{◌≡◌, Some, None, ap, sym, ◌∙◌, subst}
 use Rattle.std.specs.Prelude.{◌⊎◌, IfSome}
 use Rattle.rc_answer.specs.declared.outcome.Outcome.{Outcome}
-use Rattle.rc_answer.specs.Answers.{also_of}
+use Rattle.rc_answer.specs.Answers.{also_of, audit_for}
 use Rattle.rc_answer.specs.Ran.{HasRunText}
 use Rattle.rc_command.specs.declared.command.Command.TheVariants.{Big, OfText}
 use Rattle.rc_command.specs.declared.command.TextCommand.{TextCommand}
-use Rattle.rc_command.specs.declared.command.TextCommand.TheVariants.{Audit, Check, Run, Group}
+use Rattle.rc_command.specs.declared.command.TextCommand.TheVariants.{Check, Run, Group}
 use Rattle.rc_top.specs.Answer.{IsAnswered, KeepsRules}
 use Rattle.rc_answer.specs.declared.status.Status.{Status}
 use Rattle.rc_answer.specs.declared.status.Status.TheVariants.{OutOfMemory}
@@ -39,15 +39,18 @@ returns-in-Ok-Some-OfText-clause-check_headline g c = λ named input told short 
     (sym (ap Some c.in-Ok-Some-OfText.field-0-0-is) ∙ sym c.in-Ok-Some-OfText.field-0-is ∙ c.in-Ok-Some-OfText.ensures.value ∙ named))
 
 pub returns-in-Ok-Some-OfText-clause-audit_headline : goal.returns-in-Ok-Some-OfText-clause-audit_headline
-returns-in-Ok-Some-OfText-clause-audit_headline g c = λ named input told short written.
+returns-in-Ok-Some-OfText-clause-audit_headline g c = λ form named input told short written.
     judged_headline c.in-Ok-Some-OfText.command input (g.K.Sink.held c.args.sink.now) (g.K.Sink.held c.answer_text.new.sink) c.answer_text.result
     short (done_bad_or_refused c.answer_text.result.status written) (c.answer_text.ensures.answers input told) c.answer_text.ensures.has_ran
-    (one_command c.in-Ok-Some-OfText.command Audit
+    form (one_command c.in-Ok-Some-OfText.command (audit_for form)
     (sym (ap Some c.in-Ok-Some-OfText.field-0-0-is) ∙ sym c.in-Ok-Some-OfText.field-0-is ∙ c.in-Ok-Some-OfText.ensures.value ∙ named))
 
 pub returns-in-Ok-Some-OfText-clause-only_audit : goal.returns-in-Ok-Some-OfText-clause-only_audit
 returns-in-Ok-Some-OfText-clause-only_audit g c = λ is.
-    sym c.in-Ok-Some-OfText.ensures.value ∙ c.in-Ok-Some-OfText.field-0-is ∙ ap Some (c.in-Ok-Some-OfText.field-0-0-is ∙ ap OfText (c.answer_text.ensures.only_audit is))
+    let of = c.answer_text.ensures.only_audit is in (
+      of.0,
+      sym c.in-Ok-Some-OfText.ensures.value ∙ c.in-Ok-Some-OfText.field-0-is ∙ ap Some (c.in-Ok-Some-OfText.field-0-0-is ∙ ap OfText of.1),
+    )
 
 pub returns-in-Ok-Some-OfText-clause-complete : goal.returns-in-Ok-Some-OfText-clause-complete
 returns-in-Ok-Some-OfText-clause-complete g c = λ command named input told short good no_source no_sink.
@@ -100,8 +103,8 @@ returns-in-Ok-Some-Big-clause-check_headline g c = λ named input told short wri
     absurd cc
 
 pub returns-in-Ok-Some-Big-clause-audit_headline : goal.returns-in-Ok-Some-Big-clause-audit_headline
-returns-in-Ok-Some-Big-clause-audit_headline g c = λ named input told short written.
-    let e : Some (Big c.in-Ok-Some-Big.seed c.in-Ok-Some-Big.calls) ≡ Some (OfText Audit) =
+returns-in-Ok-Some-Big-clause-audit_headline g c = λ form named input told short written.
+    let e : Some (Big c.in-Ok-Some-Big.seed c.in-Ok-Some-Big.calls) ≡ Some (OfText (audit_for form)) =
     sym (ap Some c.in-Ok-Some-Big.field-0-0-is) ∙ sym c.in-Ok-Some-Big.field-0-is ∙ c.in-Ok-Some-Big.ensures.value ∙ named in
     absurd cc
 
@@ -125,8 +128,8 @@ returns-in-Ok-None-clause-check_headline g c = λ named input told short written
     absurd cc
 
 pub returns-in-Ok-None-clause-audit_headline : goal.returns-in-Ok-None-clause-audit_headline
-returns-in-Ok-None-clause-audit_headline g c = λ named input told short written.
-    let e : None ≡ Some (OfText Audit) = sym c.in-Ok-None.field-0-is ∙ c.in-Ok-None.ensures.value ∙ named in
+returns-in-Ok-None-clause-audit_headline g c = λ form named input told short written.
+    let e : None ≡ Some (OfText (audit_for form)) = sym c.in-Ok-None.field-0-is ∙ c.in-Ok-None.ensures.value ∙ named in
     absurd cc
 
 pub returns-in-Ok-None-clause-only_audit : goal.returns-in-Ok-None-clause-only_audit

@@ -1,4 +1,4 @@
-use Rattle.std.proofs.Common.{◌++◌, ◌∷◌, [], Bool}
+use Rattle.std.proofs.Common.{◌++◌, ◌∷◌, [], Bool, arith}
 use Rattle.std.proofs.lemmas.Result.{err_from_is_err_and}
 use Rattle.rc_audit.specs.declared.stage.Stage.TheVariants as stages
 use Rattle.rc_audit.specs.Judging.{HasPassed, IsAmong}
@@ -11,7 +11,7 @@ pub returns-in_err-meet_line-in-Opening-clause-judged : goal.returns-in_err-meet
 returns-in_err-meet_line-in-Opening-clause-judged c = λ front passed.
     let refused = err_from_is_err_and c.from_residual.result c.from_residual.ensures.1 in
     rw (refused.1, refused.2)
-    (meet_err Bool c.args.self.now.compiled.now c.args.self.now.work.now front c.args.line.now _
+    (meet_err Bool c.args.self.now.form c.args.self.now.compiled.now c.args.self.now.work.now front c.args.line.now _
     (HasPassed (record c.args.self.now { stage = stages.Opening c.meet_line.new.self }) (front ++ c.args.line.now ∷ [])) _ c.in_err-meet_line-in-Opening.ensures.met
     (opening_is_bad c.args.self.now c.in-Opening.opening c.args.line.now front c.in-Opening.is passed))
 
@@ -33,19 +33,32 @@ returns-in_ok-self-in-Opening-clause-judged c = λ front passed. record {
 
 pub returns-in_err-judge_line-in-Entries-clause-judged : goal.returns-in_err-judge_line-in-Entries-clause-judged
 returns-in_err-judge_line-in-Entries-clause-judged c = λ front passed.
+    let form = c.args.self.now.form in
     let compiled = c.args.self.now.compiled.now in
     let work = c.args.self.now.work.now in
     let refused = err_from_is_err_and c.from_residual-in_err-judge_line-in-Entries.result c.from_residual-in_err-judge_line-in-Entries.ensures.1 in
     rw (refused.1, refused.2)
-    (judges_err compiled work front c.args.line.now (IsAmong compiled work c.judge_line.new.relation c.judge_line.new.self (front ++ c.args.line.now ∷ []))
+    (judges_err form compiled work front c.args.line.now (IsAmong form compiled work c.judge_line.new.relation c.judge_line.new.self (front ++ c.args.line.now ∷ []))
     (HasPassed (record c.args.self.now { relation = c.judge_line.new.relation; stage = stages.Entries c.judge_line.new.self }) (front ++ c.args.line.now ∷ [])) _
-    (c.in_err-judge_line-in-Entries.ensures front (among_at c.args.self.now c.in-Entries.entries front c.in-Entries.is passed)))
+    (c.in_err-judge_line-in-Entries.ensures form front (among_at c.args.self.now c.in-Entries.entries front c.in-Entries.is passed)))
+
+pub has_some_left-requires : goal.has_some_left-requires
+has_some_left-requires c =
+    (c.in_ok-judge_line-in-Entries.ensures c.args.self.now.form c.requires.0
+    (among_at c.args.self.now c.in-Entries.entries c.requires.0 c.in-Entries.is c.requires.1)).within
+
+pub overflow_add-next : goal.overflow_add-next
+overflow_add-next c =
+    let within = (c.in_ok-judge_line-in-Entries.ensures c.args.self.now.form c.requires.0
+    (among_at c.args.self.now c.in-Entries.entries c.requires.0 c.in-Entries.is c.requires.1)).within in
+    let few = c.requires.1.judgeable.limits.few_rounds in
+    omega (arith, within, few)
 
 pub stage_from-requires-then-not-has_some_left-clause-before : goal.stage_from-requires-then-not-has_some_left-clause-before
 stage_from-requires-then-not-has_some_left-clause-before c = (
   c.requires.0 ++ c.args.line.now ∷ [],
-  among_before c.args.self.now.compiled.now c.args.self.now.work.now c.requires.1.judgeable c.judge_line.new.relation c.judge_line.new.self (c.requires.0 ++ c.args.line.now ∷ [])
-      (c.in_ok-judge_line-in-Entries.ensures c.requires.0 (among_at c.args.self.now c.in-Entries.entries c.requires.0 c.in-Entries.is c.requires.1))
+  among_before c.args.self.now.form c.args.self.now.compiled.now c.args.self.now.work.now c.requires.1.judgeable c.judge_line.new.relation c.judge_line.new.self (c.requires.0 ++ c.args.line.now ∷ [])
+      (c.in_ok-judge_line-in-Entries.ensures c.args.self.now.form c.requires.0 (among_at c.args.self.now c.in-Entries.entries c.requires.0 c.in-Entries.is c.requires.1))
       (c.has_some_left.ensures.no c.if-not-has_some_left.true),
 )
 
@@ -54,7 +67,7 @@ returns-in_ok-self-in-Entries-clause-judged c = λ front passed. record {
   judgeable = passed.judgeable;
   stage_is =
       c.in_ok-self-in-Entries.ensures (front ++ c.args.line.now ∷ [])
-      (among_before c.args.self.now.compiled.now c.args.self.now.work.now passed.judgeable c.judge_line.new.relation c.judge_line.new.self (front ++ c.args.line.now ∷ [])
-      (c.in_ok-judge_line-in-Entries.ensures front (among_at c.args.self.now c.in-Entries.entries front c.in-Entries.is passed))
+      (among_before c.args.self.now.form c.args.self.now.compiled.now c.args.self.now.work.now passed.judgeable c.judge_line.new.relation c.judge_line.new.self (front ++ c.args.line.now ∷ [])
+      (c.in_ok-judge_line-in-Entries.ensures c.args.self.now.form front (among_at c.args.self.now c.in-Entries.entries front c.in-Entries.is passed))
       (c.has_some_left.ensures.no c.if-not-has_some_left.true));
 }

@@ -1,27 +1,30 @@
-use Rattle.std.proofs.Common.{◌<◌, ◌≤◌, [], get_or, length, refl, sym, ap, subst, ◌∙◌, arith}
+use Rattle.std.proofs.Common.{◌<◌, ◌≤◌, [], get_or, length, refl, ap, subst, ◌∙◌, arith}
 use Rattle.std.proofs.lemmas.List.{get_or_default}
 use Rattle.rc_tuple.specs.RisingSetLaws.{each_in, get_or_in}
 use Rattle.rc_rel.specs.History.{replay}
 use Rattle.rc_work.specs.Made.{HasTurnsBelow}
 use Rattle.rc_audit.specs.Cursors.{HaveBegun}
 use Rattle.rc_audit.specs.Judging.{IsFirstFilled, round_at}
-use Rattle.rc_audit.specs.Keeping.{Keeps}
 use Rattle.rc_audit.proofs.StageLemmas.{among_first, closing_first, some_first}
 use Rattle.rc_audit.proofs.judge.Judge.stage_from.Goals as goal
 
+pub tail-requires : goal.tail-requires
+tail-requires c = (replay c.args.self.now.compiled.now.spec c.requires.before.1.done, c.requires.before.1.keeps)
+
 pub returns : goal.returns
 returns c = λ front before.
+    let form = c.args.self.now.form in
     let compiled = c.args.self.now.compiled.now in
     let work = c.args.self.now.work.now in
     let first = subst (λ rs. IsFirstFilled rs c.args.number c.first_filled-round.result) c.list-rounds.ensures c.first_filled-round.ensures in
     let count = ap length c.list-rounds.ensures in
     let past : length work.rounds ≤ c.first_filled-round.result = let none = c.if-round-rounds.false in omega (arith, none, count) in
-    let kept = subst (λ s. Keeps s c.args.self.now.relation (replay compiled.spec before.done)) (sym c.accepted-accepted.ensures.value) before.keeps in
-    closing_first compiled work c.requires.judgeable c.args.self.now.relation c.args.number c.args.place front before c.first_filled-round.result first _
-    past (c.in_ok-tuples.ensures (replay compiled.spec before.done) kept) refl refl
+    closing_first form compiled work c.requires.judgeable c.args.self.now.relation c.args.number c.args.place front before c.first_filled-round.result first _
+    past (c.in_ok-tail.ensures (replay compiled.spec before.done) before.keeps) refl refl
 
 pub returns-then-round-rounds : goal.returns-then-round-rounds
 returns-then-round-rounds c = λ front before.
+    let form = c.args.self.now.form in
     let compiled = c.args.self.now.compiled.now in
     let work = c.args.self.now.work.now in
     let next = c.first_filled-round.result in
@@ -32,6 +35,6 @@ returns-then-round-rounds c = λ front before.
     ∙ get_or_default work.rounds next c.index-rounds-round.result [] within in
     let begun = subst (λ ts. HaveBegun ts work.threads c.in_ok-first_cursors.field-0.items) here c.in_ok-first_cursors.ensures in
     let below = each_in (HasTurnsBelow work.threads) work.rounds c.requires.judgeable.threads (round_at work next) (get_or_in work.rounds next [] within) in (
-      among_first compiled work c.requires.judgeable c.args.self.now.relation c.args.number c.args.place front before next first _ refl refl within begun,
+      among_first form compiled work c.requires.judgeable c.args.self.now.relation c.args.number c.args.place front before next first _ refl refl within begun,
       some_first work (round_at work next) work.threads c.in_ok-first_cursors.field-0.items begun below (first.filled within),
     )

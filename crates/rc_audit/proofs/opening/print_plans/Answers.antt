@@ -3,7 +3,7 @@ use Rattle.std.specs.Prelude.{codes}
 use Rattle.rc_spec.specs.Placement.{op_at}
 use Rattle.rc_plan.specs.PlanText.{statement_text}
 use Rattle.rc_audit.proofs.OpeningLemmas.{first_more}
-use Rattle.rc_audit.proofs.opening.Opening.new.Goals as goal
+use Rattle.rc_audit.proofs.opening.print_plans.Goals as goal
 
 pub loop-op-preserved : goal.loop-op-preserved
 loop-op-preserved c =
