@@ -12,8 +12,8 @@ use rc_spec::{Accepted, OpKind};
 use rc_tuple::Memory;
 use std::alloc::Global;
 
-/// The plan of an operation, by its number.
-fn plan_op(alloc: Global, accepted: &Accepted, op: u8) -> Result<Plan, Memory>
+/// The plan that the planning rules give an operation, by its number. It keeps K1 to K7.
+pub fn plan_op(alloc: Global, accepted: &Accepted, op: u8) -> Result<Plan, Memory>
     requires { op < length accepted.now.ops }
     ensures planned { IfOk result (IsPlanned accepted.now (op_at accepted.now op)) }
     ensures accepted { IfOk result (IsPlanOf accepted.now op) }

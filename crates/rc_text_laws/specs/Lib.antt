@@ -10,6 +10,9 @@ pub mod LineFormLaws
 pub mod LineLaws
 pub mod LinesLaws
 pub mod NumberedLaws
+pub mod PlansLaws
+pub mod PlansRead
+pub mod PrintedStatementsLaws
 pub mod QuotableLaws
 pub mod ReadLaws
 pub mod RepliesLaws

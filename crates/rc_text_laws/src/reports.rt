@@ -1,6 +1,6 @@
 //! What a reader may conclude from a printed report.
 
-ghost use Rattle.rc_text_laws.specs.AuditsLaws.{AuditsAreOne, RunLinesAreWritten, RunsAreLegal};
+ghost use Rattle.rc_text_laws.specs.AuditsLaws.{AuditsAreOne, JournalsAreLegal, RunLinesAreWritten, RunsAreLegal};
 ghost use Rattle.rc_text_laws.specs.HistoriesLaws.{OneReportOneHistory};
 ghost use Rattle.rc_text_laws.specs.LegalLaws.{OneReportOneJournal};
 ghost use Rattle.rc_text_laws.specs.QuotableLaws.{TextsAreQuotable};
@@ -69,7 +69,16 @@ pub fn runs_are_legal()
     ensures { RunsAreLegal }
 {}
 
+/// So is the journal in it, alone. What `run` may write for such an input is the lines of the plans,
+/// of the journal and of the final relation; and `audit bare` finds the journal's legal, from the
+/// number of its entries to its last entry and with `end` behind them, where they stand behind the
+/// input.
+pub fn journals_are_legal()
+    ensures { JournalsAreLegal }
+{}
+
 /// `audit` may write one text for an input, with one status: a text has one verdict, or one refusal.
+/// So may `audit bare`.
 pub fn audits_are_one()
     ensures { AuditsAreOne }
 {}

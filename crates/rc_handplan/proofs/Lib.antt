@@ -1,0 +1,5 @@
+pub mod ColumnLemmas
+pub mod CompilingLemmas
+pub mod LastLemmas
+pub mod ReadingLemmas
+pub mod WordLemmas

@@ -1,0 +1,12 @@
+use Rattle.std.proofs.Common.{◌≡◌, drop}
+use Rattle.rc_reader.specs.Forms.{texts}
+use Rattle.rc_spec.specs.Names.{column_names}
+use Rattle.rc_handplan.specs.Statements.{columns_named}
+use Rattle.rc_handplan.proofs.ColumnLemmas.{columns_from}
+use Rattle.rc_handplan.proofs.statements.columns_named.Given as goal
+
+-- what the words that are left make of the columns so far is what all words name
+abbrev pub invariant-loop-word : goal.invariant-loop-word
+invariant-loop-word l =
+    columns_from (column_names l.spec.columns) l.columns (texts (drop l.word-index l.words))
+    ≡ columns_named l.spec (texts l.words)

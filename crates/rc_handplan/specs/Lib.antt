@@ -1,0 +1,14 @@
+pub mod Answers
+pub mod Chosen
+pub mod ChosenLaws
+pub mod FirstBroken
+pub mod FirstBrokenLaws
+pub mod Forms
+pub mod HandGrammar
+pub mod HandGrammarLaws
+pub mod Hands
+pub mod HandsLaws
+pub mod RuleText
+pub mod Starts
+pub mod StartsLaws
+pub mod Statements
