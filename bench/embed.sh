@@ -1,7 +1,8 @@
 #!/bin/sh
 # Calls on a store in another program: through bindings/rust and through bindings/c, beside a store
-# with striped locks that is written by hand (peers/store.rs), and maps under one RwLock. All make
-# the same calls. Build first: bindings/build.sh
+# with striped locks that is written by hand (peers/store.rs), and maps under one RwLock; where they
+# are there, also beside a container of Boost.MultiIndex under one lock, and a table of SQLite in
+# memory. All make the same calls. Build first: bindings/build.sh
 #
 #     sh bench/embed.sh
 #
@@ -22,8 +23,12 @@ ${CC:-cc} -std=c11 -D_DEFAULT_SOURCE -O2 -Wall -Wextra -I"$here/../bindings/c" \
     -o "$folder/calls" "$here/peers/calls.c" "$library/librelc.a" -lpthread || exit 1
 (cd "$here/../bindings/rust" &&
     cargo build --quiet --offline --release --example calls --target-dir "$folder/target") || exit 1
+printf '#include <boost/multi_index_container.hpp>\n' | c++ -x c++ -fsyntax-only - 2>/dev/null &&
+    c++ -std=c++17 -O2 -Wall -Wextra -o "$folder/multi_index" "$here/peers/multi_index.cpp" -lpthread
+printf '#include <sqlite3.h>\n' | ${CC:-cc} -x c -fsyntax-only - 2>/dev/null &&
+    ${CC:-cc} -std=c11 -D_DEFAULT_SOURCE -O2 -Wall -Wextra -o "$folder/sqlite" "$here/peers/sqlite.c" -lsqlite3 -lpthread
 python3 - "$folder" "$here/split.relc" "${RUNS:-5}" "${NODES:-256}" "${CALLS:-20000}" <<'END_OF_PYTHON'
-import subprocess, sys
+import os, subprocess, sys
 
 folder, text = sys.argv[1:3]
 runs, nodes, calls = sys.argv[3:]
@@ -33,6 +38,10 @@ PROGRAMS = [
     [f"{folder}/calls", text, nodes, calls],
 ]
 HOW = ["by hand", "one lock", "through Rust", "through C"]
+for name, how in [("multi_index", "MultiIndex"), ("sqlite", "SQLite")]:
+    if os.path.exists(f"{folder}/{name}"):
+        PROGRAMS.append([f"{folder}/{name}", nodes, calls])
+        HOW.append(how)
 
 
 def figures(words):

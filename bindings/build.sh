@@ -4,6 +4,9 @@
 # fresh clone, and no source of theirs is newer, rc_c alone is proved again. Else `rt lib` first
 # proves the libraries that it has none of, or none of these sources, which takes long. With
 # RELC_ARCHIVE=FILE an archive is taken that was made before. Wants the kit, a C compiler and `ar`.
+#
+# With the word --check it also makes librelc-check.a, which tells handles that are used wrongly
+# (c/check.c), and wants `objcopy` too.
 set -e
 here=$(CDPATH= cd -- "$(dirname "$0")" && pwd)
 crates=$here/../crates
@@ -81,3 +84,13 @@ ${CC:-cc} -shared -o "$out/librelc.so" -Wl,-soname,librelc.so."$version" -Wl,--v
     -Wl,-z,defs -Wl,--whole-archive "$out/librelc.a" -Wl,--no-whole-archive -lpthread
 # (a copy and no link, which rt ci takes for no file of the repository)
 cp "$out/librelc.so" "$out/librelc.so.$version"
+
+[ "$1" = --check ] || exit 0
+# What the proved archive and close.c export is named otherwise, and check.c has the names. relc_wait.c calls by them.
+sed -n 's/^\(uint32_t\|void\) relc_\([a-z_]*\)(.*/relc_\2 relc_unchecked_\2/p' "$here/c/relc.h" |
+    grep -v '^relc_version ' >"$out/unchecked"
+cp "$archive" "$out/unchecked.a"
+ar rs "$out/unchecked.a" "$out/close.o" "$out/heap.o"
+objcopy --redefine-syms="$out/unchecked" "$out/unchecked.a" "$out/librelc-check.a"
+${CC:-cc} -std=c11 -D_POSIX_C_SOURCE=200809L -O2 -fPIC -Wall -Wextra -c "$here/c/check.c" -o "$out/check.o"
+ar rs "$out/librelc-check.a" "$out/check.o" "$out/relc_words.o" "$out/relc_texts.o" "$out/relc_wait.o"

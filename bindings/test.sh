@@ -24,7 +24,12 @@ compile() {
 installed=$(mktemp -d) || exit 1
 trap 'rm -rf "$installed"; echo "$passed passed, $failed failed"' EXIT
 
-run "$here/build.sh" || exit 1
+run "$here/build.sh" --check || exit 1
+# the shared library has each function that a header declares
+sed -n 's/^[a-z].*[ *]\(relc_[a-z_]*\)(.*/\1/p' "$here"/c/relc.h "$here"/c/relc_wait.h "$here"/c/relc_texts.h |
+    sort >"$out/declared"
+nm -D --defined-only "$out/librelc.so" | sed 's/.* //' | grep '^relc_' | sort >"$out/exported"
+run cmp "$out/declared" "$out/exported"
 compile -o "$out/test" "$here/c/test.c" "$out/librelc.a" || exit 1
 run "$out/test"
 compile -o "$out/test-shared" "$here/c/test.c" -L"$out" -lrelc -Wl,-rpath,"$out" || exit 1
@@ -33,6 +38,15 @@ compile -o "$out/wakes" "$here/c/wakes.c" "$out/librelc.a" || exit 1
 run "$out/wakes"
 compile -o "$out/patience" "$here/c/patience.c" "$out/librelc.a" || exit 1
 run "$out/patience"
+compile -o "$out/sessions" "$here/c/sessions.c" "$out/librelc.a" || exit 1
+run "$out/sessions"
+# a library that looks at its handles tells wrong ones, and does what the other one does
+compile -o "$out/wrong" "$here/c/wrong.c" "$out/librelc-check.a" || exit 1
+run "$out/wrong"
+compile -o "$out/test-check" "$here/c/test.c" "$out/librelc-check.a" || exit 1
+run "$out/test-check"
+compile -o "$out/sessions-check" "$here/c/sessions.c" "$out/librelc-check.a" || exit 1
+run "$out/sessions-check"
 compile -o "$out/texts" "$here/c/texts.c" "$out/librelc.a" || exit 1
 run "$out/texts"
 compile -o "$out/memory" "$here/c/memory.c" "$out/librelc.a" || exit 1

@@ -10,8 +10,8 @@
  * Threads.    A session is used by one call at a time. It may move to another thread, where the
  *             move is ordered, as by a lock or by the start or the end of a thread. Different
  *             sessions are used at the same time. Of the functions that take a store one is called
- *             at a time for that store, beside calls on its sessions. A frame, too, is lent to one
- *             call at a time.
+ *             at a time for that store, beside calls on its sessions (relc_wait.h has them for
+ *             several threads). A frame, too, is lent to one call at a time.
  * Codes.      Each function of this header answers a code, but relc_version, the two that answer
  *             texts and those that close; RELC_DONE is 0.
  *             A call that is refused has changed nothing in the store, nor in the session but for

@@ -39,6 +39,7 @@ struct relc_waiting {
     pthread_mutex_t lock;
     pthread_cond_t rung;  /* the epoch has changed */
     pthread_cond_t given; /* nobody has the right of way */
+    pthread_mutex_t turn; /* of a function that takes a store */
 };
 
 /* a condition whose sleeps are timed by the monotonic clock */
@@ -53,19 +54,30 @@ static int open_condition(pthread_cond_t *condition)
     return opened;
 }
 
+/* whether all of them are opened; else none is */
+static int open_locks(relc_waiting *waiting)
+{
+    if (pthread_mutex_init(&waiting->lock, NULL) == 0) {
+        if (pthread_mutex_init(&waiting->turn, NULL) == 0) {
+            if (open_condition(&waiting->rung)) {
+                if (open_condition(&waiting->given))
+                    return 1;
+                pthread_cond_destroy(&waiting->rung);
+            }
+            pthread_mutex_destroy(&waiting->turn);
+        }
+        pthread_mutex_destroy(&waiting->lock);
+    }
+    return 0;
+}
+
 relc_waiting *relc_open_waiting(void)
 {
     relc_waiting *waiting = calloc(1, sizeof *waiting);
     if (waiting == NULL)
         return NULL;
-    if (pthread_mutex_init(&waiting->lock, NULL) == 0) {
-        if (open_condition(&waiting->rung)) {
-            if (open_condition(&waiting->given))
-                return waiting;
-            pthread_cond_destroy(&waiting->rung);
-        }
-        pthread_mutex_destroy(&waiting->lock);
-    }
+    if (open_locks(waiting))
+        return waiting;
     free(waiting);
     return NULL;
 }
@@ -76,6 +88,7 @@ void relc_close_waiting(relc_waiting *waiting)
         return;
     pthread_cond_destroy(&waiting->given);
     pthread_cond_destroy(&waiting->rung);
+    pthread_mutex_destroy(&waiting->turn);
     pthread_mutex_destroy(&waiting->lock);
     free(waiting);
 }
@@ -317,4 +330,30 @@ uint32_t relc_open_group_waiting_until(relc_waiting *waiting, relc_session *sess
     relc_frame *frames, size_t count, uint64_t nanoseconds)
 {
     return begin(waiting, relc_open_group, session, frames, count, nanoseconds);
+}
+
+uint32_t relc_operation_in_turn(
+    relc_waiting *waiting, relc_store *store, relc_operation_frame *frame)
+{
+    pthread_mutex_lock(&waiting->turn);
+    uint32_t code = relc_operation(store, frame);
+    pthread_mutex_unlock(&waiting->turn);
+    return code;
+}
+
+uint32_t relc_open_session_in_turn(relc_waiting *waiting, relc_store *store, relc_session **session)
+{
+    pthread_mutex_lock(&waiting->turn);
+    uint32_t code = relc_open_session(store, session);
+    pthread_mutex_unlock(&waiting->turn);
+    return code;
+}
+
+uint32_t relc_give_back_in_turn(relc_waiting *waiting, relc_store *store, relc_session *session)
+{
+    pthread_mutex_lock(&waiting->turn);
+    uint32_t code = relc_give_back(store, session);
+    pthread_mutex_unlock(&waiting->turn);
+    relc_ring(waiting); /* of what it had prepared */
+    return code;
 }

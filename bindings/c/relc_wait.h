@@ -59,6 +59,17 @@ uint32_t relc_begin_group_waiting_until(relc_waiting *waiting, relc_session *ses
 uint32_t relc_open_group_waiting_until(relc_waiting *waiting, relc_session *session,
     relc_frame *frames, size_t count, uint64_t nanoseconds);
 
+/* The functions of relc.h that take a store, for threads that use one store's at the same time: each waits for
+ * its turn, while another thread is in one of these by the same relc_waiting, which is no longer than such a
+ * function takes. So a server may open a session for each connection, and give it back at its end. The last one
+ * rings. Else they are as relc.h says. */
+uint32_t relc_operation_in_turn(
+    relc_waiting *waiting, relc_store *store, relc_operation_frame *frame);
+uint32_t relc_open_session_in_turn(
+    relc_waiting *waiting, relc_store *store, relc_session **session);
+uint32_t relc_give_back_in_turn(
+    relc_waiting *waiting, relc_store *store, relc_session *session);
+
 /* Wakes those that wait: to be called after each relc_try_call, relc_try_group, relc_commit (also
  * where it answers RELC_NO_CALL), relc_cancel, relc_close_session or relc_give_back that stands alone,
  * after each relc_begin, relc_begin_group or relc_open_group that is refused, and after a
