@@ -16,10 +16,13 @@ rm -rf "${to:?}/$name"
 make -s -C "$here/bindings" install DESTDIR="$to/$name" PREFIX=/usr
 mv "$to/$name/usr"/* "$to/$name" && rmdir "$to/$name/usr"
 sed -i 's|^prefix=.*|prefix=${pcfiledir}/../..|' "$to/$name/lib/pkgconfig/relc.pc"
-mkdir "$to/$name/doc" "$to/$name/rust"
-cp -r "$here/docs"/*.md "$here/docs/pictures" "$here/README.md" "$here/CHANGELOG.md" "$to/$name/doc"
-cp "$here/LICENSE-MIT" "$here/LICENSE-APACHE" "$to/$name"
+mkdir "$to/$name/docs" "$to/$name/rust" "$to/$name/c"
+cp -r "$here/docs"/*.md "$here/docs/pictures" "$to/$name/docs"
+cp "$here/README.md" "$here/CHANGELOG.md" "$here/LICENSE-MIT" "$here/LICENSE-APACHE" "$to/$name"
+(cd "$here" && tar -cf - bench/README.md crates/*/README.md) | tar -C "$to/$name" -xf -
 cp -r "$here/examples" "$to/$name/examples"
+for example in graph.c jobs.c jobs.relc index.c index.relc; do cp "$here/bindings/c/$example" "$to/$name/c"; done
+[ ! -e "$here/bindings/out/librelc-check.a" ] || cp "$here/bindings/out/librelc-check.a" "$to/$name/lib"
 (cd "$here/bindings/rust" && cp -r src examples build.rs Cargo.toml Cargo.lock "$to/$name/rust")
 # (the measures stand outside of the crate)
 sed -i '/^# measured by/,$d' "$to/$name/rust/Cargo.toml"
@@ -38,7 +41,7 @@ tar -C "$try" -xzf "$to/$name.tar.gz"
 cd "$try/$name"
 PATH=/usr/bin:/bin
 "bin/relc" run <examples/graph.relc | cmp - examples/graph.out
-${CC:-cc} -std=c11 -D_POSIX_C_SOURCE=200809L -O2 -o "$try/graph" "$here/bindings/c/graph.c" -Iinclude lib/librelc.a -lpthread
+${CC:-cc} -std=c11 -D_POSIX_C_SOURCE=200809L -O2 -o "$try/graph" c/graph.c -Iinclude lib/librelc.a -lpthread
 "$try/graph" rust/examples/graph.relc >/dev/null
 cargo=$(command -v cargo || ls "$HOME/.cargo/bin/cargo" 2>/dev/null) || { echo "left out, since there is no cargo: the crate" >&2; cargo=; }
 [ -z "$cargo" ] || (cd rust && PATH=$PATH:$(dirname "$cargo") "$cargo" run -q --offline --release --example graph >/dev/null)

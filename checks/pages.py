@@ -17,7 +17,8 @@ NAMELaws.antt
 
 
 def pages():
-    return [TOP / "README.md", TOP / "CHANGELOG.md", TOP / "bench" / "README.md", *sorted((TOP / "docs").glob("*.md"))]
+    single = [TOP / "README.md", TOP / "CHANGELOG.md", TOP / "bench" / "README.md"]
+    return [*single, *sorted((TOP / "docs").glob("*.md")), *sorted((TOP / "crates").glob("*/README.md"))]
 
 
 def sources():
