@@ -6,9 +6,9 @@ import re
 import sys
 
 TOP = pathlib.Path(__file__).resolve().parent.parent
-SOURCES = (".rt", ".antt", ".rs", ".c", ".h", ".sh", ".py", ".relc", ".txt", ".case", ".toml", ".map")
+SOURCES = (".rt", ".antt", ".rs", ".c", ".h", ".cpp", ".sh", ".py", ".relc", ".txt", ".case", ".toml", ".map")
 NAME = re.compile(r"[A-Za-z][A-Za-z0-9_-]*")
-FILE = re.compile(r"^[\w./-]+\.(?:rt|antt|rs|c|h|sh|py|relc|txt|md|out|case|svg|toml)$")
+FILE = re.compile(r"^[\w./-]+\.(?:rt|antt|rs|c|h|cpp|sh|py|relc|txt|md|out|case|svg|toml)$")
 # what the pages name as examples: locals, rules and crates that aren't there, words of std and of the kit
 EXAMPLES = """
 close_from close_to open_from open_to inserts_THREADS_ROUNDS KeepsP7 keeps_p7 push_str returns-then-is_flag start_lib NAMELemmas.antt
