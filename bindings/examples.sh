@@ -29,7 +29,7 @@ run "$out/jobs" "$here/c/jobs.relc"
 run "$out/index" "$here/c/index.relc"
 if command -v cargo >/dev/null 2>&1; then
     cd "$here/rust" || exit 1
-    for name in scheduler states cache directory graph accounts payments connections; do
+    for name in scheduler states cache directory graph accounts payments connections expiry; do
         run cargo run --quiet --offline --release --example "$name"
     done
     if [ -x "$here/../crates/relc/out/relc" ]; then

@@ -40,6 +40,8 @@ compile -o "$out/patience" "$here/c/patience.c" "$out/librelc.a" || exit 1
 run "$out/patience"
 compile -o "$out/sessions" "$here/c/sessions.c" "$out/librelc.a" || exit 1
 run "$out/sessions"
+compile -o "$out/largest" "$here/c/largest.c" "$out/librelc.a" || exit 1
+run "$out/largest"
 # a library that looks at its handles tells wrong ones, and does what the other one does
 compile -o "$out/wrong" "$here/c/wrong.c" "$out/librelc-check.a" || exit 1
 run "$out/wrong"

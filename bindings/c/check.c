@@ -1,7 +1,7 @@
 /* The functions of relc.h that take a handle, each with a look at its handles first, for programs that are looked into:
  * `build.sh --check` puts them before the proved ones, under the same names. A handle that is none, was closed or given
- * back, is of the other kind, of another store, or is used by another call at the same time, and a NULL where none may
- * be, are told on standard error, and the program is aborted. (What is closed may be had again by a store or a session
+ * back, is of the other kind, of another store, or is used by another call at the same time, the number of another
+ * store's operation, and a NULL where none may be, are told on standard error, and the program is aborted. (What is closed may be had again by a store or a session
  * that is opened later; then a handle of before isn't told apart from it.) A look costs a lock and a walk over all
  * handles. */
 #include "relc.h"
@@ -16,13 +16,20 @@ static const char *const KINDS[] = {"store", "session"};
 struct handle {
     const void *at;
     enum kind kind;
-    const void *of; /* a session's store, also where that is closed */
+    const void *of;  /* a session's store, also where that is closed */
+    uint32_t number; /* of the store, or of the session's: none has 0 */
     int is_used;    /* a call has it */
     struct handle *next;
 };
 
 static pthread_mutex_t lock = PTHREAD_MUTEX_INITIALIZER;
 static struct handle *handles; /* those that are open, under the lock */
+static uint32_t stores;        /* how many were opened, under the lock */
+
+/* An operation's number has that of its store in its upper half, where it was looked up here. (There may be more stores
+ * than that has room for: the operations of those behind it aren't told apart.) */
+#define HALF 16
+#define STORES ((1u << HALF) - 1)
 
 _Noreturn static void stop(const char *function, const char *what, const char *kind)
 {
@@ -36,15 +43,36 @@ static void want(const char *function, const void *lent)
         stop(function, "a pointer is NULL", "");
 }
 
-static void add(const char *function, const void *at, enum kind kind, const void *of)
+/* keeps a store, or a session of one */
+static void add(const char *function, const void *at, const struct handle *of)
 {
     struct handle *handle = malloc(sizeof *handle);
     if (handle == NULL)
         stop(function, "there is no memory to keep the handle", "");
     pthread_mutex_lock(&lock);
-    *handle = (struct handle){.at = at, .kind = kind, .of = of, .next = handles};
+    *handle = (struct handle){.at = at, .kind = STORE, .next = handles};
+    if (of != NULL) {
+        handle->kind = SESSION;
+        handle->of = of->at;
+        handle->number = of->number;
+    } else if (stores < STORES) {
+        handle->number = ++stores;
+    }
     handles = handle;
     pthread_mutex_unlock(&lock);
+}
+
+/* the number that the session's store has for an operation */
+static uint32_t own(const char *function, const struct handle *session, uint32_t op)
+{
+    pthread_mutex_lock(&lock);
+    uint32_t of = op >> HALF, last = stores;
+    pthread_mutex_unlock(&lock);
+    if (of == 0 || of > last)
+        return op;
+    if (of != session->number)
+        stop(function, "the operation is of another ", KINDS[STORE]);
+    return op & STORES;
 }
 
 /* the place of the handle in the list, under the lock */
@@ -104,7 +132,7 @@ uint32_t relc_open(const uint8_t *text, size_t length, relc_open_frame *frame, r
     want(__func__, store);
     uint32_t code = relc_unchecked_open(text, length, frame, store);
     if (code == RELC_DONE)
-        add(__func__, *store, STORE, NULL);
+        add(__func__, *store, NULL);
     return code;
 }
 
@@ -113,6 +141,8 @@ uint32_t relc_operation(relc_store *store, relc_operation_frame *frame)
     struct handle *handle = enter(__func__, store, STORE);
     want(__func__, frame);
     uint32_t code = relc_unchecked_operation(store, frame);
+    if (code == RELC_DONE)
+        frame->op |= handle->number << HALF;
     leave(handle);
     return code;
 }
@@ -123,7 +153,7 @@ uint32_t relc_open_session(relc_store *store, relc_session **session)
     want(__func__, session);
     uint32_t code = relc_unchecked_open_session(store, session);
     if (code == RELC_DONE)
-        add(__func__, *session, SESSION, store);
+        add(__func__, *session, handle);
     leave(handle);
     return code;
 }
@@ -172,19 +202,54 @@ void relc_close_session(relc_session *session)
     }
 #define ON_FRAME(name) \
     ON_SESSION(name, (relc_session *session, relc_frame *frame), frame, (session, frame))
-#define ON_FRAMES(name)                                                                   \
-    ON_SESSION(name, (relc_session *session, relc_frame *frames, size_t count), frames,   \
-        (session, frames, count))
 
-ON_FRAME(try_call)
-ON_FRAME(begin)
+/* the same of what asks for calls, by a frame or by several, of which no more than a group has are looked at */
+typedef uint32_t asks(relc_session *session, relc_frame *frames, size_t count);
+
+static uint32_t ask(const char *function, asks *call, relc_session *session, relc_frame *frames, size_t count)
+{
+    struct handle *handle = enter(function, session, SESSION);
+    want(function, frames);
+    size_t known = count <= RELC_GROUP ? count : 0;
+    uint32_t ops[RELC_GROUP];
+    for (size_t at = 0; at < known; at++) {
+        ops[at] = frames[at].op;
+        frames[at].op = own(function, handle, ops[at]);
+    }
+    uint32_t code = call(session, frames, count);
+    for (size_t at = 0; at < known; at++)
+        frames[at].op = ops[at];
+    leave(handle);
+    return code;
+}
+
+#define ON_CALL(name)                                                                     \
+    uint32_t relc_unchecked_##name(relc_session *session, relc_frame *frame);             \
+    static uint32_t one_##name(relc_session *session, relc_frame *frame, size_t count)    \
+    {                                                                                     \
+        (void)count;                                                                      \
+        return relc_unchecked_##name(session, frame);                                     \
+    }                                                                                     \
+    uint32_t relc_##name(relc_session *session, relc_frame *frame)                        \
+    {                                                                                     \
+        return ask(__func__, one_##name, session, frame, 1);                              \
+    }
+#define ON_CALLS(name)                                                                    \
+    asks relc_unchecked_##name;                                                           \
+    uint32_t relc_##name(relc_session *session, relc_frame *frames, size_t count)         \
+    {                                                                                     \
+        return ask(__func__, relc_unchecked_##name, session, frames, count);              \
+    }
+
+ON_CALL(try_call)
+ON_CALL(begin)
+ON_CALL(call_open)
+ON_CALLS(try_group)
+ON_CALLS(begin_group)
+ON_CALLS(open_group)
 ON_FRAME(commit)
-ON_FRAME(cancel)
-ON_FRAME(call_open)
 ON_FRAME(pick)
 ON_FRAME(learn)
 ON_FRAME(row)
-ON_FRAMES(try_group)
-ON_FRAMES(begin_group)
-ON_FRAMES(open_group)
+ON_FRAME(cancel)
 ON_SESSION(rows, (relc_session *session, relc_page *page), page, (session, page))

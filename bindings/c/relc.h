@@ -124,7 +124,7 @@ typedef struct relc_open_frame {
 /* Which operation is meant, what its calls give and are told, and what it finds tuples by. */
 typedef struct relc_operation_frame {
     uint32_t length;              /* asked: how many bytes the name has, at most RELC_NAME */
-    uint32_t op;                  /* told: the number by which it is called */
+    uint32_t op;                  /* told: the number by which it is called, on this store alone */
     uint32_t kind;                /* told: 0 for a query, 1 for an insert, 2 for a remove, 3 for an
                                      update */
     uint32_t count;               /* told: how many values a call gives */

@@ -82,6 +82,14 @@ static void give_back_to_another(void)
     relc_give_back(other, session);
 }
 
+static void call_an_operation_of_another(void)
+{
+    relc_operation_frame asked = {.length = 3, .name = "put"};
+    CHECK(relc_operation(other, &asked) == RELC_DONE);
+    relc_frame put = {.op = asked.op, .count = 2, .values = {1, 2}};
+    relc_try_call(session, &put);
+}
+
 static void *call_on(void *unused)
 {
     relc_frame mine = frame;
@@ -111,6 +119,7 @@ static const struct {
     {close_twice, "relc_close_store: this is no open store\n"},
     {open_by_a_session, "relc_open_session: this is no open store\n"},
     {give_back_to_another, "relc_give_back: the session is of another store\n"},
+    {call_an_operation_of_another, "relc_try_call: the operation is of another store\n"},
     {call_on_two_threads, "relc_try_call: another call uses the session\n"},
 };
 enum { COUNT = sizeof WRONG / sizeof *WRONG };
@@ -151,6 +160,9 @@ int main(void)
         CHECK(strcmp(told, WRONG[at].told) == 0);
     }
     /* what is used as it should be is as it was */
+    relc_operation_frame asked = {.length = 4, .name = "find"};
+    CHECK(relc_operation(store, &asked) == RELC_DONE);
+    frame.op = asked.op;
     CHECK(relc_try_call(session, &frame) == RELC_DONE && frame.kind == RELC_ROWS);
     relc_close_session(session);
     relc_close_store(other);
