@@ -37,7 +37,7 @@ def node_line(spec, name):
 def edge_line(spec, name, statements):
     """The statements are those of the drawn plan, without the line of its name."""
     source, target, kind, key = spec.edge[name]
-    reads = [str(n) for n, text in enumerate(statements, 1) if text.split()[:2] == ["read", name]]
+    reads = [str(n) for n, text in enumerate(statements) if text.split()[:2] == ["read", name]]
     columns = columns_in(spec, "(", key, ")")
     label = " %s %s %s\\l lock %s\\l" % (name, kind, columns, spec.place[name])
     if reads:
@@ -63,7 +63,7 @@ def class_lines(spec):
 def plan_lines(statements, op):
     lines = ['  "the plan" [shape=plain, label=<', "    " + TABLE]
     lines.append('    <tr><td align="right" balign="right"><br/>')
-    lines += ["%d<br/>" % number for number, _ in enumerate(statements, 1)]
+    lines += ["%d<br/>" % number for number, _ in enumerate(statements)]
     lines.append("</td>" + CELL + "plan %s<br/>" % op)
     lines += [text + "<br/>" for text in statements]
     return lines + ["</td></tr>", "    </table>>];"]

@@ -1,12 +1,11 @@
 -- Texts with one part more.
-use Rattle.std.proofs.Common.{◌≡◌, ℕ, zero, suc, ◌+◌, ◌≤◌, Bool, true, false, cond, List, [], ◌∷◌, ◌++◌, Some, None, filter, get_or, map, take, refl, sym, ap, ◌∙◌, arith}
+use Rattle.std.proofs.Common.{◌≡◌, ℕ, zero, suc, ◌+◌, ◌≤◌, Bool, true, false, cond, List, [], ◌∷◌, ◌++◌, Some, None, filter, get_or, take, sym, ap, ◌∙◌, arith}
 use Rattle.std.specs.List.{slice_get, flat_map, range_with_len}
 use Rattle.std.proofs.lemmas.List.{take_more, append_assoc, append-nil}
 use Rattle.std.proofs.lemmas.Grind.{flat_map-append}
 use Rattle.std.proofs.lemmas.Option.{get_or_from_slice_get, slice_get_within}
 use Rattle.rc_tuple.specs.ColSetLaws.{range_with_len_more}
 use Rattle.std.proofs.lemmas.List.Elements.{filter-append}
-use Rattle.std.proofs.lemmas.List.{map-append}
 use Rattle.rc_spec.specs.declared.spec.Spec.{Spec}
 use Rattle.rc_spec.specs.RefusalText.{no_column}
 use Rattle.rc_plan.specs.declared.statement.Statement.{Statement}
@@ -64,41 +63,32 @@ no_columns spec text (d ∷ cols) e = cc
 pub behind : (text word rest one all : List ℕ) → one ≡ text ++ word → all ≡ one ++ rest → all ≡ text ++ (word ++ rest)
 behind text word rest one all first more = more ∙ ap (λ l. l ++ rest) first ∙ append_assoc text word rest
 
--- the number of a statement, by its place
-abbrev next : ℕ → ℕ
-next place = place + 1
-
 -- whether the statement at a place reads an edge
 abbrev reads_at : List Statement → ℕ → ℕ → Bool
 reads_at plan e place = reads e (get_or plan place Commit)
 
 -- the numbers of the statements before a place that read an edge
 abbrev numbers_before : List Statement → ℕ → ℕ → List ℕ
-numbers_before plan e place = map next (filter (reads_at plan e) (range_with_len 0 place))
+numbers_before plan e place = filter (reads_at plan e) (range_with_len 0 place)
 
 numbers_more : (plan : List Statement) (e place : ℕ) (x : Statement) → get_or plan place Commit ≡ x
-    → numbers_before plan e (place + 1) ≡ numbers_before plan e place ++ cond (reads e x) ((place + 1) ∷ []) []
+    → numbers_before plan e (place + 1) ≡ numbers_before plan e place ++ cond (reads e x) (place ∷ []) []
 numbers_more plan e place x there =
-    ap (λ l. map next (filter (reads_at plan e) l)) (range_with_len_more 0 place ∙ ap (λ k. range_with_len 0 place ++ k ∷ []) last)
-    ∙ ap (map next) (filter-append (reads_at plan e) (range_with_len 0 place) (place ∷ []))
-    ∙ map-append next (filter (reads_at plan e) (range_with_len 0 place)) (filter (reads_at plan e) (place ∷ []))
-    ∙ ap (λ l. numbers_before plan e place ++ l) (ap (λ b. map next (cond b (place ∷ []) [])) (ap (reads e) there) ∙ one (reads e x))
+    ap (filter (reads_at plan e)) (range_with_len_more 0 place ∙ ap (λ k. range_with_len 0 place ++ k ∷ []) last)
+    ∙ filter-append (reads_at plan e) (range_with_len 0 place) (place ∷ [])
+    ∙ ap (λ l. numbers_before plan e place ++ l) (ap (λ b. cond b (place ∷ []) []) (ap (reads e) there))
   where
     last : 0 + place ≡ place
     last = omega arith
 
-    one : (b : Bool) → map next (cond b (place ∷ []) []) ≡ cond b ((place + 1) ∷ []) []
-    one true = refl
-    one false = refl
-
 -- with a statement that reads the edge there is its number more
 pub numbers_with : (plan : List Statement) (e place : ℕ) (x : Statement) (old new : List ℕ) → get_or plan place Commit ≡ x → reads e x ≡ true → old ≡ numbers_before plan e place
-    → new ≡ old ++ (place + 1) ∷ [] → new ≡ numbers_before plan e (place + 1)
+    → new ≡ old ++ place ∷ [] → new ≡ numbers_before plan e (place + 1)
 numbers_with plan e place x old new there is before pushed =
-    pushed ∙ ap (λ l. l ++ (place + 1) ∷ []) before ∙ sym (numbers_more plan e place x there ∙ ap (λ b. numbers_before plan e place ++ cond b ((place + 1) ∷ []) []) is)
+    pushed ∙ ap (λ l. l ++ place ∷ []) before ∙ sym (numbers_more plan e place x there ∙ ap (λ b. numbers_before plan e place ++ cond b (place ∷ []) []) is)
 
 -- and with another none
 pub numbers_without : (plan : List Statement) (e place : ℕ) (x : Statement) (old : List ℕ) → get_or plan place Commit ≡ x → reads e x ≡ false → old ≡ numbers_before plan e place
     → old ≡ numbers_before plan e (place + 1)
 numbers_without plan e place x old there is before =
-    before ∙ sym (numbers_more plan e place x there ∙ ap (λ b. numbers_before plan e place ++ cond b ((place + 1) ∷ []) []) is ∙ append-nil (numbers_before plan e place))
+    before ∙ sym (numbers_more plan e place x there ∙ ap (λ b. numbers_before plan e place ++ cond b (place ∷ []) []) is ∙ append-nil (numbers_before plan e place))

@@ -1,6 +1,6 @@
 -- The drawing of a specification, and of the plan of one of its operations: meant as a digraph in the language of Graphviz. (PLDI 2011,
 -- decompositions as graphs; PLDI 2012, lock placement.)
-use Rattle.std.specs.Prelude.{ℕ, ◌+◌, ◌-◌, ◌%◌, ◌==◌, Bool, false, List, [], ◌∷◌, ◌++◌, codes, filter, get_or, length, map}
+use Rattle.std.specs.Prelude.{ℕ, ◌+◌, ◌-◌, ◌%◌, ◌==◌, Bool, false, List, [], ◌∷◌, ◌++◌, codes, filter, get_or, length}
 use Rattle.std.specs.List.{flat_map, range_with_len}
 use Rattle.std.specs.Fmt.{decimal}
 use Rattle.rc_spec.specs.declared.items.EdgeKind.{EdgeKind}
@@ -67,9 +67,9 @@ reads e Emit = false
 reads e Commit = false
 reads e (Release c) = false
 
--- the numbers, from 1, of the statements of a plan that read an edge
+-- the numbers, from 0, of the statements of a plan that read an edge
 abbrev pub read_numbers : List Statement → ℕ → List ℕ
-read_numbers plan e = map (λ place. place + 1) (filter (λ place. reads e (get_or plan place Commit)) (range_with_len 0 (length plan)))
+read_numbers plan e = filter (λ place. reads e (get_or plan place Commit)) (range_with_len 0 (length plan))
 
 abbrev pub number_text : ℕ → List ℕ
 number_text n = codes " " ++ decimal n
@@ -178,10 +178,10 @@ statement_table_line spec x = table_line (statement_text spec x)
 abbrev pub plan_lines : Spec → ℕ → List Statement → List ℕ
 plan_lines spec op plan = table_line (codes "plan " ++ (op_at spec op).name) ++ flat_map (statement_table_line spec) plan
 
--- the statements of the plan, numbered from 1 beside it
+-- the statements of the plan, numbered from 0 beside it
 abbrev pub plan_table : Spec → ℕ → List Statement → List ℕ
 plan_table spec op plan =
-    plan_head ++ flat_map number_line (range_with_len 1 (length plan)) ++ plan_middle ++ plan_lines spec op plan ++ plan_end
+    plan_head ++ flat_map number_line (range_with_len 0 (length plan)) ++ plan_middle ++ plan_lines spec op plan ++ plan_end
 
 -- ---- drawings
 

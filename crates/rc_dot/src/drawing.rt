@@ -29,7 +29,7 @@ pub fn print_drawing(alloc: Global, accepted: &Accepted) -> Result<Vec<u8>, Memo
 }
 
 /// The same drawing with the plan of an operation: a table of its statements with their numbers,
-/// from 1, and those edges thick that it reads, with the numbers of the statements that read them.
+/// from 0, and those edges thick that it reads, with the numbers of the statements that read them.
 /// `Err` where memory is wanted. Costs the text's length, for each edge the placements and the
 /// plan, and for each class those before it.
 pub fn print_plan_drawing(

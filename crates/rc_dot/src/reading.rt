@@ -17,7 +17,7 @@ fn reads(edge: u8, statement: &Statement) -> bool
     }
 }
 
-/// The numbers, from 1, of the statements that read an edge.
+/// The numbers, from 0, of the statements that read an edge.
 pub(crate) fn read_numbers(
     alloc: Global,
     plan: &[Statement],
@@ -28,7 +28,7 @@ pub(crate) fn read_numbers(
     let mut numbers = Vec::new(alloc);
     for (place, statement) in plan.iter().enumerate() {
         if reads(edge, statement) {
-            numbers.push(place + 1)?;
+            numbers.push(place)?;
         }
     }
     Ok(numbers)

@@ -134,10 +134,10 @@ fn plan_end() -> &'static [u8]
 fn push_number_lines(text: &mut Vec<u8>, count: usize) -> Result<(), Memory>
     requires { count < 2 ^ 63 }
     ensures { OnOk result (text.new.items ≡ text.old.items
-        ++ flat_map number_line (range_with_len 1 count)) }
+        ++ flat_map number_line (range_with_len 0 count)) }
 {
     for place in 0..count {
-        push_u64(text, (place + 1) as u64)?;
+        push_u64(text, place as u64)?;
         push_bytes(text, b"<br/>\n")?;
     }
     Ok(())

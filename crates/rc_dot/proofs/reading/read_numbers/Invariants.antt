@@ -1,4 +1,4 @@
-use Rattle.std.proofs.Common.{◌≡◌, ◌+◌, filter, get_or, map}
+use Rattle.std.proofs.Common.{◌≡◌, filter, get_or}
 use Rattle.std.specs.List.{range_with_len}
 use Rattle.rc_plan.specs.declared.statement.Statement.TheVariants.{Commit}
 use Rattle.rc_dot.specs.Dot.{reads}
@@ -6,4 +6,4 @@ use Rattle.rc_dot.proofs.reading.read_numbers.Given as goal
 
 abbrev pub invariant-loop-place : goal.invariant-loop-place
 invariant-loop-place l =
-    l.numbers.items ≡ map (λ place. place + 1) (filter (λ place. reads l.edge (get_or l.plan place Commit)) (range_with_len 0 l.place))
+    l.numbers.items ≡ filter (λ place. reads l.edge (get_or l.plan place Commit)) (range_with_len 0 l.place)

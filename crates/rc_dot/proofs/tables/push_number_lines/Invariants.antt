@@ -4,4 +4,4 @@ use Rattle.rc_dot.specs.Dot.{number_line}
 use Rattle.rc_dot.proofs.tables.push_number_lines.Given as goal
 
 abbrev pub invariant-loop-place : goal.invariant-loop-place
-invariant-loop-place l = l.text.items ≡ l.fn.text.items ++ flat_map number_line (range_with_len 1 l.place)
+invariant-loop-place l = l.text.items ≡ l.fn.text.items ++ flat_map number_line (range_with_len 0 l.place)
