@@ -5,3 +5,4 @@ pub mod WriteLemmas
 pub mod RanLemmas
 pub mod SummingLemmas
 pub mod AuditLemmas
+pub mod ByHandLemmas

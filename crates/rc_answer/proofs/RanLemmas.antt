@@ -10,6 +10,7 @@ use Rattle.rc_tuple.specs.Tuple.{Pairs}
 use Rattle.rc_spec.specs.declared.spec.Spec.{Spec}
 use Rattle.rc_spec.specs.Placement.{op_at}
 use Rattle.rc_plan.specs.Compiled.{ArePlansOf, SpecWithPlans, plan_at}
+use Rattle.rc_plan.specs.declared.statement.Statement.{Statement}
 use Rattle.rc_query.specs.Planned.{IsPlanned}
 use Rattle.rc_instance.specs.Instance.{IsOfRelation}
 use Rattle.rc_rel.specs.declared.entry.Entry.{Entry}
@@ -20,7 +21,7 @@ use Rattle.rc_reader.specs.Grammar.{Reading, spec_reading}
 use Rattle.rc_reader.specs.Answers.{IsRead, rest_place}
 use Rattle.rc_reader.specs.declared.reading.Rest.{Rest}
 use Rattle.rc_work.specs.Ranking.{work_reading}
-use Rattle.rc_answer.proofs.AnswerLemmas.{read_place}
+use Rattle.rc_answer.proofs.AnswerLemmas.{read_place, writes_wider}
 use Rattle.rc_runner.specs.Running.{HasRun}
 use Rattle.rc_work.specs.declared.also.Also.{Also}
 use Rattle.rc_work.specs.declared.work.Work.{Work}
@@ -28,26 +29,27 @@ use Rattle.rc_work.specs.Report.{report}
 use Rattle.rc_work.specs.Runs.{Runs}
 use Rattle.rc_answer.specs.declared.outcome.Outcome.{Outcome}
 use Rattle.rc_answer.specs.declared.outcome.Ran.{Ran}
+use Rattle.rc_answer.specs.declared.status.Status.{Status}
 use Rattle.rc_answer.specs.declared.status.Status.TheVariants.{Done}
 use Rattle.rc_answer.specs.declared.status.Stop.{Stop}
 use Rattle.rc_answer.specs.declared.status.Stop.TheVariants.{Memory, Sink}
-use Rattle.rc_answer.specs.Answers.{IsReport}
+use Rattle.rc_answer.specs.Answers.{IsReportBy}
 use Rattle.rc_answer.specs.Plans.{ArePlanned, plans_text}
-use Rattle.rc_answer.specs.Ran.{HasRunText, IsOfItsStore, IsReadAs, IsRunOf, done_in, entries_in, outcome_in, run_text, status_in}
-use Rattle.rc_answer.specs.RanLaws.{is_report}
+use Rattle.rc_answer.specs.Ran.{HasRunText, IsOfItsStore, IsReadAs, IsRunBy, IsRunOf, done_in, entries_in, outcome_in, run_text, status_in}
+use Rattle.rc_answer.specs.RanLaws.{is_report, report_by, run_by}
 use Rattle.rc_answer.specs.Writes.{Writes, WritesWhole}
 
 -- ---- the run
 
-module _ (accepted : Spec) (made : SpecWithPlans) (work : Work) (closed : ClosedSeen) (last : List Pairs) (h : HasRun work closed) where
-  -- a store that ran the workload by the planned plans, with the rows that it leaves
-  pub run_of : made.spec ≡ accepted → ArePlanned accepted made.plans → closed.compiled ≡ made
-      → ((r : List Pairs) → IsOfRelation closed.compiled.spec closed.instance r → last ≡ r) → IsRunOf accepted work (record { closed = closed; last = last })
-  run_of same planned is rows =
-      let of : closed.compiled.spec ≡ accepted = ap (λ (c : SpecWithPlans). c.spec) is ∙ same in
+module _ (made : SpecWithPlans) (work : Work) (closed : ClosedSeen) (last : List Pairs) (h : HasRun work closed) where
+  -- a store that ran the workload by these plans, with the rows that it leaves
+  pub run_of : closed.compiled ≡ made → ((r : List Pairs) → IsOfRelation closed.compiled.spec closed.instance r → last ≡ r)
+      → IsRunBy (λ plans. plans ≡ made.plans) made.spec work (record { closed = closed; last = last })
+  run_of is rows =
+      let of : closed.compiled.spec ≡ made.spec = ap (λ (c : SpecWithPlans). c.spec) is in
       record {
         of_spec = of;
-        planned = subst (λ (c : SpecWithPlans). ArePlanned accepted c.plans) (sym is) planned;
+        by_plans = ap (λ (c : SpecWithPlans). c.plans) is;
         history = h.history;
         journal = h.journal;
         runs = subst (λ (s : Spec). Runs s work h.history) of h.runs;
@@ -58,10 +60,12 @@ module _ (accepted : Spec) (made : SpecWithPlans) (work : Work) (closed : Closed
   run_fits = subst (λ (o : Option (List Entry)). AllFit closed.compiled.spec (entries_in o)) (sym h.journal) h.leaves.good.fit
 
   -- the store's own history is the one that ran
-  pub run_is_of_store : HasOneHistory closed → IsOfItsStore (record { closed = closed; last = last })
-  run_is_of_store one =
+  pub run_is_of_store : closed.compiled ≡ made → ArePlansOf made.spec made.plans → HasOneHistory closed
+      → IsOfItsStore (record { closed = closed; last = last })
+  run_is_of_store is kept one =
       let same : h.history ≡ one.history = subst (λ (o : Option (List Entry)). IfSome o (λ journal. journal ≡ one.history)) h.journal one.journal in
       record {
+        kept = subst (λ (c : SpecWithPlans). ArePlansOf c.spec c.plans) (sym is) kept;
         fit = run_fits;
         passes = subst (λ (o : Option (List Entry)). (e : Entry) → In e (entries_in o) → e.pass < length closed.made) (sym h.journal)
             (λ e m. (one.leaves.good.entries e (subst (In e) same m)).pass);
@@ -71,6 +75,31 @@ module _ (accepted : Spec) (made : SpecWithPlans) (work : Work) (closed : Closed
 pub are_planned : (accepted : Spec) (made : SpecWithPlans) → made.spec ≡ accepted → ArePlansOf made.spec made.plans
     → ((op : ℕ) → op < length accepted.ops → IsPlanned accepted (op_at accepted op) (plan_at made.plans op)) → ArePlanned accepted made.plans
 are_planned accepted made same plans each = record { count = plans.count ∙ ap (λ (s : Spec). length s.ops) same; each = each }
+
+-- a run by the plans that a specification is compiled with, which are of some kind, is one by plans of the kind
+module _ (ArePlans : List (List Statement) → Type 0) (accepted : Spec) (made : SpecWithPlans) (work : Work) (same : made.spec ≡ accepted) (are : ArePlans made.plans) where
+  pub ran_by : (ran : Ran) → IsRunBy (λ plans. plans ≡ made.plans) made.spec work ran → IsRunBy ArePlans accepted work ran
+  ran_by ran run =
+      run_by (λ plans. plans ≡ made.plans) ArePlans made.spec accepted work ran same (λ is. subst ArePlans (sym is) are) run
+
+  pub all_ran_by : (r : Result Ran Stop) → IfOk r (IsRunBy (λ plans. plans ≡ made.plans) made.spec work) → IfOk r (IsRunBy ArePlans accepted work)
+  all_ran_by (Ok ran) run = ran_by ran run
+  all_ran_by (Err stop) run = tt
+
+  -- and so is what was written of it
+  pub reported_by : (old new : Option (List ℕ)) (r : Result Status Stop) → Writes (IsReportBy (λ plans. plans ≡ made.plans) made.spec work) old new r
+      → Writes (IsReportBy ArePlans accepted work) old new r
+  reported_by old new r written =
+      writes_wider (IsReportBy (λ plans. plans ≡ made.plans) made.spec work) (IsReportBy ArePlans accepted work) old new r
+      (λ text status is. report_by (λ plans. plans ≡ made.plans) ArePlans made.spec accepted work text status same (λ plans e. subst ArePlans (sym e) are) is)
+      written
+
+-- so a run by the planned plans
+pub planned_run : (accepted : Spec) (made : SpecWithPlans) (work : Work) (ran : Ran) → made.spec ≡ accepted → ArePlansOf made.spec made.plans
+    → ((op : ℕ) → op < length accepted.ops → IsPlanned accepted (op_at accepted op) (plan_at made.plans op))
+    → IsRunBy (λ plans. plans ≡ made.plans) made.spec work ran → IsRunOf accepted work ran
+planned_run accepted made work ran same plans each run =
+    ran_by (ArePlanned accepted) accepted made work same (are_planned accepted made same plans each) ran run
 
 -- ---- its text
 
@@ -97,16 +126,16 @@ module _ (made here : SpecWithPlans) (is : here ≡ made) (journal : Option (Lis
       (subst (λ (c : SpecWithPlans). Adds old (plans_text c.spec c.plans) mid) is first)
       (subst (λ (l : List ℕ). AddsPrefix mid l new) (λ i. printed_lines (report (of_made i) ranks (all i) (same i))) part)
 
-module _ (spec : Spec) (work : Work) (ran : Ran) (old new : Option (List ℕ)) (run : IsRunOf spec work ran) where
+module _ (ArePlans : List (List Statement) → Type 0) (spec : Spec) (work : Work) (ran : Ran) (old new : Option (List ℕ)) (run : IsRunBy ArePlans spec work ran) where
   -- the whole text
-  pub run_written : Adds old (run_text work.ranks ran) new → WritesWhole (IsReport spec work) old new Done
-  run_written adds = (run_text work.ranks ran, is_report spec work ran run, adds)
+  pub run_written : Adds old (run_text work.ranks ran) new → WritesWhole (IsReportBy ArePlans spec work) old new Done
+  run_written adds = (run_text work.ranks ran, is_report ArePlans spec work ran run, adds)
 
   -- a part of it
-  pub run_begun : (r : Result Ran Stop) → IsErr r → AddsPrefix old (run_text work.ranks ran) new → Writes (IsReport spec work) old new (done_in r)
+  pub run_begun : (r : Result Ran Stop) → IsErr r → AddsPrefix old (run_text work.ranks ran) new → Writes (IsReportBy ArePlans spec work) old new (done_in r)
   run_begun (Ok other) e part = cc
-  run_begun (Err Memory) e part = inr (run_text work.ranks ran, Done, is_report spec work ran run, part)
-  run_begun (Err Sink) e part = (run_text work.ranks ran, Done, is_report spec work ran run, part)
+  run_begun (Err Memory) e part = inr (run_text work.ranks ran, Done, is_report ArePlans spec work ran run, part)
+  run_begun (Err Sink) e part = (run_text work.ranks ran, Done, is_report ArePlans spec work ran run, part)
 
 -- ---- outcomes
 
@@ -124,6 +153,14 @@ module _ (r : Result Ran Stop) (o : Result Outcome Stop) (is : o ≡ outcome_in 
       go : (r : Result Ran Stop) → IfOk (outcome_in r) (λ x. IsSome x.ran ↔ (x.status ≡ Done))
       go (Ok ran) = (λ s. refl, λ e. refl)
       go (Err stop) = tt
+
+-- what holds of a run that was made holds of the run of the outcome
+pub done_each : (P : Ran → Type 0) (r : Result Ran Stop) (o : Result Outcome Stop) → o ≡ outcome_in r → IfOk r P → IfOk o (λ x. IfSome x.ran P)
+done_each P r o is held = subst (λ (x : Result Outcome Stop). IfOk x (λ x. IfSome x.ran P)) (sym is) (go r held)
+  where
+    go : (r : Result Ran Stop) → IfOk r P → IfOk (outcome_in r) (λ x. IfSome x.ran P)
+    go (Ok ran) held = held
+    go (Err stop) held = tt
 
 -- an input that was read as a specification and a workload
 pub read_as : (also : Also) (input : List ℕ) (reading : Reading) (spec : Spec) (rest : Rest) (work : Work) → spec_reading input ≡ Ok reading → IsRead input spec rest reading → IsAccepted spec

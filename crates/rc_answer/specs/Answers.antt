@@ -8,7 +8,14 @@ use Rattle.rc_spec.specs.Placement.{op_at}
 use Rattle.rc_spec.specs.RefusalText as rules
 use Rattle.rc_plan.specs.declared.statement.Statement.{Statement}
 use Rattle.rc_dot.specs.Dot.{drawing_text, plan_drawing_text}
+use Rattle.rc_plan.specs.Compiled.{ArePlansOf}
+use Rattle.rc_plan.specs.declared.refusal.PlanRefusal.{PlanRefusal}
 use Rattle.rc_query.specs.Planned.{IsPlanned}
+use Rattle.rc_handplan.specs.Chosen.{AllKeepRules, AreChosen, IsFirstRefused}
+use Rattle.rc_handplan.specs.HandGrammar as hand_lines
+use Rattle.rc_handplan.specs.HandGrammar.{HandReading, hands_reading}
+use Rattle.rc_handplan.specs.RuleText.{hand_rule_text, plan_refusal_text}
+use Rattle.rc_handplan.specs.declared.hand.Hand.{Hand}
 use Rattle.rc_rel.specs.declared.entry.Entry.{Entry}
 use Rattle.rc_rel.specs.History.{replay}
 use Rattle.rc_reader.specs.Grammar.{Broken, Reading, spec_reading, spec_of}
@@ -19,10 +26,11 @@ use Rattle.rc_work.specs.declared.work.Work.{Work}
 use Rattle.rc_work.specs.LineRules.{op_number}
 use Rattle.rc_work.specs.PartGrammar.{WorkPart, part_reading}
 use Rattle.rc_work.specs.Printed.{words_text}
-use Rattle.rc_work.specs.Ranking.{work_reading}
+use Rattle.rc_work.specs.Ranking.{work_by, work_reading}
 use Rattle.rc_work.specs.Report.{report}
 use Rattle.rc_work.specs.Runs.{Runs}
 use Rattle.rc_work.specs.WholeText.{place_after}
+use Rattle.rc_work.specs.WorkGrammar.{reading_all}
 use Rattle.rc_audit.specs.declared.form.Form.{Form}
 use Rattle.rc_audit.specs.declared.form.Form.TheVariants as forms
 use Rattle.rc_audit.specs.declared.verdict.Verdict.{Verdict}
@@ -30,7 +38,7 @@ use Rattle.rc_audit.specs.declared.verdict.Verdict.TheVariants as verdicts
 use Rattle.rc_audit.specs.GoodReports.{IsVerdict}
 use Rattle.rc_answer.specs.Plans.{ArePlanned, plans_and_end, plans_text}
 use Rattle.rc_command.specs.declared.command.TextCommand.{TextCommand}
-use Rattle.rc_command.specs.declared.command.TextCommand.TheVariants.{Check, Plan, Run, Group, Audit, AuditJournal, Dot, DotPlan}
+use Rattle.rc_command.specs.declared.command.TextCommand.TheVariants as commands
 use Rattle.rc_answer.specs.declared.status.Status.{Status}
 use Rattle.rc_answer.specs.declared.status.Status.TheVariants.{Done, Bad, Refused}
 
@@ -108,23 +116,69 @@ AnswersAlone OfAccepted (Ok spec) text status = AnswersRules spec (OfAccepted sp
 abbrev pub plans_and_report : Spec → Work → List (List Statement) → List Entry → List ℕ
 plans_and_report spec work plans history = plans_text spec plans ++ printed_lines (report spec work.ranks history (replay spec history))
 
--- the planned plan of each operation, and then the report of a run of the workload
-pub record IsReport (spec : Spec) (work : Work) (text : List ℕ) (status : Status) : Type 0 where
+-- a plan of each operation, of this kind, and then the report of a run of the workload
+pub record IsReportBy (ArePlans : List (List Statement) → Type 0) (spec : Spec) (work : Work) (text : List ℕ) (status : Status) : Type 0 where
   pub plans : List (List Statement)
-  pub planned : ArePlanned spec plans
+  pub by_plans : ArePlans plans
   pub history : List Entry
   pub runs : Runs spec work history
   pub printed : text ≡ plans_and_report spec work plans history
   pub done : status ≡ Done
 
+-- the planned plan of each operation, and then the report of a run of the workload
+abbrev pub IsReport : Spec → Work → List ℕ → Status → Type 0
+IsReport spec work text status = IsReportBy (ArePlanned spec) spec work text status
+
+abbrev pub AnswersWorkBy : (List (List Statement) → Type 0) → Spec → Result Work Broken → List ℕ → Status → Type 0
+AnswersWorkBy ArePlans spec (Err broken) text status = IsRefusal broken text status
+AnswersWorkBy ArePlans spec (Ok work) text status = IsReportBy ArePlans spec work text status
+
 abbrev pub AnswersWork : Spec → Result Work Broken → List ℕ → Status → Type 0
-AnswersWork spec (Err broken) text status = IsRefusal broken text status
-AnswersWork spec (Ok work) text status = IsReport spec work text status
+AnswersWork spec found text status = AnswersWorkBy (ArePlanned spec) spec found text status
 
 -- what is written of a specification and a workload, in which groups may stand or not
 abbrev pub AnswersRun : Also → List ℕ → Result Reading Broken → List ℕ → Status → Type 0
 AnswersRun also input (Err broken) text status = IsRefusal broken text status
 AnswersRun also input (Ok reading) text status = AnswersRules reading.spec (AnswersWork reading.spec (work_reading also reading.spec (place_after input reading))) text status
+
+-- ---- hand
+
+-- the first broken rule of the lines of plans, with its line
+abbrev pub hand_refusal_text : hand_lines.Broken → List ℕ
+hand_refusal_text broken = printed_lines (words_text (codes "refused" ∷ hand_rule_text broken.rule ∷ codes "line" ∷ decimal broken.line ∷ []) ∷ [])
+
+-- the refusal of a line of plans
+abbrev pub IsHandRefusal : hand_lines.Broken → List ℕ → Status → Type 0
+IsHandRefusal broken text status = (text ≡ hand_refusal_text broken) × (status ≡ Refused)
+
+-- the refusal of the plan of an operation
+abbrev pub IsPlanRefusal : Spec → ℕ → PlanRefusal → List ℕ → Status → Type 0
+IsPlanRefusal spec op refusal text status = (text ≡ printed_lines (plan_refusal_text spec op refusal ∷ [])) × (status ≡ Refused)
+
+-- Written plans, each of which keeps K1 to K7. The first, in written order, that doesn't is refused for its first broken rule.
+abbrev pub AnswersPlans : Spec → List Hand → (List ℕ → Status → Type 0) → List ℕ → Status → Type 0
+AnswersPlans spec hands IfKept text status =
+    (AllKeepRules spec hands × IfKept text status)
+    ⊎ ((op : ℕ) × (refusal : PlanRefusal) × IsFirstRefused spec hands op refusal × IsPlanRefusal spec op refusal text status)
+
+-- the workload of single calls that content lines give, in a text whose lines run out before this number
+abbrev pub work_in_lines : ℕ → Spec → List ContentLine → Result Work Broken
+work_in_lines past_end spec lines = work_by spec (reading_all Nothing past_end spec lines)
+
+-- plans, and the lines of a workload behind them: calls run by the plans that are written, and else by the planned ones
+abbrev pub AnswersChosen : ℕ → Spec → List Hand → List ContentLine → List ℕ → Status → Type 0
+AnswersChosen past_end spec hands lines text status =
+    AnswersPlans spec hands (AnswersWorkBy (AreChosen spec hands) spec (work_in_lines past_end spec lines)) text status
+
+abbrev pub AnswersHands : ℕ → Spec → Result HandReading hand_lines.Broken → List ℕ → Status → Type 0
+AnswersHands past_end spec (Err broken) text status = IsHandRefusal broken text status
+AnswersHands past_end spec (Ok read) text status = AnswersChosen past_end spec read.hands read.others text status
+
+-- what is written of a specification, plans behind it, and a workload of single calls behind these
+abbrev pub AnswersByHand : List ℕ → Result Reading Broken → List ℕ → Status → Type 0
+AnswersByHand input (Err broken) text status = IsRefusal broken text status
+AnswersByHand input (Ok reading) text status =
+    AnswersRules reading.spec (AnswersHands (past_end_of input) reading.spec (hands_reading reading.spec (place_after input reading))) text status
 
 -- ---- audit
 
@@ -164,44 +218,61 @@ AnswersAudit form input (Ok reading) text status =
 -- first broken line rule, then of its first broken rule of acceptance, else `accepted`, the plans, or the drawing. Where an
 -- operation is named, the drawing has its plan; where none has the name, the name is refused. `run` and `group` read a workload
 -- behind it, `group` one in which groups may stand, and refuse by its line rules last; else they write the plans and the report
--- of a run. `audit` reads a workload up to its `end`, refuses as `run` does, and else judges the lines behind that, as what is
+-- of a run. `hand` reads plans between the two, refuses the first broken line rule of these, then the first plan that breaks a
+-- rule of plans, and then as `run` does; else it writes the plans that were written, in the place of the planned ones, and the
+-- report of a run. `audit` reads a workload up to its `end`, refuses as `run` does, and else judges the lines behind that, as what is
 -- printed of a run, or as a journal alone.
 abbrev pub Answers : TextCommand → List ℕ → List ℕ → Status → Type 0
-Answers Check input text status = AnswersAlone (λ spec. IsAcceptedText) (spec_of input) text status
-Answers Plan input text status = AnswersAlone IsPlansText (spec_of input) text status
-Answers Run input text status = AnswersRun Nothing input (spec_reading input) text status
-Answers Group input text status = AnswersRun Groups input (spec_reading input) text status
-Answers Audit input text status = AnswersAudit forms.Run input (spec_reading input) text status
-Answers AuditJournal input text status = AnswersAudit forms.Journal input (spec_reading input) text status
-Answers Dot input text status = AnswersAlone IsDrawing (spec_of input) text status
-Answers (DotPlan op) input text status = AnswersAlone (IsPlanDrawingNamed op) (spec_of input) text status
+Answers commands.Check input text status = AnswersAlone (λ spec. IsAcceptedText) (spec_of input) text status
+Answers commands.Plan input text status = AnswersAlone IsPlansText (spec_of input) text status
+Answers commands.Run input text status = AnswersRun Nothing input (spec_reading input) text status
+Answers commands.Group input text status = AnswersRun Groups input (spec_reading input) text status
+Answers commands.Audit input text status = AnswersAudit forms.Run input (spec_reading input) text status
+Answers commands.AuditJournal input text status = AnswersAudit forms.Journal input (spec_reading input) text status
+Answers commands.Hand input text status = AnswersByHand input (spec_reading input) text status
+Answers commands.Dot input text status = AnswersAlone IsDrawing (spec_of input) text status
+Answers (commands.DotPlan op) input text status = AnswersAlone (IsPlanDrawingNamed op) (spec_of input) text status
 
 -- the command makes the calls of a workload
 abbrev pub MakesCalls : TextCommand → Type 0
-MakesCalls Check = ⊥
-MakesCalls Plan = ⊥
-MakesCalls Run = Unit {0}
-MakesCalls Group = Unit {0}
-MakesCalls Audit = ⊥
-MakesCalls AuditJournal = ⊥
-MakesCalls Dot = ⊥
-MakesCalls (DotPlan op) = ⊥
+MakesCalls commands.Check = ⊥
+MakesCalls commands.Plan = ⊥
+MakesCalls commands.Run = Unit {0}
+MakesCalls commands.Group = Unit {0}
+MakesCalls commands.Audit = ⊥
+MakesCalls commands.AuditJournal = ⊥
+MakesCalls commands.Hand = Unit {0}
+MakesCalls commands.Dot = ⊥
+MakesCalls (commands.DotPlan op) = ⊥
+
+-- the plans by which it makes them: by those that were written some other than the planned ones, which keep K1 to K7 too
+abbrev pub plans_by : TextCommand → Spec → List (List Statement) → Type 0
+plans_by commands.Check spec plans = ArePlanned spec plans
+plans_by commands.Plan spec plans = ArePlanned spec plans
+plans_by commands.Run spec plans = ArePlanned spec plans
+plans_by commands.Group spec plans = ArePlanned spec plans
+plans_by commands.Audit spec plans = ArePlanned spec plans
+plans_by commands.AuditJournal spec plans = ArePlanned spec plans
+plans_by commands.Hand spec plans = ArePlansOf spec plans
+plans_by commands.Dot spec plans = ArePlanned spec plans
+plans_by (commands.DotPlan op) spec plans = ArePlanned spec plans
 
 -- in which groups may stand or not
 abbrev pub also_of : TextCommand → Also
-also_of Check = Nothing
-also_of Plan = Nothing
-also_of Run = Nothing
-also_of Group = Groups
-also_of Audit = Nothing
-also_of AuditJournal = Nothing
-also_of Dot = Nothing
-also_of (DotPlan op) = Nothing
+also_of commands.Check = Nothing
+also_of commands.Plan = Nothing
+also_of commands.Run = Nothing
+also_of commands.Group = Groups
+also_of commands.Audit = Nothing
+also_of commands.AuditJournal = Nothing
+also_of commands.Hand = Nothing
+also_of commands.Dot = Nothing
+also_of (commands.DotPlan op) = Nothing
 
 -- the command that judges lines of this form
 abbrev pub audit_for : Form → TextCommand
-audit_for forms.Run = Audit
-audit_for forms.Journal = AuditJournal
+audit_for forms.Run = commands.Audit
+audit_for forms.Journal = commands.AuditJournal
 
 -- an input that is too long
 abbrev pub IsSizeRefusal : List ℕ → Status → Type 0

@@ -9,10 +9,10 @@ use Rattle.rc_work.specs.PrefixLaws.{cut_texts_are_refused}
 use Rattle.rc_work.specs.Ranking.{work_reading}
 use Rattle.rc_work.specs.WholeText.{Whole, place_after, text_reading, text_reading_by, whole_by}
 use Rattle.rc_command.specs.declared.command.TextCommand.{TextCommand}
-use Rattle.rc_command.specs.declared.command.TextCommand.TheVariants.{Check, Plan, Run, Group, Audit, AuditJournal, Dot, DotPlan}
+use Rattle.rc_command.specs.declared.command.TextCommand.TheVariants.{Check, Plan, Run, Group, Audit, AuditJournal, Hand, Dot, DotPlan}
 use Rattle.rc_answer.specs.declared.status.Status.{Status}
 use Rattle.rc_answer.specs.declared.status.Status.TheVariants.{Refused}
-use Rattle.rc_answer.specs.Answers.{Answers, AnswersRules, AnswersRun, AnswersWork, MakesCalls, also_of}
+use Rattle.rc_answer.specs.Answers.{Answers, AnswersRules, AnswersRun, AnswersWork, also_of}
 
 -- a text that gives no specification with a workload is refused
 module _ (also : Also) (text out : List ℕ) (status : Status) (broken : Broken) where
@@ -31,10 +31,22 @@ cut_is_refused also text whole at n is letter before out status answers =
     let refused = cut_texts_are_refused also text whole at n is letter before in
     no_text also (take n text) out status refused.0 (spec_reading (take n text)) refused.1 answers
 
+-- between the specification and the workload nothing else is read
+abbrev pub ReadsNoPlans : TextCommand → Type 0
+ReadsNoPlans Check = ⊥
+ReadsNoPlans Plan = ⊥
+ReadsNoPlans Run = Unit {0}
+ReadsNoPlans Group = Unit {0}
+ReadsNoPlans Audit = ⊥
+ReadsNoPlans AuditJournal = ⊥
+ReadsNoPlans Hand = ⊥
+ReadsNoPlans Dot = ⊥
+ReadsNoPlans (DotPlan op) = ⊥
+
 -- Where a text gives a specification and a workload, `run` or `group`, whichever reads it so, refuses each prefix of it that ends
 -- before the `d` of its last content line.
 abbrev pub CutRunsAreRefused : Type 0
-CutRunsAreRefused = (command : TextCommand) → MakesCalls command
+CutRunsAreRefused = (command : TextCommand) → ReadsNoPlans command
     → (text : List ℕ) (whole : Whole) (at n : ℕ) → text_reading (also_of command) text ≡ Ok whole → IsLastLetter text at → n ≤ at
     → (out : List ℕ) (status : Status) → Answers command (take n text) out status → status ≡ Refused
 
@@ -45,5 +57,6 @@ cut_runs_are_refused Run calls text whole at n is letter before out status answe
 cut_runs_are_refused Group calls text whole at n is letter before out status answers = cut_is_refused (also_of Group) text whole at n is letter before out status answers
 cut_runs_are_refused Audit calls text whole at n is letter before out status answers = absurd calls
 cut_runs_are_refused AuditJournal calls text whole at n is letter before out status answers = absurd calls
+cut_runs_are_refused Hand calls text whole at n is letter before out status answers = absurd calls
 cut_runs_are_refused Dot calls text whole at n is letter before out status answers = absurd calls
 cut_runs_are_refused (DotPlan op) calls text whole at n is letter before out status answers = absurd calls

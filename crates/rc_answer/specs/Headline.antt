@@ -1,15 +1,19 @@
--- THE HEADLINE: what `relc run`, `relc group` and `relc audit` have done with a text, and `relc check` with a specification, in
--- one place.
+-- THE HEADLINE: what `relc run`, `relc group`, `relc hand` and `relc audit` have done with a text, and `relc check` with a
+-- specification, in one place.
 --
 --   A specification is accepted exactly where the written rules hold, and a refusal names the first broken one. For an accepted
 --   one the printed journal is one legal history, in which each thread's calls stand once, in its order and after all calls of
 --   earlier rounds; every reply is that of the plain relation at its place; and every state satisfies the dependencies.
 --   Where groups are read, the calls of a group stand there as one entry, between which there is no other; each other call is an
 --   entry by itself, and so is every call of `run`.
+--   `relc hand` reads plans between specification and workload. Where each of them keeps the written rules of plans, the calls of
+--   their operations are made by them, and all the others by the planned plans: the journal is one legal history all the same. A
+--   refusal names the first broken rule of the lines, or of the first plan that breaks one.
 --   `relc audit` judges lines that stand behind a workload: they are legal exactly where they are what is printed of some run,
 --   and else exactly one line is the first with which no such text begins. So `relc audit bare` judges the journal alone.
 --
--- The call `relc` (rc_top/src/top.rt, clauses `headline`, `group_headline`, `check_headline` and `audit_headline`) promises it
+-- The call `relc` (rc_top/src/top.rt, clauses `headline`, `group_headline`, `hand_headline`, `check_headline` and
+-- `audit_headline`) promises it
 -- where the words say so, the source tells its bytes, these are at most 2^24, and the status is Done, Refused or, of `audit`, Bad. Read this file to its end, and then
 -- what its words stand on, in this order (docs/BELIEVING.md lists each file):
 --   the rules           rc_spec: Acceptance (IsAccepted, IsFirstBroken), Adequacy (A1 to A7), Placement (P1 to P6, O1 to O3)
@@ -18,6 +22,7 @@
 --   the grammar         rc_reader: Grammar (spec_reading); rc_work: Ranking (work_reading)
 --   the printed forms   rc_work: Report; rc_spec: RefusalText; rc_plan: PlanText
 --   planned plans       rc_query: Planned (IsPlanned)
+--   written plans       rc_handplan: HandGrammar (hands_reading), Chosen (AreChosen, AllKeepRules, IsFirstRefused); rc_plan: PlanRules (K1 to K7)
 --   good reports        rc_audit: GoodReports (IsGoodReport, IsVerdict)
 use Rattle.std.specs.Prelude.{◌≡◌, ◌↔◌, ℕ, suc, ◌<◌, List, [], ◌∷◌, ◌++◌, ◌⊎◌, Option, None, Some, Result, Ok, Err}
 use Rattle.std.specs.List.{flat_map, slice_get}
@@ -31,6 +36,12 @@ use Rattle.rc_spec.specs.declared.spec.Spec.{Spec}
 use Rattle.rc_spec.specs.Acceptance.{IsAccepted, IsFirstBroken}
 use Rattle.rc_spec.specs.RefusalText as rules
 use Rattle.rc_plan.specs.declared.statement.Statement.{Statement}
+use Rattle.rc_plan.specs.declared.refusal.PlanRefusal.{PlanRefusal}
+use Rattle.rc_handplan.specs.Chosen.{AllKeepRules, AreChosen, IsFirstRefused}
+use Rattle.rc_handplan.specs.HandGrammar as hand_lines
+use Rattle.rc_handplan.specs.HandGrammar.{HandReading, hands_reading}
+use Rattle.rc_handplan.specs.RuleText.{plan_refusal_text}
+use Rattle.rc_handplan.specs.declared.hand.Hand.{Hand}
 use Rattle.rc_rel.specs.declared.entry.Entry.{Entry}
 use Rattle.rc_rel.specs.History.{AllFit, AreLegalFrom, after_steps, calls_of, own, relation_at, replay}
 use Rattle.rc_reader.specs.Grammar.{Broken, Reading, spec_of, spec_reading}
@@ -48,7 +59,7 @@ use Rattle.rc_audit.specs.GoodReports.{IsGoodReport, IsVerdict}
 use Rattle.rc_answer.specs.declared.outcome.Outcome.{Outcome}
 use Rattle.rc_answer.specs.declared.outcome.Ran.{Ran}
 use Rattle.rc_answer.specs.declared.status.Status.TheVariants.{Done, Refused}
-use Rattle.rc_answer.specs.Answers.{accepted_text, line_refusal_text, verdict_status, verdict_text}
+use Rattle.rc_answer.specs.Answers.{accepted_text, hand_refusal_text, line_refusal_text, verdict_status, verdict_text, work_in_lines}
 use Rattle.rc_answer.specs.Plans.{ArePlanned, plans_text}
 
 -- ---- one legal history
@@ -90,19 +101,23 @@ pub record Accepts (old new : Option (List ℕ)) (outcome : Outcome) : Type 0 wh
   pub none : outcome.ran ≡ None
   pub printed : Adds old accepted_text new
 
--- The closed store has one legal history of the workload as its journal, and the rows that it leaves; the sink has gained the
--- plans and the report of this very journal and these rows.
-pub record HasRunOnce (also : Also) (spec : Spec) (work : Work) (old new : Option (List ℕ)) (outcome : Outcome) : Type 0 where
+-- The closed store, whose operations have plans of this kind, has one legal history of the workload as its journal, and the rows
+-- that it leaves; the sink has gained the plans and the report of this very journal and these rows.
+pub record HasRunOnceBy (ArePlans : List (List Statement) → Type 0) (also : Also) (spec : Spec) (work : Work) (old new : Option (List ℕ)) (outcome : Outcome) : Type 0 where
   pub status : outcome.status ≡ Done
   pub ran : Ran
   pub is : outcome.ran ≡ Some ran
   pub of_spec : ran.closed.compiled.spec ≡ spec
-  pub planned : ArePlanned spec ran.closed.compiled.plans
+  pub by_plans : ArePlans ran.closed.compiled.plans
   pub journal : List Entry
   pub closed : ran.closed.journal ≡ Some journal
   pub history : IsOneLegalHistory also spec work journal
   pub last : ran.last ≡ replay spec journal
   pub printed : Adds old (plans_text spec ran.closed.compiled.plans ++ printed_lines (report spec work.ranks journal ran.last)) new
+
+-- by the planned plans
+abbrev pub HasRunOnce : Also → Spec → Work → Option (List ℕ) → Option (List ℕ) → Outcome → Type 0
+HasRunOnce also spec work old new outcome = HasRunOnceBy (ArePlanned spec) also spec work old new outcome
 
 -- The sink has gained the one verdict on the lines behind a workload, by the planned plans, and no run is left: `legal` with
 -- the number of entries exactly where they are those of a good report of this form, and else the one line that is the first
@@ -124,9 +139,26 @@ OfPart form spec past_end (Err broken) old new outcome = Refuses (line_refusal_t
 OfPart form spec past_end (Ok part) old new outcome = HasJudged form spec part.work past_end part.others old new outcome
 
 -- a workload that breaks a line rule is refused, and any other is run
+abbrev pub OfWorkBy : (List (List Statement) → Type 0) → Also → Spec → Result Work Broken → Option (List ℕ) → Option (List ℕ) → Outcome → Type 0
+OfWorkBy ArePlans also spec (Err broken) old new outcome = Refuses (line_refusal_text broken) old new outcome
+OfWorkBy ArePlans also spec (Ok work) old new outcome = HasRunOnceBy ArePlans also spec work old new outcome
+
+-- by the planned plans
 abbrev pub OfWork : Also → Spec → Result Work Broken → Option (List ℕ) → Option (List ℕ) → Outcome → Type 0
-OfWork also spec (Err broken) old new outcome = Refuses (line_refusal_text broken) old new outcome
-OfWork also spec (Ok work) old new outcome = HasRunOnce also spec work old new outcome
+OfWork also spec found old new outcome = OfWorkBy (ArePlanned spec) also spec found old new outcome
+
+-- Plans, each of which keeps K1 to K7, and behind them a workload, which is run by them and the planned plans of the others; or not
+-- all keep these rules, and the first that doesn't is refused for its first broken rule.
+abbrev pub OfChosen : Spec → List Hand → Result Work Broken → Option (List ℕ) → Option (List ℕ) → Outcome → Type 0
+OfChosen spec hands found old new outcome =
+    (AllKeepRules spec hands × OfWorkBy (AreChosen spec hands) Nothing spec found old new outcome)
+    ⊎ ((AllKeepRules spec hands → ⊥) × (op : ℕ) × (refusal : PlanRefusal) × IsFirstRefused spec hands op refusal
+    × Refuses (printed_lines (plan_refusal_text spec op refusal ∷ [])) old new outcome)
+
+-- lines of plans that break a rule are refused
+abbrev pub OfHands : ℕ → Spec → Result HandReading hand_lines.Broken → Option (List ℕ) → Option (List ℕ) → Outcome → Type 0
+OfHands past_end spec (Err broken) old new outcome = Refuses (hand_refusal_text broken) old new outcome
+OfHands past_end spec (Ok read) old new outcome = OfChosen spec read.hands (work_in_lines past_end spec read.others) old new outcome
 
 -- accepted, or not accepted and refused for its first broken rule
 abbrev pub OfSpec : Spec → (Option (List ℕ) → Option (List ℕ) → Outcome → Type 0) → Option (List ℕ) → Option (List ℕ) → Outcome → Type 0
@@ -140,6 +172,12 @@ abbrev pub OfReading : Also → List ℕ → Result Reading Broken → Option (L
 OfReading also input (Err broken) old new outcome = Refuses (line_refusal_text broken) old new outcome
 OfReading also input (Ok reading) old new outcome =
     OfSpec reading.spec (OfWork also reading.spec (work_reading also reading.spec (place_after input reading))) old new outcome
+
+-- behind one that is accepted stand plans and a workload
+abbrev pub OfByHand : List ℕ → Result Reading Broken → Option (List ℕ) → Option (List ℕ) → Outcome → Type 0
+OfByHand input (Err broken) old new outcome = Refuses (line_refusal_text broken) old new outcome
+OfByHand input (Ok reading) old new outcome =
+    OfSpec reading.spec (OfHands (past_end_of input) reading.spec (hands_reading reading.spec (place_after input reading))) old new outcome
 
 -- a specification that stands alone
 abbrev pub OfAlone : Result Spec Broken → Option (List ℕ) → Option (List ℕ) → Outcome → Type 0
@@ -157,6 +195,10 @@ OfJudged form input (Ok reading) old new outcome =
 -- of `run`, which reads no groups (`Nothing`), and of `group`, which does (`Groups`)
 abbrev pub Headline : Also → List ℕ → Option (List ℕ) → Option (List ℕ) → Outcome → Type 0
 Headline also input old new outcome = OfReading also input (spec_reading input) old new outcome
+
+-- and of `hand`, which reads plans behind the specification
+abbrev pub HandHeadline : List ℕ → Option (List ℕ) → Option (List ℕ) → Outcome → Type 0
+HandHeadline input old new outcome = OfByHand input (spec_reading input) old new outcome
 
 -- and of `check`
 abbrev pub CheckHeadline : List ℕ → Option (List ℕ) → Option (List ℕ) → Outcome → Type 0

@@ -1,9 +1,11 @@
--- The headline holds of what `run`, `group` and `check` answer with the status Done or Refused, and `audit` also with Bad.
+-- The headline holds of what `run`, `group`, `hand` and `check` answer with the status Done or Refused, and `audit` also with Bad.
 use Rattle.std.proofs.Common.{◌≡◌, ◌↔◌, ℕ, suc, ◌+◌, List, [], ◌∷◌, ◌++◌, take, drop, Option, Some, None, Result, Ok, Err, refl, sym, ap, subst, ◌∙◌, inl, inr, arith}
 use Rattle.std.specs.Prelude.{IfSome, IsSome}
 use Rattle.std.specs.List.{slice_get}
 use Rattle.std.proofs.lemmas.List.{take-append-drop, take_more}
 use Rattle.std.proofs.lemmas.Option.{get_or_from_slice_get, slice_get_within}
+use Rattle.rc_tuple.specs.RisingSet.{In}
+use Rattle.rc_tuple.specs.RisingSetLaws.{append_in_right}
 use Rattle.rc_tuple.specs.Tuple.{Pairs}
 use Rattle.rc_text.specs.Lines.{ContentLine, TextPlace, bytes_of_content, past_end_of, printed_lines}
 use Rattle.rc_io.specs.Bytes.{Adds}
@@ -11,7 +13,16 @@ use Rattle.rc_spec.specs.declared.spec.Spec.{Spec}
 use Rattle.rc_spec.specs.AcceptanceLaws.{refused_not_accepted}
 use Rattle.rc_spec.specs.RefusalText as rules
 use Rattle.rc_spec.specs.Plain.{plain}
+use Rattle.rc_spec.specs.Placement.{op_at}
 use Rattle.rc_plan.specs.Compiled.{SpecWithPlans}
+use Rattle.rc_plan.specs.PlanRulesLaws.{refused_law}
+use Rattle.rc_plan.specs.declared.refusal.PlanRefusal.{PlanRefusal}
+use Rattle.rc_plan.specs.declared.statement.Statement.{Statement}
+use Rattle.rc_handplan.specs.Chosen.{AllKeepRules, AreChosen, IsFirstRefused}
+use Rattle.rc_handplan.specs.HandGrammar as hand_lines
+use Rattle.rc_handplan.specs.HandGrammar.{HandReading, hands_reading}
+use Rattle.rc_handplan.specs.RuleText.{plan_refusal_text}
+use Rattle.rc_handplan.specs.declared.hand.Hand.{Hand}
 use Rattle.rc_rel.specs.declared.entry.Entry.{Entry}
 use Rattle.rc_rel.specs.declared.entry.Step.{Step}
 use Rattle.rc_rel.specs.History.{AllFit, AreLegalFrom, IsLegal, after_steps, relation_at, replay, steps_of}
@@ -44,12 +55,12 @@ use Rattle.rc_answer.specs.declared.outcome.Outcome.{Outcome}
 use Rattle.rc_answer.specs.declared.outcome.Ran.{Ran}
 use Rattle.rc_answer.specs.declared.status.Status.{Status}
 use Rattle.rc_answer.specs.declared.status.Status.TheVariants.{Done, Bad, Refused}
-use Rattle.rc_answer.specs.Answers.{Answers, AnswersAlone, AnswersAudit, AnswersPart, AnswersRules, AnswersRun, AnswersWork, IsAcceptedText, IsJudgement, audit_for, line_refusal_text, verdict_status}
-use Rattle.rc_answer.specs.Plans.{plans_text}
-use Rattle.rc_answer.specs.Ran.{HasRunText, IsRunOf, entries_in, run_text}
-use Rattle.rc_answer.specs.RanLaws.{single_without_groups}
+use Rattle.rc_answer.specs.Answers.{Answers, AnswersAlone, AnswersAudit, AnswersByHand, AnswersHands, AnswersPart, AnswersRules, AnswersRun, AnswersWork, AnswersWorkBy, IsAcceptedText, IsJudgement, audit_for, hand_refusal_text, line_refusal_text, verdict_status, work_in_lines}
+use Rattle.rc_answer.specs.Plans.{ArePlanned, plans_text}
+use Rattle.rc_answer.specs.Ran.{HasHandText, HasRunText, IsRunBy, IsRunOf, entries_in, run_text}
+use Rattle.rc_answer.specs.RanLaws.{single_in_lines, single_without_groups}
 use Rattle.rc_answer.specs.Writes.{WritesWhole}
-use Rattle.rc_answer.specs.Headline.{Accepts, AuditHeadline, CheckHeadline, Headline, HasJudged, HasRunOnce, IsAnswered, IsOneLegalHistory, OfAlone, OfJudged, OfPart, OfReading, OfSpec, OfWork, Refuses}
+use Rattle.rc_answer.specs.Headline.{Accepts, AuditHeadline, CheckHeadline, HandHeadline, Headline, HasJudged, HasRunOnce, HasRunOnceBy, IsAnswered, IsOneLegalHistory, OfAlone, OfByHand, OfHands, OfJudged, OfPart, OfReading, OfSpec, OfWork, OfWorkBy, Refuses}
 
 -- ---- one legal history
 
@@ -222,7 +233,7 @@ module _ (old new : Option (List ℕ)) (outcome : Outcome) (none : outcome.ran �
   audit_headline forms.Run input (out, answers, adds) = of_judged forms.Run input (spec_reading input) out answers adds
   audit_headline forms.Journal input (out, answers, adds) = of_judged forms.Journal input (spec_reading input) out answers adds
 
--- ---- run and group
+-- ---- run, group and hand
 
 done_not_refused : Done ≡ Refused → ⊥
 done_not_refused e = cc
@@ -231,42 +242,46 @@ none_is_not_some : (o : Option Ran) → o ≡ None → IsSome o → ⊥
 none_is_not_some None is some = cc
 none_is_not_some (Some r) is some = cc
 
-module _ (also : Also) (input : List ℕ) (old new : Option (List ℕ)) (outcome : Outcome)
-    (has : IsSome outcome.ran ↔ (outcome.status ≡ Done)) (ran : IfSome outcome.ran (HasRunText also input old new)) where
+-- a run is left exactly where the status is Done
+module _ (outcome : Outcome) (has : IsSome outcome.ran ↔ (outcome.status ≡ Done)) where
   none_of : (o : Option Ran) → outcome.ran ≡ o → outcome.status ≡ Refused → o ≡ None
   none_of None is refused = refl
   none_of (Some r) is refused = absurd (done_not_refused (sym (has.0 (subst (λ (o : Option Ran). IsSome o) (sym is) refl)) ∙ refused))
 
-  some_of : (o : Option Ran) → outcome.ran ≡ o → outcome.status ≡ Done → (r : Ran) × (outcome.ran ≡ Some r) × HasRunText also input old new r
-  some_of None is done = absurd (none_is_not_some outcome.ran is (has.1 done))
-  some_of (Some r) is done = (r, is, subst (λ (o : Option Ran). IfSome o (HasRunText also input old new)) is ran)
+  some_of : (P : Ran → Type 0) → IfSome outcome.ran P → (o : Option Ran) → outcome.ran ≡ o → outcome.status ≡ Done
+      → (r : Ran) × (outcome.ran ≡ Some r) × P r
+  some_of P ran None is done = absurd (none_is_not_some outcome.ran is (has.1 done))
+  some_of P ran (Some r) is done = (r, is, subst (λ (o : Option Ran). IfSome o P) is ran)
 
-  run_once : (spec : Spec) (work : Work) (r : Ran) → outcome.ran ≡ Some r → outcome.status ≡ Done → (also ≡ Nothing → HasSingleTurns work)
-      → (run : IsRunOf spec work r) → AllFit r.closed.compiled.spec (entries_in r.closed.journal)
-      → Adds old (run_text work.ranks r) new → HasRunOnce also spec work old new outcome
-  run_once spec work r at done single run fit adds = record {
-    status = done;
-    ran = r;
-    is = at;
-    of_spec = run.of_spec;
-    planned = run.planned;
-    journal = run.history;
-    closed = run.journal;
-    history = one_legal_history also spec work run.history run.runs (λ nothing. single_turns_are_single_steps spec work run.history (single nothing) run.runs)
-        (subst (λ (z : Spec × List Entry). AllFit z.0 z.1) (λ i. (run.of_spec i, entries_in (run.journal i))) fit);
-    last = run.last;
-    printed = subst (λ (l : List ℕ). Adds old l new)
-        (λ i. plans_text (run.of_spec i) r.closed.compiled.plans ++ printed_lines (report (run.of_spec i) work.ranks (entries_in (run.journal i)) r.last))
-        adds;
-  }
+run_once : (ArePlans : List (List Statement) → Type 0) (also : Also) (spec : Spec) (work : Work) (old new : Option (List ℕ)) (outcome : Outcome) (r : Ran)
+    → outcome.ran ≡ Some r → outcome.status ≡ Done → (also ≡ Nothing → HasSingleTurns work)
+    → (run : IsRunBy ArePlans spec work r) → AllFit r.closed.compiled.spec (entries_in r.closed.journal)
+    → Adds old (run_text work.ranks r) new → HasRunOnceBy ArePlans also spec work old new outcome
+run_once ArePlans also spec work old new outcome r at done single run fit adds = record {
+  status = done;
+  ran = r;
+  is = at;
+  of_spec = run.of_spec;
+  by_plans = run.by_plans;
+  journal = run.history;
+  closed = run.journal;
+  history = one_legal_history also spec work run.history run.runs (λ nothing. single_turns_are_single_steps spec work run.history (single nothing) run.runs)
+      (subst (λ (z : Spec × List Entry). AllFit z.0 z.1) (λ i. (run.of_spec i, entries_in (run.journal i))) fit);
+  last = run.last;
+  printed = subst (λ (l : List ℕ). Adds old l new)
+      (λ i. plans_text (run.of_spec i) r.closed.compiled.plans ++ printed_lines (report (run.of_spec i) work.ranks (entries_in (run.journal i)) r.last))
+      adds;
+}
 
+module _ (also : Also) (input : List ℕ) (old new : Option (List ℕ)) (outcome : Outcome)
+    (has : IsSome outcome.ran ↔ (outcome.status ≡ Done)) (ran : IfSome outcome.ran (HasRunText also input old new)) where
   of_work : (reading : Reading) → spec_reading input ≡ Ok reading → (read : Result Work Broken)
       → work_reading also reading.spec (place_after input reading) ≡ read
       → (out : List ℕ) → AnswersWork reading.spec read out outcome.status → Adds old out new → OfWork also reading.spec read old new outcome
   unfolding reading_in work_in
   of_work reading is (Err broken) works out (printed, refused) adds =
-      refuses old new outcome (line_refusal_text broken) out (none_of outcome.ran refl refused) printed refused adds
-  of_work reading is (Ok work) works out answers adds = go (some_of outcome.ran refl answers.done)
+      refuses old new outcome (line_refusal_text broken) out (none_of outcome has outcome.ran refl refused) printed refused adds
+  of_work reading is (Ok work) works out answers adds = go (some_of outcome has (HasRunText also input old new) ran outcome.ran refl answers.done)
     where
       go : ((r : Ran) × (outcome.ran ≡ Some r) × HasRunText also input old new r) → HasRunOnce also reading.spec work old new outcome
       go (r, at, h) =
@@ -274,18 +289,90 @@ module _ (also : Also) (input : List ℕ) (old new : Option (List ℕ)) (outcome
           let spec_same : reading.spec ≡ h.spec = ap (λ (x : Reading). x.spec) same ∙ h.read.of_spec in
           let work_same : work ≡ h.work =
           ap (work_in work) (sym works ∙ (λ i. work_reading also (spec_same i) (place_after input (same i))) ∙ h.read.work_read) in
-          run_once reading.spec work r at answers.done (single_without_groups also reading.spec (place_after input reading) work works)
+          run_once (ArePlanned reading.spec) also reading.spec work old new outcome r at answers.done
+          (single_without_groups also reading.spec (place_after input reading) work works)
           (subst (λ (z : Spec × Work). IsRunOf z.0 z.1 r) (λ i. (sym spec_same i, sym work_same i)) h.run) h.store.fit
           (subst (λ (w : Work). Adds old (run_text w.ranks r) new) (sym work_same) h.written)
 
   of_reading : (read : Result Reading Broken) → spec_reading input ≡ read → (out : List ℕ)
       → AnswersRun also input read out outcome.status → Adds old out new → OfReading also input read old new outcome
   of_reading (Err broken) is out (printed, refused) adds =
-      refuses old new outcome (line_refusal_text broken) out (none_of outcome.ran refl refused) printed refused adds
+      refuses old new outcome (line_refusal_text broken) out (none_of outcome has outcome.ran refl refused) printed refused adds
   of_reading (Ok reading) is out answers adds =
       let work = work_reading also reading.spec (place_after input reading) in
-      of_rules old new outcome reading.spec (AnswersWork reading.spec work) (OfWork also reading.spec work) out (none_of outcome.ran refl)
+      of_rules old new outcome reading.spec (AnswersWork reading.spec work) (OfWork also reading.spec work) out (none_of outcome has outcome.ran refl)
       (λ h. of_work reading is work refl out h adds) answers adds
 
   pub headline : WritesWhole (AnswersRun also input (spec_reading input)) old new outcome.status → Headline also input old new outcome
   headline (out, answers, adds) = of_reading (spec_reading input) refl out answers adds
+
+-- ---- hand
+
+hands_in : HandReading → Result HandReading hand_lines.Broken → HandReading
+hands_in read (Ok x) = x
+hands_in read (Err e) = read
+
+-- where a plan is refused, not all keep K1 to K7
+pub refused_plans_fail : (spec : Spec) (hands : List Hand) (op : ℕ) (refusal : PlanRefusal) → IsFirstRefused spec hands op refusal → AllKeepRules spec hands → ⊥
+refused_plans_fail spec hands op refusal first keep =
+    refused_law spec (op_at spec first.hand.op) first.hand.plan refusal first.first
+    (keep first.hand (subst (In first.hand) (sym first.whole) (append_in_right first.hand first.front (first.hand ∷ first.others) (inl refl))))
+
+module _ (input : List ℕ) (old new : Option (List ℕ)) (outcome : Outcome)
+    (has : IsSome outcome.ran ↔ (outcome.status ≡ Done)) (ran : IfSome outcome.ran (HasHandText input old new)) where
+  of_chosen_work : (reading : Reading) → spec_reading input ≡ Ok reading → (plans : HandReading)
+      → hands_reading reading.spec (place_after input reading) ≡ Ok plans → (read : Result Work Broken)
+      → work_in_lines (past_end_of input) reading.spec plans.others ≡ read → (out : List ℕ)
+      → AnswersWorkBy (AreChosen reading.spec plans.hands) reading.spec read out outcome.status → Adds old out new
+      → OfWorkBy (AreChosen reading.spec plans.hands) Nothing reading.spec read old new outcome
+  unfolding reading_in hands_in work_in
+  of_chosen_work reading is plans are (Err broken) works out (printed, refused) adds =
+      refuses old new outcome (line_refusal_text broken) out (none_of outcome has outcome.ran refl refused) printed refused adds
+  of_chosen_work reading is plans are (Ok work) works out answers adds =
+      go (some_of outcome has (HasHandText input old new) ran outcome.ran refl answers.done)
+    where
+      go : ((r : Ran) × (outcome.ran ≡ Some r) × HasHandText input old new r)
+          → HasRunOnceBy (AreChosen reading.spec plans.hands) Nothing reading.spec work old new outcome
+      go (r, at, h) =
+          let same : reading ≡ h.read.reading = ap (reading_in reading) (sym is ∙ h.read.read) in
+          let spec_same : reading.spec ≡ h.spec = ap (λ (x : Reading). x.spec) same ∙ h.read.of_spec in
+          let plans_same : plans ≡ h.read.plans =
+          ap (hands_in plans) (sym are ∙ (λ i. hands_reading (spec_same i) (place_after input (same i))) ∙ h.read.plans_read) in
+          let hands_same : plans.hands ≡ h.hands = ap (λ (x : HandReading). x.hands) plans_same ∙ h.read.of_plans in
+          let work_same : work ≡ h.work =
+          ap (work_in work) (sym works ∙ (λ i. work_in_lines (past_end_of input) (spec_same i) (plans_same i).others) ∙ h.read.work_read) in
+          run_once (AreChosen reading.spec plans.hands) Nothing reading.spec work old new outcome r at answers.done
+          (λ nothing. single_in_lines (past_end_of input) reading.spec plans.others work works)
+          (subst (λ (z : Spec × List Hand × Work). IsRunBy (AreChosen z.0 z.1) z.0 z.2 r)
+          (λ i. (sym spec_same i, sym hands_same i, sym work_same i)) h.run) h.store.fit
+          (subst (λ (w : Work). Adds old (run_text w.ranks r) new) (sym work_same) h.written)
+
+  of_hands : (reading : Reading) → spec_reading input ≡ Ok reading → (found : Result HandReading hand_lines.Broken)
+      → hands_reading reading.spec (place_after input reading) ≡ found → (out : List ℕ)
+      → AnswersHands (past_end_of input) reading.spec found out outcome.status → Adds old out new
+      → OfHands (past_end_of input) reading.spec found old new outcome
+  of_hands reading is (Err broken) are out (printed, refused) adds =
+      refuses old new outcome (hand_refusal_text broken) out (none_of outcome has outcome.ran refl refused) printed refused adds
+  of_hands reading is (Ok plans) are out (inl (keep, answers)) adds =
+      inl (keep, of_chosen_work reading is plans are (work_in_lines (past_end_of input) reading.spec plans.others) refl out answers adds)
+  of_hands reading is (Ok plans) are out (inr (op, refusal, first, is_refusal)) adds =
+      inr (
+        refused_plans_fail reading.spec plans.hands op refusal first,
+        op,
+        refusal,
+        first,
+        refuses old new outcome (printed_lines (plan_refusal_text reading.spec op refusal ∷ [])) out (none_of outcome has outcome.ran refl is_refusal.1)
+            is_refusal.0 is_refusal.1 adds,
+      )
+
+  of_by_hand : (read : Result Reading Broken) → spec_reading input ≡ read → (out : List ℕ)
+      → AnswersByHand input read out outcome.status → Adds old out new → OfByHand input read old new outcome
+  of_by_hand (Err broken) is out (printed, refused) adds =
+      refuses old new outcome (line_refusal_text broken) out (none_of outcome has outcome.ran refl refused) printed refused adds
+  of_by_hand (Ok reading) is out answers adds =
+      let found = hands_reading reading.spec (place_after input reading) in
+      of_rules old new outcome reading.spec (AnswersHands (past_end_of input) reading.spec found) (OfHands (past_end_of input) reading.spec found) out
+      (none_of outcome has outcome.ran refl) (λ h. of_hands reading is found refl out h adds) answers adds
+
+  pub hand_headline : WritesWhole (AnswersByHand input (spec_reading input)) old new outcome.status → HandHeadline input old new outcome
+  hand_headline (out, answers, adds) = of_by_hand (spec_reading input) refl out answers adds

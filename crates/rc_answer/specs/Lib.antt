@@ -6,6 +6,7 @@ pub mod Headline
 pub mod HeadlineLaws
 pub mod Plans
 pub mod Ran
+pub mod RanByHand
 pub mod RanLaws
 pub mod Refusals
 pub mod Statuses

@@ -4,10 +4,15 @@ use Rattle.std.specs.Prelude.{◌≡◌, ℕ, ◌<◌, List, [], ◌++◌, lengt
 use Rattle.rc_tuple.specs.Relation.{Satisfies}
 use Rattle.rc_tuple.specs.RisingSet.{In}
 use Rattle.rc_tuple.specs.Tuple.{Pairs}
-use Rattle.rc_text.specs.Lines.{printed_lines}
+use Rattle.rc_text.specs.Lines.{past_end_of, printed_lines}
 use Rattle.rc_io.specs.Bytes.{Adds}
 use Rattle.rc_spec.specs.declared.spec.Spec.{Spec}
 use Rattle.rc_spec.specs.Acceptance.{IsAccepted}
+use Rattle.rc_plan.specs.Compiled.{ArePlansOf}
+use Rattle.rc_plan.specs.declared.statement.Statement.{Statement}
+use Rattle.rc_handplan.specs.Chosen.{AllKeepRules, AreChosen}
+use Rattle.rc_handplan.specs.HandGrammar.{HandReading, hands_reading}
+use Rattle.rc_handplan.specs.declared.hand.Hand.{Hand}
 use Rattle.rc_rel.specs.declared.entry.Entry.{Entry}
 use Rattle.rc_rel.specs.History.{AllFit, IsLegal, IsNumbered, replay, states}
 use Rattle.rc_reader.specs.Grammar.{Reading, spec_reading}
@@ -17,6 +22,9 @@ use Rattle.rc_work.specs.declared.work.Work.{Work}
 use Rattle.rc_work.specs.Ranking.{work_reading}
 use Rattle.rc_work.specs.Report.{report}
 use Rattle.rc_work.specs.Runs.{HasSingleSteps, Runs}
+use Rattle.rc_command.specs.declared.command.TextCommand.{TextCommand}
+use Rattle.rc_command.specs.declared.command.TextCommand.TheVariants as commands
+use Rattle.rc_answer.specs.Answers.{also_of, work_in_lines}
 use Rattle.rc_answer.specs.declared.outcome.Outcome.{Outcome}
 use Rattle.rc_answer.specs.declared.outcome.Ran.{Ran}
 use Rattle.rc_answer.specs.declared.status.Status.{Status}
@@ -40,18 +48,23 @@ run_text texts ran =
 
 -- ---- what a run is
 
--- A run of the workload on the specification, whose operations have their planned plans: the closed store has it as its
+-- A run of the workload on the specification, whose operations have plans of this kind: the closed store has it as its
 -- journal, and the rows are those that it leaves.
-pub record IsRunOf (spec : Spec) (work : Work) (ran : Ran) : Type 0 where
+pub record IsRunBy (ArePlans : List (List Statement) → Type 0) (spec : Spec) (work : Work) (ran : Ran) : Type 0 where
   pub of_spec : ran.closed.compiled.spec ≡ spec
-  pub planned : ArePlanned spec ran.closed.compiled.plans
+  pub by_plans : ArePlans ran.closed.compiled.plans
   pub history : List Entry
   pub journal : ran.closed.journal ≡ Some history
   pub runs : Runs spec work history
   pub last : ran.last ≡ replay spec history
 
--- what the closed store keeps: the calls of the journal fit its specification, and each entry is of a pass that it had
+-- by their planned plans
+abbrev pub IsRunOf : Spec → Work → Ran → Type 0
+IsRunOf spec work ran = IsRunBy (ArePlanned spec) spec work ran
+
+-- what the closed store keeps: its plans keep K1 to K7, the calls of the journal fit its specification, and each entry is of a pass that it had
 pub record IsOfItsStore (ran : Ran) : Type 0 where
+  pub kept : ArePlansOf ran.closed.compiled.spec ran.closed.compiled.plans
   pub fit : AllFit ran.closed.compiled.spec (entries_in ran.closed.journal)
   pub passes : (e : Entry) → In e (entries_in ran.closed.journal) → e.pass < length ran.closed.made
 
@@ -72,12 +85,46 @@ pub record HasRunText (also : Also) (input : List ℕ) (old new : Option (List �
   pub store : IsOfItsStore ran
   pub written : Adds old (run_text work.ranks ran) new
 
--- What is so of a run, whatever was read: the specification is accepted and its plans are the planned ones; the journal
+-- an input is read as an accepted specification, plans behind it that keep K1 to K7, and a workload of single calls behind these
+pub record IsReadByHand (input : List ℕ) (spec : Spec) (hands : List Hand) (work : Work) : Type 0 where
+  pub reading : Reading
+  pub read : spec_reading input ≡ Ok reading
+  pub of_spec : reading.spec ≡ spec
+  pub accepted : IsAccepted spec
+  pub plans : HandReading
+  pub plans_read : hands_reading spec (place_after input reading) ≡ Ok plans
+  pub of_plans : plans.hands ≡ hands
+  pub keep : AllKeepRules spec hands
+  pub work_read : work_in_lines (past_end_of input) spec plans.others ≡ Ok work
+
+-- a run of what was read by the plans that were written, and else by the planned ones, was made, and its text was written
+pub record HasHandText (input : List ℕ) (old new : Option (List ℕ)) (ran : Ran) : Type 0 where
+  pub spec : Spec
+  pub hands : List Hand
+  pub work : Work
+  pub read : IsReadByHand input spec hands work
+  pub run : IsRunBy (AreChosen spec hands) spec work ran
+  pub store : IsOfItsStore ran
+  pub written : Adds old (run_text work.ranks ran) new
+
+-- a run of the command
+abbrev pub HasTextBy : TextCommand → List ℕ → Option (List ℕ) → Option (List ℕ) → Ran → Type 0
+HasTextBy commands.Check = HasRunText (also_of commands.Check)
+HasTextBy commands.Plan = HasRunText (also_of commands.Plan)
+HasTextBy commands.Run = HasRunText (also_of commands.Run)
+HasTextBy commands.Group = HasRunText (also_of commands.Group)
+HasTextBy commands.Audit = HasRunText (also_of commands.Audit)
+HasTextBy commands.AuditJournal = HasRunText (also_of commands.AuditJournal)
+HasTextBy commands.Hand = HasHandText
+HasTextBy commands.Dot = HasRunText (also_of commands.Dot)
+HasTextBy (commands.DotPlan op) = HasRunText (also_of (commands.DotPlan op))
+
+-- What is so of a run, whatever was read: the specification is accepted and its plans are of this kind; the journal
 -- is one legal history in which each pass of the store numbers its entries, each of calls that fit and, where no groups are
 -- read, of one; every state of it satisfies the dependencies; and the rows are those of the last.
-pub record IsOneHistory (also : Also) (ran : Ran) : Type 0 where
+pub record IsOneHistory (ArePlans : Spec → List (List Statement) → Type 0) (also : Also) (ran : Ran) : Type 0 where
   pub accepted : IsAccepted ran.closed.compiled.spec
-  pub planned : ArePlanned ran.closed.compiled.spec ran.closed.compiled.plans
+  pub by_plans : ArePlans ran.closed.compiled.spec ran.closed.compiled.plans
   pub history : List Entry
   pub journal : ran.closed.journal ≡ Some history
   pub legal : IsLegal ran.closed.compiled.spec history

@@ -1,9 +1,13 @@
 -- Laws of runs and of their texts.
-use Rattle.std.proofs.Common.{◌≡◌, ℕ, ◌<◌, List, Option, Ok, length, refl, sym, ap, ◌∙◌, subst, ◌++◌}
-use Rattle.rc_text.specs.Lines.{TextPlace, printed_lines}
+use Rattle.std.proofs.Common.{◌≡◌, ℕ, ◌<◌, List, Option, Result, Ok, Err, length, refl, sym, ap, ◌∙◌, subst, ◌++◌}
+use Rattle.rc_text.specs.Lines.{ContentLine, TextPlace, past_end_of, printed_lines}
 use Rattle.rc_tuple.specs.RisingSet.{In}
 use Rattle.rc_spec.specs.declared.spec.Spec.{Spec}
 use Rattle.rc_spec.specs.Acceptance.{IsAccepted}
+use Rattle.rc_plan.specs.Compiled.{ArePlansOf}
+use Rattle.rc_plan.specs.declared.statement.Statement.{Statement}
+use Rattle.rc_handplan.specs.Chosen.{AreChosen}
+use Rattle.rc_reader.specs.Grammar.{Broken}
 use Rattle.rc_rel.specs.declared.entry.Entry.{Entry}
 use Rattle.rc_rel.specs.History.{AllFit, IsLegal, replay}
 use Rattle.rc_rel.specs.HistoryLaws.{states_satisfy}
@@ -11,11 +15,14 @@ use Rattle.rc_work.specs.declared.also.Also.{Also}
 use Rattle.rc_work.specs.declared.also.Also.TheVariants.{Nothing}
 use Rattle.rc_work.specs.declared.work.Work.{Work}
 use Rattle.rc_work.specs.Limits.{HasSingleTurns}
-use Rattle.rc_work.specs.Ranking.{work_reading}
-use Rattle.rc_work.specs.RankingLaws.{turns_without_groups_are_single}
+use Rattle.rc_work.specs.GroupsLaws.{IsOfAlso-reading_all}
+use Rattle.rc_work.specs.Ranking.{work_by, work_of, work_reading}
+use Rattle.rc_work.specs.RankingLaws.{HasSingleTurns-work_with, turns_without_groups_are_single}
 use Rattle.rc_work.specs.Report.{report}
+use Rattle.rc_work.specs.Runs.{Runs}
 use Rattle.rc_work.specs.RunsLaws.{single_turns_are_single_steps}
 use Rattle.rc_work.specs.WholeText.{place_after}
+use Rattle.rc_work.specs.WorkGrammar.{draft_of, reading_all}
 use Rattle.rc_generate.specs.Summary.{summary}
 use Rattle.rc_generate.specs.Generated.{generated}
 use Rattle.rc_generate.specs.GeneratedLaws.{generated_has_single_turns, generated_summary_is_one_threads}
@@ -23,11 +30,14 @@ use Rattle.rc_generate.specs.Sample.{sample_graph}
 use Rattle.rc_generate.specs.SampleAcceptance.{sample_is_accepted}
 use Rattle.rc_generate.specs.SummaryText.{summary_text}
 use Rattle.rc_answer.specs.declared.outcome.Ran.{Ran}
+use Rattle.rc_answer.specs.declared.status.Status.{Status}
 use Rattle.rc_answer.specs.declared.status.Status.TheVariants.{Done}
-use Rattle.rc_answer.specs.Answers.{IsReport}
+use Rattle.rc_command.specs.declared.command.TextCommand.{TextCommand}
+use Rattle.rc_command.specs.declared.command.TextCommand.TheVariants as commands
+use Rattle.rc_answer.specs.Answers.{IsReportBy, also_of, plans_and_report, plans_by, work_in_lines}
 use Rattle.rc_answer.specs.Big.{HasSummaryText, big_text, ran_text}
 use Rattle.rc_answer.specs.Plans.{ArePlanned, plans_text}
-use Rattle.rc_answer.specs.Ran.{HasRunText, IsOfItsStore, IsOneHistory, IsRunOf, entries_in, run_text}
+use Rattle.rc_answer.specs.Ran.{HasHandText, HasRunText, HasTextBy, IsOfItsStore, IsOneHistory, IsRunBy, IsRunOf, entries_in, run_text}
 
 -- so of one that may have groups, where none are read
 pub single_without_groups : (also : Also) (spec : Spec) (place : TextPlace) (work : Work) → work_reading also spec place ≡ Ok work → also ≡ Nothing
@@ -35,25 +45,50 @@ pub single_without_groups : (also : Also) (spec : Spec) (place : TextPlace) (wor
 single_without_groups also spec place work e nothing =
     turns_without_groups_are_single spec place work (subst (λ (a : Also). work_reading a spec place ≡ Ok work) nothing e)
 
--- the text of a run is one that `run` or `group` may write
-pub is_report : (spec : Spec) (work : Work) (ran : Ran) → IsRunOf spec work ran → IsReport spec work (run_text work.ranks ran) Done
-is_report spec work ran run = record {
+-- the text of a run is one that a command which makes it may write
+pub is_report : (ArePlans : List (List Statement) → Type 0) (spec : Spec) (work : Work) (ran : Ran) → IsRunBy ArePlans spec work ran
+    → IsReportBy ArePlans spec work (run_text work.ranks ran) Done
+is_report ArePlans spec work ran run = record {
   plans = ran.closed.compiled.plans;
-  planned = run.planned;
+  by_plans = run.by_plans;
   history = run.history;
   runs = run.runs;
   printed = λ i. plans_text (run.of_spec i) ran.closed.compiled.plans ++ printed_lines (report (run.of_spec i) work.ranks (entries_in (run.journal i)) (run.last i));
   done = refl;
 }
 
+-- a run by plans of one kind is one by plans of another kind that these are of
+pub run_by : (A B : List (List Statement) → Type 0) (spec other : Spec) (work : Work) (ran : Ran) → spec ≡ other
+    → (A ran.closed.compiled.plans → B ran.closed.compiled.plans) → IsRunBy A spec work ran → IsRunBy B other work ran
+run_by A B spec other work ran same wider run = record {
+  of_spec = run.of_spec ∙ same;
+  by_plans = wider run.by_plans;
+  history = run.history;
+  journal = run.journal;
+  runs = subst (λ (s : Spec). Runs s work run.history) same run.runs;
+  last = run.last ∙ ap (λ (s : Spec). replay s run.history) same;
+}
+
+-- and so is its report
+pub report_by : (A B : List (List Statement) → Type 0) (spec other : Spec) (work : Work) (text : List ℕ) (status : Status) → spec ≡ other
+    → ((plans : List (List Statement)) → A plans → B plans) → IsReportBy A spec work text status → IsReportBy B other work text status
+report_by A B spec other work text status same wider is = record {
+  plans = is.plans;
+  by_plans = wider is.plans is.by_plans;
+  history = is.history;
+  runs = subst (λ (s : Spec). Runs s work is.history) same is.runs;
+  printed = is.printed ∙ ap (λ (s : Spec). plans_and_report s work is.plans is.history) same;
+  done = is.done;
+}
+
 -- a run on an accepted specification is of one history
-pub is_one_history : (also : Also) (spec : Spec) (work : Work) (ran : Ran) → IsAccepted spec → (also ≡ Nothing → HasSingleTurns work) → IsRunOf spec work ran
-    → IsOfItsStore ran → IsOneHistory also ran
-is_one_history also spec work ran accepted single run store =
+pub is_one_history : (ArePlans : Spec → List (List Statement) → Type 0) (also : Also) (spec : Spec) (work : Work) (ran : Ran) → IsAccepted spec
+    → (also ≡ Nothing → HasSingleTurns work) → IsRunBy (ArePlans spec) spec work ran → IsOfItsStore ran → IsOneHistory ArePlans also ran
+is_one_history ArePlans also spec work ran accepted single run store =
     let same : spec ≡ ran.closed.compiled.spec = sym run.of_spec in
     record {
       accepted = subst IsAccepted same accepted;
-      planned = subst (λ (s : Spec). ArePlanned s ran.closed.compiled.plans) same run.planned;
+      by_plans = subst (λ (s : Spec). ArePlans s ran.closed.compiled.plans) same run.by_plans;
       history = run.history;
       journal = run.journal;
       legal = subst (λ (s : Spec). IsLegal s run.history) same run.runs.legal;
@@ -67,15 +102,59 @@ is_one_history also spec work ran accepted single run store =
     }
 
 -- so one that was written is
-pub written_is_one_history : (also : Also) (input : List ℕ) (old new : Option (List ℕ)) (ran : Ran) → HasRunText also input old new ran → IsOneHistory also ran
+pub written_is_one_history : (also : Also) (input : List ℕ) (old new : Option (List ℕ)) (ran : Ran) → HasRunText also input old new ran
+    → IsOneHistory ArePlanned also ran
 written_is_one_history also input old new ran h =
-    is_one_history also h.spec h.work ran h.read.accepted
+    is_one_history ArePlanned also h.spec h.work ran h.read.accepted
     (single_without_groups also h.spec (place_after input h.read.reading) h.work h.read.work_read) h.run h.store
 
 -- and the run of a generated workload
-pub summed_is_one_history : (seed calls : ℕ) (old new : Option (List ℕ)) (ran : Ran) → HasSummaryText seed calls old new ran → IsOneHistory Nothing ran
+pub summed_is_one_history : (seed calls : ℕ) (old new : Option (List ℕ)) (ran : Ran) → HasSummaryText seed calls old new ran
+    → IsOneHistory ArePlanned Nothing ran
 summed_is_one_history seed calls old new ran h =
-    is_one_history Nothing sample_graph (generated seed calls) ran sample_is_accepted (λ nothing. generated_has_single_turns seed calls) h.run h.store
+    is_one_history ArePlanned Nothing sample_graph (generated seed calls) ran sample_is_accepted (λ nothing. generated_has_single_turns seed calls) h.run h.store
+
+-- ---- hand
+
+-- what the lines of a workload give first, which its crate keeps to itself
+abbrev Target : {A B : Type 0} → (A → B) → Type 0
+Target {A} {B} f = B
+
+abbrev Draft : Type 0
+Draft = Target draft_of
+
+-- the workload that lines give has single calls
+pub single_in_lines : (past_end : ℕ) (spec : Spec) (lines : List ContentLine) (work : Work) → work_in_lines past_end spec lines ≡ Ok work
+    → HasSingleTurns work
+single_in_lines past_end spec lines work e = by_draft (reading_all Nothing past_end spec lines) refl e
+  where
+    by_draft : (found : Result Draft Broken) → reading_all Nothing past_end spec lines ≡ found → work_by spec found ≡ Ok work → HasSingleTurns work
+    by_draft (Err broken) is q = absurd cc
+    by_draft (Ok draft) is q =
+        let same : work_of spec draft ≡ work = cc in
+        subst HasSingleTurns same (HasSingleTurns-work_with spec _ draft (IsOfAlso-reading_all Nothing past_end spec lines draft is))
+
+-- a run by plans that were written is one by plans that keep K1 to K7, and of one history
+pub hand_is_one_history : (input : List ℕ) (old new : Option (List ℕ)) (ran : Ran) → HasHandText input old new ran
+    → IsOneHistory ArePlansOf Nothing ran
+hand_is_one_history input old new ran h =
+    is_one_history ArePlansOf Nothing h.spec h.work ran h.read.accepted
+    (λ nothing. single_in_lines (past_end_of input) h.spec h.read.plans.others h.work h.read.work_read)
+    (run_by (AreChosen h.spec h.hands) (ArePlansOf h.spec) h.spec h.spec h.work ran refl
+    (λ chosen. subst (λ (s : Spec). ArePlansOf s ran.closed.compiled.plans) h.run.of_spec h.store.kept) h.run) h.store
+
+-- and of each command that makes a run
+pub text_is_one_history : (command : TextCommand) (input : List ℕ) (old new : Option (List ℕ)) (ran : Ran) → HasTextBy command input old new ran
+    → IsOneHistory (plans_by command) (also_of command) ran
+text_is_one_history commands.Check = written_is_one_history (also_of commands.Check)
+text_is_one_history commands.Plan = written_is_one_history (also_of commands.Plan)
+text_is_one_history commands.Run = written_is_one_history (also_of commands.Run)
+text_is_one_history commands.Group = written_is_one_history (also_of commands.Group)
+text_is_one_history commands.Audit = written_is_one_history (also_of commands.Audit)
+text_is_one_history commands.AuditJournal = written_is_one_history (also_of commands.AuditJournal)
+text_is_one_history commands.Hand = hand_is_one_history
+text_is_one_history commands.Dot = written_is_one_history (also_of commands.Dot)
+text_is_one_history (commands.DotPlan op) = written_is_one_history (also_of (commands.DotPlan op))
 
 -- its summary is that of one thread
 pub summary_is_one_threads : (seed calls : ℕ) (ran : Ran) → IsRunOf sample_graph (generated seed calls) ran → ran_text ran ≡ big_text seed calls

@@ -3,6 +3,7 @@
 #![tactic(auto)]
 
 mod auditing;
+mod by_hand;
 mod drawing;
 mod laws;
 mod outcome;

@@ -7,12 +7,13 @@ ghost use Rattle.rc_reader.specs.Grammar.{spec_of, spec_reading};
 ghost use Rattle.rc_rel.specs.History.{AllFit};
 ghost use Rattle.rc_work.specs.Fitting.{RoundsFit, HasThreads};
 ghost use Rattle.rc_work.specs.Limits.{KeepsLimits};
-ghost use Rattle.rc_answer.specs.Answers.{Answers, AnswersAlone, AnswersRun, IsReport, MakesCalls, also_of};
-ghost use Rattle.rc_answer.specs.Ran.{HasRunText, IsOfItsStore, IsRunOf, done_in, entries_in, run_text, status_in};
+ghost use Rattle.rc_answer.specs.Answers.{Answers, AnswersAlone, AnswersRun, IsReport, IsReportBy, MakesCalls};
+ghost use Rattle.rc_answer.specs.Ran.{HasRunText, HasTextBy, IsOfItsStore, IsRunBy, IsRunOf, done_in, entries_in, run_text, status_in};
 ghost use Rattle.rc_answer.specs.Writes.{CountsFaults, Writes};
 ghost use Rattle.rc_answer.specs.Asked.{IsAskedText};
 
 use crate::auditing::answer_audit;
+use crate::by_hand::answer_by_hand;
 use crate::drawing::{write_drawing, write_drawn_plan};
 use crate::outcome::{Outcome, Ran, with_run, without_run};
 use crate::planning::{write_planned, write_plans};
@@ -25,6 +26,7 @@ use rc_io::Sink;
 use rc_maps::Seed;
 use rc_mutate::compile;
 use rc_place::accept;
+use rc_plan::Compiled;
 use rc_reader::{read_spec, read_spec_only};
 use rc_runner::run_work;
 use rc_spec::Accepted;
@@ -35,24 +37,23 @@ use std::alloc::Global;
 use std::sync::Wait;
 use std::thread::Threads;
 
-/// Plans the operations of an accepted specification, and makes the turns of a workload by them, on a store of its own.
+/// Makes the turns of a workload by the plans of a compiled specification, on a store of its own.
 pub(crate) fn make_run<R: Threads + Wait + Sync, G: Gate + Sync>(
     rt: &R,
     alloc: Global,
     hash_seed: Seed,
-    accepted: Accepted,
+    compiled: Compiled,
     work: &Work,
     gate: &G,
 ) -> Result<Ran, Memory>
-    requires fit { RoundsFit accepted work.now.rounds }
+    requires fit { RoundsFit compiled.spec work.now.rounds }
     requires threads { HasThreads work.now }
     requires limits { KeepsLimits work.now }
-    ensures run { IfOk result (IsRunOf accepted work.now) }
+    ensures run { IfOk result (IsRunBy (λ plans. plans ≡ compiled.plans) compiled.spec work.now) }
     ensures fit { IfOk result (λ ran.
         AllFit ran.closed.compiled.spec (entries_in ran.closed.journal)) }
     ensures store { IfOk result IsOfItsStore }
 {
-    let compiled = compile(alloc, accepted)?;
     let _ = compiled.accepted();
     let closed = run_work(rt, alloc, hash_seed, compiled, work, gate)?;
     closed.has_one_history();
@@ -84,8 +85,34 @@ fn write_run<K: Sink>(alloc: Global, sink: &mut K, ran: &Ran, work: &Work) -> Re
     write_report(alloc, sink, &printed)
 }
 
-/// Makes the turns of a workload, and writes the plans and the report.
-fn perform<R: Threads + Wait + Sync, K: Sink, G: Gate + Sync>(
+/// Makes the turns of a workload by the plans of a compiled specification, and writes the plans and the report.
+pub(crate) fn perform<R: Threads + Wait + Sync, K: Sink, G: Gate + Sync>(
+    rt: &R,
+    alloc: Global,
+    hash_seed: Seed,
+    sink: &mut K,
+    compiled: Compiled,
+    work: &Work,
+    gate: &G,
+) -> Result<Ran, Stop>
+    requires fit { RoundsFit compiled.spec work.now.rounds }
+    requires threads { HasThreads work.now }
+    requires limits { KeepsLimits work.now }
+    ensures run { IfOk result (IsRunBy (λ plans. plans ≡ compiled.plans) compiled.spec work.now) }
+    ensures store { IfOk result IsOfItsStore }
+    ensures text { IfOk result (λ ran.
+        Adds (K.held sink.old) (run_text work.now.ranks ran) (K.held sink.new)) }
+    ensures written { Writes (IsReportBy (λ plans. plans ≡ compiled.plans) compiled.spec work.now)
+        (K.held sink.old) (K.held sink.new) (done_in result) }
+    ensures faults { CountsFaults (K.faults sink.old) (K.faults sink.new) result }
+{
+    let ran = make_run(rt, alloc, hash_seed, compiled, work, gate)?;
+    write_run(alloc, sink, &ran, work)?;
+    Ok(ran)
+}
+
+/// Plans the operations of an accepted specification, makes the turns of a workload, and writes the plans and the report.
+fn perform_planned<R: Threads + Wait + Sync, K: Sink, G: Gate + Sync>(
     rt: &R,
     alloc: Global,
     hash_seed: Seed,
@@ -105,9 +132,9 @@ fn perform<R: Threads + Wait + Sync, K: Sink, G: Gate + Sync>(
         (done_in result) }
     ensures faults { CountsFaults (K.faults sink.old) (K.faults sink.new) result }
 {
-    let ran = make_run(rt, alloc, hash_seed, accepted, work, gate)?;
-    write_run(alloc, sink, &ran, work)?;
-    Ok(ran)
+    let compiled = compile(alloc, accepted)?;
+    let _ = compiled.accepted();
+    perform(rt, alloc, hash_seed, sink, compiled, work, gate)
 }
 
 /// What is to be written of a specification that stands alone, where it is accepted.
@@ -196,14 +223,15 @@ fn run<R: Threads + Wait + Sync, K: Sink, G: Gate + Sync>(
         Ok(work) => work,
         Err(refusal) => return refuse_run(alloc, sink, refusal),
     };
-    with_run(perform(rt, alloc, hash_seed, sink, accepted, &work, gate))
+    with_run(perform_planned(rt, alloc, hash_seed, sink, accepted, &work, gate))
 }
 
 /// Answers a text of at most 2^24 bytes as the command asks, and writes the answer line by line: what the command asks of
 /// a text that keeps its rules, else the refusal of the first broken one. `run` makes the calls of its workload by threads
-/// that run beside each other, and hands out what they left; `group` does so too, and makes the calls of each group as one.
+/// that run beside each other, and hands out what they left; `group` does so too, and makes the calls of each group as one, and so
+/// does `hand`, by plans that are written in the text.
 /// `audit` makes the calls of a report one after another, on a relation of its own. The gate is told of each point that a turn
-/// reaches, and the seed is that of the hash tables. Costs the text's length and, for these three, what the plans of the calls
+/// reaches, and the seed is that of the hash tables. Costs the text's length and, for these four, what the plans of the calls
 /// cost.
 ///
 /// `Err` where memory is wanted, with nothing or a first part of the answer written, and where a write fails, with a first
@@ -223,7 +251,7 @@ pub fn answer<R: Threads + Wait + Sync, K: Sink, G: Gate + Sync>(
     ensures has_ran { IfOk result (λ outcome.
         IsSome outcome.ran ↔ MakesCalls command × (outcome.status ≡ Status.Done)) }
     ensures ran { IfOk result (λ outcome. IfSome outcome.ran
-        (HasRunText (also_of command) text.now (K.held sink.old) (K.held sink.new))) }
+        (HasTextBy command text.now (K.held sink.old) (K.held sink.new))) }
     ensures faults { CountsFaults (K.faults sink.old) (K.faults sink.new) result }
 {
     match command {
@@ -235,6 +263,7 @@ pub fn answer<R: Threads + Wait + Sync, K: Sink, G: Gate + Sync>(
         TextCommand::AuditJournal => {
             without_run(answer_audit(alloc, hash_seed, Form::Journal, text, sink))
         }
+        TextCommand::Hand => answer_by_hand(rt, alloc, hash_seed, text, sink, gate),
         TextCommand::Dot => without_run(answer_alone(alloc, Asked::Drawing, text, sink)),
         TextCommand::DotPlan { op } => {
             without_run(answer_alone(alloc, Asked::DrawnPlan { op }, text, sink))

@@ -1,16 +1,18 @@
 //! Writes refusals.
 
-ghost use Rattle.std.specs.Prelude.{◌≡◌, IfOk};
+ghost use Rattle.std.specs.Prelude.{◌≡◌, ◌∷◌, [], IfOk};
+ghost use Rattle.rc_text.specs.Lines.{printed_lines};
 ghost use Rattle.rc_spec.specs.Acceptance.{IsItemOf};
 ghost use Rattle.rc_place.specs.Fault.{IfHandedBack};
-ghost use Rattle.rc_answer.specs.Answers.{refusal_line, IsOperationRefusal, IsSizeRefusal};
+ghost use Rattle.rc_answer.specs.Answers.{hand_refusal_text, refusal_line, IsOperationRefusal, IsSizeRefusal};
 ghost use Rattle.rc_answer.specs.Ran.{LeavesNone, status_in};
 ghost use Rattle.rc_answer.specs.Writes.{CountsFaults, Writes};
-ghost use Rattle.rc_answer.specs.Refusals.{WritesRefusal, WritesRuleRefusal};
+ghost use Rattle.rc_answer.specs.Refusals.{IsOfItsOperations, WritesHandRefusal, WritesPlanRefusal, WritesRefusal, WritesRuleRefusal};
 
 use crate::outcome::Outcome;
 use crate::status::{Status, Stop};
 use crate::writing::write_line;
+use rc_handplan::{HandFault, HandRefusal, HandRule, print_plan_refusal};
 use rc_io::{Sink, write_all};
 use rc_place::AcceptFault;
 use rc_reader::{LineRule, ReadRefusal};
@@ -97,6 +99,59 @@ pub(crate) fn refuse_run_of<K: Sink>(
     match refuse_spec(alloc, sink, fault) {
         Ok(_) => Ok(Outcome::without_run(Status::Refused)),
         Err(stop) => Err(stop),
+    }
+}
+
+/// The line that refuses plans for their first broken line rule.
+fn hand_refusal_line(alloc: Global, rule: HandRule, line: u32) -> Result<Vec<u8>, Memory>
+    ensures { IfOk result (λ bytes. printed_lines (bytes.items ∷ []) ≡ hand_refusal_text (record { rule = rule; line = line })) }
+{
+    let text = format!(in alloc; "refused {rule} line {line}")?;
+    Ok(text.into_bytes())
+}
+
+/// Writes the refusal of the lines of plans, so that no run is made.
+pub(crate) fn refuse_hands<K: Sink>(
+    alloc: Global,
+    sink: &mut K,
+    refusal: HandRefusal,
+) -> Result<Outcome, Stop>
+    ensures written { WritesHandRefusal (K.held sink.old) (K.held sink.new) refusal (status_in result) }
+    ensures none { IfOk result LeavesNone }
+    ensures faults { CountsFaults (K.faults sink.old) (K.faults sink.new) result }
+{
+    match refusal {
+        HandRefusal::Memory => Err(Stop::Memory),
+        HandRefusal::Line { rule, line } => {
+            let line = hand_refusal_line(alloc, rule, line)?;
+            write_line(sink, line)?;
+            Ok(Outcome::without_run(Status::Refused))
+        }
+    }
+}
+
+/// Writes the refusal of the plan of an operation, so that no run is made.
+pub(crate) fn refuse_plan<K: Sink>(
+    alloc: Global,
+    sink: &mut K,
+    fault: HandFault,
+) -> Result<Outcome, Stop>
+    requires { IsOfItsOperations fault }
+    ensures written { WritesPlanRefusal (K.held sink.old) (K.held sink.new) fault (status_in result) }
+    ensures none { IfOk result LeavesNone }
+    ensures faults { CountsFaults (K.faults sink.old) (K.faults sink.new) result }
+{
+    match fault {
+        HandFault::Memory => Err(Stop::Memory),
+        HandFault::Refused {
+            accepted,
+            op,
+            refusal,
+        } => {
+            let line = print_plan_refusal(alloc, accepted.spec(), op, &refusal)?;
+            write_line(sink, line)?;
+            Ok(Outcome::without_run(Status::Refused))
+        }
     }
 }
 

@@ -16,6 +16,7 @@ use crate::writing::write_text;
 use rc_generate::{generate, print_summary, sample_spec, summarise};
 use rc_io::Sink;
 use rc_maps::Seed;
+use rc_mutate::compile;
 use rc_place::{AcceptFault, accept};
 use rc_spec::Accepted;
 use rc_store::Gate;
@@ -73,7 +74,9 @@ fn perform_big<R: Threads + Wait + Sync, K: Sink, G: Gate + Sync>(
 {
     let accepted = accepted_sample(alloc)?;
     let work = generate(alloc, seed, calls)?;
-    let ran = make_run(rt, alloc, hash_seed, accepted, &work, gate)?;
+    let compiled = compile(alloc, accepted)?;
+    let _ = compiled.accepted();
+    let ran = make_run(rt, alloc, hash_seed, compiled, &work, gate)?;
     write_summary(alloc, sink, &ran)?;
     Ok(ran)
 }

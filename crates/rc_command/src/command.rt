@@ -31,6 +31,9 @@ pub enum TextCommand {
     /// Reads a specification, a workload and the journal of a run, which stands there alone, and says
     /// whether the workload has such a run.
     AuditJournal,
+    /// Reads a specification, plans that are written for some of its operations, and a workload, and
+    /// does as `run` does, by these plans in the place of the planned ones.
+    Hand,
     /// Reads a specification alone, and prints its drawing.
     Dot,
     /// Reads a specification alone, and prints its drawing with the plan of an operation.
@@ -92,6 +95,7 @@ fn reader<'a>(alloc: Global) -> Result<clap::Command<'a>, AllocError>
     let check = clap::Command::new(alloc, "check");
     let plan = clap::Command::new(alloc, "plan");
     let run = clap::Command::new(alloc, "run");
+    let hand = clap::Command::new(alloc, "hand");
     let group = clap::Command::new(alloc, "group");
     let program = clap::Command::new(alloc, "relc")
         .subcommand_required(true)
@@ -100,6 +104,7 @@ fn reader<'a>(alloc: Global) -> Result<clap::Command<'a>, AllocError>
         .subcommand(check)?
         .subcommand(plan)?
         .subcommand(run)?
+        .subcommand(hand)?
         .subcommand(group)?;
     let program = add_audit(alloc, program)?;
     let program = add_dot(alloc, program)?;
@@ -246,6 +251,7 @@ fn command_named(name: &str) -> Option<TextCommand>
         "check" => Some(TextCommand::Check),
         "plan" => Some(TextCommand::Plan),
         "run" => Some(TextCommand::Run),
+        "hand" => Some(TextCommand::Hand),
         "group" => Some(TextCommand::Group),
         _ => None,
     }

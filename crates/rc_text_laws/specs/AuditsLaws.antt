@@ -159,8 +159,8 @@ module _ (input : List ℕ) (reading : Reading) (work : Work) (read : spec_readi
       → (entries : ℕ) × AnswersAudit forms.Run (input ++ out) (spec_reading (input ++ out)) (verdict_text (Legal entries)) Done
   legal_behind out ended is = (
     length is.history,
-    printed_legal forms.Run out is.plans is.history is.planned is.runs ended (is.printed ∙ sym (run_lines_are_written given is.plans work is.history))
-        (run_printable is.plans is.history is.planned is.runs),
+    printed_legal forms.Run out is.plans is.history is.by_plans is.runs ended (is.printed ∙ sym (run_lines_are_written given is.plans work is.history))
+        (run_printable is.plans is.history is.by_plans is.runs),
   )
 
 done_is_not_refused : Done ≡ Refused → ⊥
@@ -247,7 +247,7 @@ legal_journal input out ended run =
       journal_is = refl;
       final_is = refl;
       legal = printed_legal input run.reading run.work run.read run.accepted run.works forms.Journal
-          (printed_lines (bare_lines spec run.work is.history)) is.plans is.history is.planned is.runs ended refl
+          (printed_lines (bare_lines spec run.work is.history)) is.plans is.history is.by_plans is.runs ended refl
           (journal_printable input run.reading run.work run.read run.accepted run.works is.history is.runs);
     }
 

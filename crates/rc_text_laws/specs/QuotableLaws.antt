@@ -28,12 +28,12 @@ use Rattle.rc_work.specs.RawTurnsLaws.{each_push}
 use Rattle.rc_work.specs.LineForms.{FormText, round_line, end_line, call_line, group_line, onto_words, all_read, words_read, alone, is_value, call_form, group_form, or_call, thread_form, form_of}
 use Rattle.rc_work.specs.LineRules.{number_by, raw_value, raw_values, raw_call, thread_in, with_line}
 use Rattle.rc_work.specs.LineRulesLaws.{taken}
-use Rattle.rc_work.specs.WorkGrammar.{after_form_of, after_words, after_bytes, broken_at, threads_of, draft_of}
+use Rattle.rc_work.specs.WorkGrammar.{after_form_of, after_words, after_bytes, broken_at, threads_of, draft_of, reading_all}
 use Rattle.rc_work.specs.Drafts.{IsDraft}
 use Rattle.rc_work.specs.DraftsLaws.{IsThreadCount, IsDraft-after_bytes, IsDraft-draft_of, threads_of-count}
 use Rattle.rc_work.specs.FirstBroken.{work_language, AreTaken, LinesMean, ContentMeans}
-use Rattle.rc_work.specs.Ranking.{texts_in_value, texts_in_call, texts_in_turn, texts_in_round, texts_in, ranked_value, work_of, work_reading}
-use Rattle.rc_work.specs.ReadingLaws.{are_whole, work_means}
+use Rattle.rc_work.specs.Ranking.{texts_in_value, texts_in_call, texts_in_turn, texts_in_round, texts_in, ranked_value, work_by, work_of, work_reading}
+use Rattle.rc_work.specs.ReadingLaws.{are_whole, means-content}
 use Rattle.rc_work.specs.CutLaws.{AreTexts}
 
 -- ---- the words of a line
@@ -358,11 +358,17 @@ content_read also spec past_end [] work means = absurd cc
 content_read also spec past_end (line ∷ others) work means =
     header_read also spec past_end line others work (threads_of line.bytes) refl means
 
+-- what lines give
+pub work_of_lines : (also : Also) (past_end : ℕ) (spec : Spec) (lines : List ContentLine) (work : Work)
+    → work_by spec (reading_all also past_end spec lines) ≡ Ok work → IsOfDraft spec work
+work_of_lines also past_end spec lines work e =
+    content_read also spec past_end lines work
+    (subst (ContentMeans also past_end spec lines) e (means-content also past_end spec lines))
+
 pub work_of_draft : (also : Also) (spec : Spec) (place : TextPlace) (work : Work)
     → work_reading also spec place ≡ Ok work → IsOfDraft spec work
 work_of_draft also spec place work e =
-    content_read also spec (past_end_of place.text) (content_from place) work
-    ((work_means also spec place (Ok work)).0 e)
+    work_of_lines also (past_end_of place.text) spec (content_from place) work e
 
 -- ---- its texts
 

@@ -6,7 +6,7 @@ use Rattle.std.proofs.lemmas.List.{length-append}
 use Rattle.std.proofs.lemmas.List.Elements.{recursion_from_All}
 use Rattle.std.proofs.lemmas.List.Sums.{sum_by-cons}
 use Rattle.rc_tuple.specs.RisingSetLaws.{each_in, in_map}
-use Rattle.rc_text.specs.Lines.{TextPlace}
+use Rattle.rc_text.specs.Lines.{ContentLine, TextPlace, content_from, past_end_of}
 use Rattle.rc_spec.specs.InRange.{IsInRange}
 use Rattle.rc_spec.specs.Names.{IsWellNamed}
 use Rattle.rc_spec.specs.declared.spec.Spec.{Spec}
@@ -19,11 +19,12 @@ use Rattle.rc_work.specs.Drafts.{IsRawCall, IsRawTurn}
 use Rattle.rc_work.specs.Fitting.{AreOfWords, IsOfWords, RoundsFit}
 use Rattle.rc_work.specs.Limits.{KeepsLimits, KnowsTexts}
 use Rattle.rc_work.specs.RawTurns.{count_raw}
-use Rattle.rc_work.specs.Ranking.{texts_in_value, texts_in_call, texts_in_turn, texts_in_round, texts_in, ranked_value, ranked_call, ranked_round, ranked_rounds, work_of, work_reading}
+use Rattle.rc_work.specs.Ranking.{texts_in_value, texts_in_call, texts_in_turn, texts_in_round, texts_in, ranked_value, ranked_call, ranked_round, ranked_rounds, work_by, work_of, work_reading}
 use Rattle.rc_work.specs.RankingLaws.{KeepsLimits-work_with, RoundsFit-ranked_rounds, KnowsTexts-work_of}
 use Rattle.rc_work.specs.CutLaws.{AreTexts}
+use Rattle.rc_work.specs.WorkGrammar.{reading_all}
 use Rattle.rc_text_laws.specs.LegalLaws.{length-gather-le}
-use Rattle.rc_text_laws.specs.QuotableLaws.{WorkValue, WorkCall, WorkTurn, WorkDraft, IsReadValue, HasReadValues, TurnHasReadValues, HaveReadValues, IsReadDraft, draft_texts, work_of_draft}
+use Rattle.rc_text_laws.specs.QuotableLaws.{WorkValue, WorkCall, WorkTurn, WorkDraft, IsReadValue, HasReadValues, TurnHasReadValues, HaveReadValues, IsReadDraft, draft_texts, work_of_lines}
 
 -- ---- how many texts there are
 
@@ -140,16 +141,23 @@ pub record IsReadWork (spec : Spec) (work : Work) : Type 0 where
   pub known : KnowsTexts spec work
   pub fit : RoundsFit spec work.rounds
 
--- a workload that is read keeps its limits, knows its texts, each of which can stand in quotes, and its calls
--- fit
-pub is_read_work : (also : Also) (spec : Spec) (place : TextPlace) (work : Work) → IsWellNamed spec
-    → IsInRange spec → work_reading also spec place ≡ Ok work
+-- so of one that lines give
+pub are_read_lines : (also : Also) (past_end : ℕ) (spec : Spec) (lines : List ContentLine) (work : Work) → IsWellNamed spec
+    → IsInRange spec → work_by spec (reading_all also past_end spec lines) ≡ Ok work
     → IsReadWork spec work
-is_read_work also spec place work named ranged e =
-    let from = work_of_draft also spec place work e in
+are_read_lines also past_end spec lines work named ranged e =
+    let from = work_of_lines also past_end spec lines work e in
     subst (IsReadWork spec) from.value (record {
       texts = draft_texts spec from.draft from.read;
       limits = KeepsLimits-work_with spec (texts_of (texts_in from.draft.rounds)) from.draft from.read.is;
       known = KnowsTexts-work_of spec from.draft from.read.is;
       fit = draft_fits spec named ranged from.draft from.read;
     })
+
+-- a workload that is read keeps its limits, knows its texts, each of which can stand in quotes, and its calls
+-- fit
+pub is_read_work : (also : Also) (spec : Spec) (place : TextPlace) (work : Work) → IsWellNamed spec
+    → IsInRange spec → work_reading also spec place ≡ Ok work
+    → IsReadWork spec work
+is_read_work also spec place work named ranged e =
+    are_read_lines also (past_end_of place.text) spec (content_from place) work named ranged e

@@ -4,7 +4,7 @@ use Rattle.std.specs.List.{flat_map, range_with_len}
 use Rattle.std.proofs.lemmas.List.{append_cancel_left}
 use Rattle.rc_tuple.specs.RisingSet.{In}
 use Rattle.rc_tuple.specs.ColSetLaws.{in_range_bounds}
-use Rattle.rc_text.specs.Lines.{printed_lines}
+use Rattle.rc_text.specs.Lines.{past_end_of, printed_lines}
 use Rattle.rc_spec.specs.Acceptance.{IsSealed}
 use Rattle.rc_spec.specs.Placement.{op_at}
 use Rattle.rc_spec.specs.declared.spec.Spec.{Spec}
@@ -12,21 +12,25 @@ use Rattle.rc_plan.specs.Compiled.{plan_at}
 use Rattle.rc_plan.specs.PlanText.{plan_text}
 use Rattle.rc_plan.specs.declared.statement.Statement.{Statement}
 use Rattle.rc_query.specs.PlannedLaws.{one_planned}
+use Rattle.rc_handplan.specs.Chosen.{AreChosen}
+use Rattle.rc_handplan.specs.ChosenLaws.{one_chosen_plan}
+use Rattle.rc_handplan.specs.declared.hand.Hand.{Hand}
 use Rattle.rc_rel.specs.History.{replay}
 use Rattle.rc_rel.specs.declared.entry.Entry.{Entry}
 use Rattle.rc_work.specs.Report.{report}
 use Rattle.rc_work.specs.declared.also.Also.{Also}
+use Rattle.rc_work.specs.declared.also.Also.TheVariants.{Nothing}
 use Rattle.rc_work.specs.declared.work.Work.{Work}
 use Rattle.rc_work.specs.Runs.{Runs}
 use Rattle.rc_work.specs.WholeText.{place_after}
-use Rattle.rc_answer.specs.Answers.{IsReport, plans_and_report}
+use Rattle.rc_answer.specs.Answers.{IsReport, IsReportBy, plans_and_report}
 use Rattle.rc_answer.specs.Plans.{ArePlanned, op_text, plans_text}
-use Rattle.rc_answer.specs.Ran.{IsReadAs, IsRunOf, entries_in, run_text}
+use Rattle.rc_answer.specs.Ran.{IsReadAs, IsReadByHand, IsRunBy, IsRunOf, entries_in, run_text}
 use Rattle.rc_answer.specs.declared.outcome.Ran.{Ran}
 use Rattle.rc_answer.specs.declared.status.Status.{Status}
 use Rattle.rc_text_laws.specs.SpecLaws.{reading_can_be_written}
 use Rattle.rc_text_laws.specs.Written.{CanBeWritten}
-use Rattle.rc_text_laws.specs.RunsLaws.{reports_tell_runs}
+use Rattle.rc_text_laws.specs.RunsLaws.{reports_tell_runs, reports_tell_runs_of_lines}
 
 -- ---- one specification has one text of plans
 
@@ -39,18 +43,44 @@ same_texts spec plans others (op ∷ ops) same =
     ∙ ap (λ rest. op_text spec others op ++ rest)
     (same_texts spec plans others ops (λ o m. same o (inr m)))
 
--- the planned plans of a specification are printed in one way
+-- plans that are the same for each operation are printed in one way
+same_plans_text : (spec : Spec) (plans others : List (List Statement))
+    → ((op : ℕ) → op < length spec.ops → plan_at plans op ≡ plan_at others op)
+    → plans_text spec plans ≡ plans_text spec others
+same_plans_text spec plans others same =
+    same_texts spec plans others (range_with_len 0 (length spec.ops)) (λ op m.
+    let below : op < length spec.ops =
+    omega (arith, (in_range_bounds 0 (length spec.ops) op m).1) in
+    same op below)
+
+-- the planned plans of a specification are
 pub one_plans_text : (spec : Spec) (plans others : List (List Statement)) → IsSealed spec
     → ArePlanned spec plans → ArePlanned spec others
     → plans_text spec plans ≡ plans_text spec others
 one_plans_text spec plans others sealed planned kept =
-    same_texts spec plans others (range_with_len 0 (length spec.ops)) (λ op m.
-    let below : op < length spec.ops =
-    omega (arith, (in_range_bounds 0 (length spec.ops) op m).1) in
+    same_plans_text spec plans others (λ op below.
     one_planned spec sealed (op_at spec op) (plan_at plans op) (plan_at others op)
     (planned.each op below) (kept.each op below))
 
+-- and so are the plans that are chosen, where some are written
+pub one_chosen_text : (spec : Spec) (hands : List Hand) (plans others : List (List Statement)) → IsSealed spec
+    → AreChosen spec hands plans → AreChosen spec hands others
+    → plans_text spec plans ≡ plans_text spec others
+one_chosen_text spec hands plans others sealed first second =
+    same_plans_text spec plans others (one_chosen_plan spec sealed hands plans others first second)
+
 -- ---- the plans, and then the report
+
+-- where the plans are printed in one way, the report behind them is
+same_reports : (spec : Spec) (work : Work) (plans others : List (List Statement)) (history other : List Entry)
+    → plans_text spec plans ≡ plans_text spec others
+    → plans_and_report spec work plans history ≡ plans_and_report spec work others other
+    → printed_lines (report spec work.ranks history (replay spec history))
+    ≡ printed_lines (report spec work.ranks other (replay spec other))
+same_reports spec work plans others history other plans_are e =
+    let right = printed_lines (report spec work.ranks other (replay spec other)) in
+    append_cancel_left (plans_text spec plans) (printed_lines (report spec work.ranks history (replay spec history))) right
+    (e ∙ ap (λ text. text ++ right) (sym plans_are))
 
 -- of what was read, the plans and the report behind them have one history
 one_run : (also : Also) (input : List ℕ) (spec : Spec) (work : Work) (plans others : List (List Statement))
@@ -64,14 +94,25 @@ one_run also input spec work plans others history other read planned kept run ag
     subst CanBeWritten read.of_spec (reading_can_be_written input read.reading read.read) in
     let sealed : IsSealed spec =
     record { in_range = is.in_range; populated = is.populated; accepted = read.accepted } in
-    let left = printed_lines (report spec work.ranks history (replay spec history)) in
-    let right = printed_lines (report spec work.ranks other (replay spec other)) in
-    let plans_are = one_plans_text spec plans others sealed planned kept in
-    let reports : left ≡ right =
-    append_cancel_left (plans_text spec plans) left right
-    (e ∙ ap (λ text. text ++ right) (sym plans_are)) in
     reports_tell_runs also spec (place_after input read.reading) work history other is.well_named is.in_range
-    read.work_read run again reports
+    read.work_read run again
+    (same_reports spec work plans others history other (one_plans_text spec plans others sealed planned kept) e)
+
+-- so of what was read with plans
+one_run_by_hand : (input : List ℕ) (spec : Spec) (hands : List Hand) (work : Work) (plans others : List (List Statement))
+    → (history other : List Entry)
+    → IsReadByHand input spec hands work → AreChosen spec hands plans → AreChosen spec hands others
+    → Runs spec work history → Runs spec work other
+    → plans_and_report spec work plans history ≡ plans_and_report spec work others other
+    → history ≡ other
+one_run_by_hand input spec hands work plans others history other read first second run again e =
+    let is : CanBeWritten spec =
+    subst CanBeWritten read.of_spec (reading_can_be_written input read.reading read.read) in
+    let sealed : IsSealed spec =
+    record { in_range = is.in_range; populated = is.populated; accepted = read.accepted } in
+    reports_tell_runs_of_lines Nothing (past_end_of input) spec read.plans.others work history other is.well_named is.in_range
+    read.work_read run again
+    (same_reports spec work plans others history other (one_chosen_text spec hands plans others sealed first second) e)
 
 -- Two runs of what an input is read as, of which the same text is printed, have the same journal and the same
 -- rows.
@@ -83,9 +124,10 @@ PrintedTextsTellRuns =
     → (ran.closed.journal ≡ other.closed.journal) × (ran.last ≡ other.last)
 
 -- the text of a run is that of its plans, and then that of the report of its history
-run_text-is : (spec : Spec) (work : Work) (ran : Ran) → (run : IsRunOf spec work ran)
+run_text-is : (ArePlans : List (List Statement) → Type 0) (spec : Spec) (work : Work) (ran : Ran)
+    → (run : IsRunBy ArePlans spec work ran)
     → run_text work.ranks ran ≡ plans_and_report spec work ran.closed.compiled.plans run.history
-run_text-is spec work ran run i =
+run_text-is ArePlans spec work ran run i =
     plans_text (run.of_spec i) ran.closed.compiled.plans
     ++ printed_lines (report (run.of_spec i) work.ranks (entries_in (run.journal i)) (run.last i))
 
@@ -93,9 +135,29 @@ pub printed_texts_tell_runs : PrintedTextsTellRuns
 printed_texts_tell_runs also input spec work ran other read run again e =
     let same : run.history ≡ again.history =
     one_run also input spec work ran.closed.compiled.plans other.closed.compiled.plans
-    run.history again.history read run.planned again.planned
+    run.history again.history read run.by_plans again.by_plans
     run.runs again.runs
-    (sym (run_text-is spec work ran run) ∙ e ∙ run_text-is spec work other again) in (
+    (sym (run_text-is (ArePlanned spec) spec work ran run) ∙ e ∙ run_text-is (ArePlanned spec) spec work other again) in (
+      run.journal ∙ ap (λ history. Some history) same ∙ sym again.journal,
+      run.last ∙ ap (replay spec) same ∙ sym again.last,
+    )
+
+-- So have two runs by the plans that an input has, and else by the planned ones.
+abbrev pub PrintedTextsTellRunsByHand : Type 0
+PrintedTextsTellRunsByHand =
+    (input : List ℕ) (spec : Spec) (hands : List Hand) (work : Work) (ran other : Ran)
+    → IsReadByHand input spec hands work → IsRunBy (AreChosen spec hands) spec work ran
+    → IsRunBy (AreChosen spec hands) spec work other
+    → run_text work.ranks ran ≡ run_text work.ranks other
+    → (ran.closed.journal ≡ other.closed.journal) × (ran.last ≡ other.last)
+
+pub printed_texts_tell_runs_by_hand : PrintedTextsTellRunsByHand
+printed_texts_tell_runs_by_hand input spec hands work ran other read run again e =
+    let same : run.history ≡ again.history =
+    one_run_by_hand input spec hands work ran.closed.compiled.plans other.closed.compiled.plans
+    run.history again.history read run.by_plans again.by_plans
+    run.runs again.runs
+    (sym (run_text-is (AreChosen spec hands) spec work ran run) ∙ e ∙ run_text-is (AreChosen spec hands) spec work other again) in (
       run.journal ∙ ap (λ history. Some history) same ∙ sym again.journal,
       run.last ∙ ap (replay spec) same ∙ sym again.last,
     )
@@ -110,6 +172,20 @@ PrintedTextsHaveOneHistory =
 pub printed_texts_have_one_history : PrintedTextsHaveOneHistory
 printed_texts_have_one_history also input spec work text status read some other =
     one_run also input spec work some.plans other.plans some.history other.history read
-    some.planned other.planned
+    some.by_plans other.by_plans
+    some.runs other.runs
+    (sym some.printed ∙ other.printed)
+
+-- and a text that `hand` may print for an input.
+abbrev pub PrintedTextsByHandHaveOneHistory : Type 0
+PrintedTextsByHandHaveOneHistory =
+    (input : List ℕ) (spec : Spec) (hands : List Hand) (work : Work) (text : List ℕ) (status : Status)
+    → IsReadByHand input spec hands work
+    → (some other : IsReportBy (AreChosen spec hands) spec work text status) → some.history ≡ other.history
+
+pub printed_texts_by_hand_have_one_history : PrintedTextsByHandHaveOneHistory
+printed_texts_by_hand_have_one_history input spec hands work text status read some other =
+    one_run_by_hand input spec hands work some.plans other.plans some.history other.history read
+    some.by_plans other.by_plans
     some.runs other.runs
     (sym some.printed ∙ other.printed)

@@ -6,7 +6,7 @@ use Rattle.std.proofs.lemmas.List.Elements.{recursion_from_All}
 use Rattle.rc_tuple.specs.RisingSet.{In}
 use Rattle.rc_tuple.specs.RisingSetLaws.{map_in, each_in, in_each}
 use Rattle.rc_tuple.specs.Tuple.{Pairs, IsTuple}
-use Rattle.rc_text.specs.Lines.{TextPlace, printed_lines}
+use Rattle.rc_text.specs.Lines.{ContentLine, TextPlace, content_from, past_end_of, printed_lines}
 use Rattle.rc_spec.specs.Calls.{Fits}
 use Rattle.rc_spec.specs.Names.{IsWellNamed}
 use Rattle.rc_spec.specs.InRange.{IsInRange}
@@ -25,7 +25,8 @@ use Rattle.rc_work.specs.Limits.{HasTurnSize, KeepsLimits, KnowsTexts, HasKnownT
 use Rattle.rc_spec.specs.Ranges.{IsBounded, AreBounded}
 use Rattle.rc_spec.specs.declared.range.Range.{Range}
 use Rattle.rc_work.specs.Printed.{bounds_given, kind_at}
-use Rattle.rc_work.specs.Ranking.{work_reading}
+use Rattle.rc_work.specs.Ranking.{work_by, work_reading}
+use Rattle.rc_work.specs.WorkGrammar.{reading_all}
 use Rattle.rc_work.specs.Report.{report}
 use Rattle.rc_work.specs.Runs.{Runs}
 use Rattle.rc_work.specs.Runs.{HasTurn}
@@ -34,7 +35,7 @@ use Rattle.rc_work.specs.CutLaws.{AreTexts}
 use Rattle.rc_text_laws.specs.LinesLaws.{IsShown, AreShown}
 use Rattle.rc_text_laws.specs.CountLaws.{few_steps}
 use Rattle.rc_text_laws.specs.LegalLaws.{HasCallsShown, IsCallShown, IsJournal, one_report_one_journal}
-use Rattle.rc_text_laws.specs.ReadLaws.{is_read_work}
+use Rattle.rc_text_laws.specs.ReadLaws.{are_read_lines}
 
 shown_value : (kind : ColKind) (texts : List (List ℕ)) (n : ℕ) → n < 2 ^ 64
     → (kind ≡ Text → n < length texts) → IsShown kind texts n
@@ -139,7 +140,18 @@ ReportsTellRuns =
     ≡ printed_lines (report spec work.ranks other (replay spec other))
     → history ≡ other
 
+-- so of a workload that lines give
+pub reports_tell_runs_of_lines : (also : Also) (past_end : ℕ) (spec : Spec) (lines : List ContentLine) (work : Work)
+    (history other : List Entry) → IsWellNamed spec → IsInRange spec
+    → work_by spec (reading_all also past_end spec lines) ≡ Ok work → Runs spec work history
+    → Runs spec work other
+    → printed_lines (report spec work.ranks history (replay spec history))
+    ≡ printed_lines (report spec work.ranks other (replay spec other))
+    → history ≡ other
+reports_tell_runs_of_lines also past_end spec lines work history other named ranged read h k e =
+    let is = are_read_lines also past_end spec lines work named ranged read in
+    one_report_one_run spec work history other named ranged is.texts is.limits is.known is.fit h k e
+
 pub reports_tell_runs : ReportsTellRuns
 reports_tell_runs also spec place work history other named ranged read h k e =
-    let is = is_read_work also spec place work named ranged read in
-    one_report_one_run spec work history other named ranged is.texts is.limits is.known is.fit h k e
+    reports_tell_runs_of_lines also (past_end_of place.text) spec (content_from place) work history other named ranged read h k e

@@ -10,9 +10,9 @@ mod specifications;
 pub use plans::printed_plans_are_read_back;
 pub use reports::{
     audits_are_one, journals_are_legal, one_report_one_history, one_report_one_journal,
-    one_report_one_run, one_text_one_history, printed_texts_have_one_history,
-    printed_texts_tell_runs, reports_tell_runs, run_lines_are_written, runs_are_legal,
-    texts_are_quotable,
+    one_report_one_run, one_text_one_history, printed_texts_by_hand_tell_runs,
+    printed_texts_have_one_history, printed_texts_tell_runs, reports_tell_runs,
+    run_lines_are_written, runs_are_legal, texts_are_quotable,
 };
 pub use specifications::{
     forms_are_exact, limits_and_order_are_told_by_kinds, lines_do_what_they_say,

@@ -6,6 +6,7 @@ ghost use Rattle.rc_text_laws.specs.LegalLaws.{OneReportOneJournal};
 ghost use Rattle.rc_text_laws.specs.QuotableLaws.{TextsAreQuotable};
 ghost use Rattle.rc_text_laws.specs.RunsLaws.{OneReportOneRun, ReportsTellRuns};
 ghost use Rattle.rc_text_laws.specs.RunTextsLaws.{PrintedTextsHaveOneHistory, PrintedTextsTellRuns};
+ghost use Rattle.rc_text_laws.specs.RunTextsLaws.{PrintedTextsByHandHaveOneHistory, PrintedTextsTellRunsByHand};
 ghost use Rattle.rc_text_laws.specs.TextsLaws.{OneTextOneHistory};
 
 /// The lines of a report tell everything: two histories that can be reported, numbered and with a step or more in each entry,
@@ -55,6 +56,13 @@ pub fn printed_texts_tell_runs()
 /// other record of the run.
 pub fn printed_texts_have_one_history()
     ensures { PrintedTextsHaveOneHistory }
+{}
+
+/// Both are so of what `hand` prints for an input: what is read are plans too, and each operation has
+/// one chosen plan.
+pub fn printed_texts_by_hand_tell_runs()
+    ensures runs { PrintedTextsTellRunsByHand }
+    ensures texts { PrintedTextsByHandHaveOneHistory }
 {}
 
 /// The lines that `audit` wants of a run, each with a line feed behind it, are what `run` prints of

@@ -8,6 +8,10 @@ use Rattle.rc_reader.specs.Grammar.{Broken, Reading, spec_of, spec_reading}
 use Rattle.rc_spec.specs.declared.spec.Spec.{Spec}
 use Rattle.rc_spec.specs.Acceptance.{IsAccepted}
 use Rattle.rc_spec.specs.AcceptanceLaws.{refused_not_accepted}
+use Rattle.rc_plan.specs.declared.statement.Statement.{Statement}
+use Rattle.rc_handplan.specs.Chosen.{AreChosen}
+use Rattle.rc_handplan.specs.HandGrammar as hand_lines
+use Rattle.rc_handplan.specs.HandGrammar.{HandReading, hands_reading}
 use Rattle.rc_work.specs.declared.also.Also.{Also}
 use Rattle.rc_work.specs.declared.also.Also.TheVariants.{Nothing, Groups}
 use Rattle.rc_work.specs.declared.work.Work.{Work}
@@ -20,16 +24,18 @@ use Rattle.rc_audit.specs.declared.form.Form.{Form}
 use Rattle.rc_audit.specs.declared.form.Form.TheVariants as forms
 use Rattle.rc_audit.specs.declared.verdict.Verdict.{Verdict}
 use Rattle.rc_audit.specs.declared.verdict.Verdict.TheVariants as verdicts
-use Rattle.rc_answer.specs.Answers.{Answers, AnswersAlone, AnswersAudit, AnswersPart, AnswersRules, AnswersRun, AnswersWork, IsAcceptedText, IsPlanDrawingNamed, IsDrawing, IsPlanDrawingOrRefusal, IsPlansText, IsSizeRefusal, audit_for, verdict_status}
+use Rattle.rc_answer.specs.Answers.{Answers, AnswersAlone, AnswersAudit, AnswersByHand, AnswersHands, AnswersPart, AnswersRules, AnswersRun, AnswersWork, AnswersWorkBy, IsAcceptedText, IsPlanDrawingNamed, IsDrawing, IsPlanDrawingOrRefusal, IsPlansText, IsSizeRefusal, audit_for, verdict_status, work_in_lines}
 use Rattle.rc_work.specs.WholeText.{place_after}
 use Rattle.rc_answer.specs.Big.{IsBigText, big_text}
+use Rattle.rc_answer.specs.HeadlineLaws.{refused_plans_fail}
+use Rattle.rc_answer.specs.Plans.{ArePlanned}
 use Rattle.rc_answer.specs.Writes.{Writes}
-use Rattle.rc_top.specs.Answer.{IsAnswer, IsAnswered, IsGoodPart, IsGoodReading, IsGoodReadingUpToEnd, IsGoodSpec, IsGoodSpecWith, IsGoodWork, KeepsRules}
+use Rattle.rc_top.specs.Answer.{IsAnswer, IsAnswered, IsGoodByHand, IsGoodPart, IsGoodReading, IsGoodReadingByHand, IsGoodReadingUpToEnd, IsGoodSpec, IsGoodSpecWith, IsGoodWork, KeepsRules}
 use Rattle.rc_top.specs.Asks.{LeavesAllBut}
 use Rattle.rc_top.specs.Ends.{Ends, EndsBig, status_of}
 use Rattle.rc_command.specs.declared.command.Command.TheVariants.{OfText}
 use Rattle.rc_command.specs.declared.command.TextCommand.{TextCommand}
-use Rattle.rc_command.specs.declared.command.TextCommand.TheVariants.{Check, Plan, Run, Group, Audit, AuditJournal, Dot, DotPlan}
+use Rattle.rc_command.specs.declared.command.TextCommand.TheVariants.{Check, Plan, Run, Group, Audit, AuditJournal, Hand, Dot, DotPlan}
 use Rattle.rc_answer.specs.declared.status.Status.{Status}
 use Rattle.rc_answer.specs.declared.status.Status.TheVariants.{Done, Bad, Usage, Refused, SourceFailed, SinkFailed, OutOfMemory}
 use Rattle.rc_answer.specs.declared.status.Stop.{Stop}
@@ -73,9 +79,10 @@ ends_wider A B old new (Err Memory) wider (inl same) = inl same
 ends_wider A B old new (Err Memory) wider (inr (text, status, is, part)) = inr (text, status, (wider text status is).0, part)
 ends_wider A B old new (Err Sink) wider (text, status, is, part) = (text, status, (wider text status is).0, part)
 
-written_work : (spec : Spec) (reading : Result Work Broken) (text : List ℕ) (status : Status) → AnswersWork spec reading text status → IsDoneOrRefused status
-written_work spec (Err broken) text status is = inr is.1
-written_work spec (Ok work) text status is = inl is.done
+written_work : (ArePlans : List (List Statement) → Type 0) (spec : Spec) (reading : Result Work Broken) (text : List ℕ) (status : Status)
+    → AnswersWorkBy ArePlans spec reading text status → IsDoneOrRefused status
+written_work ArePlans spec (Err broken) text status is = inr is.1
+written_work ArePlans spec (Ok work) text status is = inl is.done
 
 written_rules : (spec : Spec) (IfAccepted : List ℕ → Status → Type 0) (text : List ℕ) (status : Status) → (IfAccepted text status → IsDoneOrRefused status)
     → AnswersRules spec IfAccepted text status → IsDoneOrRefused status
@@ -110,7 +117,22 @@ written_run : (also : Also) (input : List ℕ) (reading : Result Reading Broken)
 written_run also input (Err broken) text status is = inr is.1
 written_run also input (Ok reading) text status is =
     let work : Result Work Broken = work_reading also reading.spec (place_after input reading) in
-    written_rules reading.spec (AnswersWork reading.spec work) text status (written_work reading.spec work text status) is
+    written_rules reading.spec (AnswersWork reading.spec work) text status (written_work (ArePlanned reading.spec) reading.spec work text status) is
+
+written_hands : (past_end : ℕ) (spec : Spec) (found : Result HandReading hand_lines.Broken) (text : List ℕ) (status : Status)
+    → AnswersHands past_end spec found text status → IsDoneOrRefused status
+written_hands past_end spec (Err broken) text status is = inr is.1
+written_hands past_end spec (Ok read) text status (inl (keep, is)) =
+    written_work (AreChosen spec read.hands) spec (work_in_lines past_end spec read.others) text status is
+written_hands past_end spec (Ok read) text status (inr (op, refusal, first, is)) = inr is.1
+
+written_by_hand : (input : List ℕ) (reading : Result Reading Broken) (text : List ℕ) (status : Status) → AnswersByHand input reading text status
+    → IsDoneOrRefused status
+written_by_hand input (Err broken) text status is = inr is.1
+written_by_hand input (Ok reading) text status is =
+    let found = hands_reading reading.spec (place_after input reading) in
+    written_rules reading.spec (AnswersHands (past_end_of input) reading.spec found) text status
+    (written_hands (past_end_of input) reading.spec found text status) is
 
 -- what is said of a report ends well
 verdict_ends : (verdict : Verdict) → IsWritten (verdict_status verdict)
@@ -135,6 +157,7 @@ EndsBy Run status = IsDoneOrRefused status
 EndsBy Group status = IsDoneOrRefused status
 EndsBy Audit status = IsWritten status
 EndsBy AuditJournal status = IsWritten status
+EndsBy Hand status = IsDoneOrRefused status
 EndsBy Dot status = IsDoneOrRefused status
 EndsBy (DotPlan op) status = IsDoneOrRefused status
 
@@ -145,6 +168,7 @@ written Run input text status is = written_run Nothing input (spec_reading input
 written Group input text status is = written_run Groups input (spec_reading input) text status is
 written Audit input text status is = written_audit forms.Run input (spec_reading input) text status is
 written AuditJournal input text status is = written_audit forms.Journal input (spec_reading input) text status is
+written Hand input text status is = written_by_hand input (spec_reading input) text status is
 written Dot input text status is = written_alone IsDrawing (spec_of input) text status (λ spec h. inl (dot_done spec text status h)) is
 written (DotPlan op) input text status is =
     written_alone (IsPlanDrawingNamed op) (spec_of input) text status (λ spec h. drawn_written spec (op_number spec op) text status h) is
@@ -156,6 +180,7 @@ by_written Run status h = done_or_refused status h
 by_written Group status h = done_or_refused status h
 by_written Audit status h = h
 by_written AuditJournal status h = h
+by_written Hand status h = done_or_refused status h
 by_written Dot status h = done_or_refused status h
 by_written (DotPlan op) status h = done_or_refused status h
 
@@ -171,6 +196,7 @@ by_bad Run h = absurd (no_bad h)
 by_bad Group h = absurd (no_bad h)
 by_bad Audit h = (forms.Run, refl)
 by_bad AuditJournal h = (forms.Journal, refl)
+by_bad Hand h = absurd (no_bad h)
 by_bad Dot h = absurd (no_bad h)
 by_bad (DotPlan op) h = absurd (no_bad h)
 
@@ -252,9 +278,10 @@ module _ (input bytes : List ℕ) (told left : Option (List ℕ)) (is_told : tol
 
 -- ---- texts that keep all rules
 
-refused_work : (reading : Result Work Broken) (spec : Spec) (text : List ℕ) → IsGoodWork reading → AnswersWork spec reading text Refused → ⊥
-refused_work (Err broken) spec text good is = absurd good
-refused_work (Ok work) spec text good is = let e : Refused ≡ Done = is.done in cc
+refused_work : (ArePlans : List (List Statement) → Type 0) (reading : Result Work Broken) (spec : Spec) (text : List ℕ) → IsGoodWork reading
+    → AnswersWorkBy ArePlans spec reading text Refused → ⊥
+refused_work ArePlans (Err broken) spec text good is = absurd good
+refused_work ArePlans (Ok work) spec text good is = let e : Refused ≡ Done = is.done in cc
 
 refused_rules : (spec : Spec) (IfAccepted : List ℕ → Status → Type 0) (text : List ℕ) → IsAccepted spec → (IfAccepted text Refused → ⊥) → AnswersRules spec IfAccepted text Refused → ⊥
 refused_rules spec IfAccepted text good other (inl (accepted, is)) = other is
@@ -279,7 +306,22 @@ refused_run : (also : Also) (input : List ℕ) (reading : Result Reading Broken)
 refused_run also input (Err broken) text good is = absurd good
 refused_run also input (Ok reading) text good is =
     let work : Result Work Broken = work_reading also reading.spec (place_after input reading) in
-    refused_rules reading.spec (AnswersWork reading.spec work) text good.0 (refused_work work reading.spec text good.1) is
+    refused_rules reading.spec (AnswersWork reading.spec work) text good.0 (refused_work (ArePlanned reading.spec) work reading.spec text good.1) is
+
+refused_hands : (past_end : ℕ) (spec : Spec) (found : Result HandReading hand_lines.Broken) (text : List ℕ) → IsGoodByHand past_end spec found
+    → AnswersHands past_end spec found text Refused → ⊥
+refused_hands past_end spec (Err broken) text good is = absurd good
+refused_hands past_end spec (Ok read) text good (inl (keep, is)) =
+    refused_work (AreChosen spec read.hands) (work_in_lines past_end spec read.others) spec text good.1 is
+refused_hands past_end spec (Ok read) text good (inr (op, refusal, first, is)) = refused_plans_fail spec read.hands op refusal first good.0
+
+refused_by_hand : (input : List ℕ) (reading : Result Reading Broken) (text : List ℕ) → IsGoodReadingByHand input reading
+    → AnswersByHand input reading text Refused → ⊥
+refused_by_hand input (Err broken) text good is = absurd good
+refused_by_hand input (Ok reading) text good is =
+    let found = hands_reading reading.spec (place_after input reading) in
+    refused_rules reading.spec (AnswersHands (past_end_of input) reading.spec found) text good.0
+    (refused_hands (past_end_of input) reading.spec found text good.1) is
 
 refused_verdict : (verdict : Verdict) → Refused ≡ verdict_status verdict → ⊥
 refused_verdict (verdicts.Legal entries) e = cc
@@ -302,6 +344,7 @@ refused_text Run input text good is = refused_run Nothing input (spec_reading in
 refused_text Group input text good is = refused_run Groups input (spec_reading input) text good is
 refused_text Audit input text good is = refused_audit forms.Run input (spec_reading input) text good is
 refused_text AuditJournal input text good is = refused_audit forms.Journal input (spec_reading input) text good is
+refused_text Hand input text good is = refused_by_hand input (spec_reading input) text good is
 refused_text Dot input text good is = refused_alone IsDrawing (spec_of input) text dot_done good is
 refused_text (DotPlan op) input text good is = refused_plan op (spec_of input) text good is
 
@@ -312,6 +355,7 @@ done_is_answered Run = refl
 done_is_answered Group = refl
 done_is_answered Audit = inl refl
 done_is_answered AuditJournal = inl refl
+done_is_answered Hand = refl
 done_is_answered Dot = refl
 done_is_answered (DotPlan op) = refl
 

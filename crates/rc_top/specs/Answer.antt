@@ -1,24 +1,27 @@
 -- What the whole of an input may have written, with which status.
 use Rattle.std.specs.Prelude.{◌≡◌, ◌⊎◌, ℕ, ◌<◌, ◌≤◌, ◌^◌, List, [], ◌∷◌, length, Result, Ok, Err, IsSome, codes}
-use Rattle.rc_text.specs.Lines.{printed_lines}
+use Rattle.rc_text.specs.Lines.{past_end_of, printed_lines}
 use Rattle.rc_spec.specs.declared.spec.Spec.{Spec}
 use Rattle.rc_spec.specs.Acceptance.{IsAccepted}
 use Rattle.rc_reader.specs.Grammar.{Broken, Reading, spec_reading, spec_of}
+use Rattle.rc_handplan.specs.Chosen.{AllKeepRules}
+use Rattle.rc_handplan.specs.HandGrammar as hand_lines
+use Rattle.rc_handplan.specs.HandGrammar.{HandReading, hands_reading}
 use Rattle.rc_work.specs.declared.also.Also.{Also}
 use Rattle.rc_work.specs.declared.also.Also.TheVariants.{Nothing, Groups}
 use Rattle.rc_work.specs.declared.work.Work.{Work}
 use Rattle.rc_work.specs.LineRules.{op_number}
 use Rattle.rc_work.specs.PartGrammar.{WorkPart, part_reading}
 use Rattle.rc_work.specs.Ranking.{work_reading}
-use Rattle.rc_answer.specs.Answers.{Answers, IsSizeRefusal}
+use Rattle.rc_answer.specs.Answers.{Answers, IsSizeRefusal, work_in_lines}
 use Rattle.rc_work.specs.WholeText.{place_after}
 use Rattle.rc_command.specs.declared.command.TextCommand.{TextCommand}
-use Rattle.rc_command.specs.declared.command.TextCommand.TheVariants.{Check, Plan, Run, Group, Audit, AuditJournal, Dot, DotPlan}
+use Rattle.rc_command.specs.declared.command.TextCommand.TheVariants.{Check, Plan, Run, Group, Audit, AuditJournal, Hand, Dot, DotPlan}
 use Rattle.rc_answer.specs.declared.status.Status.{Status}
 use Rattle.rc_answer.specs.declared.status.Status.TheVariants.{Done, Bad}
 
 abbrev pub usage_text : List ℕ
-usage_text = printed_lines (codes "usage: relc check, plan, run, dot [OP], audit, group or big SEED N" ∷ [])
+usage_text = printed_lines (codes "usage: relc check, plan, run, dot [OP], audit, hand, group or big SEED N" ∷ [])
 
 -- a workload was read
 abbrev pub IsGoodWork : Result Work Broken → Type 0
@@ -38,6 +41,16 @@ abbrev pub IsGoodReadingUpToEnd : List ℕ → Result Reading Broken → Type 0
 IsGoodReadingUpToEnd input (Err broken) = ⊥
 IsGoodReadingUpToEnd input (Ok reading) = IsAccepted reading.spec × IsGoodPart (part_reading Nothing reading.spec (place_after input reading))
 
+-- plans that keep K1 to K7 were read, and a workload behind them
+abbrev pub IsGoodByHand : ℕ → Spec → Result HandReading hand_lines.Broken → Type 0
+IsGoodByHand past_end spec (Err broken) = ⊥
+IsGoodByHand past_end spec (Ok read) = AllKeepRules spec read.hands × IsGoodWork (work_in_lines past_end spec read.others)
+
+abbrev pub IsGoodReadingByHand : List ℕ → Result Reading Broken → Type 0
+IsGoodReadingByHand input (Err broken) = ⊥
+IsGoodReadingByHand input (Ok reading) =
+    IsAccepted reading.spec × IsGoodByHand (past_end_of input) reading.spec (hands_reading reading.spec (place_after input reading))
+
 abbrev pub IsGoodSpec : Result Spec Broken → Type 0
 IsGoodSpec (Err broken) = ⊥
 IsGoodSpec (Ok spec) = IsAccepted spec
@@ -55,6 +68,7 @@ KeepsRules Run input = IsGoodReading Nothing input (spec_reading input)
 KeepsRules Group input = IsGoodReading Groups input (spec_reading input)
 KeepsRules Audit input = IsGoodReadingUpToEnd input (spec_reading input)
 KeepsRules AuditJournal input = IsGoodReadingUpToEnd input (spec_reading input)
+KeepsRules Hand input = IsGoodReadingByHand input (spec_reading input)
 KeepsRules Dot input = IsGoodSpec (spec_of input)
 KeepsRules (DotPlan op) input = IsGoodSpecWith op (spec_of input)
 
@@ -66,6 +80,7 @@ IsAnswered Run status = status ≡ Done
 IsAnswered Group status = status ≡ Done
 IsAnswered Audit status = (status ≡ Done) ⊎ (status ≡ Bad)
 IsAnswered AuditJournal status = (status ≡ Done) ⊎ (status ≡ Bad)
+IsAnswered Hand status = status ≡ Done
 IsAnswered Dot status = status ≡ Done
 IsAnswered (DotPlan op) status = status ≡ Done
 

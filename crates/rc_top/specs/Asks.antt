@@ -1,10 +1,13 @@
 -- What a command has to do with the source, how much of it is taken, and whether the command makes a run.
 use Rattle.std.specs.Prelude.{◌≡◌, ℕ, ◌≤◌, List, drop, Option, Some, None}
+use Rattle.rc_spec.specs.declared.spec.Spec.{Spec}
+use Rattle.rc_plan.specs.declared.statement.Statement.{Statement}
 use Rattle.rc_command.specs.declared.command.Command.{Command}
 use Rattle.rc_command.specs.declared.command.Command.TheVariants.{OfText, Big}
 use Rattle.rc_work.specs.declared.also.Also.{Also}
 use Rattle.rc_work.specs.declared.also.Also.TheVariants.{Nothing}
-use Rattle.rc_answer.specs.Answers.{MakesCalls, also_of}
+use Rattle.rc_answer.specs.Answers.{MakesCalls, also_of, plans_by}
+use Rattle.rc_answer.specs.Plans.{ArePlanned}
 use Rattle.rc_answer.specs.declared.status.Status.{Status}
 use Rattle.rc_answer.specs.declared.status.Status.TheVariants.{Done, Bad, Usage, Refused, SourceFailed, SinkFailed, OutOfMemory}
 
@@ -39,3 +42,9 @@ HasRead OutOfMemory = ⊥
 -- some first bytes are gone, at most so many, and the others are left
 abbrev pub LeavesAllBut : ℕ → List ℕ → Option (List ℕ) → Type 0
 LeavesAllBut most input left = (taken : ℕ) × (taken ≤ most) × (left ≡ Some (drop taken input))
+
+-- the plans by which a command makes calls
+abbrev pub plans_asked : Option Command → Spec → List (List Statement) → Type 0
+plans_asked None spec plans = ArePlanned spec plans
+plans_asked (Some (OfText command)) spec plans = plans_by command spec plans
+plans_asked (Some (Big seed calls)) spec plans = ArePlanned spec plans

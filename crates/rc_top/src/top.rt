@@ -3,12 +3,13 @@
 ghost use Rattle.std.specs.Prelude.{◌≡◌, ◌≤◌, ◌^◌, ◌+◌, ◌⊎◌, ◌↔◌, ℕ, List, Some, None, IfSome, IsSome, drop, length, map, string_bytes};
 ghost use Rattle.rc_io.specs.Counts.{Rose};
 ghost use Rattle.rc_top.specs.Answer.{IsAnswer, IsAnswered, KeepsRules};
-ghost use Rattle.rc_top.specs.Asks.{HasRead, LeavesAllBut, MakesRun, ReadsNothing, also_asked};
+ghost use Rattle.rc_top.specs.Asks.{HasRead, LeavesAllBut, MakesRun, ReadsNothing, also_asked, plans_asked};
 ghost use Rattle.rc_top.specs.Ends.{Ends, EndsBig, EndsUsage, status_of};
-ghost use Rattle.rc_answer.specs.Answers.{MakesCalls, also_of, audit_for};
+ghost use Rattle.rc_answer.specs.Answers.{MakesCalls, also_of, audit_for, plans_by};
 ghost use Rattle.rc_answer.specs.Big.{HasSummaryText};
-ghost use Rattle.rc_answer.specs.Headline.{AuditHeadline, CheckHeadline, Headline};
-ghost use Rattle.rc_answer.specs.Ran.{HasRunText, IsOneHistory, ran_in, status_in};
+ghost use Rattle.rc_answer.specs.Headline.{AuditHeadline, CheckHeadline, HandHeadline, Headline};
+ghost use Rattle.rc_answer.specs.Ran.{HasTextBy, IsOneHistory, ran_in, status_in};
+ghost use Rattle.rc_answer.specs.Plans.{ArePlanned};
 ghost use Rattle.rc_audit.specs.declared.form.Form.{Form};
 ghost use Rattle.rc_command.specs.Command.{command_of};
 ghost use Rattle.rc_command.specs.declared.command.Command.TheVariants.{Big, OfText};
@@ -27,7 +28,7 @@ use std::alloc::Global;
 use std::sync::Wait;
 use std::thread::Threads;
 
-/// Does what the words ask. `words[0]` is the program's name. The commands `check`, `plan`, `run`, `group`, `audit` and `dot`
+/// Does what the words ask. `words[0]` is the program's name. The commands `check`, `plan`, `run`, `group`, `hand`, `audit` and `dot`
 /// read the source to its end, or until 2^24 + 1 bytes are taken, and never more; `big SEED N` and other words take nothing
 /// from it.
 ///
@@ -35,7 +36,8 @@ use std::thread::Threads;
 /// all rules, `plan` the planned plan of each of its operations and then `end`, `dot` its drawing, `dot OP` the drawing
 /// with the planned plan of the operation of this name, and `run` the same plans as `plan` and then the report of a
 /// journal that is a run of the workload and of the rows of its replay. `group` is `run` on a workload in which calls may
-/// stand in groups, each of which is one entry of the journal. `audit` reads a workload up to its `end`, and writes `legal N`
+/// stand in groups, each of which is one entry of the journal. `hand` is `run` on a text in which plans stand between
+/// specification and workload, and puts these in the place of the planned ones. `audit` reads a workload up to its `end`, and writes `legal N`
 /// exactly where the lines behind that are what `run` may print for the text up to there, with N entries, and else
 /// `bad line L` for the first line with which no such text begins; `audit bare` does so with the journal alone. Where a rule is broken, each writes the refusal of the first, where no operation has the name `refused operation`, and of more than 2^24 bytes `refused size`. `big`
 /// writes the summary of the workload that the seed generates, which is that of one thread that makes the calls in
@@ -45,7 +47,7 @@ use std::thread::Threads;
 /// written, `SinkFailed` with a prefix of such a text, and `OutOfMemory` with nothing or a prefix, where no read or write
 /// was counted as failed.
 ///
-/// `run`, `group` and `big` make the calls of each round by threads that run beside each other, on one shared store, and `ran` has
+/// `run`, `group`, `hand` and `big` make the calls of each round by threads that run beside each other, on one shared store, and `ran` has
 /// what they left: whatever was read, the journal is one legal history, every state of which satisfies the dependencies,
 /// and the rows are those that it leaves; it is a run of the workload that the told bytes have, or of the generated one,
 /// and what was written are the plans and the report, or the summary, of these very values. The gate is told of each
@@ -70,8 +72,8 @@ pub fn relc<R: Threads + Wait + Sync, S: Source, K: Sink, G: Gate + Sync>(
     ensures untouched { ReadsNothing (command_of (map string_bytes words.now))
         → source.new ≡ source.old }
 
-    // THE HEADLINE (rc_answer/specs/Headline.antt): the words say `run`, `group`, `check` or `audit`, the source tells its
-    // bytes, and all of them were read and answered.
+    // THE HEADLINE (rc_answer/specs/Headline.antt): the words say `run`, `group`, `hand`, `check` or `audit`, the source tells
+    // its bytes, and all of them were read and answered.
     ensures headline { command_of (map string_bytes words.now) ≡ Some (OfText commands.Run)
         → (input : List ℕ) → S.left source.old ≡ Some input → length input ≤ 2 ^ 24
         → (result.status ≡ Status.Done) ⊎ (result.status ≡ Status.Refused)
@@ -80,6 +82,10 @@ pub fn relc<R: Threads + Wait + Sync, S: Source, K: Sink, G: Gate + Sync>(
         → (input : List ℕ) → S.left source.old ≡ Some input → length input ≤ 2 ^ 24
         → (result.status ≡ Status.Done) ⊎ (result.status ≡ Status.Refused)
         → Headline Groups input (K.held sink.old) (K.held sink.new) result }
+    ensures hand_headline { command_of (map string_bytes words.now) ≡ Some (OfText commands.Hand)
+        → (input : List ℕ) → S.left source.old ≡ Some input → length input ≤ 2 ^ 24
+        → (result.status ≡ Status.Done) ⊎ (result.status ≡ Status.Refused)
+        → HandHeadline input (K.held sink.old) (K.held sink.new) result }
     ensures check_headline { command_of (map string_bytes words.now) ≡ Some (OfText commands.Check)
         → (input : List ℕ) → S.left source.old ≡ Some input → length input ≤ 2 ^ 24
         → (result.status ≡ Status.Done) ⊎ (result.status ≡ Status.Refused)
@@ -111,12 +117,13 @@ pub fn relc<R: Threads + Wait + Sync, S: Source, K: Sink, G: Gate + Sync>(
     ensures has_ran { IsSome result.ran ↔
         MakesRun (command_of (map string_bytes words.now)) × (result.status ≡ Status.Done) }
     ensures history { IfSome result.ran
-        (IsOneHistory (also_asked (command_of (map string_bytes words.now)))) }
+        (IsOneHistory (plans_asked (command_of (map string_bytes words.now)))
+        (also_asked (command_of (map string_bytes words.now)))) }
     ensures report { (command : TextCommand)
         → command_of (map string_bytes words.now) ≡ Some (OfText command)
         → (input : List ℕ) → S.left source.old ≡ Some input
         → IfSome result.ran
-        (HasRunText (also_of command) input (K.held sink.old) (K.held sink.new)) }
+        (HasTextBy command input (K.held sink.old) (K.held sink.new)) }
     ensures summary { (seed calls : ℕ)
         → command_of (map string_bytes words.now) ≡ Some (Big seed calls)
         → IfSome result.ran (HasSummaryText seed calls (K.held sink.old) (K.held sink.new)) }
@@ -163,7 +170,7 @@ fn usage<K: Sink>(sink: &mut K) -> Status
 {
     match write_all(
         sink,
-        b"usage: relc check, plan, run, dot [OP], audit, group or big SEED N\n",
+        b"usage: relc check, plan, run, dot [OP], audit, hand, group or big SEED N\n",
     ) {
         Ok(()) => Status::Usage,
         Err(WriteFault::Sink) => Status::SinkFailed,
@@ -204,7 +211,7 @@ fn big<R: Threads + Wait + Sync, K: Sink, G: Gate + Sync>(
     requires { calls ≤ 20000 }
     ensures big { EndsBig seed calls (K.held sink.old) (K.held sink.new) result.status }
     ensures has_ran { IsSome result.ran ↔ (result.status ≡ Status.Done) }
-    ensures history { IfSome result.ran (IsOneHistory Nothing) }
+    ensures history { IfSome result.ran (IsOneHistory ArePlanned Nothing) }
     ensures summary { IfSome result.ran
         (HasSummaryText seed calls (K.held sink.old) (K.held sink.new)) }
     ensures sink_failed { result.status ≡ Status.SinkFailed
@@ -234,9 +241,9 @@ fn answer_text<R: Threads + Wait + Sync, S: Source, K: Sink, G: Gate + Sync>(
     ensures not_usage { result.status ≡ Status.Usage → ⊥ }
     ensures only_audit { result.status ≡ Status.Bad → (form : Form) × (command ≡ audit_for form) }
     ensures has_ran { IsSome result.ran ↔ MakesCalls command × (result.status ≡ Status.Done) }
-    ensures history { IfSome result.ran (IsOneHistory (also_of command)) }
+    ensures history { IfSome result.ran (IsOneHistory (plans_by command) (also_of command)) }
     ensures report { (input : List ℕ) → S.left source.old ≡ Some input → IfSome result.ran
-        (HasRunText (also_of command) input (K.held sink.old) (K.held sink.new)) }
+        (HasTextBy command input (K.held sink.old) (K.held sink.new)) }
     ensures source_failed { result.status ≡ Status.SourceFailed
         → Rose (S.faults source.old) (S.faults source.new) }
     ensures nothing_written { result.status ≡ Status.SourceFailed → K.held sink.new ≡ K.held sink.old }

@@ -21,12 +21,12 @@ returns-clause-written g c =
     let accepted : IsAccepted spec = subst (λ (s : Spec). IsAccepted s) (sym same) (c.in-Ok-accept.ensures.accepted refl) in
     let read : work_reading c.args.also spec (rest_place text c.in-Ok.read.1) ≡ Ok c.in-Ok-read_work.work =
     subst (λ (s : Spec). work_reading c.args.also s (rest_place text c.in-Ok.read.1) ≡ Ok c.in-Ok-read_work.work) c.spec.ensures.value c.in-Ok-read_work.ensures.exact in
-    subst (Writes (AnswersRun c.args.also text (spec_reading text)) (g.K.Sink.held c.args.sink.now) (g.K.Sink.held c.perform.new.sink)) (done_status c.perform.result c.with_run.result c.with_run.ensures)
-    (writes_wider (IsReport spec c.in-Ok-read_work.work) (AnswersRun c.args.also text (spec_reading text)) (g.K.Sink.held c.args.sink.now) (g.K.Sink.held c.perform.new.sink) (done_in c.perform.result)
-    (report_answers c.args.also text found.0 spec c.in-Ok.read.1 found.1 is accepted c.in-Ok-read_work.work read) c.perform.ensures.written)
+    subst (Writes (AnswersRun c.args.also text (spec_reading text)) (g.K.Sink.held c.args.sink.now) (g.K.Sink.held c.perform_planned.new.sink)) (done_status c.perform_planned.result c.with_run.result c.with_run.ensures)
+    (writes_wider (IsReport spec c.in-Ok-read_work.work) (AnswersRun c.args.also text (spec_reading text)) (g.K.Sink.held c.args.sink.now) (g.K.Sink.held c.perform_planned.new.sink) (done_in c.perform_planned.result)
+    (report_answers c.args.also text found.0 spec c.in-Ok.read.1 found.1 is accepted c.in-Ok-read_work.work read) c.perform_planned.ensures.written)
 
 pub returns-clause-has_ran : goal.returns-clause-has_ran
-returns-clause-has_ran g c = done_has_ran c.perform.result c.with_run.result c.with_run.ensures
+returns-clause-has_ran g c = done_has_ran c.perform_planned.result c.with_run.result c.with_run.ensures
 
 pub returns-clause-ran : goal.returns-clause-ran
 returns-clause-ran g c =
@@ -38,9 +38,9 @@ returns-clause-ran g c =
     let accepted : IsAccepted spec = subst (λ (s : Spec). IsAccepted s) (sym same) (c.in-Ok-accept.ensures.accepted refl) in
     let read : work_reading c.args.also spec (rest_place text c.in-Ok.read.1) ≡ Ok c.in-Ok-read_work.work =
     subst (λ (s : Spec). work_reading c.args.also s (rest_place text c.in-Ok.read.1) ≡ Ok c.in-Ok-read_work.work) c.spec.ensures.value c.in-Ok-read_work.ensures.exact in
-    done_ran c.args.also text spec c.in-Ok-read_work.work (g.K.Sink.held c.args.sink.now) (g.K.Sink.held c.perform.new.sink)
+    done_ran c.args.also text spec c.in-Ok-read_work.work (g.K.Sink.held c.args.sink.now) (g.K.Sink.held c.perform_planned.new.sink)
     (read_as c.args.also text found.0 spec c.in-Ok.read.1 c.in-Ok-read_work.work found.1 is accepted read)
-    c.perform.result c.with_run.result c.with_run.ensures c.perform.ensures.run c.perform.ensures.store c.perform.ensures.text
+    c.perform_planned.result c.with_run.result c.with_run.ensures c.perform_planned.ensures.run c.perform_planned.ensures.store c.perform_planned.ensures.text
 
 pub returns-in-Err-read_work-clause-written : goal.returns-in-Err-read_work-clause-written
 returns-in-Err-read_work-clause-written g c =

@@ -1,6 +1,7 @@
 use Rattle.std.proofs.Common.{◌↔◌, ◌≡◌, ◌∙◌, sym, subst}
 use Rattle.std.specs.Prelude.{IfSome, IsSome}
 use Rattle.rc_answer.specs.Big.{HasSummaryText}
+use Rattle.rc_answer.specs.Plans.{ArePlanned}
 use Rattle.rc_answer.specs.Ran.{IsOneHistory, status_in}
 use Rattle.rc_work.specs.declared.also.Also.TheVariants.{Nothing}
 use Rattle.rc_answer.specs.declared.outcome.Outcome.{Outcome}
@@ -26,7 +27,7 @@ returns-clause-has_ran g c =
 
 pub returns-clause-history : goal.returns-clause-history
 returns-clause-history g c =
-    subst (λ o. IfSome o (IsOneHistory Nothing)) (sym c.outcome_of.ensures.ran)
+    subst (λ o. IfSome o (IsOneHistory ArePlanned Nothing)) (sym c.outcome_of.ensures.ran)
     (big_history_left c.answer_big.result c.args.seed c.args.calls (g.K.Sink.held c.args.sink.now) (g.K.Sink.held c.answer_big.new.sink) c.answer_big.ensures.ran)
 
 pub returns-clause-summary : goal.returns-clause-summary

@@ -1,18 +1,20 @@
-use Rattle.std.proofs.Common.{◌≡◌, Some, None, ap, sym, ◌∙◌, subst}
+use Rattle.std.proofs.Common.{◌≡◌, Some, None, ap, map, string_bytes, sym, ◌∙◌, subst}
 use Rattle.std.specs.Prelude.{◌⊎◌, IfSome}
 use Rattle.rc_answer.specs.declared.outcome.Outcome.{Outcome}
-use Rattle.rc_answer.specs.Answers.{also_of, audit_for}
-use Rattle.rc_answer.specs.Ran.{HasRunText}
+use Rattle.rc_answer.specs.Answers.{audit_for}
+use Rattle.rc_answer.specs.Ran.{HasTextBy}
 use Rattle.rc_command.specs.declared.command.Command.TheVariants.{Big, OfText}
 use Rattle.rc_command.specs.declared.command.TextCommand.{TextCommand}
-use Rattle.rc_command.specs.declared.command.TextCommand.TheVariants.{Check, Run, Group}
+use Rattle.rc_command.specs.declared.command.TextCommand.TheVariants.{Check, Run, Group, Hand}
 use Rattle.rc_top.specs.Answer.{IsAnswered, KeepsRules}
 use Rattle.rc_answer.specs.declared.status.Status.{Status}
 use Rattle.rc_answer.specs.declared.status.Status.TheVariants.{OutOfMemory}
 use Rattle.rc_top.specs.Asks.{HasRead}
 use Rattle.rc_top.specs.Ends.{EndsBig, EndsUsage}
 use Rattle.rc_top.proofs.EndLemmas.{answered, done_bad_or_refused, done_or_refused, one_command}
-use Rattle.rc_top.proofs.HeadlineLemmas.{checked_headline, group_headline, judged_headline, run_headline}
+use Rattle.rc_command.specs.Command.{command_of}
+use Rattle.rc_top.proofs.RanLemmas.{history_by_seed}
+use Rattle.rc_top.proofs.HeadlineLemmas.{by_hand_headline, checked_headline, group_headline, judged_headline, run_headline}
 use Rattle.rc_top.proofs.top.relc.Goals as goal
 
 pub returns-in-Ok-Some-OfText-clause-headline : goal.returns-in-Ok-Some-OfText-clause-headline
@@ -28,6 +30,14 @@ returns-in-Ok-Some-OfText-clause-group_headline g c = λ named input told short 
     group_headline c.in-Ok-Some-OfText.command input (g.K.Sink.held c.args.sink.now) (g.K.Sink.held c.answer_text.new.sink) c.answer_text.result
     short (done_or_refused c.answer_text.result.status written) (c.answer_text.ensures.answers input told) c.answer_text.ensures.has_ran
     (one_command c.in-Ok-Some-OfText.command Group
+    (sym (ap Some c.in-Ok-Some-OfText.field-0-0-is) ∙ sym c.in-Ok-Some-OfText.field-0-is ∙ c.in-Ok-Some-OfText.ensures.value ∙ named))
+    (c.answer_text.ensures.report input told)
+
+pub returns-in-Ok-Some-OfText-clause-hand_headline : goal.returns-in-Ok-Some-OfText-clause-hand_headline
+returns-in-Ok-Some-OfText-clause-hand_headline g c = λ named input told short written.
+    by_hand_headline c.in-Ok-Some-OfText.command input (g.K.Sink.held c.args.sink.now) (g.K.Sink.held c.answer_text.new.sink) c.answer_text.result
+    short (done_or_refused c.answer_text.result.status written) (c.answer_text.ensures.answers input told) c.answer_text.ensures.has_ran
+    (one_command c.in-Ok-Some-OfText.command Hand
     (sym (ap Some c.in-Ok-Some-OfText.field-0-0-is) ∙ sym c.in-Ok-Some-OfText.field-0-is ∙ c.in-Ok-Some-OfText.ensures.value ∙ named))
     (c.answer_text.ensures.report input told)
 
@@ -63,7 +73,7 @@ returns-in-Ok-Some-OfText-clause-complete g c = λ command named input told shor
 pub returns-in-Ok-Some-OfText-clause-report : goal.returns-in-Ok-Some-OfText-clause-report
 returns-in-Ok-Some-OfText-clause-report g c = λ command named input told.
     let same : c.in-Ok-Some-OfText.command ≡ command = one_command c.in-Ok-Some-OfText.command command (sym (ap Some c.in-Ok-Some-OfText.field-0-0-is) ∙ sym c.in-Ok-Some-OfText.field-0-is ∙ c.in-Ok-Some-OfText.ensures.value ∙ named) in
-    subst (λ (k : TextCommand). IfSome c.answer_text.result.ran (HasRunText (also_of k) input (g.K.Sink.held c.args.sink.now) (g.K.Sink.held c.answer_text.new.sink))) same
+    subst (λ (k : TextCommand). IfSome c.answer_text.result.ran (HasTextBy k input (g.K.Sink.held c.args.sink.now) (g.K.Sink.held c.answer_text.new.sink))) same
     (c.answer_text.ensures.report input told)
 
 pub returns-in-Ok-Some-Big-clause-report : goal.returns-in-Ok-Some-Big-clause-report
@@ -75,6 +85,11 @@ pub returns-in-Ok-Some-Big-clause-left : goal.returns-in-Ok-Some-Big-clause-left
 returns-in-Ok-Some-Big-clause-left g c = λ command named input told read.
     let e : Some (Big c.in-Ok-Some-Big.seed c.in-Ok-Some-Big.calls) ≡ Some (OfText command) = sym (ap Some c.in-Ok-Some-Big.field-0-0-is) ∙ sym c.in-Ok-Some-Big.field-0-is ∙ c.in-Ok-Some-Big.ensures.value ∙ named in
     absurd cc
+
+pub returns-in-Ok-Some-Big-clause-history : goal.returns-in-Ok-Some-Big-clause-history
+returns-in-Ok-Some-Big-clause-history g c =
+    history_by_seed (command_of (map string_bytes c.args.words.now)) c.in-Ok-Some-Big.seed c.in-Ok-Some-Big.calls c.big.result.ran
+    (sym c.in-Ok-Some-Big.ensures.value ∙ c.in-Ok-Some-Big.field-0-is ∙ ap Some c.in-Ok-Some-Big.field-0-0-is) c.big.ensures.history
 
 pub returns-in-Ok-None-clause-left : goal.returns-in-Ok-None-clause-left
 returns-in-Ok-None-clause-left g c = λ command named input told read.
@@ -93,6 +108,12 @@ returns-in-Ok-Some-Big-clause-headline g c = λ named input told short written.
 pub returns-in-Ok-Some-Big-clause-group_headline : goal.returns-in-Ok-Some-Big-clause-group_headline
 returns-in-Ok-Some-Big-clause-group_headline g c = λ named input told short written.
     let e : Some (Big c.in-Ok-Some-Big.seed c.in-Ok-Some-Big.calls) ≡ Some (OfText Group) =
+    sym (ap Some c.in-Ok-Some-Big.field-0-0-is) ∙ sym c.in-Ok-Some-Big.field-0-is ∙ c.in-Ok-Some-Big.ensures.value ∙ named in
+    absurd cc
+
+pub returns-in-Ok-Some-Big-clause-hand_headline : goal.returns-in-Ok-Some-Big-clause-hand_headline
+returns-in-Ok-Some-Big-clause-hand_headline g c = λ named input told short written.
+    let e : Some (Big c.in-Ok-Some-Big.seed c.in-Ok-Some-Big.calls) ≡ Some (OfText Hand) =
     sym (ap Some c.in-Ok-Some-Big.field-0-0-is) ∙ sym c.in-Ok-Some-Big.field-0-is ∙ c.in-Ok-Some-Big.ensures.value ∙ named in
     absurd cc
 
@@ -120,6 +141,11 @@ returns-in-Ok-None-clause-headline g c = λ named input told short written.
 pub returns-in-Ok-None-clause-group_headline : goal.returns-in-Ok-None-clause-group_headline
 returns-in-Ok-None-clause-group_headline g c = λ named input told short written.
     let e : None ≡ Some (OfText Group) = sym c.in-Ok-None.field-0-is ∙ c.in-Ok-None.ensures.value ∙ named in
+    absurd cc
+
+pub returns-in-Ok-None-clause-hand_headline : goal.returns-in-Ok-None-clause-hand_headline
+returns-in-Ok-None-clause-hand_headline g c = λ named input told short written.
+    let e : None ≡ Some (OfText Hand) = sym c.in-Ok-None.field-0-is ∙ c.in-Ok-None.ensures.value ∙ named in
     absurd cc
 
 pub returns-in-Ok-None-clause-check_headline : goal.returns-in-Ok-None-clause-check_headline

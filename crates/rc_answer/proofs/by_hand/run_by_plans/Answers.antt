@@ -1,0 +1,42 @@
+use Rattle.std.proofs.Common.{◌∙◌, refl, subst, sym}
+use Rattle.rc_text.specs.Lines.{content_from, past_end_of}
+use Rattle.rc_spec.specs.Names.{IsWellNamed}
+use Rattle.rc_reader.specs.Answers.{rest_place}
+use Rattle.rc_answer.specs.Answers.{AnswersChosen}
+use Rattle.rc_answer.specs.Ran.{done_in}
+use Rattle.rc_answer.specs.RanByHand.{HasChosenText}
+use Rattle.rc_answer.specs.Writes.{Writes}
+use Rattle.rc_answer.proofs.ByHandLemmas.{chosen_answers, chosen_text, of_operations}
+use Rattle.rc_answer.proofs.RanLemmas.{done_each, done_status}
+use Rattle.rc_answer.proofs.by_hand.run_by_plans.Goals as goal
+
+pub refuse_plan-requires : goal.refuse_plan-requires
+refuse_plan-requires g c = of_operations c.args.accepted c.args.hands.items c.in-Err.fault c.requires.hands c.in-Err.ensures.refused
+
+pub read_work-requires-clause-well_named : goal.read_work-requires-clause-well_named
+read_work-requires-clause-well_named g c =
+    subst IsWellNamed (sym (c.spec-spec.ensures.value ∙ c.accepted.ensures.value ∙ c.in-Ok.ensures.same)) c.requires.well_named
+
+pub returns-clause-written : goal.returns-clause-written
+returns-clause-written g c =
+    let lines = content_from (rest_place c.args.text.now c.args.behind) in
+    let old = g.K.Sink.held c.args.sink.now in
+    let new = g.K.Sink.held c.perform.new.sink in
+    subst (Writes (AnswersChosen (past_end_of c.args.text.now) c.args.accepted c.args.hands.items lines) old new)
+    (done_status c.perform.result c.with_run.result c.with_run.ensures)
+    (chosen_answers c.args.accepted c.spec-spec.result.now c.args.hands.items c.in-Ok.compiled c.in-Ok-read_work.work c.args.text.now c.args.behind
+    c.in-Ok.ensures.same c.in-Ok.ensures.chosen (c.in-Ok.ensures.kept refl)
+    (c.spec-spec.ensures.value ∙ c.accepted.ensures.value ∙ c.in-Ok.ensures.same) c.in-Ok-read_work.ensures.exact
+    old new (done_in c.perform.result) c.perform.ensures.written)
+
+pub returns-clause-ran : goal.returns-clause-ran
+returns-clause-ran g c =
+    let lines = content_from (rest_place c.args.text.now c.args.behind) in
+    let old = g.K.Sink.held c.args.sink.now in
+    let new = g.K.Sink.held c.perform.new.sink in
+    done_each (HasChosenText (past_end_of c.args.text.now) c.args.accepted c.args.hands.items lines old new) c.perform.result c.with_run.result
+    c.with_run.ensures
+    (chosen_text c.args.accepted c.spec-spec.result.now c.args.hands.items c.in-Ok.compiled c.in-Ok-read_work.work c.args.text.now c.args.behind
+    c.in-Ok.ensures.same c.in-Ok.ensures.chosen (c.in-Ok.ensures.kept refl)
+    (c.spec-spec.ensures.value ∙ c.accepted.ensures.value ∙ c.in-Ok.ensures.same) c.in-Ok-read_work.ensures.exact
+    old new c.perform.result c.perform.ensures.run c.perform.ensures.store c.perform.ensures.text)
