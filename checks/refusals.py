@@ -119,7 +119,7 @@ def header(rules):
 
 
 def missing(rules):
-    """The rules that docs/LANGUAGE.md and docs/RULES.md have in their tables, and that aren't in the data. (Those of plans, K, refuse no text.)"""
+    """The rules that docs/LANGUAGE.md and docs/RULES.md have in their tables, and that aren't in the data. (Those of plans, H and K, are asked by `hand` alone.)"""
     have = {rule.name for rule in rules}
     pages = "".join(open(os.path.join(TOP, "docs", name), encoding="utf-8").read() for name in ("LANGUAGE.md", "RULES.md"))
     return sorted(set(re.findall(r"^\| ([SAPOW]\d) \|", pages, re.MULTILINE)) - have)

@@ -28,7 +28,7 @@ use Rattle.rc_answer.specs.Answers.{AnswersByHand, AnswersChosen, AnswersHands, 
 use Rattle.rc_answer.specs.Ran.{HasHandText, IsOfItsStore, IsRunBy, run_text}
 use Rattle.rc_answer.specs.RanByHand.{HasChosenText, HasHandsText}
 use Rattle.rc_answer.specs.RanLaws.{report_by}
-use Rattle.rc_answer.specs.Refusals.{IsOfItsOperations, WritesRefusal}
+use Rattle.rc_answer.specs.Refusals.{IsOfAnOperation, WritesRefusal}
 use Rattle.rc_answer.specs.Writes.{Writes}
 use Rattle.rc_answer.specs.declared.outcome.Outcome.{Outcome}
 use Rattle.rc_answer.specs.declared.outcome.Ran.{Ran}
@@ -47,7 +47,7 @@ each_ran P Q (Ok outcome) wider held = go outcome.ran held
     go (Some ran) held = wider ran held
 
 -- the refused plan is that of an operation
-pub of_operations : (spec : Spec) (hands : List Hand) (fault : HandFault) → AreHands spec hands → IsRefusedFor spec hands fault → IsOfItsOperations fault
+pub of_operations : (spec : Spec) (hands : List Hand) (fault : HandFault) → AreHands spec hands → IsRefusedFor spec hands fault → IsOfAnOperation fault
 of_operations spec hands plan_faults.Memory are refused = tt
 of_operations spec hands (plan_faults.Refused accepted op refusal) are (same, first) =
     let there : In first.hand hands =

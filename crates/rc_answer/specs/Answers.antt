@@ -155,7 +155,8 @@ IsHandRefusal broken text status = (text ≡ hand_refusal_text broken) × (statu
 abbrev pub IsPlanRefusal : Spec → ℕ → PlanRefusal → List ℕ → Status → Type 0
 IsPlanRefusal spec op refusal text status = (text ≡ printed_lines (plan_refusal_text spec op refusal ∷ [])) × (status ≡ Refused)
 
--- Written plans, each of which keeps K1 to K7. The first, in written order, that doesn't is refused for its first broken rule.
+-- Where each of these plans keeps K1 to K7, what follows; else the first, in written order, that doesn't is refused for its first
+-- broken rule.
 abbrev pub AnswersPlans : Spec → List Hand → (List ℕ → Status → Type 0) → List ℕ → Status → Type 0
 AnswersPlans spec hands IfKept text status =
     (AllKeepRules spec hands × IfKept text status)
@@ -245,17 +246,17 @@ MakesCalls commands.Hand = Unit {0}
 MakesCalls commands.Dot = ⊥
 MakesCalls (commands.DotPlan op) = ⊥
 
--- the plans by which it makes them: by those that were written some other than the planned ones, which keep K1 to K7 too
-abbrev pub plans_by : TextCommand → Spec → List (List Statement) → Type 0
-plans_by commands.Check spec plans = ArePlanned spec plans
-plans_by commands.Plan spec plans = ArePlanned spec plans
-plans_by commands.Run spec plans = ArePlanned spec plans
-plans_by commands.Group spec plans = ArePlanned spec plans
-plans_by commands.Audit spec plans = ArePlanned spec plans
-plans_by commands.AuditJournal spec plans = ArePlanned spec plans
-plans_by commands.Hand spec plans = ArePlansOf spec plans
-plans_by commands.Dot spec plans = ArePlanned spec plans
-plans_by (commands.DotPlan op) spec plans = ArePlanned spec plans
+-- of what kind the plans are that its store has: the planned ones, or of `hand` any that keep K1 to K7
+abbrev pub ArePlansFor : TextCommand → Spec → List (List Statement) → Type 0
+ArePlansFor commands.Check spec plans = ArePlanned spec plans
+ArePlansFor commands.Plan spec plans = ArePlanned spec plans
+ArePlansFor commands.Run spec plans = ArePlanned spec plans
+ArePlansFor commands.Group spec plans = ArePlanned spec plans
+ArePlansFor commands.Audit spec plans = ArePlanned spec plans
+ArePlansFor commands.AuditJournal spec plans = ArePlanned spec plans
+ArePlansFor commands.Hand spec plans = ArePlansOf spec plans
+ArePlansFor commands.Dot spec plans = ArePlanned spec plans
+ArePlansFor (commands.DotPlan op) spec plans = ArePlanned spec plans
 
 -- in which groups may stand or not
 abbrev pub also_of : TextCommand → Also

@@ -31,22 +31,22 @@ cut_is_refused also text whole at n is letter before out status answers =
     let refused = cut_texts_are_refused also text whole at n is letter before in
     no_text also (take n text) out status refused.0 (spec_reading (take n text)) refused.1 answers
 
--- between the specification and the workload nothing else is read
-abbrev pub ReadsNoPlans : TextCommand → Type 0
-ReadsNoPlans Check = ⊥
-ReadsNoPlans Plan = ⊥
-ReadsNoPlans Run = Unit {0}
-ReadsNoPlans Group = Unit {0}
-ReadsNoPlans Audit = ⊥
-ReadsNoPlans AuditJournal = ⊥
-ReadsNoPlans Hand = ⊥
-ReadsNoPlans Dot = ⊥
-ReadsNoPlans (DotPlan op) = ⊥
+-- it makes the calls of a workload that stands directly behind the specification
+abbrev pub HasWorkBehind : TextCommand → Type 0
+HasWorkBehind Check = ⊥
+HasWorkBehind Plan = ⊥
+HasWorkBehind Run = Unit {0}
+HasWorkBehind Group = Unit {0}
+HasWorkBehind Audit = ⊥
+HasWorkBehind AuditJournal = ⊥
+HasWorkBehind Hand = ⊥
+HasWorkBehind Dot = ⊥
+HasWorkBehind (DotPlan op) = ⊥
 
 -- Where a text gives a specification and a workload, `run` or `group`, whichever reads it so, refuses each prefix of it that ends
 -- before the `d` of its last content line.
 abbrev pub CutRunsAreRefused : Type 0
-CutRunsAreRefused = (command : TextCommand) → ReadsNoPlans command
+CutRunsAreRefused = (command : TextCommand) → HasWorkBehind command
     → (text : List ℕ) (whole : Whole) (at n : ℕ) → text_reading (also_of command) text ≡ Ok whole → IsLastLetter text at → n ≤ at
     → (out : List ℕ) (status : Status) → Answers command (take n text) out status → status ≡ Refused
 

@@ -6,9 +6,10 @@
 --   earlier rounds; every reply is that of the plain relation at its place; and every state satisfies the dependencies.
 --   Where groups are read, the calls of a group stand there as one entry, between which there is no other; each other call is an
 --   entry by itself, and so is every call of `run`.
---   `relc hand` reads plans between specification and workload. Where each of them keeps the written rules of plans, the calls of
---   their operations are made by them, and all the others by the planned plans: the journal is one legal history all the same. A
---   refusal names the first broken rule of the lines, or of the first plan that breaks one.
+--   `relc hand` reads plans between specification and workload. Where each of them keeps the written rules of plans, the store has
+--   them for their operations, and the planned plans for the others, and the journal is one legal history all the same. A refusal
+--   names the first broken rule of the lines, or of the first plan that breaks one. (That a call locks exactly by the plan that the
+--   store has is promised below, by `exact` of `HasMade` in rc_store/specs/Store.antt.)
 --   `relc audit` judges lines that stand behind a workload: they are legal exactly where they are what is printed of some run,
 --   and else exactly one line is the first with which no such text begins. So `relc audit bare` judges the journal alone.
 --
@@ -19,7 +20,7 @@
 --   the rules           rc_spec: Acceptance (IsAccepted, IsFirstBroken), Adequacy (A1 to A7), Placement (P1 to P6, O1 to O3)
 --   the plain relation  rc_spec: Plain; rc_tuple: Relation (Satisfies, Follows), Tuple
 --   histories and runs  rc_rel: History (AreLegalFrom, relation_at); rc_work: Runs (thread_calls, thread_turns, MakesRounds)
---   the grammar         rc_reader: Grammar (spec_reading); rc_work: Ranking (work_reading)
+--   the grammar         rc_reader: Grammar (spec_reading); rc_work: Ranking (work_reading); here: Answers (work_in_lines)
 --   the printed forms   rc_work: Report; rc_spec: RefusalText; rc_plan: PlanText
 --   planned plans       rc_query: Planned (IsPlanned)
 --   written plans       rc_handplan: HandGrammar (hands_reading), Chosen (AreChosen, AllKeepRules, IsFirstRefused); rc_plan: PlanRules (K1 to K7)
@@ -147,8 +148,8 @@ OfWorkBy ArePlans also spec (Ok work) old new outcome = HasRunOnceBy ArePlans al
 abbrev pub OfWork : Also → Spec → Result Work Broken → Option (List ℕ) → Option (List ℕ) → Outcome → Type 0
 OfWork also spec found old new outcome = OfWorkBy (ArePlanned spec) also spec found old new outcome
 
--- Plans, each of which keeps K1 to K7, and behind them a workload, which is run by them and the planned plans of the others; or not
--- all keep these rules, and the first that doesn't is refused for its first broken rule.
+-- Where each of these plans keeps K1 to K7, what is said of the workload behind them, and of a store that has them and the planned
+-- plans of the other operations; and where not all do, the first that doesn't is refused for its first broken rule.
 abbrev pub OfChosen : Spec → List Hand → Result Work Broken → Option (List ℕ) → Option (List ℕ) → Outcome → Type 0
 OfChosen spec hands found old new outcome =
     (AllKeepRules spec hands × OfWorkBy (AreChosen spec hands) Nothing spec found old new outcome)

@@ -2,6 +2,7 @@ pub mod Answers
 pub mod Asked
 pub mod Big
 pub mod CutLaws
+pub mod HandLaws
 pub mod Headline
 pub mod HeadlineLaws
 pub mod Plans

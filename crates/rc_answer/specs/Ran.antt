@@ -62,7 +62,7 @@ pub record IsRunBy (ArePlans : List (List Statement) → Type 0) (spec : Spec) (
 abbrev pub IsRunOf : Spec → Work → Ran → Type 0
 IsRunOf spec work ran = IsRunBy (ArePlanned spec) spec work ran
 
--- what the closed store keeps: its plans keep K1 to K7, the calls of the journal fit its specification, and each entry is of a pass that it had
+-- what is so of the closed store: its plans keep K1 to K7, the calls of the journal fit its specification, and each entry is of a pass that it had
 pub record IsOfItsStore (ran : Ran) : Type 0 where
   pub kept : ArePlansOf ran.closed.compiled.spec ran.closed.compiled.plans
   pub fit : AllFit ran.closed.compiled.spec (entries_in ran.closed.journal)
@@ -108,16 +108,16 @@ pub record HasHandText (input : List ℕ) (old new : Option (List ℕ)) (ran : R
   pub written : Adds old (run_text work.ranks ran) new
 
 -- a run of the command
-abbrev pub HasTextBy : TextCommand → List ℕ → Option (List ℕ) → Option (List ℕ) → Ran → Type 0
-HasTextBy commands.Check = HasRunText (also_of commands.Check)
-HasTextBy commands.Plan = HasRunText (also_of commands.Plan)
-HasTextBy commands.Run = HasRunText (also_of commands.Run)
-HasTextBy commands.Group = HasRunText (also_of commands.Group)
-HasTextBy commands.Audit = HasRunText (also_of commands.Audit)
-HasTextBy commands.AuditJournal = HasRunText (also_of commands.AuditJournal)
-HasTextBy commands.Hand = HasHandText
-HasTextBy commands.Dot = HasRunText (also_of commands.Dot)
-HasTextBy (commands.DotPlan op) = HasRunText (also_of (commands.DotPlan op))
+abbrev pub HasTextOf : TextCommand → List ℕ → Option (List ℕ) → Option (List ℕ) → Ran → Type 0
+HasTextOf commands.Check = HasRunText (also_of commands.Check)
+HasTextOf commands.Plan = HasRunText (also_of commands.Plan)
+HasTextOf commands.Run = HasRunText (also_of commands.Run)
+HasTextOf commands.Group = HasRunText (also_of commands.Group)
+HasTextOf commands.Audit = HasRunText (also_of commands.Audit)
+HasTextOf commands.AuditJournal = HasRunText (also_of commands.AuditJournal)
+HasTextOf commands.Hand = HasHandText
+HasTextOf commands.Dot = HasRunText (also_of commands.Dot)
+HasTextOf (commands.DotPlan op) = HasRunText (also_of (commands.DotPlan op))
 
 -- What is so of a run, whatever was read: the specification is accepted and its plans are of this kind; the journal
 -- is one legal history in which each pass of the store numbers its entries, each of calls that fit and, where no groups are

@@ -34,10 +34,10 @@ use Rattle.rc_answer.specs.declared.status.Status.{Status}
 use Rattle.rc_answer.specs.declared.status.Status.TheVariants.{Done}
 use Rattle.rc_command.specs.declared.command.TextCommand.{TextCommand}
 use Rattle.rc_command.specs.declared.command.TextCommand.TheVariants as commands
-use Rattle.rc_answer.specs.Answers.{IsReportBy, also_of, plans_and_report, plans_by, work_in_lines}
+use Rattle.rc_answer.specs.Answers.{IsReportBy, also_of, plans_and_report, ArePlansFor, work_in_lines}
 use Rattle.rc_answer.specs.Big.{HasSummaryText, big_text, ran_text}
 use Rattle.rc_answer.specs.Plans.{ArePlanned, plans_text}
-use Rattle.rc_answer.specs.Ran.{HasHandText, HasRunText, HasTextBy, IsOfItsStore, IsOneHistory, IsRunBy, IsRunOf, entries_in, run_text}
+use Rattle.rc_answer.specs.Ran.{HasHandText, HasRunText, HasTextOf, IsOfItsStore, IsOneHistory, IsRunBy, IsRunOf, entries_in, run_text}
 
 -- so of one that may have groups, where none are read
 pub single_without_groups : (also : Also) (spec : Spec) (place : TextPlace) (work : Work) → work_reading also spec place ≡ Ok work → also ≡ Nothing
@@ -144,8 +144,8 @@ hand_is_one_history input old new ran h =
     (λ chosen. subst (λ (s : Spec). ArePlansOf s ran.closed.compiled.plans) h.run.of_spec h.store.kept) h.run) h.store
 
 -- and of each command that makes a run
-pub text_is_one_history : (command : TextCommand) (input : List ℕ) (old new : Option (List ℕ)) (ran : Ran) → HasTextBy command input old new ran
-    → IsOneHistory (plans_by command) (also_of command) ran
+pub text_is_one_history : (command : TextCommand) (input : List ℕ) (old new : Option (List ℕ)) (ran : Ran) → HasTextOf command input old new ran
+    → IsOneHistory (ArePlansFor command) (also_of command) ran
 text_is_one_history commands.Check = written_is_one_history (also_of commands.Check)
 text_is_one_history commands.Plan = written_is_one_history (also_of commands.Plan)
 text_is_one_history commands.Run = written_is_one_history (also_of commands.Run)

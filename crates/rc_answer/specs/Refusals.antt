@@ -30,9 +30,9 @@ WritesHandRefusal old new hand_refusals.Memory result = (result ≡ Err Memory) 
 WritesHandRefusal old new (hand_refusals.Line rule line) result = Writes (IsHandRefusal (record { rule = rule; line = line })) old new result
 
 -- a refused plan is one of an operation
-abbrev pub IsOfItsOperations : HandFault → Type 0
-IsOfItsOperations plan_faults.Memory = Unit {0}
-IsOfItsOperations (plan_faults.Refused spec op refusal) = op < length spec.ops
+abbrev pub IsOfAnOperation : HandFault → Type 0
+IsOfAnOperation plan_faults.Memory = Unit {0}
+IsOfAnOperation (plan_faults.Refused spec op refusal) = op < length spec.ops
 
 -- the refusal of a plan that breaks a rule; want of memory writes nothing
 abbrev pub WritesPlanRefusal : Option (List ℕ) → Option (List ℕ) → HandFault → Result Status Stop → Type 0

@@ -1,4 +1,4 @@
-//! Answers a specification with plans that are written for some of its operations, and a workload behind these.
+//! Answers a specification, plans that are written for some of its operations, and a workload.
 
 ghost use Rattle.std.specs.Prelude.{◌≡◌, ◌≤◌, ◌^◌, ◌↔◌, length, IfOk, IfSome, IsSome};
 ghost use Rattle.rc_text.specs.Lines.{IsLineStart, content_from, past_end_of};

@@ -14,7 +14,7 @@ mod status;
 mod summing;
 mod writing;
 
-pub use laws::cut_runs_are_refused;
+pub use laws::{cut_runs_are_refused, without_plans_hand_is_run};
 pub use outcome::{Outcome, Ran};
 pub use performing::answer;
 pub use refusing::refuse_size;

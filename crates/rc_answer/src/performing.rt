@@ -8,7 +8,7 @@ ghost use Rattle.rc_rel.specs.History.{AllFit};
 ghost use Rattle.rc_work.specs.Fitting.{RoundsFit, HasThreads};
 ghost use Rattle.rc_work.specs.Limits.{KeepsLimits};
 ghost use Rattle.rc_answer.specs.Answers.{Answers, AnswersAlone, AnswersRun, IsReport, IsReportBy, MakesCalls};
-ghost use Rattle.rc_answer.specs.Ran.{HasRunText, HasTextBy, IsOfItsStore, IsRunBy, IsRunOf, done_in, entries_in, run_text, status_in};
+ghost use Rattle.rc_answer.specs.Ran.{HasRunText, HasTextOf, IsOfItsStore, IsRunBy, IsRunOf, done_in, entries_in, run_text, status_in};
 ghost use Rattle.rc_answer.specs.Writes.{CountsFaults, Writes};
 ghost use Rattle.rc_answer.specs.Asked.{IsAskedText};
 
@@ -228,8 +228,8 @@ fn run<R: Threads + Wait + Sync, K: Sink, G: Gate + Sync>(
 
 /// Answers a text of at most 2^24 bytes as the command asks, and writes the answer line by line: what the command asks of
 /// a text that keeps its rules, else the refusal of the first broken one. `run` makes the calls of its workload by threads
-/// that run beside each other, and hands out what they left; `group` does so too, and makes the calls of each group as one, and so
-/// does `hand`, by plans that are written in the text.
+/// that run beside each other, and hands out what they left; `group` does so too, and makes the calls of each group as one; and
+/// `hand` does as `run`, by plans that are written in the text.
 /// `audit` makes the calls of a report one after another, on a relation of its own. The gate is told of each point that a turn
 /// reaches, and the seed is that of the hash tables. Costs the text's length and, for these four, what the plans of the calls
 /// cost.
@@ -251,7 +251,7 @@ pub fn answer<R: Threads + Wait + Sync, K: Sink, G: Gate + Sync>(
     ensures has_ran { IfOk result (λ outcome.
         IsSome outcome.ran ↔ MakesCalls command × (outcome.status ≡ Status.Done)) }
     ensures ran { IfOk result (λ outcome. IfSome outcome.ran
-        (HasTextBy command text.now (K.held sink.old) (K.held sink.new))) }
+        (HasTextOf command text.now (K.held sink.old) (K.held sink.new))) }
     ensures faults { CountsFaults (K.faults sink.old) (K.faults sink.new) result }
 {
     match command {

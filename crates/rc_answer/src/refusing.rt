@@ -7,7 +7,7 @@ ghost use Rattle.rc_place.specs.Fault.{IfHandedBack};
 ghost use Rattle.rc_answer.specs.Answers.{hand_refusal_text, refusal_line, IsOperationRefusal, IsSizeRefusal};
 ghost use Rattle.rc_answer.specs.Ran.{LeavesNone, status_in};
 ghost use Rattle.rc_answer.specs.Writes.{CountsFaults, Writes};
-ghost use Rattle.rc_answer.specs.Refusals.{IsOfItsOperations, WritesHandRefusal, WritesPlanRefusal, WritesRefusal, WritesRuleRefusal};
+ghost use Rattle.rc_answer.specs.Refusals.{IsOfAnOperation, WritesHandRefusal, WritesPlanRefusal, WritesRefusal, WritesRuleRefusal};
 
 use crate::outcome::Outcome;
 use crate::status::{Status, Stop};
@@ -136,7 +136,7 @@ pub(crate) fn refuse_plan<K: Sink>(
     sink: &mut K,
     fault: HandFault,
 ) -> Result<Outcome, Stop>
-    requires { IsOfItsOperations fault }
+    requires { IsOfAnOperation fault }
     ensures written { WritesPlanRefusal (K.held sink.old) (K.held sink.new) fault (status_in result) }
     ensures none { IfOk result LeavesNone }
     ensures faults { CountsFaults (K.faults sink.old) (K.faults sink.new) result }

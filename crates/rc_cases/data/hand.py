@@ -294,16 +294,17 @@ class Cases:
     def text(self, name, lines):
         self.lines += ["text " + name, *("|" + line for line in lines), ""]
 
-    def case(self, title, between, wanted=None, spec=("hand_graph", GRAPH), work=WORK):
+    def case(self, title, between, wanted=None, spec=("hand_graph", GRAPH), work=WORK, command="hand"):
         """Plans of a specification that is written already. What is wanted is a refusal, or else the plans of these operations."""
         name, lines = spec
         body = between + work
-        found = answer(("\n".join(lines + body) + "\n").encode("latin-1"))
+        text = ("\n".join(lines + body) + "\n").encode("latin-1")
+        found = answer(text) if command == "hand" else [hostile.refusal_of(text, command)]
         if isinstance(wanted, str):
             assert found == [wanted], (title, found, wanted)
         else:
             assert found[0].startswith("plan "), (title, found)
-        self.lines += ["case " + title, "words relc hand"]
+        self.lines += ["case " + title, "words relc " + command]
         if name:
             self.lines.append("use " + name)
         else:
@@ -326,6 +327,13 @@ FIND = plan(
 )
 PLANNED = model.plans_of(model.read_spec(list(GRAPH)))
 INSERT = PLANNED[: PLANNED.index("plan del")]
+
+
+def longer_of(op):
+    """The planned plan of a query, but with all stripes locked."""
+    at = PLANNED.index("plan " + op)
+    lines = PLANNED[at : PLANNED.index("plan find", at + 1)]
+    return [line.replace("keyed", "all") for line in lines]
 
 
 def taken(cases):
@@ -353,6 +361,8 @@ def taken(cases):
     assert "lock all all shared" in found
     calls = ["work 1", "round", '0 spawn 1 "new"', '0 move 1 "old"', "0 by 1", "end"]
     moves = plan("plan move, lock k keyed, probe pid, read e1 lookup, read e2 scan, found, apply, commit, release k")
+    threads = ["work 2", "round", "0 ins 1 2 10", "round", "1 find 1 2", "round", "0 del 1 2", "round", "1 find 1 2", "end"]
+    case("two threads by plans that are written", FIND + longer_of("succ"), work=threads)
     case("a plan of an update", moves, spec=(None, STATES), work=calls)
 
 
@@ -364,6 +374,10 @@ def lines(cases):
     case("H1: two plans of one operation", FIND + FIND, "refused H1 line 33")
     for line in ("lock k1", "lock k1 keyed exclusive", "lock k1 shared", "end", '"emit"', "emit\x01", "emit emit", "read e1", "read e1 keyed", "release", "check", "absent 1", "commits"):
         case("H2: %s" % line.replace("\x01", " and a bad byte"), ["plan succ", line], "refused H2 line 24")
+    case("H1: a second plan behind one without a statement", ["plan succ", "plan succ"], "refused H1 line 24")
+    case("H1: a plan of the next operation and then again", ["plan succ", "plan find", "plan succ"], "refused H1 line 25")
+    case("H2: a quoted work", ["plan succ", '"work" 1'], "refused H2 line 24")
+    case("H2: plans", ["plan succ", "plans succ"], "refused H2 line 24")
     case("H2: check -1", ["plan ins", "check -1"], "refused H2 line 24")
     for op, line in (("succ", "lock k9 keyed"), ("succ", "release e1"), ("succ", "read e9 scan"), ("ins", "probe foo"), ("ins", "probe src src"), ("ins", "check 0"), ("ins", "check 2"), ("ins", "check 99999999999999999999")):
         case("H3: %s" % line, ["plan " + op, line], "refused H3 line 24")
@@ -381,6 +395,9 @@ def lines(cases):
     case("a statement without a plan", ["emit"], "refused S1 line 23")
     case("a quoted head", ['"plan" succ'], "refused S1 line 23")
     case("a head with a bad byte in its first word", ["plan\x01 succ"], "refused S1 line 23")
+    case("a group is none of the calls of hand", FIND, "refused W1 line 35", work=["work 1", "round", "0 & 2", "0 succ 1", "0 succ 1", "end"])
+    case("plans before the workload of run", FIND, "refused S1 line 23", command="run")
+    case("plans before the workload of group", FIND, "refused S1 line 23", command="group")
     case("a plan behind the header of the workload", [], "refused S2 line 24", work=["work 1", "plan succ", *WORK[1:]])
     case("a plan, and a header that is none", FIND, "refused S1 line 33", work=["work x", *WORK[1:]])
 
@@ -414,6 +431,11 @@ def others(cases):
     spec = [line.replace("-> weight", "->") if line.startswith("op find") else line for line in GRAPH]
     out = ["case O3 comes before H1", "words relc hand", *("|" + line for line in spec + ["plan foo"]), "status 3", "out"]
     cases.lines += out + ["|refused O3 op find", "run", ""]
+    short = [line for line in GRAPH if not line.startswith("place e3")]
+    out = ["case P1 comes before H1", "words relc hand", *("|" + line for line in short + ["plan foo"]), "status 3", "out"]
+    cases.lines += out + ["|refused P1 edge e3", "run", ""]
+    out = ["case S2 comes before H1", "words relc hand", *("|" + line for line in [*GRAPH[:10], "edge e2 u", *GRAPH[11:], "plan foo"]), "status 3", "out"]
+    cases.lines += out + ["|refused S2 line 11", "run", ""]
     out = ["case hand refuses a longer input for its size", "words relc hand", "fill 10 16777217", "status 3", "out"]
     cases.lines += out + ["|refused size", "run", ""]
 

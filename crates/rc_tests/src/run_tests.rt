@@ -120,6 +120,9 @@ enum Workload {
     Held,
     /// Of a group and a call of one round the group is held until the call is answered: all of it stands later.
     HeldGroup,
+    /// Of a query and an insert of one round the query, which is made by a plan that is written, is held until the insert is
+    /// answered: it shares one stripe, and by its planned plan all that the insert may write.
+    HeldByHand,
     /// A query of the round in which a group takes an edge out and puts it in again finds the edge.
     BesideGroup,
     /// Calls of eight threads in all rounds are one history.
@@ -135,6 +138,7 @@ impl Workload {
         match self {
             Workload::Held | Workload::Many => &["run"],
             Workload::HeldGroup | Workload::BesideGroup => &["group"],
+            Workload::HeldByHand => &["hand"],
             Workload::Generated => &["big", "7", "4000"],
             Workload::HeldGenerated => &["big", "7", "4"],
         }
@@ -143,7 +147,8 @@ impl Workload {
     /// Whether the gate holds its first turn.
     fn is_held(self) -> bool {
         match self {
-            Workload::Held | Workload::HeldGroup | Workload::HeldGenerated => true,
+            Workload::Held | Workload::HeldGroup | Workload::HeldByHand | Workload::HeldGenerated =>
+                true,
             Workload::BesideGroup | Workload::Many | Workload::Generated => false,
         }
     }
@@ -162,6 +167,11 @@ impl Workload {
                     b"work 2\nround\n0 & 2\n0 ins 1 2 10\n0 ins 1 3 11\n1 ins 2 5 1\nend\n",
                 )
             }
+            Workload::HeldByHand => {
+                push_bytes(text, TWO_PATHS)?;
+                push_bytes(text, BY_SOURCE)?;
+                push_bytes(text, b"work 2\nround\n0 succ 1\n1 ins 2 2 5\nend\n")
+            }
             Workload::BesideGroup => {
                 push_bytes(text, GRAPH)?;
                 push_bytes(
@@ -178,6 +188,48 @@ impl Workload {
         }
     }
 }
+
+/// A graph whose edges are reached by their source, and by source and target at once.
+const TWO_PATHS: &[u8] = b"relc 1
+col src num
+col dst num
+col weight num
+fd src dst -> weight
+node root
+node u src
+node w src dst weight
+node p src dst weight
+edge e1 root u hash src
+edge e2 u w list dst weight
+edge e3 root p hash src dst
+lock k1 8 src
+lock k2 2 dst
+place e1 k1
+place e2 k1
+place e3 k2
+op ins insert src dst
+op succ query src -> dst weight
+end
+";
+
+/// A plan of a query that reads the edges of its source alone. The planned one shares all stripes of the other class.
+const BY_SOURCE: &[u8] = b"plan succ
+lock k1 keyed shared
+read e1 lookup
+read e2 scan
+emit
+commit
+release k1
+";
+
+/// The report of a query that is held while another thread's insert is answered.
+const HELD_BY_HAND: &[u8] = b"journal 2
+0 1 ins 2 2 5 -> inserted
+1 0 succ 1 -> 0 rows
+final 1
+(2 2 5)
+end
+";
 
 /// The report of two calls of one round, of which the first is held.
 const HELD: &[u8] = b"journal 2
@@ -285,6 +337,7 @@ fn workloads_go_well(rt: HostRuntime) -> Result<(), Fail> {
     for workload in [
         Workload::Held,
         Workload::HeldGroup,
+        Workload::HeldByHand,
         Workload::BesideGroup,
         Workload::Many,
         Workload::Generated,
@@ -347,6 +400,7 @@ fn is_as_it_should(
     match workload {
         Workload::Held => Ok(gate.came_in_time() && bytes.ends_with(HELD)),
         Workload::HeldGroup => Ok(gate.came_in_time() && bytes.ends_with(HELD_GROUP)),
+        Workload::HeldByHand => Ok(gate.came_in_time() && bytes.ends_with(HELD_BY_HAND)),
         Workload::BesideGroup => {
             Ok(gate.saw(3) && (bytes.ends_with(BEFORE_GROUP) || bytes.ends_with(BEHIND_GROUP)))
         }

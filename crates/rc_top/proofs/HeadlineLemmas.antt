@@ -10,7 +10,7 @@ use Rattle.rc_answer.specs.declared.status.Status.TheVariants.{Done, Bad, Usage,
 use Rattle.rc_answer.specs.Answers.{Answers, MakesCalls, also_of, audit_for}
 use Rattle.rc_answer.specs.Headline.{AuditHeadline, CheckHeadline, HandHeadline, Headline}
 use Rattle.rc_answer.specs.HeadlineLaws.{audit_headline, check_headline, hand_headline, headline}
-use Rattle.rc_answer.specs.Ran.{HasTextBy}
+use Rattle.rc_answer.specs.Ran.{HasTextOf}
 use Rattle.rc_answer.specs.Writes.{WritesWhole}
 use Rattle.rc_command.specs.declared.command.TextCommand.{TextCommand}
 use Rattle.rc_command.specs.declared.command.TextCommand.TheVariants.{Check, Run, Group, Hand}
@@ -45,22 +45,22 @@ module _ (command : TextCommand) (input : List ℕ) (old new : Option (List ℕ)
       let (text, is, adds) = whole (IsAnswer command input) old new outcome.status written ends in
       (text, is.read short, adds)
 
-  pub run_headline : command ≡ Run → IfSome outcome.ran (HasTextBy command input old new) → Headline (also_of Run) input old new outcome
+  pub run_headline : command ≡ Run → IfSome outcome.ran (HasTextOf command input old new) → Headline (also_of Run) input old new outcome
   run_headline is ran =
       headline (also_of Run) input old new outcome (λ some. (has.0 some).1, λ done. has.1 (subst MakesCalls (sym is) tt, done))
-      (subst (λ (k : TextCommand). IfSome outcome.ran (HasTextBy k input old new)) is ran)
+      (subst (λ (k : TextCommand). IfSome outcome.ran (HasTextOf k input old new)) is ran)
       (subst (λ (k : TextCommand). WritesWhole (Answers k input) old new outcome.status) is answers)
 
-  pub group_headline : command ≡ Group → IfSome outcome.ran (HasTextBy command input old new) → Headline (also_of Group) input old new outcome
+  pub group_headline : command ≡ Group → IfSome outcome.ran (HasTextOf command input old new) → Headline (also_of Group) input old new outcome
   group_headline is ran =
       headline (also_of Group) input old new outcome (λ some. (has.0 some).1, λ done. has.1 (subst MakesCalls (sym is) tt, done))
-      (subst (λ (k : TextCommand). IfSome outcome.ran (HasTextBy k input old new)) is ran)
+      (subst (λ (k : TextCommand). IfSome outcome.ran (HasTextOf k input old new)) is ran)
       (subst (λ (k : TextCommand). WritesWhole (Answers k input) old new outcome.status) is answers)
 
-  pub by_hand_headline : command ≡ Hand → IfSome outcome.ran (HasTextBy command input old new) → HandHeadline input old new outcome
+  pub by_hand_headline : command ≡ Hand → IfSome outcome.ran (HasTextOf command input old new) → HandHeadline input old new outcome
   by_hand_headline is ran =
       hand_headline input old new outcome (λ some. (has.0 some).1, λ done. has.1 (subst MakesCalls (sym is) tt, done))
-      (subst (λ (k : TextCommand). IfSome outcome.ran (HasTextBy k input old new)) is ran)
+      (subst (λ (k : TextCommand). IfSome outcome.ran (HasTextOf k input old new)) is ran)
       (subst (λ (k : TextCommand). WritesWhole (Answers k input) old new outcome.status) is answers)
 
   pub checked_headline : command ≡ Check → CheckHeadline input old new outcome

@@ -9,17 +9,17 @@ use Rattle.rc_answer.specs.declared.status.Status.{Status}
 use Rattle.rc_answer.specs.declared.status.Status.TheVariants.{Done, Refused}
 use Rattle.rc_answer.specs.declared.status.Stop.{Stop}
 use Rattle.rc_answer.specs.declared.status.Stop.TheVariants.{Memory, Sink}
-use Rattle.rc_answer.specs.Answers.{IsSizeRefusal, MakesCalls, also_of, plans_by}
+use Rattle.rc_answer.specs.Answers.{IsSizeRefusal, MakesCalls, also_of, ArePlansFor}
 use Rattle.rc_answer.specs.Big.{HasSummaryText}
 use Rattle.rc_answer.specs.Plans.{ArePlanned}
-use Rattle.rc_answer.specs.Ran.{HasTextBy, IsOneHistory, ran_in, status_in}
+use Rattle.rc_answer.specs.Ran.{HasTextOf, IsOneHistory, ran_in, status_in}
 use Rattle.rc_answer.specs.RanLaws.{summed_is_one_history, text_is_one_history}
 use Rattle.rc_answer.specs.Writes.{Writes}
 use Rattle.rc_work.specs.declared.also.Also.TheVariants.{Nothing}
 use Rattle.rc_command.specs.declared.command.Command.{Command}
 use Rattle.rc_command.specs.declared.command.Command.TheVariants.{Big, OfText}
 use Rattle.rc_command.specs.declared.command.TextCommand.{TextCommand}
-use Rattle.rc_top.specs.Asks.{MakesRun, also_asked, plans_asked}
+use Rattle.rc_top.specs.Asks.{MakesRun, also_asked, ArePlansAsked}
 use Rattle.rc_top.specs.Ends.{status_of}
 
 -- what holds of each run that there may be
@@ -27,23 +27,23 @@ each_some : {A : Type 0} (P Q : A → Type 0) (o : Option A) → ((x : A) → P 
 each_some P Q None f h = tt
 each_some P Q (Some x) f h = f x h
 
-module _ (command : TextCommand) (bytes : List ℕ) (old new : Option (List ℕ)) (r : Result Outcome Stop) (written : IfOk r (λ o. IfSome o.ran (HasTextBy command bytes old new))) where
-  ran_of_bytes : IfSome (ran_in r) (HasTextBy command bytes old new)
+module _ (command : TextCommand) (bytes : List ℕ) (old new : Option (List ℕ)) (r : Result Outcome Stop) (written : IfOk r (λ o. IfSome o.ran (HasTextOf command bytes old new))) where
+  ran_of_bytes : IfSome (ran_in r) (HasTextOf command bytes old new)
   ran_of_bytes = go r written
     where
-      go : (r : Result Outcome Stop) → IfOk r (λ o. IfSome o.ran (HasTextBy command bytes old new)) → IfSome (ran_in r) (HasTextBy command bytes old new)
+      go : (r : Result Outcome Stop) → IfOk r (λ o. IfSome o.ran (HasTextOf command bytes old new)) → IfSome (ran_in r) (HasTextOf command bytes old new)
       go (Ok o) h = h
       go (Err e) h = tt
 
   -- it is of one history
-  pub history_left : IfSome (ran_in r) (IsOneHistory (plans_by command) (also_of command))
+  pub history_left : IfSome (ran_in r) (IsOneHistory (ArePlansFor command) (also_of command))
   history_left =
-      each_some (HasTextBy command bytes old new) (IsOneHistory (plans_by command) (also_of command)) (ran_in r) (text_is_one_history command bytes old new) ran_of_bytes
+      each_some (HasTextOf command bytes old new) (IsOneHistory (ArePlansFor command) (also_of command)) (ran_in r) (text_is_one_history command bytes old new) ran_of_bytes
 
   -- and, where the source told its bytes, of these
-  pub run_left : (input : List ℕ) (told left : Option (List ℕ)) → told ≡ Some input → Takes told bytes left → IsEmpty left → IfSome (ran_in r) (HasTextBy command input old new)
+  pub run_left : (input : List ℕ) (told left : Option (List ℕ)) → told ≡ Some input → Takes told bytes left → IsEmpty left → IfSome (ran_in r) (HasTextOf command input old new)
   run_left input told left is_told taken empty =
-      subst (λ (b : List ℕ). IfSome (ran_in r) (HasTextBy command b old new)) (takes_all input bytes left (sym is_told ∙ taken) empty).0 ran_of_bytes
+      subst (λ (b : List ℕ). IfSome (ran_in r) (HasTextOf command b old new)) (takes_all input bytes left (sym is_told ∙ taken) empty).0 ran_of_bytes
 
 -- a run is left exactly where the command is done that makes one
 pub left_exactly : (command : TextCommand) (r : Result Outcome Stop) → IfOk r (λ o. IsSome o.ran ↔ MakesCalls command × (o.status ≡ Done))
@@ -67,16 +67,16 @@ pub left_by_words : {X D : Type 0} (named : Option Command) (command : TextComma
 left_by_words {X} {D} named command is h = subst (λ (c : Option Command). X ↔ MakesRun c × D) (sym is) h
 
 pub history_by_words : (named : Option Command) (command : TextCommand) (ran : Option Ran) → named ≡ Some (OfText command)
-    → IfSome ran (IsOneHistory (plans_by command) (also_of command)) → IfSome ran (IsOneHistory (plans_asked named) (also_asked named))
-history_by_words named command ran is h = subst (λ (c : Option Command). IfSome ran (IsOneHistory (plans_asked c) (also_asked c))) (sym is) h
+    → IfSome ran (IsOneHistory (ArePlansFor command) (also_of command)) → IfSome ran (IsOneHistory (ArePlansAsked named) (also_asked named))
+history_by_words named command ran is h = subst (λ (c : Option Command). IfSome ran (IsOneHistory (ArePlansAsked c) (also_asked c))) (sym is) h
 
 -- and where a generated workload was run
 pub left_by_seed : {X D : Type 0} (named : Option Command) (seed calls : ℕ) → named ≡ Some (Big seed calls) → X ↔ D → X ↔ MakesRun named × D
 left_by_seed {X} {D} named seed calls is h = subst (λ (c : Option Command). X ↔ MakesRun c × D) (sym is) (λ x. (tt, h.0 x), λ e. h.1 e.1)
 
 pub history_by_seed : (named : Option Command) (seed calls : ℕ) (ran : Option Ran) → named ≡ Some (Big seed calls) → IfSome ran (IsOneHistory ArePlanned Nothing)
-    → IfSome ran (IsOneHistory (plans_asked named) (also_asked named))
-history_by_seed named seed calls ran is h = subst (λ (c : Option Command). IfSome ran (IsOneHistory (plans_asked c) (also_asked c))) (sym is) h
+    → IfSome ran (IsOneHistory (ArePlansAsked named) (also_asked named))
+history_by_seed named seed calls ran is h = subst (λ (c : Option Command). IfSome ran (IsOneHistory (ArePlansAsked c) (also_asked c))) (sym is) h
 
 -- a generated workload leaves its run exactly where it is done
 module _ (r : Result Outcome Stop) where

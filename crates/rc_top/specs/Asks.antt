@@ -6,7 +6,7 @@ use Rattle.rc_command.specs.declared.command.Command.{Command}
 use Rattle.rc_command.specs.declared.command.Command.TheVariants.{OfText, Big}
 use Rattle.rc_work.specs.declared.also.Also.{Also}
 use Rattle.rc_work.specs.declared.also.Also.TheVariants.{Nothing}
-use Rattle.rc_answer.specs.Answers.{MakesCalls, also_of, plans_by}
+use Rattle.rc_answer.specs.Answers.{MakesCalls, also_of, ArePlansFor}
 use Rattle.rc_answer.specs.Plans.{ArePlanned}
 use Rattle.rc_answer.specs.declared.status.Status.{Status}
 use Rattle.rc_answer.specs.declared.status.Status.TheVariants.{Done, Bad, Usage, Refused, SourceFailed, SinkFailed, OutOfMemory}
@@ -43,8 +43,8 @@ HasRead OutOfMemory = ⊥
 abbrev pub LeavesAllBut : ℕ → List ℕ → Option (List ℕ) → Type 0
 LeavesAllBut most input left = (taken : ℕ) × (taken ≤ most) × (left ≡ Some (drop taken input))
 
--- the plans by which a command makes calls
-abbrev pub plans_asked : Option Command → Spec → List (List Statement) → Type 0
-plans_asked None spec plans = ArePlanned spec plans
-plans_asked (Some (OfText command)) spec plans = plans_by command spec plans
-plans_asked (Some (Big seed calls)) spec plans = ArePlanned spec plans
+-- of what kind the plans of its store are
+abbrev pub ArePlansAsked : Option Command → Spec → List (List Statement) → Type 0
+ArePlansAsked None spec plans = ArePlanned spec plans
+ArePlansAsked (Some (OfText command)) spec plans = ArePlansFor command spec plans
+ArePlansAsked (Some (Big seed calls)) spec plans = ArePlanned spec plans

@@ -3,12 +3,12 @@
 ghost use Rattle.std.specs.Prelude.{◌≡◌, ◌≤◌, ◌^◌, ◌+◌, ◌⊎◌, ◌↔◌, ℕ, List, Some, None, IfSome, IsSome, drop, length, map, string_bytes};
 ghost use Rattle.rc_io.specs.Counts.{Rose};
 ghost use Rattle.rc_top.specs.Answer.{IsAnswer, IsAnswered, KeepsRules};
-ghost use Rattle.rc_top.specs.Asks.{HasRead, LeavesAllBut, MakesRun, ReadsNothing, also_asked, plans_asked};
+ghost use Rattle.rc_top.specs.Asks.{HasRead, LeavesAllBut, MakesRun, ReadsNothing, also_asked, ArePlansAsked};
 ghost use Rattle.rc_top.specs.Ends.{Ends, EndsBig, EndsUsage, status_of};
-ghost use Rattle.rc_answer.specs.Answers.{MakesCalls, also_of, audit_for, plans_by};
+ghost use Rattle.rc_answer.specs.Answers.{MakesCalls, also_of, audit_for, ArePlansFor};
 ghost use Rattle.rc_answer.specs.Big.{HasSummaryText};
 ghost use Rattle.rc_answer.specs.Headline.{AuditHeadline, CheckHeadline, HandHeadline, Headline};
-ghost use Rattle.rc_answer.specs.Ran.{HasTextBy, IsOneHistory, ran_in, status_in};
+ghost use Rattle.rc_answer.specs.Ran.{HasTextOf, IsOneHistory, ran_in, status_in};
 ghost use Rattle.rc_answer.specs.Plans.{ArePlanned};
 ghost use Rattle.rc_audit.specs.declared.form.Form.{Form};
 ghost use Rattle.rc_command.specs.Command.{command_of};
@@ -36,8 +36,9 @@ use std::thread::Threads;
 /// all rules, `plan` the planned plan of each of its operations and then `end`, `dot` its drawing, `dot OP` the drawing
 /// with the planned plan of the operation of this name, and `run` the same plans as `plan` and then the report of a
 /// journal that is a run of the workload and of the rows of its replay. `group` is `run` on a workload in which calls may
-/// stand in groups, each of which is one entry of the journal. `hand` is `run` on a text in which plans stand between
-/// specification and workload, and puts these in the place of the planned ones. `audit` reads a workload up to its `end`, and writes `legal N`
+/// stand in groups, each of which is one entry of the journal. `hand` is `run` on a text in which plans of some
+/// operations may stand between specification and workload, each of which keeps K1 to K7, and has
+/// these in the place of the planned ones. `audit` reads a workload up to its `end`, and writes `legal N`
 /// exactly where the lines behind that are what `run` may print for the text up to there, with N entries, and else
 /// `bad line L` for the first line with which no such text begins; `audit bare` does so with the journal alone. Where a rule is broken, each writes the refusal of the first, where no operation has the name `refused operation`, and of more than 2^24 bytes `refused size`. `big`
 /// writes the summary of the workload that the seed generates, which is that of one thread that makes the calls in
@@ -117,13 +118,13 @@ pub fn relc<R: Threads + Wait + Sync, S: Source, K: Sink, G: Gate + Sync>(
     ensures has_ran { IsSome result.ran ↔
         MakesRun (command_of (map string_bytes words.now)) × (result.status ≡ Status.Done) }
     ensures history { IfSome result.ran
-        (IsOneHistory (plans_asked (command_of (map string_bytes words.now)))
+        (IsOneHistory (ArePlansAsked (command_of (map string_bytes words.now)))
         (also_asked (command_of (map string_bytes words.now)))) }
     ensures report { (command : TextCommand)
         → command_of (map string_bytes words.now) ≡ Some (OfText command)
         → (input : List ℕ) → S.left source.old ≡ Some input
         → IfSome result.ran
-        (HasTextBy command input (K.held sink.old) (K.held sink.new)) }
+        (HasTextOf command input (K.held sink.old) (K.held sink.new)) }
     ensures summary { (seed calls : ℕ)
         → command_of (map string_bytes words.now) ≡ Some (Big seed calls)
         → IfSome result.ran (HasSummaryText seed calls (K.held sink.old) (K.held sink.new)) }
@@ -241,9 +242,9 @@ fn answer_text<R: Threads + Wait + Sync, S: Source, K: Sink, G: Gate + Sync>(
     ensures not_usage { result.status ≡ Status.Usage → ⊥ }
     ensures only_audit { result.status ≡ Status.Bad → (form : Form) × (command ≡ audit_for form) }
     ensures has_ran { IsSome result.ran ↔ MakesCalls command × (result.status ≡ Status.Done) }
-    ensures history { IfSome result.ran (IsOneHistory (plans_by command) (also_of command)) }
+    ensures history { IfSome result.ran (IsOneHistory (ArePlansFor command) (also_of command)) }
     ensures report { (input : List ℕ) → S.left source.old ≡ Some input → IfSome result.ran
-        (HasTextBy command input (K.held sink.old) (K.held sink.new)) }
+        (HasTextOf command input (K.held sink.old) (K.held sink.new)) }
     ensures source_failed { result.status ≡ Status.SourceFailed
         → Rose (S.faults source.old) (S.faults source.new) }
     ensures nothing_written { result.status ≡ Status.SourceFailed → K.held sink.new ≡ K.held sink.old }

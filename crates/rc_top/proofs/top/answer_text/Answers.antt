@@ -1,7 +1,7 @@
 use Rattle.std.proofs.Common.{arith, ap, ◌∙◌, ◌≡◌, ◌≤◌, ◌+◌, ◌^◌, ◌↔◌, ℕ, List, length, sym, subst}
 use Rattle.std.specs.Prelude.{IfSome, IsSome}
-use Rattle.rc_answer.specs.Answers.{Answers, MakesCalls, also_of, plans_by}
-use Rattle.rc_answer.specs.Ran.{HasTextBy, IsOneHistory, status_in}
+use Rattle.rc_answer.specs.Answers.{Answers, MakesCalls, also_of, ArePlansFor}
+use Rattle.rc_answer.specs.Ran.{HasTextOf, IsOneHistory, status_in}
 use Rattle.rc_answer.specs.Writes.{Writes}
 use Rattle.rc_top.specs.Answer.{IsAnswer}
 use Rattle.rc_top.specs.Asks.{HasRead}
@@ -46,14 +46,14 @@ returns-in-Ok-clause-has_ran g c =
 
 pub returns-in-Ok-clause-history : goal.returns-in-Ok-clause-history
 returns-in-Ok-clause-history g c =
-    subst (λ o. IfSome o (IsOneHistory (plans_by c.args.command) (also_of c.args.command))) (sym c.outcome_of.ensures.ran)
+    subst (λ o. IfSome o (IsOneHistory (ArePlansFor c.args.command) (also_of c.args.command))) (sym c.outcome_of.ensures.ran)
     (history_left c.args.command c.deref.result.now (g.K.Sink.held c.args.sink.now) (g.K.Sink.held c.answer.new.sink) c.answer.result c.answer.ensures.ran)
 
 pub returns-in-Ok-clause-report : goal.returns-in-Ok-clause-report
 returns-in-Ok-clause-report g c = λ input told.
     let old = g.K.Sink.held c.args.sink.now in
     let new = g.K.Sink.held c.answer.new.sink in
-    subst (λ o. IfSome o (HasTextBy c.args.command input old new)) (sym c.outcome_of.ensures.ran)
+    subst (λ o. IfSome o (HasTextOf c.args.command input old new)) (sym c.outcome_of.ensures.ran)
     (run_left c.args.command c.deref.result.now old new c.answer.result c.answer.ensures.ran input (g.S.Source.left c.args.source.now) (g.S.Source.left c.read_all.new.source)
     told (subst (λ (bytes : List ℕ). Takes (g.S.Source.left c.args.source.now) bytes (g.S.Source.left c.read_all.new.source)) (sym c.deref.ensures.value) c.in-Ok.ensures.all.0) c.in-Ok.ensures.all.1)
 

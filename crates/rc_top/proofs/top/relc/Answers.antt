@@ -2,7 +2,7 @@ use Rattle.std.proofs.Common.{◌≡◌, Some, None, ap, map, string_bytes, sym,
 use Rattle.std.specs.Prelude.{◌⊎◌, IfSome}
 use Rattle.rc_answer.specs.declared.outcome.Outcome.{Outcome}
 use Rattle.rc_answer.specs.Answers.{audit_for}
-use Rattle.rc_answer.specs.Ran.{HasTextBy}
+use Rattle.rc_answer.specs.Ran.{HasTextOf}
 use Rattle.rc_command.specs.declared.command.Command.TheVariants.{Big, OfText}
 use Rattle.rc_command.specs.declared.command.TextCommand.{TextCommand}
 use Rattle.rc_command.specs.declared.command.TextCommand.TheVariants.{Check, Run, Group, Hand}
@@ -73,7 +73,7 @@ returns-in-Ok-Some-OfText-clause-complete g c = λ command named input told shor
 pub returns-in-Ok-Some-OfText-clause-report : goal.returns-in-Ok-Some-OfText-clause-report
 returns-in-Ok-Some-OfText-clause-report g c = λ command named input told.
     let same : c.in-Ok-Some-OfText.command ≡ command = one_command c.in-Ok-Some-OfText.command command (sym (ap Some c.in-Ok-Some-OfText.field-0-0-is) ∙ sym c.in-Ok-Some-OfText.field-0-is ∙ c.in-Ok-Some-OfText.ensures.value ∙ named) in
-    subst (λ (k : TextCommand). IfSome c.answer_text.result.ran (HasTextBy k input (g.K.Sink.held c.args.sink.now) (g.K.Sink.held c.answer_text.new.sink))) same
+    subst (λ (k : TextCommand). IfSome c.answer_text.result.ran (HasTextOf k input (g.K.Sink.held c.args.sink.now) (g.K.Sink.held c.answer_text.new.sink))) same
     (c.answer_text.ensures.report input told)
 
 pub returns-in-Ok-Some-Big-clause-report : goal.returns-in-Ok-Some-Big-clause-report
