@@ -1,12 +1,11 @@
 -- Good reports of a specification with its plans and a workload, in one of two forms, and the verdict on a list of content lines.
-use Rattle.std.specs.Prelude.{◌≡◌, ◌⊎◌, ℕ, List, [], ◌∷◌, ◌++◌, length, map, codes}
+use Rattle.std.specs.Prelude.{◌≡◌, ◌⊎◌, ℕ, List, [], ◌∷◌, ◌++◌, length, codes}
 use Rattle.std.specs.List.{flat_map, range_with_len}
 use Rattle.rc_text.specs.Lines.{ContentLine, bytes_of_content}
 use Rattle.rc_spec.specs.declared.spec.Spec.{Spec}
-use Rattle.rc_spec.specs.Placement.{op_at}
 use Rattle.rc_plan.specs.declared.statement.Statement.{Statement}
 use Rattle.rc_plan.specs.Compiled.{SpecWithPlans, plan_at}
-use Rattle.rc_plan.specs.PlanText.{statement_text}
+use Rattle.rc_plan.specs.PlanText.{plan_lines}
 use Rattle.rc_rel.specs.declared.entry.Entry.{Entry}
 use Rattle.rc_rel.specs.History.{replay}
 use Rattle.rc_work.specs.declared.work.Work.{Work}
@@ -19,7 +18,7 @@ use Rattle.rc_audit.specs.declared.verdict.Verdict.TheVariants.{Legal, Bad}
 
 -- the lines of an operation's plan, by its number
 abbrev pub op_lines : Spec → List (List Statement) → ℕ → List (List ℕ)
-op_lines spec plans op = (codes "plan " ++ (op_at spec op).name) ∷ map (statement_text spec) (plan_at plans op)
+op_lines spec plans op = plan_lines spec op (plan_at plans op)
 
 -- those of all plans, in the order in which the operations are written
 abbrev pub plans_in_lines : SpecWithPlans → List (List ℕ)

@@ -56,15 +56,7 @@ has_stripe locks p = list_any (λ l. l.0 == p) locks
 
 abbrev pub locks_class_of : Spec → ℕ → Statement → Bool
 locks_class_of spec p (Lock c which mode) = has (band spec c) p
-locks_class_of spec p (Probe cols) = false
-locks_class_of spec p (Read e mode) = false
-locks_class_of spec p CheckAbsent = false
-locks_class_of spec p CheckFound = false
-locks_class_of spec p (CheckDep dep) = false
-locks_class_of spec p Apply = false
-locks_class_of spec p Emit = false
-locks_class_of spec p Commit = false
-locks_class_of spec p (Release c) = false
+locks_class_of spec p _ = false
 
 -- a plan of one of the steps locks the stripe's class
 abbrev pub is_of_class_locked : SpecWithPlans → List Step → ℕ → Bool

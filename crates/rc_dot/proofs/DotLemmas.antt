@@ -9,9 +9,10 @@ use Rattle.std.proofs.lemmas.List.Elements.{filter-append}
 use Rattle.rc_spec.specs.declared.spec.Spec.{Spec}
 use Rattle.rc_spec.specs.RefusalText.{no_column}
 use Rattle.rc_plan.specs.declared.statement.Statement.{Statement}
+use Rattle.rc_plan.specs.Access.{is_read_of}
 use Rattle.rc_plan.specs.declared.statement.Statement.TheVariants.{Commit}
 use Rattle.rc_plan.specs.PlanText.{column_text}
-use Rattle.rc_dot.specs.Dot.{columns_text, reads}
+use Rattle.rc_dot.specs.Dot.{columns_text}
 
 -- the text of one item more
 pub flat_more : {A : Type 0} (f : A → List ℕ) (xs : List A) (i : ℕ) (x : A) → slice_get xs i ≡ Some x → flat_map f (take i xs) ++ f x ≡ flat_map f (take (i + 1) xs)
@@ -65,30 +66,30 @@ behind text word rest one all first more = more ∙ ap (λ l. l ++ rest) first �
 
 -- whether the statement at a place reads an edge
 abbrev reads_at : List Statement → ℕ → ℕ → Bool
-reads_at plan e place = reads e (get_or plan place Commit)
+reads_at plan e place = is_read_of e (get_or plan place Commit)
 
 -- the numbers of the statements before a place that read an edge
 abbrev numbers_before : List Statement → ℕ → ℕ → List ℕ
 numbers_before plan e place = filter (reads_at plan e) (range_with_len 0 place)
 
 numbers_more : (plan : List Statement) (e place : ℕ) (x : Statement) → get_or plan place Commit ≡ x
-    → numbers_before plan e (place + 1) ≡ numbers_before plan e place ++ cond (reads e x) (place ∷ []) []
+    → numbers_before plan e (place + 1) ≡ numbers_before plan e place ++ cond (is_read_of e x) (place ∷ []) []
 numbers_more plan e place x there =
     ap (filter (reads_at plan e)) (range_with_len_more 0 place ∙ ap (λ k. range_with_len 0 place ++ k ∷ []) last)
     ∙ filter-append (reads_at plan e) (range_with_len 0 place) (place ∷ [])
-    ∙ ap (λ l. numbers_before plan e place ++ l) (ap (λ b. cond b (place ∷ []) []) (ap (reads e) there))
+    ∙ ap (λ l. numbers_before plan e place ++ l) (ap (λ b. cond b (place ∷ []) []) (ap (is_read_of e) there))
   where
     last : 0 + place ≡ place
     last = omega arith
 
 -- with a statement that reads the edge there is its number more
-pub numbers_with : (plan : List Statement) (e place : ℕ) (x : Statement) (old new : List ℕ) → get_or plan place Commit ≡ x → reads e x ≡ true → old ≡ numbers_before plan e place
+pub numbers_with : (plan : List Statement) (e place : ℕ) (x : Statement) (old new : List ℕ) → get_or plan place Commit ≡ x → is_read_of e x ≡ true → old ≡ numbers_before plan e place
     → new ≡ old ++ place ∷ [] → new ≡ numbers_before plan e (place + 1)
 numbers_with plan e place x old new there is before pushed =
     pushed ∙ ap (λ l. l ++ place ∷ []) before ∙ sym (numbers_more plan e place x there ∙ ap (λ b. numbers_before plan e place ++ cond b (place ∷ []) []) is)
 
 -- and with another none
-pub numbers_without : (plan : List Statement) (e place : ℕ) (x : Statement) (old : List ℕ) → get_or plan place Commit ≡ x → reads e x ≡ false → old ≡ numbers_before plan e place
+pub numbers_without : (plan : List Statement) (e place : ℕ) (x : Statement) (old : List ℕ) → get_or plan place Commit ≡ x → is_read_of e x ≡ false → old ≡ numbers_before plan e place
     → old ≡ numbers_before plan e (place + 1)
 numbers_without plan e place x old there is before =
     before ∙ sym (numbers_more plan e place x there ∙ ap (λ b. numbers_before plan e place ++ cond b (place ∷ []) []) is ∙ append-nil (numbers_before plan e place))

@@ -12,6 +12,7 @@ use Rattle.rc_spec.specs.Placement.{class_at, class_of, op_at}
 use Rattle.rc_spec.specs.RefusalText.{no_column}
 use Rattle.rc_spec.specs.Stripes.{band_start}
 use Rattle.rc_plan.specs.declared.statement.Statement.{Statement}
+use Rattle.rc_plan.specs.Access.{is_read_of}
 use Rattle.rc_plan.specs.declared.statement.Statement.TheVariants.{Lock, Probe, Read, CheckAbsent, CheckFound, CheckDep, Apply, Emit, Commit, Release}
 use Rattle.rc_plan.specs.PlanText.{column_text, statement_text}
 
@@ -55,21 +56,9 @@ width_text kinds.Singleton (n ∷ numbers) = codes ", penwidth=3"
 
 -- ---- the statements that read an edge
 
-abbrev pub reads : ℕ → Statement → Bool
-reads e (Lock c choice mode) = false
-reads e (Probe cols) = false
-reads e (Read edge mode) = edge == e
-reads e CheckAbsent = false
-reads e CheckFound = false
-reads e (CheckDep dep) = false
-reads e Apply = false
-reads e Emit = false
-reads e Commit = false
-reads e (Release c) = false
-
 -- the numbers, from 0, of the statements of a plan that read an edge
 abbrev pub read_numbers : List Statement → ℕ → List ℕ
-read_numbers plan e = filter (λ place. reads e (get_or plan place Commit)) (range_with_len 0 (length plan))
+read_numbers plan e = filter (λ place. is_read_of e (get_or plan place Commit)) (range_with_len 0 (length plan))
 
 abbrev pub number_text : ℕ → List ℕ
 number_text n = codes " " ++ decimal n
@@ -175,13 +164,13 @@ abbrev pub statement_table_line : Spec → Statement → List ℕ
 statement_table_line spec x = table_line (statement_text spec x)
 
 -- `plan` and the operation's name, and then a line for each statement
-abbrev pub plan_lines : Spec → ℕ → List Statement → List ℕ
-plan_lines spec op plan = table_line (codes "plan " ++ (op_at spec op).name) ++ flat_map (statement_table_line spec) plan
+abbrev pub plan_table_lines : Spec → ℕ → List Statement → List ℕ
+plan_table_lines spec op plan = table_line (codes "plan " ++ (op_at spec op).name) ++ flat_map (statement_table_line spec) plan
 
 -- the statements of the plan, numbered from 0 beside it
 abbrev pub plan_table : Spec → ℕ → List Statement → List ℕ
 plan_table spec op plan =
-    plan_head ++ flat_map number_line (range_with_len 0 (length plan)) ++ plan_middle ++ plan_lines spec op plan ++ plan_end
+    plan_head ++ flat_map number_line (range_with_len 0 (length plan)) ++ plan_middle ++ plan_table_lines spec op plan ++ plan_end
 
 -- ---- drawings
 

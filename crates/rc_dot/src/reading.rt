@@ -1,21 +1,11 @@
 //! The statements of a plan that read an edge.
 
 ghost use Rattle.std.specs.Prelude.{◌≡◌, IfOk};
-ghost use Rattle.rc_dot.specs.Dot.{reads, read_numbers};
+ghost use Rattle.rc_dot.specs.Dot.{read_numbers};
 
-use rc_plan::Statement;
+use rc_plan::{Statement, is_read_of};
 use rc_tuple::Memory;
 use std::alloc::Global;
-
-/// Whether a statement reads an edge.
-fn reads(edge: u8, statement: &Statement) -> bool
-    ensures { result ≡ reads edge statement.now }
-{
-    match *statement {
-        Statement::Read { edge: read, .. } => read == edge,
-        _ => false,
-    }
-}
 
 /// The numbers, from 0, of the statements that read an edge.
 pub(crate) fn read_numbers(
@@ -27,7 +17,7 @@ pub(crate) fn read_numbers(
 {
     let mut numbers = Vec::new(alloc);
     for (place, statement) in plan.iter().enumerate() {
-        if reads(edge, statement) {
+        if is_read_of(edge, statement) {
             numbers.push(place)?;
         }
     }

@@ -3,7 +3,7 @@
 ghost use Rattle.std.specs.Prelude.{◌≡◌, ◌<◌, ◌≤◌, ◌+◌, ◌^◌, ◌++◌, length, OnOk};
 ghost use Rattle.std.specs.List.{flat_map, range_with_len};
 ghost use Rattle.rc_plan.specs.PlanRules.{AreKnown};
-ghost use Rattle.rc_dot.specs.Dot.{class_cell, class_line, classes_head, classes_table, number_line, plan_end, plan_head, plan_lines, plan_middle, plan_table, statement_table_line, stripes_cells, table_end};
+ghost use Rattle.rc_dot.specs.Dot.{class_cell, class_line, classes_head, classes_table, number_line, plan_end, plan_head, plan_table_lines, plan_middle, plan_table, statement_table_line, stripes_cells, table_end};
 
 use crate::words::{colour_of, push_columns};
 use rc_plan::{Statement, push_statement};
@@ -102,7 +102,7 @@ pub(crate) fn push_plan(
     push_bytes(text, plan_head())?;
     push_number_lines(text, plan.len())?;
     push_bytes(text, plan_middle())?;
-    push_plan_lines(text, spec, op, plan)?;
+    push_plan_table_lines(text, spec, op, plan)?;
     push_bytes(text, plan_end())
 }
 
@@ -144,7 +144,7 @@ fn push_number_lines(text: &mut Vec<u8>, count: usize) -> Result<(), Memory>
 }
 
 /// Appends a line with the operation's name, and then one for each statement.
-fn push_plan_lines(
+fn push_plan_table_lines(
     text: &mut Vec<u8>,
     spec: &Spec,
     op: u8,
@@ -152,7 +152,7 @@ fn push_plan_lines(
 ) -> Result<(), Memory>
     requires op { op < length spec.now.ops }
     requires known { AreKnown spec.now plan.now }
-    ensures { OnOk result (text.new.items ≡ text.old.items ++ plan_lines spec.now op plan.now) }
+    ensures { OnOk result (text.new.items ≡ text.old.items ++ plan_table_lines spec.now op plan.now) }
 {
     push_bytes(text, b"plan ")?;
     push_bytes(text, spec.op(op).name())?;

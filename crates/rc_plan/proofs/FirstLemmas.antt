@@ -1,6 +1,6 @@
 -- How far the first elements of a list that pass a test reach.
-use Rattle.std.specs.Prelude.{◌≡◌, ℕ, ◌<◌, ◌≤◌, ◌&&◌, ◌||◌, Bool, true, false, List, [], ◌∷◌, drop, length, take}
-use Rattle.std.specs.List.{list_all, list_any}
+use Rattle.std.specs.Prelude.{◌≡◌, ℕ, ◌<◌, ◌≤◌, ◌&&◌, Bool, true, false, List, [], ◌∷◌, length, take}
+use Rattle.std.specs.List.{list_all}
 use Rattle.std.proofs.Common.{zero, suc, get_or, refl, sym, ap, ◌∙◌, arith}
 use Rattle.std.proofs.lemmas.Bool.{false≢true}
 
@@ -8,21 +8,7 @@ both : (a b : Bool) → (a && b) ≡ true → (a ≡ true) × (b ≡ true)
 both true b e = (refl, e)
 both false b e = absurd (false≢true e)
 
-neither : (a b : Bool) → (a || b) ≡ false → (a ≡ false) × (b ≡ false)
-neither true b e = absurd (false≢true (sym e))
-neither false b e = (refl, e)
-
 module _ {X : Type 0} (p : X → Bool) where
-  -- they end before those of which none passes
-  pub ends_before : (xs : List X) (n m : ℕ) → n ≤ length xs → list_all p (take n xs) ≡ true → list_any p (drop m xs) ≡ false → n ≤ m
-  ends_before xs zero m within all none = omega arith
-  ends_before [] (suc n) m within all none = omega (arith, within)
-  ends_before (x ∷ xs) (suc n) zero within all none =
-      absurd (false≢true (sym (neither (p x) (list_any p xs) none).0 ∙ (both (p x) (list_all p (take n xs)) all).0))
-  ends_before (x ∷ xs) (suc n) (suc m) within all none =
-      let rest : n ≤ m = ends_before xs n m (omega (arith, within)) (both (p x) (list_all p (take n xs)) all).1 none in
-      omega (arith, rest)
-
   -- they end where one does not pass
   pub ends_at : (xs : List X) (n i : ℕ) (d : X) → i < length xs → list_all p (take n xs) ≡ true → p (get_or xs i d) ≡ false → n ≤ i
   ends_at xs zero i d within all fails = omega arith

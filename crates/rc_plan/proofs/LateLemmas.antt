@@ -113,6 +113,7 @@ module _ (spec : Spec) (op : Op) (plan : List Statement) (p : AccessPath) (path 
             late = fewer_late op.kind e m p.late (drop n plan) late_least
                 (subst (λ k. MayBeLate op.kind k (take p.late (drop n plan))) same (subst (λ k. MayBeLate op.kind p.edge (take p.late (drop k plan))) locks_are path.late));
             others = none;
+            last = least;
             locked = subst (λ k. list_any (is_lock_of (class_of spec e)) (take k plan) ≡ true) locks_are (subst (λ k. list_any (is_lock_of (class_of spec k)) (take p.locks plan) ≡ true) same path.locked);
             striped = subst (λ k. Within (class_at spec (class_of spec k)).cols (pattern_columns op)) same path.striped;
           }

@@ -16,7 +16,7 @@ use Rattle.rc_plan.specs.declared.resolved.ResolvedEdge.{ResolvedEdge}
 use Rattle.rc_plan.specs.declared.statement.ReadMode.{ReadMode}
 use Rattle.rc_plan.specs.declared.statement.ReadMode.TheVariants.{Lookup, Scan}
 use Rattle.rc_plan.specs.declared.statement.Statement.{Statement}
-use Rattle.rc_plan.specs.declared.statement.Statement.TheVariants.{Lock, Probe, Read, CheckAbsent, CheckFound, CheckDep, Apply, Emit, Commit, Release}
+use Rattle.rc_plan.specs.declared.statement.Statement.TheVariants.{Lock, Read, CheckDep, Commit}
 use Rattle.rc_plan.specs.declared.statement.Which.TheVariants as which
 use Rattle.rc_plan.specs.Compiled.{IsCompiled, plan_at}
 use Rattle.rc_plan.specs.PlanRules.{given_columns, pattern_columns}
@@ -26,83 +26,36 @@ use Rattle.rc_plan.specs.Resolved.{AllBelow, AreBandStarts, AreResolvedEdges}
 
 abbrev pub is_lock : Statement → Bool
 is_lock (Lock c choice mode) = true
-is_lock (Probe cols) = false
-is_lock (Read e mode) = false
-is_lock CheckAbsent = false
-is_lock CheckFound = false
-is_lock (CheckDep dep) = false
-is_lock Apply = false
-is_lock Emit = false
-is_lock Commit = false
-is_lock (Release c) = false
+is_lock _ = false
 
 -- a Lock that a tuple with these columns alone tells: of the stripe on which it falls, or of all stripes of the class
 abbrev pub is_given_lock : Spec → List ℕ → Statement → Bool
 is_given_lock spec cols (Lock c which.Keyed mode) = is_within (class_at spec c).cols cols
 is_given_lock spec cols (Lock c which.All mode) = true
-is_given_lock spec cols (Probe others) = false
-is_given_lock spec cols (Read e mode) = false
-is_given_lock spec cols CheckAbsent = false
-is_given_lock spec cols CheckFound = false
-is_given_lock spec cols (CheckDep dep) = false
-is_given_lock spec cols Apply = false
-is_given_lock spec cols Emit = false
-is_given_lock spec cols Commit = false
-is_given_lock spec cols (Release c) = false
+is_given_lock spec cols _ = false
 
 -- a Lock of the class
 abbrev pub is_lock_of : ℕ → Statement → Bool
 is_lock_of class (Lock c choice mode) = c == class
-is_lock_of class (Probe cols) = false
-is_lock_of class (Read e mode) = false
-is_lock_of class CheckAbsent = false
-is_lock_of class CheckFound = false
-is_lock_of class (CheckDep dep) = false
-is_lock_of class Apply = false
-is_lock_of class Emit = false
-is_lock_of class Commit = false
-is_lock_of class (Release c) = false
+is_lock_of class _ = false
 
 -- a check of a dependency
 abbrev pub is_dep_check : Statement → Bool
-is_dep_check (Lock c choice mode) = false
-is_dep_check (Probe cols) = false
-is_dep_check (Read e mode) = false
-is_dep_check CheckAbsent = false
-is_dep_check CheckFound = false
 is_dep_check (CheckDep dep) = true
-is_dep_check Apply = false
-is_dep_check Emit = false
-is_dep_check Commit = false
-is_dep_check (Release c) = false
+is_dep_check _ = false
 
 -- a Read of the edge
 abbrev pub is_read_of : ℕ → Statement → Bool
-is_read_of e (Lock c choice mode) = false
-is_read_of e (Probe cols) = false
 is_read_of e (Read k mode) = k == e
-is_read_of e CheckAbsent = false
-is_read_of e CheckFound = false
-is_read_of e (CheckDep dep) = false
-is_read_of e Apply = false
-is_read_of e Emit = false
-is_read_of e Commit = false
-is_read_of e (Release c) = false
+is_read_of e _ = false
 
 -- ---- late Locks
 
 -- the statement, behind these, is a Read, or a Lock of the stripes on which the bindings fall, which stands behind a Read of the edge
 abbrev pub IsLate : ℕ → List Statement → Statement → Type 0
 IsLate e before (Lock c choice mode) = (choice ≡ which.Keyed) × (list_any (is_read_of e) before ≡ true)
-IsLate e before (Probe cols) = ⊥
 IsLate e before (Read k mode) = Unit {0}
-IsLate e before CheckAbsent = ⊥
-IsLate e before CheckFound = ⊥
-IsLate e before (CheckDep dep) = ⊥
-IsLate e before Apply = ⊥
-IsLate e before Emit = ⊥
-IsLate e before Commit = ⊥
-IsLate e before (Release c) = ⊥
+IsLate e before _ = ⊥
 
 -- so it is with each of them
 abbrev pub AreLate : ℕ → List Statement → Type 0
@@ -117,13 +70,14 @@ MayBeLate Update e xs = xs ≡ []
 
 -- ---- paths
 
--- The plan begins with so many Locks that a call's tuple alone tells, among them one of the edge's class; the tuple's values at the pattern tell the stripe of that class. So many statements come next that may be late, and behind them is no Lock.
+-- The plan begins with so many Locks that a call's tuple alone tells, among them one of the edge's class; the tuple's values at the pattern tell the stripe of that class. So many statements come next that may be late, as few as have every other Lock among them.
 pub record IsLockedFirst (spec : Spec) (op : Op) (plan : List Statement) (p : AccessPath) : Type 0 where
   pub edge : p.edge < length spec.edges
   pub within : p.locks + p.late ≤ length plan
   pub first : list_all (is_given_lock spec (given_columns spec op)) (take p.locks plan) ≡ true
   pub late : MayBeLate op.kind p.edge (take p.late (drop p.locks plan))
   pub others : list_any is_lock (drop p.late (drop p.locks plan)) ≡ false
+  pub last : (n : ℕ) → list_any is_lock (drop n (drop p.locks plan)) ≡ false → p.late ≤ n
   pub locked : list_any (is_lock_of (class_of spec p.edge)) (take p.locks plan) ≡ true
   pub striped : Within (class_at spec (class_of spec p.edge)).cols (pattern_columns op)
 

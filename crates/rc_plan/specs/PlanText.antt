@@ -1,5 +1,5 @@
 -- How plans and their rules are printed.
-use Rattle.std.specs.Prelude.{ℕ, List, [], ◌∷◌, ◌++◌, codes, get_or}
+use Rattle.std.specs.Prelude.{ℕ, List, [], ◌∷◌, ◌++◌, codes, get_or, map}
 use Rattle.std.specs.List.{flat_map}
 use Rattle.std.specs.Fmt.{decimal}
 use Rattle.rc_spec.specs.declared.lock.Mode.{Mode}
@@ -62,6 +62,10 @@ statement_text spec (Release c) = codes "release " ++ (class_at spec c).name
 -- 10 is the line feed
 abbrev pub statement_line : Spec → Statement → List ℕ
 statement_line spec x = statement_text spec x ++ 10 ∷ []
+
+-- the lines of an operation's plan: `plan` with the operation's name, and one for each statement
+abbrev pub plan_lines : Spec → ℕ → List Statement → List (List ℕ)
+plan_lines spec op plan = (codes "plan " ++ (op_at spec op).name) ∷ map (statement_text spec) plan
 
 -- `plan` and the operation's name, and then a line for each statement
 abbrev pub plan_text : Spec → ℕ → List Statement → List ℕ

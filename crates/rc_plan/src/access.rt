@@ -220,13 +220,15 @@ fn query_mode(spec: &Spec, edges: &[ResolvedEdge; MAX_EDGES], op: &Op, edge: u8)
 }
 
 /// Whether Locks come first that a call's tuple alone tells, one of them of the class of the path's edge, whose stripe the
-/// values at the pattern tell, then late statements, and behind them no Lock.
+/// values at the pattern tell, and then late statements.
 fn is_locked_first(spec: &Spec, op: &Op, plan: &[Statement], path: AccessPath) -> bool
     requires sealed { IsSealed spec.now }
     requires pattern { AreBelow 32 op.now.pattern }
     requires known { AreKnown spec.now plan.now }
     requires edge { path.edge < length spec.now.edges }
     requires within { path.locks + path.late ≤ length plan.now }
+    requires others { list_any is_lock (drop path.late (drop path.locks plan.now)) ≡ false }
+    requires last { (n : _) → list_any is_lock (drop n (drop path.locks plan.now)) ≡ false → path.late ≤ n }
     ensures { IsTrue result ↔ IsLockedFirst spec.now op.now plan.now path }
 {
     let class = spec.class_of(path.edge);
@@ -235,11 +237,9 @@ fn is_locked_first(spec: &Spec, op: &Op, plan: &[Statement], path: AccessPath) -
     }
     let given = given_columns(spec, op);
     let (first, rest) = plan.split_at(path.locks);
-    let (late, others) = rest.split_at(path.late);
     are_given_locks(spec, given, first)
         && has_lock_of(class, first)
-        && may_be_late(op, path.edge, late)
-        && !has_lock(others)
+        && may_be_late(op, path.edge, &rest[..path.late])
 }
 
 /// Whether the values at the pattern tell a stripe of the class.
@@ -285,13 +285,6 @@ fn has_lock_of(class: u8, statements: &[Statement]) -> bool
     statements
         .iter()
         .any(|statement| is_lock_of(class, statement))
-}
-
-/// Whether one is a Lock.
-fn has_lock(statements: &[Statement]) -> bool
-    ensures { result ≡ list_any is_lock statements.now }
-{
-    statements.iter().any(is_lock)
 }
 
 /// Whether the statements may stand between the first Locks and others: those of a remove, which may lock once the edge is
@@ -449,8 +442,8 @@ fn is_lock_of(class: u8, statement: &Statement) -> bool
     }
 }
 
-/// Whether it reads the edge.
-fn is_read_of(edge: u8, statement: &Statement) -> bool
+/// Whether the statement reads the edge.
+pub fn is_read_of(edge: u8, statement: &Statement) -> bool
     ensures { result ≡ is_read_of edge statement.now }
 {
     match statement {

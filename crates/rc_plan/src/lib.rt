@@ -10,7 +10,7 @@ mod refusal;
 mod resolved;
 mod statement;
 
-pub use access::AccessPath;
+pub use access::{AccessPath, is_read_of};
 pub use compiled::Compiled;
 pub use evaluation::{answer, push_merge, push_merges, some_differs, stripes_locked};
 pub use laws::{

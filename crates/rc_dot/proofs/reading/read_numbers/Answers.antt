@@ -4,7 +4,7 @@ use Rattle.rc_plan.specs.declared.statement.Statement.{Statement}
 use Rattle.rc_plan.specs.declared.statement.Statement.TheVariants.{Commit}
 use Rattle.rc_dot.proofs.DotLemmas.{numbers_with, numbers_without}
 use Rattle.rc_dot.proofs.reading.read_numbers.Goals as goal
-use Rattle.rc_dot.proofs.reading.read_numbers.Goals.{then-reads+in_ok-push, else-reads}
+use Rattle.rc_dot.proofs.reading.read_numbers.Goals.{then-is_read_of+in_ok-push, else-is_read_of}
 
 pub loop-place-preserved : goal.loop-place-preserved
 loop-place-preserved c =
@@ -12,9 +12,9 @@ loop-place-preserved c =
     let place = c.loop-place.place in
     let x : Statement = c.index-plan-place.result in
     let there : get_or plan place Commit ≡ x = at_found plan plan place Commit x refl c.loop-place-test.true c.index-plan-place.is in
-    elim c.if-reads.branch [
-      | then-reads+in_ok-push w ↦ ap (λ (v : Vec ℕ Global). v.items) w.numbers-is
-          ∙ numbers_with plan c.args.edge place x c.loop-place.numbers.items w.push.new.self.items there (sym c.reads.ensures ∙ w.if-reads.true) c.loop-place.invariant w.in_ok-push.ensures.items
-      | else-reads w ↦ ap (λ (v : Vec ℕ Global). v.items) w.numbers-is
-          ∙ numbers_without plan c.args.edge place x c.loop-place.numbers.items there (sym c.reads.ensures ∙ w.if-reads.false) c.loop-place.invariant
+    elim c.if-is_read_of.branch [
+      | then-is_read_of+in_ok-push w ↦ ap (λ (v : Vec ℕ Global). v.items) w.numbers-is
+          ∙ numbers_with plan c.args.edge place x c.loop-place.numbers.items w.push.new.self.items there (sym c.is_read_of.ensures ∙ w.if-is_read_of.true) c.loop-place.invariant w.in_ok-push.ensures.items
+      | else-is_read_of w ↦ ap (λ (v : Vec ℕ Global). v.items) w.numbers-is
+          ∙ numbers_without plan c.args.edge place x c.loop-place.numbers.items there (sym c.is_read_of.ensures ∙ w.if-is_read_of.false) c.loop-place.invariant
     ]

@@ -1,9 +1,9 @@
 use Rattle.std.proofs.Common.{◌≡◌, filter, get_or}
 use Rattle.std.specs.List.{range_with_len}
 use Rattle.rc_plan.specs.declared.statement.Statement.TheVariants.{Commit}
-use Rattle.rc_dot.specs.Dot.{reads}
+use Rattle.rc_plan.specs.Access.{is_read_of}
 use Rattle.rc_dot.proofs.reading.read_numbers.Given as goal
 
 abbrev pub invariant-loop-place : goal.invariant-loop-place
 invariant-loop-place l =
-    l.numbers.items ≡ filter (λ place. reads l.edge (get_or l.plan place Commit)) (range_with_len 0 l.place)
+    l.numbers.items ≡ filter (λ place. is_read_of l.edge (get_or l.plan place Commit)) (range_with_len 0 l.place)

@@ -1,17 +1,17 @@
-use Rattle.std.proofs.Common.{◌≡◌, ◌<◌, ◌∙◌, List, ap, drop, length, not, subst, sym, take, true}
+use Rattle.std.proofs.Common.{◌<◌, ◌∙◌, List, ap, drop, length, subst, sym, take}
 use Rattle.std.specs.List.{list_all, list_any}
-use Rattle.std.proofs.lemmas.Bool.{false≢true, not-true}
+use Rattle.std.proofs.lemmas.Bool.{false≢true}
 use Rattle.std.proofs.lemmas.List.{take-append-drop}
 use Rattle.rc_tuple.specs.ColSet.{Within}
 use Rattle.rc_tuple.specs.RisingSet.{In}
 use Rattle.rc_tuple.specs.RisingSetLaws.{append_in_left}
-use Rattle.rc_spec.specs.Placement.{class_at, class_of}
+use Rattle.rc_spec.specs.Placement.{class_at}
 use Rattle.rc_spec.specs.PlacementLaws.{class_of_known}
-use Rattle.rc_plan.specs.Access.{IsLockedFirst, MayBeLate, is_given_lock, is_lock, is_lock_of}
+use Rattle.rc_plan.specs.Access.{MayBeLate, is_given_lock, is_lock_of}
 use Rattle.rc_plan.specs.PlanRules.{given_columns, pattern_columns}
 use Rattle.rc_plan.specs.declared.statement.Statement.{Statement}
 use Rattle.rc_plan.proofs.access.is_locked_first.Goals as goal
-use Rattle.rc_plan.proofs.access.is_locked_first.Goals.{Else-may_be_late, else-are_given_locks, else-has_lock_of, then-are_given_locks, then-has_lock_of}
+use Rattle.rc_plan.proofs.access.is_locked_first.Goals.{else-are_given_locks, then-are_given_locks}
 
 pub are_given_locks-requires : goal.are_given_locks-requires
 are_given_locks-requires c x m =
@@ -32,56 +32,27 @@ returns-then-not-is_striped c = (
       ∙ c.is_striped.ensures.1 (subst (λ k. Within (class_at c.args.spec.now k).cols (pattern_columns c.args.op.now)) (sym c.class_of-class.ensures) locks.striped)))),
 )
 
-pub returns-then-may_be_late : goal.returns-then-may_be_late
-returns-then-may_be_late c =
+pub returns-then-has_lock_of : goal.returns-then-has_lock_of
+returns-then-has_lock_of c =
     let spec = c.args.spec.now in
     let plan = c.args.plan.now in
     let given = given_columns spec c.args.op.now in
-    let class = class_of spec c.args.path.edge in
-    let late = c.split_at-2.ensures.front ∙ ap (take c.args.path.late) c.split_at.ensures.back in
-    let others : c.has_lock.result ≡ list_any is_lock (drop c.args.path.late (drop c.args.path.locks plan)) =
-    c.has_lock.ensures ∙ ap (list_any is_lock) (c.split_at-2.ensures.back ∙ ap (drop c.args.path.late) c.split_at.ensures.back) in
-    elim c.if-has_lock_of.branch [
-      | then-has_lock_of v ↦ elim c.if-are_given_locks.branch [
-        | then-are_given_locks w ↦ (
-          (λ e. record {
-            edge = c.requires.edge;
-            within = c.requires.within;
-            first = ap (λ cols. list_all (is_given_lock spec cols) (take c.args.path.locks plan)) (sym c.given_columns-given.ensures)
-                ∙ ap (list_all (is_given_lock spec c.given_columns-given.result)) (sym c.split_at.ensures.front) ∙ sym c.are_given_locks.ensures ∙ w.if-are_given_locks.true;
-            late = subst (MayBeLate c.args.op.now.kind c.args.path.edge) late (v.may_be_late.ensures.0 (sym v.value-is ∙ c.if-may_be_late.true));
-            others = sym others ∙ not-true c.has_lock.result e;
-            locked = ap (λ k. list_any (is_lock_of k) (take c.args.path.locks plan)) (sym c.class_of-class.ensures)
-                ∙ ap (list_any (is_lock_of c.class_of-class.result)) (sym c.split_at.ensures.front) ∙ sym w.has_lock_of.ensures ∙ sym w.value-is ∙ v.if-has_lock_of.true;
-            striped = subst (λ k. Within (class_at spec k).cols (pattern_columns c.args.op.now)) c.class_of-class.ensures (c.is_striped.ensures.0 c.if-not-is_striped.false);
-          }),
-          (λ locks. ap not (others ∙ locks.others)),
-        )
-        | else-are_given_locks w ↦ absurd (false≢true (sym w.if-are_given_locks.false ∙ sym w.value-is ∙ v.if-has_lock_of.true))
-      ]
-      | else-has_lock_of v ↦ absurd (false≢true (sym v.if-has_lock_of.false ∙ sym v.value-is ∙ c.if-may_be_late.true))
-    ]
-
--- where all three hold
-passes : (c : Else-may_be_late) → IsLockedFirst c.args.spec.now c.args.op.now c.args.plan.now c.args.path → c.if-has_lock_of.value ≡ true
-passes c locks =
-    let spec = c.args.spec.now in
-    let plan = c.args.plan.now in
-    let late = c.split_at-2.ensures.front ∙ ap (take c.args.path.late) c.split_at.ensures.back in
-    let given : c.are_given_locks.result ≡ true =
-    c.are_given_locks.ensures ∙ ap (list_all (is_given_lock spec c.given_columns-given.result)) c.split_at.ensures.front
-    ∙ ap (λ cols. list_all (is_given_lock spec cols) (take c.args.path.locks plan)) c.given_columns-given.ensures ∙ locks.first in
+    let late = ap (take c.args.path.late) c.split_at.ensures.back in
     elim c.if-are_given_locks.branch [
-      | then-are_given_locks w ↦
-          let locked : w.has_lock_of.result ≡ true =
-          w.has_lock_of.ensures ∙ ap (list_any (is_lock_of c.class_of-class.result)) c.split_at.ensures.front
-          ∙ ap (λ k. list_any (is_lock_of k) (take c.args.path.locks plan)) c.class_of-class.ensures ∙ locks.locked in
-          elim c.if-has_lock_of.branch [
-            | then-has_lock_of v ↦ v.value-is ∙ v.may_be_late.ensures.1 (subst (MayBeLate c.args.op.now.kind c.args.path.edge) (sym late) locks.late)
-            | else-has_lock_of v ↦ absurd (false≢true (sym v.if-has_lock_of.false ∙ w.value-is ∙ locked))
-          ]
-      | else-are_given_locks w ↦ absurd (false≢true (sym w.if-are_given_locks.false ∙ given))
+      | then-are_given_locks w ↦ (
+        (λ e. record {
+          edge = c.requires.edge;
+          within = c.requires.within;
+          first = ap (λ cols. list_all (is_given_lock spec cols) (take c.args.path.locks plan)) (sym c.given_columns-given.ensures)
+              ∙ ap (list_all (is_given_lock spec c.given_columns-given.result)) (sym c.split_at.ensures.front) ∙ sym c.are_given_locks.ensures ∙ w.if-are_given_locks.true;
+          late = subst (MayBeLate c.args.op.now.kind c.args.path.edge) late (c.may_be_late.ensures.0 e);
+          others = c.requires.others;
+          last = c.requires.last;
+          locked = ap (λ k. list_any (is_lock_of k) (take c.args.path.locks plan)) (sym c.class_of-class.ensures)
+              ∙ ap (list_any (is_lock_of c.class_of-class.result)) (sym c.split_at.ensures.front) ∙ sym w.has_lock_of.ensures ∙ sym w.value-is ∙ c.if-has_lock_of.true;
+          striped = subst (λ k. Within (class_at spec k).cols (pattern_columns c.args.op.now)) c.class_of-class.ensures (c.is_striped.ensures.0 c.if-not-is_striped.false);
+        }),
+        (λ locks. c.may_be_late.ensures.1 (subst (MayBeLate c.args.op.now.kind c.args.path.edge) (sym late) locks.late)),
+      )
+      | else-are_given_locks w ↦ absurd (false≢true (sym w.if-are_given_locks.false ∙ sym w.value-is ∙ c.if-has_lock_of.true))
     ]
-
-pub returns-else-may_be_late : goal.returns-else-may_be_late
-returns-else-may_be_late c = ((λ e. absurd (false≢true (sym c.if-may_be_late.false ∙ e))), passes c)
