@@ -69,6 +69,11 @@ written m key (Some x) = fin.insert m key x
 abbrev pub once_more : Rows → Values → Values → Rows
 once_more m key extra = fin.insert m key (extra, count_at m key + 1)
 
+-- the row with these extra values was put at the key with the count 1, as no row was there; or one was there, and nothing changed
+abbrev pub IsAddedNew : Rows → Rows → Values → Values → Bool → Type 0
+IsAddedNew old new key extra true = (found old key ≡ None) × (new ≡ fin.insert old key (extra, 1))
+IsAddedNew old new key extra false = IsSome (found old key) × (new ≡ old)
+
 -- the rows with that of the key once less
 abbrev pub once_less : Rows → Values → Rows
 once_less m key = written m key (one_less (fin.get m key))

@@ -13,8 +13,8 @@ use Rattle.std.proofs.Common.{refl, sym, ap, subst, ◌∙◌, arith}
 use Rattle.std.proofs.lemmas.Bool.{false≢true, eqb-true, eq-eqb, ltb-true, ltb-false}
 use Rattle.rc_edges.specs.Values.{Values, values_cmp, values_eq}
 use Rattle.rc_edges.specs.ValuesLaws.{values_order, same_from_test}
-use Rattle.rc_edges.specs.EdgeMap.{Counted, Rows, current, found, keep, parts, present, written}
-use Rattle.rc_edges.specs.Entry.{is_tombstone}
+use Rattle.rc_edges.specs.EdgeMap.{Counted, IsAddedNew, Rows, current, found, keep, parts, present, written}
+use Rattle.rc_edges.specs.Entry.{IsStarted, is_tombstone}
 
 abbrev pub total : IsTotalOrder values_cmp
 total = values_order.total
@@ -179,5 +179,19 @@ filled_present c h = go (nat_lt 0 c.1) refl
 
 pub get-current : (m : Rows) (q : Values) → fin.get (current m) q ≡ found m q
 get-current m q = get-keep present m q
+
+-- ---- a row added where none was
+
+-- by the entry at the key
+pub started_at : (m new : Rows) (key extra : Values) (c w : Counted) → fin.get m key ≡ Some c → new ≡ fin.insert m key w
+    → (b : Bool) → IsStarted c w extra b → IsAddedNew m new key extra b
+started_at m new key extra c w h e true s = (ap (option_and_then present) h ∙ s.0, e ∙ ap (fin.insert m key) s.1)
+started_at m new key extra c w h e false s =
+    (subst IsSome (sym (ap (option_and_then present) h)) s.0, e ∙ ap (fin.insert m key) s.1 ∙ written_again m key (Some c) h)
+
+-- by a new entry, where nothing was kept
+pub started_new : (m new : Rows) (key extra : Values) (w : Counted) → fin.get m key ≡ None → new ≡ fin.insert m key w → w ≡ (extra, 1)
+    → IsAddedNew m new key extra true
+started_new m new key extra w h e s = (ap (option_and_then present) h, e ∙ ap (fin.insert m key) s)
 
 -- ---- the one key

@@ -1,9 +1,9 @@
 //! What the containers of an edge have in common.
 
-ghost use Rattle.std.specs.Prelude.{◌≡◌, ◌<◌, ◌^◌, ◌++◌, ◌↔◌, Bool, IsTrue, OnOk, OnErr, IfOk, IsSome, option_copied};
+ghost use Rattle.std.specs.Prelude.{◌≡◌, ◌<◌, ◌^◌, ◌++◌, ◌↔◌, Bool, IsTrue, None, OnOk, OnErr, IfOk, IsSome, option_copied};
 ghost use Rattle.std.specs.FinMap as fin;
 ghost use Rattle.rc_edges.specs.Values.{Values};
-ghost use Rattle.rc_edges.specs.EdgeMap.{Rows, HasAsMany, HasExtra, count_at, current, extra_of, found, listed, once_less, once_more, swept};
+ghost use Rattle.rc_edges.specs.EdgeMap.{Rows, HasAsMany, HasExtra, IsAddedNew, count_at, current, extra_of, found, listed, once_less, once_more, swept};
 
 use rc_tuple::Memory;
 
@@ -35,6 +35,14 @@ pub trait EdgeMap: Sized {
         requires single { may_take self.old key.now }
         ensures ok { OnOk result (rows self.new ≡ once_more (rows self.old) key.now extra.now) }
         ensures before { IfOk result (λ before. before ≡ count_at (rows self.old) key.now) }
+        ensures err { OnErr result (rows self.new ≡ rows self.old) }
+        ensures width { one_column self.new ≡ one_column self.old };
+
+    /// Adds the row at the key with the count 1, where no row is there, and answers whether it did. Where
+    /// one is there, or memory is wanted, nothing changes.
+    fn add_new(&mut self, key: &[u64], extra: &[u64]) -> Result<bool, Memory>
+        requires single { found (rows self.old) key.now ≡ None → may_take self.old key.now }
+        ensures ok { IfOk result (IsAddedNew (rows self.old) (rows self.new) key.now extra.now) }
         ensures err { OnErr result (rows self.new ≡ rows self.old) }
         ensures width { one_column self.new ≡ one_column self.old };
 

@@ -3,7 +3,7 @@
 ghost use Rattle.std.specs.Prelude.{◌≡◌, ◌+◌, ◌-◌, ◌<◌, ◌≤◌, ◌^◌, ◌++◌, ◌∷◌, [], length, OnOk, OnErr, IfOk, option_copied};
 ghost use Rattle.std.specs.Vec.{vec_len, vec_capacity};
 ghost use Rattle.rc_edges.specs.EdgeMap.{HasExtra, extra_of, present};
-ghost use Rattle.rc_edges.specs.Entry.{is_tombstone};
+ghost use Rattle.rc_edges.specs.Entry.{IsStarted, is_tombstone};
 ghost use Rattle.rc_edges.specs.ListMap.{values_in};
 
 use crate::extra::Extra;
@@ -54,6 +54,20 @@ impl Entry {
         }
         self.count = before + 1;
         Ok(before)
+    }
+
+    /// Makes the entry that of the row with these extra values and the count 1, where its row isn't
+    /// there, and answers whether it wasn't. Where memory is wanted nothing changes.
+    pub fn start(&mut self, alloc: Global, extra: &[u64]) -> Result<bool, Memory>
+        ensures ok { IfOk result (IsStarted self.old self.new extra.now) }
+        ensures err { OnErr result (self.new ≡ self.old) }
+    {
+        if self.count > 0 {
+            return Ok(false);
+        }
+        self.extra.replace(alloc, extra)?;
+        self.count = 1;
+        Ok(true)
     }
 
     /// Lowers the count by 1, and answers what it was.

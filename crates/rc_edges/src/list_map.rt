@@ -88,6 +88,22 @@ impl EdgeMap for ListMap {
         }
     }
 
+    fn add_new(&mut self, key: &[u64], extra: &[u64]) -> Result<bool, Memory> {
+        let alloc = *self.items.allocator();
+        match place(&self.items, key) {
+            Ok(at) => {
+                let item = &mut self.items[at];
+                item.1.start(alloc, extra)
+            }
+            Err(at) => {
+                let entry = Entry::new(alloc, extra)?;
+                let key = Key::new(alloc, key)?;
+                self.items.insert(at, (key, entry))?;
+                Ok(true)
+            }
+        }
+    }
+
     fn sub(&mut self, key: &[u64]) -> u64 {
         let Ok(at) = place(&self.items, key) else {
             unreachable!();

@@ -78,6 +78,26 @@ impl EdgeMap for OneMap {
         }
     }
 
+    fn add_new(&mut self, key: &[u64], extra: &[u64]) -> Result<bool, Memory> {
+        match &mut self.place {
+            Place::Several(list) => list.add_new(key, extra),
+            Place::One(one) => {
+                let Some((own, entry)) = one else {
+                    let entry = Entry::new(self.alloc, extra)?;
+                    *one = Some((Key::new(self.alloc, key)?, entry));
+                    return Ok(true);
+                };
+                if own.values() == key {
+                    return entry.start(self.alloc, extra);
+                }
+                let mut list = ListMap::alone(self.alloc, own, entry)?;
+                let added = list.add_new(key, extra)?;
+                self.place = Place::Several(list);
+                Ok(added)
+            }
+        }
+    }
+
     fn sub(&mut self, key: &[u64]) -> u64 {
         match &mut self.place {
             Place::Several(list) => list.sub(key),

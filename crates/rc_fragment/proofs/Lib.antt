@@ -18,3 +18,5 @@ mod SourceReadLemmas
 mod WalkLemmas
 mod OverLemmas
 mod FullReadLemmas
+mod NewLemmas
+mod FirstLemmas

@@ -178,6 +178,18 @@ IsLookedUp shape rows e source key None = (u : Pairs) → IsThereWith shape rows
 IsLookedUp shape rows e source key (Some extra) =
     (t : Pairs) × IsThereWith shape rows e source key t × (values_at (extra_columns shape) t ≡ extra) × ((u : Pairs) → IsThereWith shape rows e source key u → u ≡ t)
 
+-- the same, by those of a tuple
+abbrev pub IsLookedUpBy : List EdgeShape → List EdgeRow → ℕ → Pairs → Option Values → Type 0
+IsLookedUpBy table rows e t found = (shape : EdgeShape) → HasShape table e shape → IsLookedUp shape rows e (values_at shape.source t) (values_at shape.key t) found
+
+-- no row of the edge has the tuple's values of source and key
+abbrev pub HasNoRowOf : List EdgeShape → List EdgeRow → ℕ → Pairs → Type 0
+HasNoRowOf table rows e t = IsLookedUpBy table rows e t None
+
+-- one has them
+abbrev pub HasRowOf : List EdgeShape → List EdgeRow → ℕ → Pairs → Type 0
+HasRowOf table rows e t = (extra : Values) × IsLookedUpBy table rows e t (Some extra)
+
 -- the one row of the edge with the values of source and key, and none only where the edge has none
 abbrev pub IsFoundAt : EdgeShape → List EdgeRow → ℕ → Values → Values → Option Pairs → Type 0
 IsFoundAt shape rows e source key None = (u : Pairs) → IsThereWith shape rows e source key u → ⊥

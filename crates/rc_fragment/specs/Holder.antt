@@ -11,6 +11,7 @@ use Rattle.rc_spec.specs.Locks.{StripeLock, Suffices}
 use Rattle.rc_spec.specs.declared.lock.Mode.{Mode}
 use Rattle.rc_spec.specs.declared.lock.Mode.TheVariants.{Exclusive}
 use Rattle.rc_spec.specs.declared.spec.Spec.{Spec}
+use Rattle.rc_fragment.specs.Fragment.{HasNoRowOf, HasRowOf}
 use Rattle.rc_fragment.specs.FragmentRows.{FragmentRows}
 use Rattle.rc_fragment.specs.Implied.{lowered_all, raised_all}
 use Rattle.rc_fragment.specs.ImpliedTables.{class_rows}
@@ -141,6 +142,18 @@ CanRaise s stripe class t = (h : HeldStripe) → In h (held_of s) → h.stripe �
 -- each edge of the class has the tuple's row on the stripe
 abbrev pub CanLower : Holding → ℕ → ℕ → Pairs → Type 0
 CanLower s stripe class t = (h : HeldStripe) → In h (held_of s) → h.stripe ≡ stripe → HasTuple s.table h.now class t
+
+-- on the stripe no row of the edge has the tuple's values of source and key
+abbrev pub HasNoRowAt : Holding → ℕ → ℕ → Pairs → Type 0
+HasNoRowAt s stripe e t = (h : HeldStripe) → In h (held_of s) → h.stripe ≡ stripe → HasNoRowOf s.table h.now e t
+
+-- one has them
+abbrev pub HasRowAt : Holding → ℕ → ℕ → Pairs → Type 0
+HasRowAt s stripe e t = (h : HeldStripe) → In h (held_of s) → h.stripe ≡ stripe → HasRowOf s.table h.now e t
+
+-- where none has them the tuple's row can be added to each edge of the class on the stripe, or its count raised
+abbrev pub CanRaiseNew : Holding → ℕ → ℕ → ℕ → Pairs → Type 0
+CanRaiseNew s stripe class e t = (h : HeldStripe) → In h (held_of s) → h.stripe ≡ stripe → HasNoRowOf s.table h.now e t → CanAddTuple s.table h.now class t
 
 -- the fragment has the rows of the held stripe, and the edge table
 pub record IsLent (s : Holding) (stripe : ℕ) (fragment : FragmentRows) : Type 0 where

@@ -1,5 +1,5 @@
 -- What calls leave of the stripes that a holder tells, and one call after another.
-use Rattle.std.specs.Prelude.{◌≡◌, ℕ, ◌++◌, IsSome, List, [], ◌∷◌, map}
+use Rattle.std.specs.Prelude.{◌≡◌, ℕ, ◌-◌, ◌==◌, ◌++◌, Bool, true, false, cond, IsSome, List, [], ◌∷◌, map}
 use Rattle.std.proofs.Common.{refl, sym, ap, subst, ◌∙◌, inl, inr, arith}
 use Rattle.rc_tuple.specs.Tuple.{Pairs}
 use Rattle.rc_spec.specs.Fragments.{EdgeRow}
@@ -68,3 +68,29 @@ goes_on_again a b c p q = record {
     go (inl x) (inr y) = inr (subst (λ n. HasRisen n c.refusals) x.0 y.0, y.1)
     go (inr x) (inl y) = inr (subst (λ n. HasRisen a.refusals n) (sym y.0) x.0, subst IsSome (sym y.1) x.1)
     go (inr x) (inr y) = inr (risen_again a.refusals b.refusals c.refusals x.0 y.0, y.1)
+
+-- ---- no change at all
+
+pub none_at : (stripe : ℕ) (s : Holding) → s ≡ with_changes_at stripe 0 (λ rows. rows) s
+none_at stripe s = ap (λ lent. record s { lent = lent }) (each s.lent)
+  where
+    one : (l : LentStripe) → l ≡ with_changes stripe 0 (λ rows. rows) l
+    one l = go (l.held.stripe == stripe)
+      where
+        go : (b : Bool) → l ≡ record { held = cond b (record { stripe = l.held.stripe; mode = l.held.mode; now = l.held.now; taken = l.held.taken }) l.held; room = cond b (l.room - 0) l.room }
+        go true = let z : l.room ≡ l.room - 0 = omega arith in λ i. record { held = l.held; room = z i }
+        go false = refl
+
+    each : (ls : List LentStripe) → ls ≡ map (with_changes stripe 0 (λ rows. rows)) ls
+    each [] = refl
+    each (l ∷ ls) = λ i. one l i ∷ each ls i
+
+-- it is one of some of a tuple's rows
+pub none_partly : (stripe class : ℕ) (t : Pairs) (s : Holding) → IsPartlyAddedAt stripe class t s s
+none_partly stripe class t s = record {
+  changes = 0;
+  few = omega arith;
+  change = λ rows. rows;
+  added = λ h m at. record { some = λ e row is. inl refl; others = λ e row out. refl };
+  value = none_at stripe s;
+}

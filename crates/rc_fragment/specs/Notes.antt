@@ -1,5 +1,5 @@
 -- Notes of changes, by which they are undone, and for how many there is room.
-use Rattle.std.specs.Prelude.{◌≡◌, ℕ, ◌-◌, ◌/◌, ◌≤◌, ◌==◌, ◌&&◌, Bool, cond, List, [], ◌∷◌, Option, None, Some, map, min, take, drop}
+use Rattle.std.specs.Prelude.{◌≡◌, ℕ, ◌-◌, ◌/◌, ◌≤◌, ◌==◌, ◌&&◌, Bool, true, false, cond, List, [], ◌∷◌, Option, None, Some, IsSome, map, min, take, drop}
 use Rattle.std.specs.List.{slice_get}
 use Rattle.std.specs.Option.{option_and_then}
 use Rattle.std.specs.Vec.{vec_len, vec_capacity}
@@ -115,3 +115,8 @@ HasRowValues table e source key extra = (shape : EdgeShape) → slice_get table 
 pub record IsRowAt (edges : List EdgeRows) (e : ℕ) (source key extra : Values) : Type 0 where
   pub values : HasRowValues (shapes edges) e source key extra
   pub same : HasExtra (found_by now_in edges e source key) extra
+
+-- the noted row was added at its place with the count 1, as no row was there; or one was there, and nothing changed
+abbrev pub IsNewPlace : List EdgeRows → List EdgeRows → Place → Values → Bool → Type 0
+IsNewPlace old new place extra true = (now_at_place old place ≡ None) × PlaceBecomes old new place (Some (extra, 1))
+IsNewPlace old new place extra false = IsSome (now_at_place old place) × PlaceBecomes old new place (kept_at_place old place)

@@ -1,5 +1,5 @@
 -- The rows of one edge, kept by the values of their source and then by those of their key.
-use Rattle.std.specs.Prelude.{◌≡◌, ◌<◌, ◌++◌, Bool, true, List, cond, ◌&&◌, ◌==◌, [], Option, None, Some, IsSome, filter, length, map, nat_lt}
+use Rattle.std.specs.Prelude.{◌≡◌, ◌<◌, ◌++◌, Bool, true, false, List, cond, ◌&&◌, ◌==◌, [], Option, None, Some, IsSome, filter, length, map, nat_lt}
 use Rattle.std.specs.List.{flat_map}
 use Rattle.std.specs.Option.{option_map}
 use Rattle.std.specs.FinMap as fin
@@ -91,6 +91,11 @@ pub record AreSame (old new : EdgeRows) : Type 0 where
   pub emptied : (s : Values) → IsEmptied (sources_of new) s → IsEmptied (sources_of old) s
   pub forms : AreOfShape new
   pub shape : new.shape ≡ old.shape
+
+-- the row with these extra values was added at the source and the key with the count 1, as no row was there; or one was there, and nothing changed
+abbrev pub IsNewAt : EdgeRows → EdgeRows → Values → Values → Values → Bool → Type 0
+IsNewAt old new source key extra true = (now_at old source key ≡ None) × Becomes old new source key (Some (extra, 1))
+IsNewAt old new source key extra false = IsSome (now_at old source key) × AreSame old new
 
 -- all that is seen of a container
 abbrev pub SeenContainer : Type 0

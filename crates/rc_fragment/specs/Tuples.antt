@@ -1,10 +1,10 @@
 -- What is seen of a fragment that keeps no row which another edge's rows tell, and what is done with a tuple's rows of a class.
-use Rattle.std.specs.Prelude.{◌≡◌, ℕ, ◌+◌, ◌-◌, ◌<◌, ◌≤◌, ◌^◌, ◌⊎◌, List, filter, length}
+use Rattle.std.specs.Prelude.{◌≡◌, ℕ, ◌+◌, ◌-◌, ◌<◌, ◌≤◌, ◌^◌, ◌⊎◌, Bool, true, false, List, filter, length}
 use Rattle.rc_tuple.specs.Tuple.{Pairs}
-use Rattle.rc_spec.specs.CountedRows.{count_at}
+use Rattle.rc_spec.specs.CountedRows.{count_at, raised}
 use Rattle.rc_spec.specs.Fragments.{EdgeRow}
-use Rattle.rc_fragment.specs.Fragment.{HasAlone, HasColumns, HasShape, HasSingle, IsThere, edge_row}
-use Rattle.rc_fragment.specs.FragmentRows.{FragmentRows}
+use Rattle.rc_fragment.specs.Fragment.{HasAlone, HasColumns, HasNoRowOf, HasRowOf, HasShape, HasSingle, IsThere, edge_row}
+use Rattle.rc_fragment.specs.FragmentRows.{FragmentRows, changed}
 use Rattle.rc_fragment.specs.Implied.{lowered_all, raised_all}
 use Rattle.rc_fragment.specs.ImpliedTables.{IsTable, class_rows, full_rows, is_kept_of_class}
 use Rattle.rc_fragment.specs.declared.fragment.Fragment.TheInside.{Inside}
@@ -32,6 +32,21 @@ pub record CanAddRow (table : List EdgeShape) (rows : List EdgeRow) (e : ℕ) (r
   pub alone : HasAlone table rows e row
   pub single : HasSingle table rows e row
 
+-- the tuple's row was added to the edge, as none had its source and key; or one had them, and nothing changed
+abbrev pub IsNewRow : List EdgeShape → List EdgeRow → List EdgeRow → ℕ → Pairs → Bool → Type 0
+IsNewRow table old new e t true = HasNoRowOf table old e t × (new ≡ raised e (edge_row table e t) old)
+IsNewRow table old new e t false = HasRowOf table old e t × (new ≡ old)
+
+-- the same of a fragment, where there was room for the change
+abbrev pub IsNewRowIn : FragmentRows → FragmentRows → ℕ → Pairs → Bool → Type 0
+IsNewRowIn old new e t true = HasNoRowOf old.table old.now e t × (new ≡ changed (raised e (edge_row old.table e t)) old)
+IsNewRowIn old new e t false = HasRowOf old.table old.now e t × (new ≡ old)
+
+-- a row of the edge has the tuple's values of source and key, or none has
+abbrev pub IsRowOf : List EdgeShape → List EdgeRow → ℕ → Pairs → Bool → Type 0
+IsRowOf table rows e t true = HasRowOf table rows e t
+IsRowOf table rows e t false = HasNoRowOf table rows e t
+
 -- the tuple's row can be added to each edge of the class
 abbrev pub CanAddTuple : List EdgeShape → List EdgeRow → ℕ → Pairs → Type 0
 CanAddTuple table rows class t = (e : ℕ) (shape : EdgeShape) → HasShape table e shape → shape.class ≡ class → CanAddRow table rows e (edge_row table e t)
@@ -39,6 +54,11 @@ CanAddTuple table rows class t = (e : ℕ) (shape : EdgeShape) → HasShape tabl
 -- each edge of the class has the tuple's row
 abbrev pub HasTuple : List EdgeShape → List EdgeRow → ℕ → Pairs → Type 0
 HasTuple table rows class t = (e : ℕ) (shape : EdgeShape) → HasShape table e shape → shape.class ≡ class → IsThere rows e (edge_row table e t)
+
+-- the edge is the first of its class whose rows are kept
+pub record IsFirstKept (table : List EdgeShape) (class e : ℕ) : Type 0 where
+  pub kept : (shape : EdgeShape) → HasShape table e shape → is_kept_of_class class shape ≡ true
+  pub none_before : (k : ℕ) (shape : EdgeShape) → k < e → HasShape table k shape → is_kept_of_class class shape ≡ false
 
 -- how many changes a tuple of the class takes: one of each edge of the class whose rows are kept
 abbrev pub changes_of_class : List EdgeShape → ℕ → ℕ

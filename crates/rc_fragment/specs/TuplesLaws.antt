@@ -20,7 +20,7 @@ use Rattle.rc_fragment.specs.ImpliedLaws.{AreCountedRows-lowered_all, AreCounted
 use Rattle.rc_fragment.specs.ImpliedReadsLaws.{count_there, full_fit, there_count}
 use Rattle.rc_fragment.specs.ImpliedTables.{IsLowerOf, IsTable, class_rows, full_rows, implied_in, is_kept, is_kept_of_class, kept_class_rows, numbered_rows}
 use Rattle.rc_fragment.specs.ImpliedTablesLaws.{class_rows_whole, hits_in, implications, is_hit, is_hit_below, kept_edge, lower_edge, unders_at}
-use Rattle.rc_fragment.specs.Tuples.{ArePartlyAdded, CanAddRow, CanAddTuple, HasTuple, IsPartlyAdded, IsTupleRow, changed_by, changes_of_class, full_fragment, with_tuple, without_tuple}
+use Rattle.rc_fragment.specs.Tuples.{CanAddRow, CanAddTuple, HasTuple, IsPartlyAdded, IsTupleRow, changed_by, changes_of_class, full_fragment, with_tuple, without_tuple}
 use Rattle.rc_fragment.specs.declared.shape.EdgeShape.{EdgeShape}
 
 -- ---- the rows of a table's first edges

@@ -1,8 +1,8 @@
 //! A container of one of the four kinds.
 
-ghost use Rattle.std.specs.Prelude.{◌≡◌, ◌<◌, ◌^◌, ◌++◌, ◌↔◌, IsTrue, OnOk, OnErr, IfOk, IsSome, option_copied};
+ghost use Rattle.std.specs.Prelude.{◌≡◌, ◌<◌, ◌^◌, ◌++◌, ◌↔◌, IsTrue, None, OnOk, OnErr, IfOk, IsSome, option_copied};
 ghost use Rattle.std.specs.FinMap as fin;
-ghost use Rattle.rc_edges.specs.EdgeMap.{HasAsMany, HasExtra, count_at, extra_of, found, listed, once_less, once_more, swept};
+ghost use Rattle.rc_edges.specs.EdgeMap.{HasAsMany, HasExtra, IsAddedNew, count_at, extra_of, found, listed, once_less, once_more, swept};
 ghost use Rattle.rc_fragment.specs.Container.{form_in, kept_in, now_in, takes, takes_one};
 
 use rc_edges::{EdgeMap, ListMap, OneMap};
@@ -55,6 +55,21 @@ impl Container {
             Container::Ordered(map) => map.add(key, extra),
             Container::List(map) => map.add(key, extra),
             Container::Singleton(map) => map.add(key, extra),
+        }
+    }
+
+    /// Adds the row at the key with the count 1, where no row is there, and answers whether it did.
+    pub fn add_new(&mut self, key: &[u64], extra: &[u64]) -> Result<bool, Memory>
+        requires { found (kept_in self.old) key.now ≡ None → takes self.old key.now }
+        ensures ok { IfOk result (IsAddedNew (kept_in self.old) (kept_in self.new) key.now extra.now) }
+        ensures err { OnErr result (kept_in self.new ≡ kept_in self.old) }
+        ensures form { form_in self.new ≡ form_in self.old }
+    {
+        match self {
+            Container::Hash(map) => map.add_new(key, extra),
+            Container::Ordered(map) => map.add_new(key, extra),
+            Container::List(map) => map.add_new(key, extra),
+            Container::Singleton(map) => map.add_new(key, extra),
         }
     }
 

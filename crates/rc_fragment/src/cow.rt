@@ -1,11 +1,13 @@
 //! A fragment that is copied before the first change, where others may have it.
 
-ghost use Rattle.std.specs.Prelude.{◌≡◌, ◌<◌, ◌≤◌, IfSome, OnErr, OnOk};
+ghost use Rattle.std.specs.Prelude.{◌≡◌, ◌<◌, ◌≤◌, Err, IfSome, OnErr, OnOk, length};
+ghost use Rattle.rc_fragment.specs.Fragment.{HasColumns, HasNoRowOf, HasRowOf, edge_row};
 ghost use Rattle.rc_fragment.specs.FragmentRows.{rolled_back, settled, with_promise};
 ghost use Rattle.rc_fragment.specs.Keep.{IsAtRest, at_rest, kept_rows};
-ghost use Rattle.rc_fragment.specs.Tuples.{CanAddTuple, HasTuple, IsPartlyAdded, changes_of_class, with_tuple, without_tuple};
+ghost use Rattle.rc_fragment.specs.Tuples.{CanAddTuple, HasTuple, IsFirstKept, IsPartlyAdded, changes_of_class, with_tuple, without_tuple};
+ghost use Rattle.rc_fragment.specs.declared.held.AddStop.TheVariants as stop;
 
-use crate::{Fragment, Keep};
+use crate::{AddStop, Fragment, Keep};
 use rc_tuple::{Memory, Tuple};
 use std::alloc::Global;
 use std::marker::Model;
@@ -93,6 +95,25 @@ impl CowFragment {
     {
         match &mut self.possession {
             Possession::Alone(fragment) => fragment.add_tuple(class, tuple),
+            Possession::Kept(_) => unreachable!(),
+        }
+    }
+
+    /// Does on the fragment what `Fragment::add_new_tuple` does.
+    pub fn add_new_tuple(&mut self, class: u8, edge: u8, tuple: &Tuple) -> Result<(), AddStop>
+        requires known { edge < length self.old.table }
+        requires first { IsFirstKept self.old.table class edge }
+        requires owned { changes_of_class self.old.table class ≤ self.old.room }
+        requires some { 0 < self.old.room }
+        requires columns { HasColumns self.old.table edge (edge_row self.old.table edge tuple.now) }
+        requires can { HasNoRowOf self.old.table self.old.now edge tuple.now → CanAddTuple self.old.table self.old.now class tuple.now }
+        ensures ok { OnOk result (self.new ≡ with_tuple class tuple.now self.old) }
+        ensures none { OnOk result (HasNoRowOf self.old.table self.old.now edge tuple.now) }
+        ensures err { OnErr result (IsPartlyAdded class tuple.now self.old self.new) }
+        ensures there { result ≡ Err stop.There → HasRowOf self.old.table self.old.now edge tuple.now × (self.new ≡ self.old) }
+    {
+        match &mut self.possession {
+            Possession::Alone(fragment) => fragment.add_new_tuple(class, edge, tuple),
             Possession::Kept(_) => unreachable!(),
         }
     }

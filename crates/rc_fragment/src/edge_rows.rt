@@ -1,6 +1,6 @@
 //! The rows of one edge.
 
-ghost use Rattle.std.specs.Prelude.{◌≡◌, ◌+◌, ◌<◌, ◌^◌, ◌++◌, ◌↔◌, IsTrue, false, Some, OnOk, OnErr, IfOk, IsSome, length, option_copied, take};
+ghost use Rattle.std.specs.Prelude.{◌≡◌, ◌+◌, ◌<◌, ◌^◌, ◌++◌, ◌↔◌, IsTrue, false, None, Some, OnOk, OnErr, IfOk, IsSome, length, option_copied, take};
 ghost use Rattle.std.specs.List.{flat_map};
 ghost use Rattle.std.specs.FinMap as fin;
 ghost use Rattle.rc_tuple.specs.RisingSet.{In};
@@ -9,7 +9,7 @@ ghost use Rattle.rc_edges.specs.EdgeMap.{HasAsMany, HasExtra, count_of, extra_of
 ghost use Rattle.rc_fragment.specs.Container.{now_in};
 ghost use Rattle.rc_fragment.specs.Listing.{IsFiled, row_found, source_rows};
 ghost use Rattle.rc_fragment.specs.RowValues.{IsParted};
-ghost use Rattle.rc_fragment.specs.Sources.{AreOfShape, AreOfWidth, AreSame, Becomes, HasPushed, HasRowAt, IsClean, IsStoredRow, IsSingle, kept_at, sources_of, listed_in, now_at, shown_sources};
+ghost use Rattle.rc_fragment.specs.Sources.{AreOfShape, AreOfWidth, AreSame, Becomes, HasPushed, HasRowAt, IsClean, IsNewAt, IsStoredRow, IsSingle, kept_at, sources_of, listed_in, now_at, shown_sources};
 
 use crate::EdgeShape;
 use crate::container::Container;
@@ -63,6 +63,24 @@ impl EdgeRows {
         let before = container.add(key, extra)?;
         self.sources.insert(source, container)?;
         Ok(before)
+    }
+
+    /// Adds the row with the count 1, where none is there at the source and the key, and answers whether
+    /// it did. Looks each of them up once.
+    pub fn add_new(&mut self, source: &[u64], key: &[u64], extra: &[u64]) -> Result<bool, Memory>
+        requires forms { AreOfShape self.old }
+        requires width { AreOfWidth self.old.shape source.now key.now }
+        requires single { now_at self.old source.now key.now ≡ None → IsSingle self.old source.now key.now }
+        ensures ok { IfOk result (IsNewAt self.old self.new source.now key.now extra.now) }
+        ensures err { OnErr result (AreSame self.old self.new) }
+    {
+        if let Some(container) = self.sources.get_mut(source) {
+            return container.add_new(key, extra);
+        }
+        let mut container = Container::new(self.alloc, self.seed, self.shape.kind, key.len() == 1)?;
+        container.add(key, extra)?;
+        self.sources.insert(source, container)?;
+        Ok(true)
     }
 
     /// Lowers the count at the source and the key by 1, and answers the count before.

@@ -1,14 +1,17 @@
 //! The fragment of a stripe, with the rows of all edges.
 
-ghost use Rattle.std.specs.Prelude.{◌≡◌, ◌<◌, ◌≤◌, length, OnOk, OnErr, IfOk, option_copied};
-ghost use Rattle.rc_fragment.specs.Fragment.{AreAllRows, AreRowsOf, HasScanned, HasShape, IsFoundAt, IsLookedUp, IsScan, edge_table};
+ghost use Rattle.std.specs.Prelude.{◌≡◌, ◌<◌, ◌≤◌, Err, length, true, OnOk, OnErr, IfOk, option_copied};
+ghost use Rattle.rc_fragment.specs.Fragment.{AreAllRows, AreRowsOf, HasColumns, HasNoRowOf, HasRowOf, HasScanned, HasShape, IsFoundAt, IsLookedUp, IsScan, edge_row, edge_table};
 ghost use Rattle.rc_fragment.specs.FragmentRows.{no_rows, rolled_back, settled, with_promise, without_promise};
 ghost use Rattle.rc_fragment.specs.ImpliedTables.{IsTable, full_rows};
-ghost use Rattle.rc_fragment.specs.Tuples.{CanAddTuple, HasTuple, IsPartlyAdded, changes_of_class, full_fragment, with_tuple, without_tuple};
+ghost use Rattle.rc_fragment.specs.Tuples.{CanAddTuple, HasTuple, IsFirstKept, IsPartlyAdded, IsRowOf, changes_of_class, full_fragment, with_tuple, without_tuple};
+ghost use Rattle.rc_fragment.specs.declared.held.AddStop.TheVariants as stop;
 ghost use Rattle.rc_fragment.specs.declared.shape.EdgeShape.{EdgeShape};
 
+use crate::AddStop;
 use crate::rows::row_over;
 use crate::stored::Stored;
+use crate::values::values_at;
 use rc_maps::Seed;
 use rc_spec::Accepted;
 use rc_tuple::{Memory, Tuple, Tuples};
@@ -81,6 +84,45 @@ impl Fragment {
         ensures err { OnErr result (IsPartlyAdded class tuple.now self.old self.new) }
     {
         add_kept_rows(&mut self.stored, class, tuple)
+    }
+
+    /// Adds the tuple's rows as `add_tuple` does, where no row of this edge of the class has the tuple's values of source
+    /// and key; only then is asked what `add_tuple` asks besides room. Where one has them nothing changes. Costs what
+    /// `add_tuple` does: no look-up besides.
+    pub fn add_new_tuple(&mut self, class: u8, edge: u8, tuple: &Tuple) -> Result<(), AddStop>
+        requires known { edge < length self.old.table }
+        requires first { IsFirstKept self.old.table class edge }
+        requires owned { changes_of_class self.old.table class ≤ self.old.room }
+        requires columns { HasColumns self.old.table edge (edge_row self.old.table edge tuple.now) }
+        requires can { HasNoRowOf self.old.table self.old.now edge tuple.now → CanAddTuple self.old.table self.old.now class tuple.now }
+        ensures ok { OnOk result (self.new ≡ with_tuple class tuple.now self.old) }
+        ensures none { OnOk result (HasNoRowOf self.old.table self.old.now edge tuple.now) }
+        ensures err { OnErr result (IsPartlyAdded class tuple.now self.old self.new) }
+        ensures there { result ≡ Err stop.There → HasRowOf self.old.table self.old.now edge tuple.now × (self.new ≡ self.old) }
+    {
+        add_new_kept_rows(&mut self.stored, class, edge, tuple)
+    }
+
+    /// Whether the edge is the first of the class whose rows are kept. Costs a step for each edge before it.
+    pub fn is_first_kept(&self, class: u8, edge: u8) -> bool
+        requires { edge < length self.now.table }
+        ensures { result ≡ true → IsFirstKept self.now.table class edge }
+    {
+        self.stored.is_first_kept(class, edge)
+    }
+
+    /// Whether a row of the edge has the tuple's values of source and key. Costs a look-up, and memory for the values.
+    pub(crate) fn has_row_of(&self, edge: u8, tuple: &Tuple) -> Result<bool, Memory>
+        requires { edge < length self.now.table }
+        ensures { IfOk result (IsRowOf self.now.table self.now.now edge tuple.now) }
+    {
+        let shape = self.stored.shape(edge);
+        let source = values_at(tuple, shape.source)?;
+        let key = values_at(tuple, shape.key)?;
+        match self.lookup(edge, &source, &key) {
+            Some(_) => Ok(true),
+            None => Ok(false),
+        }
     }
 
     /// Lowers the count of the tuple's row of each edge of the class by 1, and takes it out at 0, where there is room for
@@ -240,6 +282,43 @@ fn add_kept_rows(stored: &mut Stored, class: u8, tuple: &Tuple) -> Result<(), Me
     for edge in 0..stored.edge_count() as u8 {
         if stored.shape(edge).is_kept_of(class) {
             stored.add_row(edge, tuple)?;
+        }
+    }
+    Ok(())
+}
+
+/// Adds the tuple's row to each edge of the class whose rows are kept, where none of the first of them has its values of
+/// source and key. Where memory is wanted some may have been added.
+fn add_new_kept_rows(
+    stored: &mut Stored,
+    class: u8,
+    first: u8,
+    tuple: &Tuple,
+) -> Result<(), AddStop>
+    requires table { IsTable stored.old.table }
+    requires known { first < length stored.old.table }
+    requires first { IsFirstKept stored.old.table class first }
+    requires owned { changes_of_class stored.old.table class ≤ stored.old.room }
+    requires columns { HasColumns stored.old.table first (edge_row stored.old.table first tuple.now) }
+    requires can { HasNoRowOf stored.old.table (full_rows stored.old.table stored.old.now) first tuple.now → CanAddTuple stored.old.table (full_rows stored.old.table stored.old.now) class tuple.now }
+    ensures ok { OnOk result (full_fragment stored.new ≡ with_tuple class tuple.now (full_fragment stored.old)) }
+    ensures none { OnOk result (HasNoRowOf stored.old.table (full_rows stored.old.table stored.old.now) first tuple.now) }
+    ensures err { OnErr result (IsPartlyAdded class tuple.now (full_fragment stored.old) (full_fragment stored.new)) }
+    ensures there { result ≡ Err stop.There → HasRowOf stored.old.table (full_rows stored.old.table stored.old.now) first tuple.now × (full_fragment stored.new ≡ full_fragment stored.old) }
+    ensures same { stored.new.table ≡ stored.old.table }
+{
+    stored.rows_fit_the_table();
+    let Ok(added) = stored.add_new_row(first, tuple) else {
+        return Err(AddStop::Memory);
+    };
+    if !added {
+        return Err(AddStop::There);
+    }
+    for edge in first + 1..stored.edge_count() as u8 {
+        if stored.shape(edge).is_kept_of(class) {
+            let Ok(()) = stored.add_row(edge, tuple) else {
+                return Err(AddStop::Memory);
+            };
         }
     }
     Ok(())

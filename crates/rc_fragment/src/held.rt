@@ -17,3 +17,12 @@ pub enum TakeStop {
     /// Something stood in the way.
     Held(Held),
 }
+
+/// Why a tuple was not added, where that was asked only of a new one.
+#[derive(Clone, Copy, Debug, PartialEq, Eq)]
+pub enum AddStop {
+    /// Memory was wanted.
+    Memory,
+    /// A row has its values of source and key.
+    There,
+}

@@ -1,14 +1,16 @@
 //! What lends a plan the fragments of the stripes that it locks.
 
-ghost use Rattle.std.specs.Prelude.{◌≡◌, ◌<◌, length, OnOk, OnErr};
+ghost use Rattle.std.specs.Prelude.{◌≡◌, ◌<◌, Err, length, OnOk, OnErr};
 ghost use Rattle.rc_spec.specs.Stripes.{stripe_total};
 ghost use Rattle.rc_spec.specs.declared.spec.Spec.{Spec};
-ghost use Rattle.rc_fragment.specs.Fragment.{edge_table};
-ghost use Rattle.rc_fragment.specs.Holder.{AreOfOneRelation, CanLower, CanRaise, CountsOnlyHeld, HasRefused, HasRoomFor, HasTaken, HasTakenNothing, Holding, IsAbove, IsHeld, IsHeldExclusive, IsLent, IsPartlyAddedAt, MayTake, all_reverted, held_of, with_room_at, with_tuple_at, without_tuple_at};
+ghost use Rattle.rc_fragment.specs.Fragment.{HasColumns, edge_row, edge_table};
+ghost use Rattle.rc_fragment.specs.Holder.{AreOfOneRelation, CanLower, CanRaise, CanRaiseNew, CountsOnlyHeld, HasNoRowAt, HasRefused, HasRoomFor, HasRowAt, HasTaken, HasTakenNothing, Holding, IsAbove, IsHeld, IsHeldExclusive, IsLent, IsPartlyAddedAt, MayTake, all_reverted, held_of, with_room_at, with_tuple_at, without_tuple_at};
+ghost use Rattle.rc_fragment.specs.Tuples.{IsFirstKept};
+ghost use Rattle.rc_fragment.specs.declared.held.AddStop.TheVariants as add;
 ghost use Rattle.rc_fragment.specs.declared.held.Held.{Held};
 ghost use Rattle.rc_fragment.specs.declared.held.TakeStop.TheVariants as stop;
 
-use crate::{Fragment, TakeStop};
+use crate::{AddStop, Fragment, TakeStop};
 use rc_spec::Mode;
 use rc_tuple::{Memory, Tuple};
 
@@ -60,6 +62,39 @@ pub trait Holder {
         ensures ok { OnOk result (seen self.new ≡ with_tuple_at stripe class tuple.now (seen self.old)) }
         ensures err { OnErr result (IsPartlyAddedAt stripe class tuple.now (seen self.old) (seen self.new)) }
         ensures sound { (spec : Spec) → is_sound self.old spec → is_sound self.new spec };
+
+    /// Does on the stripe's fragment what `Fragment::add_new_tuple` does. By a look-up beforehand, where a holder doesn't do
+    /// so by itself.
+    fn add_new_tuple(
+        &mut self,
+        stripe: u32,
+        class: u8,
+        edge: u8,
+        tuple: &Tuple,
+    ) -> Result<(), AddStop>
+        requires exclusive { IsHeldExclusive (held_of (seen self.old)) stripe }
+        requires known { edge < length (seen self.old).table }
+        requires first { IsFirstKept (seen self.old).table class edge }
+        requires owned { HasRoomFor (seen self.old) stripe class }
+        requires columns { HasColumns (seen self.old).table edge (edge_row (seen self.old).table edge tuple.now) }
+        requires can { CanRaiseNew (seen self.old) stripe class edge tuple.now }
+        ensures ok { OnOk result (seen self.new ≡ with_tuple_at stripe class tuple.now (seen self.old)) }
+        ensures none { OnOk result (HasNoRowAt (seen self.old) stripe edge tuple.now) }
+        ensures err { OnErr result (IsPartlyAddedAt stripe class tuple.now (seen self.old) (seen self.new)) }
+        ensures there { result ≡ Err add.There → HasRowAt (seen self.old) stripe edge tuple.now × (seen self.new ≡ seen self.old) }
+        ensures sound { (spec : Spec) → is_sound self.old spec → is_sound self.new spec }
+    {
+        let Ok(has) = self.fragment(stripe).has_row_of(edge, tuple) else {
+            return Err(AddStop::Memory);
+        };
+        if has {
+            return Err(AddStop::There);
+        }
+        let Ok(()) = self.add_tuple(stripe, class, tuple) else {
+            return Err(AddStop::Memory);
+        };
+        Ok(())
+    }
 
     /// Does on the stripe's fragment what `Fragment::sub_tuple` does.
     fn sub_tuple(&mut self, stripe: u32, class: u8, tuple: &Tuple)

@@ -20,7 +20,7 @@ mod values;
 
 pub use cow::CowFragment;
 pub use fragment::Fragment;
-pub use held::{Held, TakeStop};
+pub use held::{AddStop, Held, TakeStop};
 pub use holder::{Holder, Reverts};
 pub use keep::Keep;
 pub use laws::fragments_are_readable;

@@ -1,6 +1,6 @@
 //! Changes of the rows of all edges at one noted place, and at all of them.
 
-ghost use Rattle.std.specs.Prelude.{◌≡◌, ◌+◌, ◌<◌, ◌^◌, Some, IsSome, IfOk, length, OnOk, OnErr};
+ghost use Rattle.std.specs.Prelude.{◌≡◌, ◌+◌, ◌<◌, ◌^◌, None, Some, IsSome, IfOk, length, OnOk, OnErr};
 ghost use Rattle.std.specs.List.{slice_get};
 ghost use Rattle.rc_edges.specs.EdgeMap.{count_of, one_less};
 ghost use Rattle.rc_fragment.specs.Container.{kept_in, now_in};
@@ -9,7 +9,7 @@ ghost use Rattle.rc_fragment.specs.Listing.{AreStored, found_by, listing, shapes
 ghost use Rattle.rc_fragment.specs.Sources.{IsSingle};
 ghost use Rattle.rc_fragment.specs.declared.edge_rows.EdgeRows.{EdgeRows};
 ghost use Rattle.rc_fragment.specs.declared.note.Sweep.TheVariants.{RolledBack};
-ghost use Rattle.rc_fragment.specs.Notes.{IsWithin, IsRowAt, PlaceBecomes, kept_at_place, key_of, noted_extra, now_at_place, place_of, source_of, taken_rows};
+ghost use Rattle.rc_fragment.specs.Notes.{HasRowValues, IsNewPlace, IsWithin, IsRowAt, PlaceBecomes, kept_at_place, key_of, noted_extra, now_at_place, place_of, source_of, taken_rows};
 
 use crate::edge_rows::EdgeRows;
 use crate::note::{Note, NotedRow, Sweep};
@@ -29,6 +29,24 @@ pub fn add_place(edges: &mut Vec<EdgeRows>, row: &NotedRow, values: &[u64]) -> R
 {
     let edge = &mut edges[row.edge as usize];
     edge.add(row.source(values), row.key(values), row.extra(values))
+}
+
+/// Adds the noted row with the count 1, where no row is at its place, and answers whether it did.
+pub fn add_new_place(
+    edges: &mut Vec<EdgeRows>,
+    row: &NotedRow,
+    values: &[u64],
+) -> Result<bool, Memory>
+    requires stored { AreStored edges.old.items }
+    requires edge { row.now.edge < length edges.old.items }
+    requires within { IsWithin (length values.now) row.now }
+    requires row { HasRowValues (shapes edges.old.items) row.now.edge (source_of values.now row.now) (key_of values.now row.now) (noted_extra values.now row.now) }
+    requires single { now_at_place edges.old.items (place_of values.now row.now) ≡ None → (x : EdgeRows) → slice_get edges.old.items row.now.edge ≡ Some x → IsSingle x (source_of values.now row.now) (key_of values.now row.now) }
+    ensures ok { IfOk result (IsNewPlace edges.old.items edges.new.items (place_of values.now row.now) (noted_extra values.now row.now)) }
+    ensures err { OnErr result (PlaceBecomes edges.old.items edges.new.items (place_of values.now row.now) (kept_at_place edges.old.items (place_of values.now row.now))) }
+{
+    let edge = &mut edges[row.edge as usize];
+    edge.add_new(row.source(values), row.key(values), row.extra(values))
 }
 
 /// Lowers the count of the row at the noted place by 1, and answers the count before.

@@ -1,19 +1,19 @@
 //! The rows that a fragment keeps.
 
-ghost use Rattle.std.specs.Prelude.{◌≡◌, ◌<◌, ◌↔◌, IsTrue, length, OnOk, OnErr, IfOk, option_copied};
+ghost use Rattle.std.specs.Prelude.{◌≡◌, ◌<◌, ◌↔◌, IsTrue, length, true, OnOk, OnErr, IfOk, option_copied};
 ghost use Rattle.rc_spec.specs.CountedRows.{lowered, raised};
-ghost use Rattle.rc_fragment.specs.Fragment.{edge_row, AreAllRows, AreRowsOf, AreWhole, HasScanned, HasShape, IsFoundAt, IsLookedUp, IsScan, IsThere, edge_table, seen_parts, shape_of};
+ghost use Rattle.rc_fragment.specs.Fragment.{edge_row, AreAllRows, AreRowsOf, AreWhole, HasColumns, HasNoRowOf, HasScanned, HasShape, IsFoundAt, IsLookedUp, IsScan, IsThere, edge_table, seen_parts, shape_of};
 ghost use Rattle.rc_fragment.specs.FragmentRows.{changed, no_rows, rolled_back, settled, with_promise, without_promise};
 ghost use Rattle.rc_fragment.specs.ImpliedReads.{HasListed, HasSource, HasSourceRows};
 ghost use Rattle.rc_fragment.specs.ImpliedTables.{IsTable};
 ghost use Rattle.rc_fragment.specs.Listing.{AreEmpty, AreStored, found_by, shapes};
 ghost use Rattle.rc_fragment.specs.Container.{kept_in};
 ghost use Rattle.rc_fragment.specs.Notes.{IsEmptiedAt};
-ghost use Rattle.rc_fragment.specs.Tuples.{CanAddRow};
+ghost use Rattle.rc_fragment.specs.Tuples.{CanAddRow, IsFirstKept, IsNewRowIn};
 ghost use Rattle.rc_fragment.specs.declared.shape.EdgeShape.{EdgeShape};
 
 use crate::EdgeShape;
-use crate::changes::{add_noted, revert_noted, settle_noted, sub_noted};
+use crate::changes::{add_new_noted, add_noted, revert_noted, settle_noted, sub_noted};
 use crate::edge_rows::EdgeRows;
 use crate::note::{Note, VALUES_OF_NOTE};
 use crate::rows::rows_over;
@@ -121,6 +121,32 @@ impl Stored {
         Ok(())
     }
 
+    /// Adds the tuple's row to the edge with the count 1, where there is room for a change and no row of the
+    /// edge has its source and key, and answers whether it did. What `add_row` asks is asked only then. Where
+    /// one has them, or memory is wanted, nothing changes. Costs a look-up of the source and one of the key.
+    pub fn add_new_row(&mut self, edge: u8, tuple: &Tuple) -> Result<bool, Memory>
+        requires known { edge < length self.old.table }
+        requires owned { 0 < self.old.room }
+        requires columns { HasColumns self.old.table edge (edge_row self.old.table edge tuple.now) }
+        requires can { HasNoRowOf self.old.table self.old.now edge tuple.now → CanAddRow self.old.table self.old.now edge (edge_row self.old.table edge tuple.now) }
+        ensures ok { IfOk result (IsNewRowIn self.old self.new edge tuple.now) }
+        ensures err { OnErr result (self.new ≡ self.old) }
+    {
+        let parts = &mut *self.parts;
+        let added = add_new_noted(
+            &mut parts.edges,
+            &mut parts.notes,
+            &mut parts.noted,
+            edge,
+            tuple,
+        )?;
+        if added {
+            parts.room -= 1;
+            return Ok(true);
+        }
+        Ok(false)
+    }
+
     /// Lowers the count of a row that is in the edge by 1, and takes it out at 0, where there is room
     /// for a change. Takes no memory. Costs a look-up of the source and one of the key.
     pub fn sub_row(&mut self, edge: u8, tuple: &Tuple)
@@ -217,6 +243,23 @@ impl Stored {
         ensures { HasShape self.now.table edge result }
     {
         self.parts.edges[edge as usize].shape
+    }
+
+    /// Whether the edge is the first of the class whose rows are kept.
+    pub(crate) fn is_first_kept(&self, class: u8, edge: u8) -> bool
+        requires { edge < length self.now.table }
+        ensures { result ≡ true → IsFirstKept self.now.table class edge }
+    {
+        let own = self.shape(edge);
+        if !own.is_kept_of(class) {
+            return false;
+        }
+        for before in 0..edge {
+            if self.shape(before).is_kept_of(class) {
+                return false;
+            }
+        }
+        true
     }
 
     /// Whether the edge has a row with these values at the columns of its source. Costs a look-up of the

@@ -335,7 +335,7 @@ module _ (spec : Spec) (sealed : IsSealed spec) (t : Pairs) (edges : List ℕ) (
 
 module _ (spec : Spec) (sealed : IsSealed spec) (t : Pairs) (whole : cols_of t ≡ all_columns spec) (held : List HeldStripe) (c : ℕ) where
   -- an edge's row is the tuple's, and falls with it
-  row_is : (e : ℕ) → e < length spec.edges → edge_row (edge_table spec) e t ≡ row_in spec t e
+  pub row_is : (e : ℕ) → e < length spec.edges → edge_row (edge_table spec) e t ≡ row_in spec t e
   row_is e l = ap (λ o. project (option_map_or (λ (s : EdgeShape). s.target) o []) t) (number_has_shape spec e l)
 
   falls : (e : ℕ) → e < length spec.edges → class_of spec e ≡ c → stripe_in spec t e ≡ physical_stripe spec c t

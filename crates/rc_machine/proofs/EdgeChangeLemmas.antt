@@ -16,14 +16,14 @@ use Rattle.rc_tuple.specs.Tuple.{IsTuple, Pairs, agree_on, cols_of, matches, pro
 use Rattle.rc_tuple.specs.TupleLaws.{cols-project, in_project, one_pair, project-project, project_less, rising_cols, rising_cols-project, same_from_test, test_from_same, tuple_order}
 use Rattle.rc_spec.specs.declared.call.Call.{Call}
 use Rattle.rc_spec.specs.declared.call.Reply.{Reply}
-use Rattle.rc_spec.specs.declared.call.Reply.TheVariants.{Absent, Inserted, Present, Removed, Updated}
+use Rattle.rc_spec.specs.declared.call.Reply.TheVariants.{Absent, Inserted, Present, Updated}
 use Rattle.rc_spec.specs.declared.items.Edge.{Edge}
 use Rattle.rc_spec.specs.declared.items.Op.{Op}
 use Rattle.rc_spec.specs.declared.items.OpKind.TheVariants.{Insert, Remove, Update}
 use Rattle.rc_spec.specs.declared.spec.Spec.{Spec}
-use Rattle.rc_spec.specs.Calls.{GivesTuple, all_columns, value_columns}
+use Rattle.rc_spec.specs.Calls.{all_columns, value_columns}
 use Rattle.rc_spec.specs.CallsLaws.{fits_at_op}
-use Rattle.rc_spec.specs.CountedRows.{lowered, raised}
+use Rattle.rc_spec.specs.CountedRows.{raised}
 use Rattle.rc_spec.specs.Decomposition.{bound, edge_at, source_and_key}
 use Rattle.rc_spec.specs.Fragments.{EdgeRow, edge_numbers, fragment_of}
 use Rattle.rc_spec.specs.Placement.{class_at, class_of, op_at}

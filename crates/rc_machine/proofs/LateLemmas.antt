@@ -24,7 +24,7 @@ use Rattle.rc_spec.specs.Fragments.{EdgeRow, tuples_of_edge}
 use Rattle.rc_spec.specs.Placement.{class_at, op_at}
 use Rattle.rc_spec.specs.Stripes.{physical_stripe}
 use Rattle.rc_fragment.specs.Holder.{AreOfOneRelation, AreOfRelation, HeldStripe}
-use Rattle.rc_plan.specs.Access.{AreLate, IsLate, is_dep_check, is_lock, is_read_of}
+use Rattle.rc_plan.specs.Access.{AreLate, IsLate, is_lock, is_read_of}
 use Rattle.rc_plan.specs.AccessLaws.{late_at}
 use Rattle.rc_plan.specs.Compiled.{IsPlanOf}
 use Rattle.rc_plan.specs.Evaluation.{stripes_locked}
@@ -33,7 +33,6 @@ use Rattle.rc_plan.specs.declared.statement.ReadMode.{ReadMode}
 use Rattle.rc_plan.specs.declared.statement.Statement.{Statement}
 use Rattle.rc_plan.specs.declared.statement.Statement.TheVariants.{Lock, Probe, Read, CheckAbsent, CheckFound, CheckDep, Apply, Emit, Commit, Release}
 use Rattle.rc_plan.specs.declared.statement.Which.{Which}
-use Rattle.rc_plan.specs.declared.statement.Which.TheVariants as which
 use Rattle.rc_machine.specs.Access.{IsBehind}
 use Rattle.rc_machine.specs.Applied.{CanRemove, HasRemoved}
 use Rattle.rc_machine.specs.Locks.{AreLocked}

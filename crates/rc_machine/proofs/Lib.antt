@@ -27,3 +27,4 @@ mod AccessRunLemmas
 mod ArriveLemmas
 mod LateLemmas
 mod EdgeChangeLemmas
+mod InsertLemmas

@@ -138,6 +138,16 @@ module _ (r s : ℕ) (apart : r ≡ s → ⊥) where
             stripe_is o true = refl
             stripe_is o false = refl
 
+    -- and what can be changed on another still can
+    pub other_can : (holds : List EdgeShape → List EdgeRow → ℕ → Pairs → Type 0) (table : List EdgeShape) (t : Pairs) (held : List HeldStripe) (q : ClassStripe) → q.stripe ≡ s
+        → CanChange holds table held t q → CanChange holds table (changed_at r f held) t q
+    other_can holds table t held q at can =
+        let x = can.exclusive in
+        record {
+          exclusive = (x.0, held_other held x.0 x.1 (x.2 ∙ at), x.2, x.3);
+          can = λ h m e. can.can h (other_held held h m (e ∙ at)) e;
+        }
+
 abbrev Holds : Type 1
 Holds = List EdgeShape → List EdgeRow → ℕ → Pairs → Type 0
 

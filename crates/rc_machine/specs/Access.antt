@@ -1,5 +1,5 @@
 -- What a call takes and answers from the rows of one edge, on the stripe on which its arguments fall.
-use Rattle.std.specs.Prelude.{◌≡◌, ℕ, List, [], ◌∷◌, ◌++◌, Err, IfOk, None, Option, Result, Some, drop, filter, map, true}
+use Rattle.std.specs.Prelude.{◌≡◌, ℕ, List, [], ◌∷◌, ◌++◌, Err, IfOk, None, Option, Result, Some, drop, filter, map, take, true}
 use Rattle.std.specs.List.{list_any, zip}
 use Rattle.rc_tuple.specs.ColSet.{Within}
 use Rattle.rc_tuple.specs.RisingSet.{In}
@@ -16,6 +16,7 @@ use Rattle.rc_spec.specs.Plain.{Outcome, at_most}
 use Rattle.rc_spec.specs.Stripes.{physical_stripe}
 use Rattle.rc_fragment.specs.Fragment.{IsFoundAt, IsLookedUp, IsScan, edge_table}
 use Rattle.rc_fragment.specs.RowValues.{extra_columns, values_at}
+use Rattle.rc_fragment.specs.Tuples.{IsFirstKept}
 use Rattle.rc_fragment.specs.declared.shape.EdgeShape.{EdgeShape}
 use Rattle.rc_fragment.specs.declared.held.Held.{Held}
 use Rattle.rc_fragment.specs.Holder.{AreOfRelation, GoesOn, HeldStripe, Holding, held_of}
@@ -83,6 +84,11 @@ pub record IsBehind (spec : Spec) (plan : List Statement) (call : Call) (e : ℕ
   pub run : IsAt spec plan call rest bindings None held
   pub visited : list_any (is_read_of e) done ≡ true → Within (all_columns spec) run.progress.visited
 
+-- it stands behind all late statements of the path
+abbrev pub IsBehindLate : SpecWithPlans → Call → AccessPath → Holding → Type 0
+IsBehindLate compiled call p s =
+    IsBehind compiled.spec (plan_at compiled.plans call.op) call p.edge (take p.late (drop p.locks (plan_at compiled.plans call.op))) (drop p.late (drop p.locks (plan_at compiled.plans call.op))) (held_of s)
+
 -- From there the call is answered, or memory was wanted: stripes are taken as they are offered, and all but what is lent is the same.
 pub record HasAnsweredByPath {E : Type 0} (compiled : SpecWithPlans) (call : Call) (old new : Holding) (result : Result Reply E) : Type 0 where
   pub answered : IfOk result (HasAnswered compiled call new)
@@ -97,3 +103,7 @@ pub record HasRunByPath (compiled : SpecWithPlans) (call : Call) (old new : Hold
   pub refused : (h : Held) → result ≡ Err (stop.Held h) → HasRefusedCall compiled call old new h
   pub counted : CountsOnlyHeld result old new
   pub goes_on : GoesOn old new
+
+-- the edge is the first of its class whose rows are kept, and its class is that of the first edge
+abbrev pub IsFirstEdge : Spec → ℕ → Type 0
+IsFirstEdge spec e = (class_of spec 0 ≡ class_of spec e) × IsFirstKept (edge_table spec) (class_of spec e) e

@@ -193,7 +193,7 @@ pub(crate) fn sub_rows<H: Holder>(
 
 /// Adds the tuple's row to each edge of each class, on its stripe. Where memory is wanted some rows may be added; as taken
 /// they are what they were.
-fn add_placed<H: Holder>(
+pub(crate) fn add_placed<H: Holder>(
     holder: &mut H,
     compiled: &Compiled,
     places: &[ClassStripe],

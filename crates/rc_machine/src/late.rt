@@ -1,6 +1,6 @@
 //! The Locks of a remove's plan that come once the edge of its path is read.
 
-ghost use Rattle.std.specs.Prelude.{◌≡◌, ℕ, drop, take, OnOk, Err};
+ghost use Rattle.std.specs.Prelude.{◌≡◌, ℕ, OnOk, Err};
 ghost use Rattle.rc_spec.specs.Locks.{StripeLock};
 ghost use Rattle.rc_spec.specs.Placement.{op_at};
 ghost use Rattle.rc_spec.specs.declared.items.OpKind.TheVariants as kind;
@@ -9,7 +9,7 @@ ghost use Rattle.rc_fragment.specs.Holder.{GoesOn, MayTake, held_of};
 ghost use Rattle.rc_fragment.specs.declared.held.Held.{Held};
 ghost use Rattle.rc_plan.specs.Compiled.{plan_at};
 ghost use Rattle.rc_plan.specs.NamedStripes.{IsNamedBy};
-ghost use Rattle.rc_machine.specs.Access.{HasLockedPath, IsBehind, IsOnlyMatch};
+ghost use Rattle.rc_machine.specs.Access.{HasLockedPath, IsBehindLate, IsOnlyMatch};
 ghost use Rattle.rc_machine.specs.Machine.{AreAsTaken, AreTakenAsOffered, HasRefusedCall};
 ghost use Rattle.rc_machine.specs.Stopped.{CountsOnlyHeld};
 ghost use Rattle.rc_machine.specs.Stripes.{AreStripesOf};
@@ -40,9 +40,7 @@ pub(crate) fn lock_found<H: Holder>(
     requires sound { H.is_sound holder.old compiled.now.spec }
     requires lent { (lock : StripeLock) → IsNamedBy compiled.now.spec call.now.args (plan_at compiled.now.plans call.now.op) lock
         → MayTake (H.seen holder.old).lends lock.0 lock.1 }
-    ensures behind { OnOk result (IsBehind compiled.now.spec (plan_at compiled.now.plans call.now.op) call.now path.edge
-        (take path.late (drop path.locks (plan_at compiled.now.plans call.now.op)))
-        (drop path.late (drop path.locks (plan_at compiled.now.plans call.now.op))) (held_of (H.seen holder.new))) }
+    ensures behind { OnOk result (IsBehindLate compiled.now call.now path (H.seen holder.new)) }
     ensures found { OnOk result (IsOnlyMatch compiled.now.spec (held_of (H.seen holder.new)) call.now.args tuple.now) }
     ensures stripes { OnOk result (AreStripesOf compiled.now.spec tuple.now stripes.new.items) }
     ensures taken { AreTakenAsOffered (H.seen holder.new) }

@@ -1,17 +1,17 @@
 -- Laws of a map in two parts: keys of two values in the first, and all others in the second.
-use Rattle.std.specs.Prelude.{◌≡◌, ◌+◌, Bool, true, false, cond, nat_eq, not, IsTrue, Option, None, Some, Result, Ok, Err, OnOk, OnErr, List, [], ◌∷◌, ◌++◌, length}
+use Rattle.std.specs.Prelude.{◌≡◌, ◌+◌, Bool, true, false, cond, nat_eq, not, IsTrue, Option, None, Some, IsSome, Result, Ok, Err, OnOk, OnErr, List, [], ◌∷◌, ◌++◌, length}
 use Rattle.std.specs.Cmp.Lexicographic.{pointwise}
 use Rattle.std.specs.List.{IsDistinct, AllByRecursion, list_all}
 use Rattle.std.specs.Map.{lookup, keys_of, values_of, KeepsOthers}
-use Rattle.std.specs.Option.{option_or}
+use Rattle.std.specs.Option.{option_and_then, option_or}
 use Rattle.std.specs.FinMap as fin
 use Rattle.std.specs.FinMap.{FinMap, find, get-from_entries, get-empty}
-use Rattle.std.proofs.Common.{refl, sym, ap, ◌∙◌}
+use Rattle.std.proofs.Common.{refl, sym, ap, subst, ◌∙◌}
 use Rattle.std.proofs.lemmas.Bool.{false≢true, eq-eqb, eqb-true, and_parts, and_from}
 use Rattle.std.proofs.lemmas.Option.{none-some}
 use Rattle.rc_edges.specs.Values.{Values, values_cmp, values_eq}
 use Rattle.rc_edges.specs.ValuesLaws.{pointwise_same, same_from_test, test_from_same}
-use Rattle.rc_edges.specs.EdgeMap.{Counted, count_at, count_of, once_more, written}
+use Rattle.rc_edges.specs.EdgeMap.{Counted, IsAddedNew, count_at, count_of, once_more, present, written}
 use Rattle.rc_edges.specs.RowsLaws.{total, get-written, same_answers}
 use Rattle.rc_maps.specs.Keyed.{AreApart, by_many, by_two}
 use Rattle.rc_maps.specs.KeyLengths.{all_have_two, has_other, has_two, none_has_two}
@@ -212,6 +212,19 @@ module _ (key k : Values) (es : List (Values × Counted)) (fs : List (VecKey × 
       pairs-changed key k es fs same two none new (Some (extra, count_at (map_of (by_two es)) k + 1)) h
       ∙ ap (λ z. fin.insert (map_of (by_two es ++ by_many fs)) key (extra, count_of z + 1))
       (pairs-found key k es fs same two none (fin.get (map_of (by_two es)) k) refl)
+
+  -- and one added where no row was is added in the whole
+  pub added-pairs : (new : List (Values × Counted)) (extra : Values) (b : Bool)
+      → IsAddedNew (map_of (by_two es)) (map_of (by_two new)) k extra b
+      → IsAddedNew (map_of (by_two es ++ by_many fs)) (map_of (by_two new ++ by_many fs)) key extra b
+  added-pairs new extra true h = (
+    ap (option_and_then present) (sym (pairs-found key k es fs same two none (fin.get (map_of (by_two es)) k) refl)) ∙ h.0,
+    pairs-changed key k es fs same two none new (Some (extra, 1)) h.1,
+  )
+  added-pairs new extra false h = (
+    subst IsSome (ap (option_and_then present) (pairs-found key k es fs same two none (fin.get (map_of (by_two es)) k) refl)) h.0,
+    first-kept (by_two es) (by_two new) (by_many fs) h.1,
+  )
 
 -- a key of another length among the others
 module _ {X : Type 0} (key : Values) (es : List (Values × X)) (fs : List (VecKey × X))

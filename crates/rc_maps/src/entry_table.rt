@@ -1,11 +1,11 @@
 //! What the tables under an edge's containers have in common.
 
-ghost use Rattle.std.specs.Prelude.{◌≡◌, ◌↔◌, ◌++◌, ◌<◌, ◌^◌, Bool, IsTrue, map, OnOk, OnErr, IfOk, option_copied};
+ghost use Rattle.std.specs.Prelude.{◌≡◌, ◌↔◌, ◌++◌, ◌<◌, ◌^◌, Bool, IsTrue, None, map, OnOk, OnErr, IfOk, option_copied};
 ghost use Rattle.std.specs.Borrow.{sem};
 ghost use Rattle.std.specs.List.{All};
 ghost use Rattle.std.specs.Option.{option_copied_mut};
 ghost use Rattle.std.specs.FinMap as fin;
-ghost use Rattle.rc_edges.specs.EdgeMap.{Rows, HasExtra, HasWidth, count_at, current, found, listed, once_more};
+ghost use Rattle.rc_edges.specs.EdgeMap.{Rows, HasExtra, HasWidth, IsAddedNew, count_at, current, found, listed, once_more};
 ghost use Rattle.rc_maps.specs.Keyed.{AreApart, pair_of};
 ghost use Rattle.rc_maps.specs.TableEdge.{lends_entry};
 
@@ -47,6 +47,15 @@ pub trait EntryTable: Sized {
         ensures err { OnErr result (entries self.new ≡ entries self.old) }
         ensures width { one_column self.new ≡ one_column self.old };
 
+    /// Puts a new entry with the row's count 1 at the key, or starts the tombstone's there, where no row is
+    /// there, and answers whether none was. Where one is there, or memory is wanted, nothing changes.
+    /// Costs what `raise` does.
+    fn add_new(&mut self, alloc: Global, key: &[u64], extra: &[u64]) -> Result<bool, Memory>
+        requires { found (entries self.old) key.now ≡ None → HasWidth (one_column self.old) key.now }
+        ensures ok { IfOk result (IsAddedNew (entries self.old) (entries self.new) key.now extra.now) }
+        ensures err { OnErr result (entries self.new ≡ entries self.old) }
+        ensures width { one_column self.new ≡ one_column self.old };
+
     /// Puts the entry at the key. Where memory is wanted nothing changes.
     fn put(&mut self, key: &[u64], entry: Entry) -> Result<(), Memory>
         requires { HasWidth (one_column self.old) key.now }
@@ -71,6 +80,21 @@ pub trait EntryTable: Sized {
         let entry = Entry::new(alloc, extra)?;
         self.put(key, entry)?;
         Ok(0)
+    }
+
+    /// A table's `add_new` for keys in blocks of their own, in two searches for a key that isn't there.
+    fn add_new_any(&mut self, alloc: Global, key: &[u64], extra: &[u64]) -> Result<bool, Memory>
+        requires { found (entries self.old) key.now ≡ None → HasWidth (one_column self.old) key.now }
+        ensures ok { IfOk result (IsAddedNew (entries self.old) (entries self.new) key.now extra.now) }
+        ensures err { OnErr result (entries self.new ≡ entries self.old) }
+        ensures width { one_column self.new ≡ one_column self.old }
+    {
+        if let Some(entry) = self.entry_mut(key) {
+            return entry.start(alloc, extra);
+        }
+        let entry = Entry::new(alloc, extra)?;
+        self.put(key, entry)?;
+        Ok(true)
     }
 
     /// Takes out the entry at the key, if there is one.

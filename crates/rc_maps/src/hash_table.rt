@@ -5,7 +5,7 @@ ghost use Rattle.std.specs.List.{All};
 ghost use Rattle.std.specs.Borrow.{sem};
 ghost use Rattle.std.specs.Option.{option_copied_mut};
 ghost use Rattle.std.specs.FinMap as fin;
-ghost use Rattle.rc_edges.specs.EdgeMap.{HasExtra, HasWidth, count_at, found, once_more};
+ghost use Rattle.rc_edges.specs.EdgeMap.{HasExtra, HasWidth, IsAddedNew, count_at, found, once_more};
 ghost use Rattle.rc_maps.specs.HashTable.{entries_of, has_one_column, lends_value};
 ghost use Rattle.rc_maps.specs.Keyed.{AreApart, entries_one, pair_of};
 
@@ -218,6 +218,21 @@ impl EntryTable for HashTable<Entry> {
         }
     }
 
+    fn add_new(&mut self, alloc: Global, key: &[u64], extra: &[u64]) -> Result<bool, Memory> {
+        match self {
+            HashTable::One(map) => {
+                let Some(only) = only(key) else {
+                    unreachable!();
+                };
+                add_new_one(map, alloc, *only, extra)
+            }
+            HashTable::Many { pairs, .. } => match both(key) {
+                Some(pair) => pairs.add_new(alloc, pair, extra),
+                None => self.add_new_any(alloc, key, extra),
+            },
+        }
+    }
+
     fn put(&mut self, key: &[u64], entry: Entry) -> Result<(), Memory> {
         self.insert(key, entry)
     }
@@ -289,6 +304,26 @@ fn raise_one(
             let entry = Entry::new(alloc, extra)?;
             place.insert(entry);
             Ok(0)
+        }
+    }
+}
+
+/// Starts the entry at the key, or puts a new one there, where no row is there, in one search.
+fn add_new_one(
+    map: &mut HashMap<u64, Entry, Seed>,
+    alloc: Global,
+    key: u64,
+    extra: &[u64],
+) -> Result<bool, Memory>
+    ensures ok { IfOk result (IsAddedNew (entries_one map.old.entries) (entries_one map.new.entries) (key ∷ []) extra.now) }
+    ensures err { OnErr result (entries_one map.new.entries ≡ entries_one map.old.entries) }
+{
+    match map.entry(key)? {
+        hash_map::Entry::Occupied(own) => own.into_mut().start(alloc, extra),
+        hash_map::Entry::Vacant(place) => {
+            let entry = Entry::new(alloc, extra)?;
+            place.insert(entry);
+            Ok(true)
         }
     }
 }

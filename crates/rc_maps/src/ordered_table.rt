@@ -5,7 +5,7 @@ ghost use Rattle.std.specs.List.{All};
 ghost use Rattle.std.specs.Borrow.{sem};
 ghost use Rattle.std.specs.Option.{option_copied_mut};
 ghost use Rattle.std.specs.FinMap as fin;
-ghost use Rattle.rc_edges.specs.EdgeMap.{HasExtra, HasWidth, count_at, found, listed, once_more};
+ghost use Rattle.rc_edges.specs.EdgeMap.{HasExtra, HasWidth, IsAddedNew, count_at, found, listed, once_more};
 ghost use Rattle.rc_maps.specs.OrderedTable.{entries_of, has_one_column, lends_value};
 ghost use Rattle.rc_maps.specs.Keyed.{IsKeyed, entries_one, pair_of};
 
@@ -204,6 +204,18 @@ impl EntryTable for OrderedTable<Entry> {
         }
     }
 
+    fn add_new(&mut self, alloc: Global, key: &[u64], extra: &[u64]) -> Result<bool, Memory> {
+        match self {
+            OrderedTable::One(map) => {
+                let Some(only) = only(key) else {
+                    unreachable!();
+                };
+                add_new_one(map, alloc, *only, extra)
+            }
+            OrderedTable::Many(_, _) => self.add_new_any(alloc, key, extra),
+        }
+    }
+
     fn put(&mut self, key: &[u64], entry: Entry) -> Result<(), Memory> {
         self.insert(key, entry)
     }
@@ -272,6 +284,26 @@ fn raise_one(
             let entry = Entry::new(alloc, extra)?;
             place.insert(entry);
             Ok(0)
+        }
+    }
+}
+
+/// Starts the entry at the key, or puts a new one there, where no row is there, in one search.
+fn add_new_one(
+    map: &mut BTreeMap<u64, Entry>,
+    alloc: Global,
+    key: u64,
+    extra: &[u64],
+) -> Result<bool, Memory>
+    ensures ok { IfOk result (IsAddedNew (entries_one map.old.entries) (entries_one map.new.entries) (key ∷ []) extra.now) }
+    ensures err { OnErr result (entries_one map.new.entries ≡ entries_one map.old.entries) }
+{
+    match map.entry(key)? {
+        btree_map::Entry::Occupied(own) => own.into_mut().start(alloc, extra),
+        btree_map::Entry::Vacant(place) => {
+            let entry = Entry::new(alloc, extra)?;
+            place.insert(entry);
+            Ok(true)
         }
     }
 }

@@ -65,7 +65,7 @@ impl<V> PairKeys<V> {
 
 impl PairKeys<Entry> {
     ghost use Rattle.std.specs.Prelude.{◌<◌, ◌^◌, IfOk, OnOk, OnErr};
-    ghost use Rattle.rc_edges.specs.EdgeMap.{HasExtra, count_at, found, once_more};
+    ghost use Rattle.rc_edges.specs.EdgeMap.{HasExtra, IsAddedNew, count_at, found, once_more};
     ghost use Rattle.rc_maps.specs.PairKeys.{pairs_of};
 
     /// Raises the entry at the key, or puts a new one there, in one search.
@@ -88,6 +88,27 @@ impl PairKeys<Entry> {
                 let entry = Entry::new(alloc, extra)?;
                 place.insert(entry);
                 Ok(0)
+            }
+        }
+    }
+
+    /// Starts the entry at the key, or puts a new one there, where no row is there, in one search.
+    pub(crate) fn add_new(
+        &mut self,
+        alloc: Global,
+        key: &[u64; 2],
+        extra: &[u64],
+    ) -> Result<bool, Memory>
+        requires { length key.now ≡ 2 }
+        ensures ok { IfOk result (IsAddedNew (pairs_of self.old) (pairs_of self.new) key.now extra.now) }
+        ensures err { OnErr result (pairs_of self.new ≡ pairs_of self.old) }
+    {
+        match self.map.entry(*key)? {
+            hash_map::Entry::Occupied(own) => own.into_mut().start(alloc, extra),
+            hash_map::Entry::Vacant(place) => {
+                let entry = Entry::new(alloc, extra)?;
+                place.insert(entry);
+                Ok(true)
             }
         }
     }

@@ -12,8 +12,8 @@ use std::marker::Model;
 
 /// Entries in a table by their keys.
 ///
-/// `get`, `add`, `sub` and `put_back` look up once, and `add` a second time where an entry comes with
-/// a key in a block of its own; `sweep` does once, and a second time where an entry goes. `scan`, `len`
+/// `get`, `add`, `add_new`, `sub` and `put_back` look up once, and `add` and `add_new` a second time where an
+/// entry comes with a key in a block of its own; `sweep` does once, and a second time where an entry goes. `scan`, `len`
 /// and `copy` walk all entries.
 #[derive(Drop, Debug)]
 pub struct TableEdge<T: EntryTable> {
@@ -82,6 +82,10 @@ impl<T: EntryTable + Drop> EdgeMap for TableEdge<T> {
 
     fn add(&mut self, key: &[u64], extra: &[u64]) -> Result<u64, Memory> {
         self.table.raise(self.alloc, key, extra)
+    }
+
+    fn add_new(&mut self, key: &[u64], extra: &[u64]) -> Result<bool, Memory> {
+        self.table.add_new(self.alloc, key, extra)
     }
 
     fn sub(&mut self, key: &[u64]) -> u64 {

@@ -32,15 +32,7 @@ HasOperation spec call = call.op < length spec.ops
 -- the class, which of its stripes and in which mode, where the statement is a Lock
 abbrev pub class_lock : Statement → Option ClassLock
 class_lock (Lock c choice mode) = Some (record { class = c; choice = choice; mode = mode })
-class_lock (Probe cols) = None
-class_lock (Read e mode) = None
-class_lock CheckAbsent = None
-class_lock CheckFound = None
-class_lock (CheckDep dep) = None
-class_lock Apply = None
-class_lock Emit = None
-class_lock Commit = None
-class_lock (Release c) = None
+class_lock _ = None
 
 -- it is a Lock, and the test holds of it
 abbrev pub is_lock : (ClassLock → Bool) → Option ClassLock → Bool

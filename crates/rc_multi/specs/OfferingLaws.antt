@@ -17,7 +17,8 @@ use Rattle.rc_spec.specs.Fragments.{EdgeRow, fragment_of}
 use Rattle.rc_spec.specs.Stripes.{stripe_total}
 use Rattle.rc_fragment.specs.Fragment.{edge_table}
 use Rattle.rc_fragment.specs.FragmentRows.{FragmentRows}
-use Rattle.rc_fragment.specs.Holder.{AreOfRelation, AreOffered, CanLower, CanRaise, HasRoomFor, HasTaken, HeldStripe, Holding, IsHeld, IsHeldExclusive, IsLent, IsPartlyAddedAt, LentStripe, changed_at, held_of, just_taken, with_changes, with_changes_at, with_now, with_room, with_room_at}
+use Rattle.rc_fragment.specs.Fragment.{HasNoRowOf}
+use Rattle.rc_fragment.specs.Holder.{AreOfRelation, AreOffered, CanLower, CanRaise, CanRaiseNew, HasRoomFor, HasTaken, HeldStripe, Holding, IsHeld, IsHeldExclusive, IsLent, IsPartlyAddedAt, LentStripe, changed_at, held_of, just_taken, with_changes, with_changes_at, with_now, with_room, with_room_at}
 use Rattle.rc_fragment.specs.HoldingLaws.{held-change, held-room}
 use Rattle.rc_fragment.specs.Tuples.{ArePartlyAdded, CanAddTuple, HasTuple}
 use Rattle.rc_spec.specs.Locks.{StripeLock, Suffices}
@@ -186,6 +187,16 @@ module _ (begun : List HeldStripe) (s : Holding) (taken : List StripeLock) (n : 
     value = ap (λ (z : Holding). offering begun z taken n) partly.value ∙ told_change begun s taken n p partly.changes partly.change;
   }
 
+  -- what holds of the rows of the group's stripe holds of those of the plan's
+  pub told_rows : (p : ℕ) (P : List EdgeRow → Type 0) → ((h : HeldStripe) → In h (held_of s) → h.stripe ≡ p → P h.now)
+      → (h : HeldStripe) → In h (held_of (offering begun s taken n)) → h.stripe ≡ p → P h.now
+  told_rows p P rows h m at =
+      let w = held_part h m in
+      let q = w.1 in
+      let is : h ≡ (as_part begun q.lock.1 q.own).held = w.2 ∙ ap (λ (l : LentStripe). l.held) q.is in
+      subst P (sym (ap (λ (h : HeldStripe). h.now) is))
+      (rows q.own.held (map_in (λ (l : LentStripe). l.held) q.own s.lent q.lent_own) (sym (ap (λ (h : HeldStripe). h.stripe) is) ∙ at))
+
   -- a stripe of the group that the plan holds
   as_told : (p : ℕ) → IsHeld (held_of (offering begun s taken n)) p → (x : LentStripe) → In x s.lent → x.held.stripe ≡ p → (t : StripeLock) × In (as_part begun t.1 x) (part_of begun s.lent taken)
   as_told p held x m e =
@@ -216,6 +227,9 @@ module _ (begun : List HeldStripe) (s : Holding) (taken : List StripeLock) (n : 
   -- a tuple's rows can be added to the group's stripe where they can be to the plan's, and taken out where they can be
   pub raise_there : (p class : ℕ) (t : Pairs) → IsHeld (held_of (offering begun s taken n)) p → CanRaise (offering begun s taken n) p class t → CanRaise s p class t
   raise_there p class t held can = each_there p (λ rows. CanAddTuple s.table rows class t) held can
+
+  pub raise_new_there : (p class e : ℕ) (t : Pairs) → IsHeld (held_of (offering begun s taken n)) p → CanRaiseNew (offering begun s taken n) p class e t → CanRaiseNew s p class e t
+  raise_new_there p class e t held can = each_there p (λ rows. HasNoRowOf s.table rows e t → CanAddTuple s.table rows class t) held can
 
   pub lower_there : (p class : ℕ) (t : Pairs) → IsHeld (held_of (offering begun s taken n)) p → CanLower (offering begun s taken n) p class t → CanLower s p class t
   lower_there p class t held can = each_there p (λ rows. HasTuple s.table rows class t) held can

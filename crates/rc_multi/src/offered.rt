@@ -6,7 +6,7 @@ ghost use Rattle.rc_machine.specs.Apply.{IsSameButLent};
 ghost use Rattle.rc_multi.specs.OfferedLaws.{offered_once, lent_once};
 ghost use Rattle.rc_multi.specs.Offering.{IsOffered};
 
-use rc_fragment::{Fragment, Holder, TakeStop};
+use rc_fragment::{AddStop, Fragment, Holder, TakeStop};
 use rc_spec::Mode;
 use rc_tuple::{Memory, Tuple};
 use std::marker::{Brand, PhantomData};
@@ -76,6 +76,16 @@ impl<'a, O: Starts, H: Holder> Holder for Offered<'a, O, H> {
 
     fn add_tuple(&mut self, stripe: u32, class: u8, tuple: &Tuple) -> Result<(), Memory> {
         self.holder.add_tuple(stripe, class, tuple)
+    }
+
+    fn add_new_tuple(
+        &mut self,
+        stripe: u32,
+        class: u8,
+        edge: u8,
+        tuple: &Tuple,
+    ) -> Result<(), AddStop> {
+        self.holder.add_new_tuple(stripe, class, edge, tuple)
     }
 
     fn sub_tuple(&mut self, stripe: u32, class: u8, tuple: &Tuple) {

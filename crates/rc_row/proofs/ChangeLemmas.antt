@@ -88,6 +88,15 @@ module _ (held : List HeldRows) (p at : ℕ) (h : IsHeldAt held p at) where
         (All-append (λ (x : HeldRows). x.stripe ≡ p → fact x.fragment) h.before (h.here ∷ h.after) (none_asked p fact h.before h.first)
         (All-cons (λ (x : HeldRows). x.stripe ≡ p → fact x.fragment) h.here h.after (λ e. here) (none_asked p fact h.after not_after)))
 
+-- a fragment that stays leaves what is held
+pub same_held : (p : ℕ) (held : List HeldRows) → held_with p (λ f. f) held ≡ held
+same_held p [] = refl
+same_held p (h ∷ held) = λ i. record h { fragment = go (h.stripe == p) i } ∷ same_held p held i
+  where
+    go : (b : Bool) → cond b h.fragment h.fragment ≡ h.fragment
+    go true = refl
+    go false = refl
+
 -- ---- what the core sees of changes
 
 pub hands-with : (g : HeldRows → FragmentRows) (held : List HeldRows) (n k : ℕ) → hands_out n k (map (with_fragment g) held) ≡ hands_out n k held

@@ -8,10 +8,10 @@ use Rattle.rc_spec.specs.declared.call.Reply.{Reply}
 use Rattle.rc_spec.specs.declared.spec.Spec.{Spec}
 use Rattle.rc_spec.specs.Fragments.{EdgeRow}
 use Rattle.rc_plan.specs.Compiled.{SpecWithPlans}
-use Rattle.rc_fragment.specs.Fragment.{edge_table}
+use Rattle.rc_fragment.specs.Fragment.{HasColumns, HasNoRowOf, HasRowOf, edge_row, edge_table}
 use Rattle.rc_fragment.specs.FragmentRows.{FragmentRows, rolled_back, settled}
 use Rattle.rc_fragment.specs.Keep.{IsAtRest}
-use Rattle.rc_fragment.specs.Tuples.{ArePartlyAdded, CanAddTuple, HasTuple, changed_by, changes_of_class}
+use Rattle.rc_fragment.specs.Tuples.{ArePartlyAdded, CanAddTuple, HasTuple, IsFirstKept, changed_by, changes_of_class}
 use Rattle.rc_journal.specs.PartEntries.{PartEntries}
 use Rattle.rc_rel.specs.declared.entry.Entry.{Entry}
 use Rattle.rc_rel.specs.declared.entry.Placed.{Placed}
@@ -230,6 +230,22 @@ pub record CanAddTo (class : ℕ) (t : Pairs) (f : FragmentRows) : Type 0 where
   pub owned : changes_of_class f.table class ≤ f.room
   pub some : 0 < f.room
   pub can : CanAddTuple f.table f.now class t
+
+-- the edge has no row, or it has one, with the tuple's values of source and key
+abbrev pub HasNoRowIn : ℕ → Pairs → FragmentRows → Type 0
+HasNoRowIn e t f = HasNoRowOf f.table f.now e t
+
+abbrev pub HasRowIn : ℕ → Pairs → FragmentRows → Type 0
+HasRowIn e t f = HasRowOf f.table f.now e t
+
+-- where the edge, the first of the class whose rows are kept, has no row with the tuple's values of source and key, the tuple can be added; and there is room for the changes, and for one at least
+pub record CanAddNewTo (class e : ℕ) (t : Pairs) (f : FragmentRows) : Type 0 where
+  pub known : e < length f.table
+  pub first : IsFirstKept f.table class e
+  pub owned : changes_of_class f.table class ≤ f.room
+  pub some : 0 < f.room
+  pub columns : HasColumns f.table e (edge_row f.table e t)
+  pub can : HasNoRowOf f.table f.now e t → CanAddTuple f.table f.now class t
 
 -- each edge of the class has the tuple's row, and there is room for the changes, and for one at least, as `HasRoomFor` asks
 pub record CanSubFrom (class : ℕ) (t : Pairs) (f : FragmentRows) : Type 0 where

@@ -1,17 +1,18 @@
 //! The fragments that a pass holds, and changes in place.
 
-ghost use Rattle.std.specs.Prelude.{◌≡◌, OnErr, OnOk};
+ghost use Rattle.std.specs.Prelude.{◌≡◌, Err, OnErr, OnOk};
 ghost use Rattle.std.specs.Ordering.{nat_cmp};
 ghost use Rattle.rc_tuple.specs.RisingSet.{In, IsRising};
 ghost use Rattle.rc_core.specs.State.{stripes_in, writes_of};
 ghost use Rattle.rc_fragment.specs.FragmentRows.{rolled_back, with_promise};
 ghost use Rattle.rc_fragment.specs.Tuples.{with_tuple, without_tuple};
-ghost use Rattle.rc_row.specs.Passes.{ArePartlyAddedOn, CanAddTo, CanSubFrom, IsPartlyAddedOn, OfHeld, all_with, core_of, held_with, holds_taken, reverted, with_held};
+ghost use Rattle.rc_fragment.specs.declared.held.AddStop.TheVariants as stop;
+ghost use Rattle.rc_row.specs.Passes.{ArePartlyAddedOn, CanAddNewTo, CanAddTo, CanSubFrom, HasNoRowIn, HasRowIn, IsPartlyAddedOn, OfHeld, all_with, core_of, held_with, holds_taken, reverted, with_held};
 
 use crate::hands::place_of;
 use crate::held::HeldFragment;
 use crate::pass::Pass;
-use rc_fragment::Fragment;
+use rc_fragment::{AddStop, Fragment};
 use rc_tuple::{Memory, Tuple};
 use std::alloc::Global;
 
@@ -45,6 +46,24 @@ impl Pass {
         ensures err { OnErr result (IsPartlyAddedOn stripe class tuple.now self.old self.new) }
     {
         add_tuple_at(&mut self.held, stripe, class, tuple)
+    }
+
+    /// Does on the fragment of a stripe that the pass writes what `Fragment::add_new_tuple` does.
+    pub fn add_new_tuple(
+        &mut self,
+        stripe: u32,
+        class: u8,
+        edge: u8,
+        tuple: &Tuple,
+    ) -> Result<(), AddStop>
+        requires held { In stripe (writes_of (core_of self.old)) }
+        requires can { OfHeld self.old.held stripe (CanAddNewTo class edge tuple.now) }
+        ensures ok { OnOk result (self.new ≡ with_held stripe (with_tuple class tuple.now) self.old) }
+        ensures none { OnOk result (OfHeld self.old.held stripe (HasNoRowIn edge tuple.now)) }
+        ensures err { OnErr result (IsPartlyAddedOn stripe class tuple.now self.old self.new) }
+        ensures there { result ≡ Err stop.There → OfHeld self.old.held stripe (HasRowIn edge tuple.now) × (self.new ≡ self.old) }
+    {
+        add_new_tuple_at(&mut self.held, stripe, class, edge, tuple)
     }
 
     /// Does on the fragment of a stripe that the pass writes what `Fragment::sub_tuple` does.
@@ -105,6 +124,27 @@ fn add_tuple_at(
 {
     let at = place_of(held, stripe);
     held[at].fragment.add_tuple(class, tuple)
+}
+
+/// Adds a tuple's rows of a class to the fragment of a held stripe, where the edge has none with its source and key.
+fn add_new_tuple_at(
+    held: &mut Vec<HeldFragment>,
+    stripe: u32,
+    class: u8,
+    edge: u8,
+    tuple: &Tuple,
+) -> Result<(), AddStop>
+    requires held { In stripe (stripes_in (holds_taken held.old.items)) }
+    requires rising { IsRising nat_cmp (stripes_in (holds_taken held.old.items)) }
+    requires can { OfHeld held.old.items stripe (CanAddNewTo class edge tuple.now) }
+    ensures ok { OnOk result (held.new.items ≡ held_with stripe (with_tuple class tuple.now) held.old.items) }
+    ensures none { OnOk result (OfHeld held.old.items stripe (HasNoRowIn edge tuple.now)) }
+    ensures err { OnErr result (ArePartlyAddedOn stripe class tuple.now held.old.items held.new.items) }
+    ensures there { result ≡ Err stop.There → OfHeld held.old.items stripe (HasRowIn edge tuple.now) × (held.new.items ≡ held.old.items) }
+    ensures room { held.new.cap ≡ held.old.cap }
+{
+    let at = place_of(held, stripe);
+    held[at].fragment.add_new_tuple(class, edge, tuple)
 }
 
 /// Takes a tuple's rows of a class out of the fragment of a held stripe.

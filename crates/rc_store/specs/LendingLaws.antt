@@ -16,16 +16,16 @@ use Rattle.rc_spec.specs.Fragments.{EdgeRow}
 use Rattle.rc_spec.specs.Stripes.{stripe_total}
 use Rattle.rc_fragment.specs.declared.held.Held.{Held}
 use Rattle.rc_fragment.specs.declared.shape.EdgeShape.{EdgeShape}
-use Rattle.rc_fragment.specs.Fragment.{edge_table}
+use Rattle.rc_fragment.specs.Fragment.{HasColumns, HasNoRowOf, edge_row, edge_table}
 use Rattle.rc_fragment.specs.FragmentRows.{FragmentRows, with_promise}
-use Rattle.rc_fragment.specs.Holder.{AreOfOneRelation, CanLower, CanRaise, HasRefused, HasRisen, HasRoomFor, HeldStripe, IsAbove as IsAboveHeld, IsHeld, IsHeldExclusive, IsLent, IsPartlyAddedAt, LentStripe, held_of, with_changes, with_changes_at, with_room, with_room_at}
-use Rattle.rc_fragment.specs.Tuples.{ArePartlyAdded, CanAddTuple, HasTuple, changed_by, changes_of_class}
+use Rattle.rc_fragment.specs.Holder.{AreOfOneRelation, CanLower, CanRaise, CanRaiseNew, HasRefused, HasRisen, HasRoomFor, HeldStripe, IsAbove as IsAboveHeld, IsHeld, IsHeldExclusive, IsLent, IsPartlyAddedAt, LentStripe, held_of, with_changes, with_changes_at, with_room, with_room_at}
+use Rattle.rc_fragment.specs.Tuples.{ArePartlyAdded, CanAddTuple, HasTuple, IsFirstKept, changed_by, changes_of_class}
 use Rattle.rc_core.specs.declared.state.Hold.{Hold}
 use Rattle.rc_core.specs.ListLaws.{in_stripes, stripes_have, stripes_in_have}
 use Rattle.rc_core.specs.Passes.{IsAbove}
 use Rattle.rc_core.specs.State.{hold, stripes_in, writes_of}
 use Rattle.rc_row.specs.HeldRows.{HeldRows}
-use Rattle.rc_row.specs.Passes.{CanAddTo, CanSubFrom, IsPartlyAddedOn, IsPassOf, OfHeld, PassSeen, RowSeen, core_of, holds_now, holds_taken, spec_of, stripes_of, with_fragment, with_held, with_standing}
+use Rattle.rc_row.specs.Passes.{CanAddNewTo, CanAddTo, CanSubFrom, IsPartlyAddedOn, IsPassOf, OfHeld, PassSeen, RowSeen, core_of, holds_now, holds_taken, spec_of, stripes_of, with_fragment, with_held, with_standing}
 use Rattle.rc_row.specs.Standings.{HaveOneRelation, turned_away}
 use Rattle.rc_row.specs.StandingsLaws.{refusals_first}
 use Rattle.rc_store.specs.declared.lender.Refused.{Refused}
@@ -129,6 +129,22 @@ module _ (row : RowSeen) (pass : PassSeen) (refused : Option Refused) (n : ℕ) 
         can = subst (λ (table : List EdgeShape). CanAddTuple table h.fragment.now class t) (sym shape) (can (held_stripe h) (lent_there h m) at);
       })
 
+  pub may_add_new : (p class e : ℕ) (t : Pairs) → IsPassOf row pass → e < length (edge_table (spec_of row)) → IsFirstKept (edge_table (spec_of row)) class e → HasRoomFor (lending row pass refused n) p class
+      → HasColumns (edge_table (spec_of row)) e (edge_row (edge_table (spec_of row)) e t) → CanRaiseNew (lending row pass refused n) p class e t
+      → OfHeld pass.held p (CanAddNewTo class e t)
+  may_add_new p class e t of known first room columns can =
+      each_held (λ (h : HeldRows). h.stripe ≡ p → CanAddNewTo class e t h.fragment) (λ h m at.
+      let shape : h.fragment.table ≡ edge_table (spec_of row) = shape_there of h m in
+      record {
+        known = subst (λ (table : List EdgeShape). e < length table) (sym shape) known;
+        first = subst (λ (table : List EdgeShape). IsFirstKept table class e) (sym shape) first;
+        owned = subst (λ (table : List EdgeShape). changes_of_class table class ≤ h.fragment.room) (sym shape) (room.all (lent_stripe h) (map_in lent_stripe h pass.held m) at);
+        some = room.some (lent_stripe h) (map_in lent_stripe h pass.held m) at;
+        columns = subst (λ (table : List EdgeShape). HasColumns table e (edge_row table e t)) (sym shape) columns;
+        can = λ none. subst (λ (table : List EdgeShape). CanAddTuple table h.fragment.now class t) (sym shape)
+            (can (held_stripe h) (lent_there h m) at (subst (λ (table : List EdgeShape). HasNoRowOf table h.fragment.now e t) shape none));
+      })
+
   pub may_sub : (p class : ℕ) (t : Pairs) → IsPassOf row pass → HasRoomFor (lending row pass refused n) p class → CanLower (lending row pass refused n) p class t
       → OfHeld pass.held p (CanSubFrom class t)
   may_sub p class t of room can =
@@ -218,6 +234,15 @@ module _ (row : RowSeen) (pass : PassSeen) (refused : Option Refused) (n : ℕ) 
             (of_fragment p (λ f. ArePartlyAdded f.table class t f.now some.rows) some.added w.0 w.1 (sym (ap (λ (h : HeldStripe). h.stripe) w.2) ∙ at)));
         value = ap (λ (q : PassSeen). lending row q refused n) (partly_with p class t pass new partly) ∙ told_change p (λ _. some.changes) (λ _ _. some.rows) of;
       }
+
+  -- what is so of the fragment of a stripe is told of its rows
+  pub told_rows : (P : List EdgeShape → List EdgeRow → Type 0) (p : ℕ) → IsPassOf row pass → OfHeld pass.held p (λ f. P f.table f.now)
+      → (h : HeldStripe) → In h (held_of (lending row pass refused n)) → h.stripe ≡ p → P (edge_table (spec_of row)) h.now
+  told_rows P p of facts h m at =
+      let w = of_told h m in
+      subst (P (edge_table (spec_of row))) (sym (ap (λ (h : HeldStripe). h.now) w.2))
+      (subst (λ (table : List EdgeShape). P table w.0.fragment.now) (shape_there of w.0 w.1)
+      (of_fragment p (λ f. P f.table f.now) facts w.0 w.1 (sym (ap (λ (h : HeldStripe). h.stripe) w.2) ∙ at)))
 
   -- ---- what stays after a change
 

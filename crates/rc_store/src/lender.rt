@@ -4,7 +4,7 @@ ghost use Rattle.rc_row.specs.Passes.{IsPassOf};
 ghost use Rattle.rc_store.specs.OfRowLaws.{of_row_once};
 
 use crate::taking::Takes;
-use rc_fragment::{Fragment, Held, Holder, TakeStop};
+use rc_fragment::{AddStop, Fragment, Held, Holder, TakeStop};
 use rc_row::{Pass, Row};
 use rc_spec::Mode;
 use rc_tuple::{Memory, Tuple};
@@ -93,6 +93,17 @@ impl<'a, L: Lends, T: Takes> Holder for Lender<'a, L, T> {
     fn add_tuple(&mut self, stripe: u32, class: u8, tuple: &Tuple) -> Result<(), Memory> {
         self.pass.held_agrees();
         self.pass.add_tuple(stripe, class, tuple)
+    }
+
+    fn add_new_tuple(
+        &mut self,
+        stripe: u32,
+        class: u8,
+        edge: u8,
+        tuple: &Tuple,
+    ) -> Result<(), AddStop> {
+        self.pass.held_agrees();
+        self.pass.add_new_tuple(stripe, class, edge, tuple)
     }
 
     fn sub_tuple(&mut self, stripe: u32, class: u8, tuple: &Tuple) {

@@ -1,76 +1,146 @@
-use Rattle.std.proofs.Common.{◌∙◌, None, refl, subst, sym, [], Option, List, ℕ}
-use Rattle.std.specs.Option.{option_copied}
-use Rattle.rc_spec.specs.declared.call.Reply.TheVariants.{Inserted}
+use Rattle.std.proofs.Common.{◌≡◌, ◌∷◌, ◌∙◌, Err, None, refl, subst, sym, ap, map, [], List}
+use Rattle.rc_tuple.specs.RisingSet.{In}
+use Rattle.rc_spec.specs.declared.call.Reply.TheVariants.{Inserted, Present}
 use Rattle.rc_spec.specs.declared.items.OpKind.TheVariants.{Insert}
-use Rattle.rc_spec.specs.declared.spec.Spec.{Spec}
-use Rattle.rc_fragment.specs.Fragment.{shape_of}
-use Rattle.rc_fragment.specs.Holder.{AreOfOneRelation, held_of}
-use Rattle.rc_machine.specs.Access.{IsRowFound}
-use Rattle.rc_machine.proofs.EdgeChangeLemmas.{can_insert, insert_replies, present_replies, unanswered}
-use Rattle.rc_machine.proofs.EdgeRowLemmas.{nothing_told, values_told}
+use Rattle.rc_spec.specs.Placement.{class_of}
+use Rattle.rc_fragment.specs.Holder.{AreOfOneRelation, CanRaiseNew, HasRoomFor, held_of, reverted, with_tuple_at}
+use Rattle.rc_fragment.specs.Tuples.{IsFirstKept}
+use Rattle.rc_machine.specs.Access.{IsFirstEdge}
+use Rattle.rc_machine.specs.Apply.{HaveRoom, IsSameButLent}
+use Rattle.rc_machine.specs.Machine.{HasReplied}
+use Rattle.rc_plan.specs.Compiled.{plan_at}
+use Rattle.rc_machine.specs.declared.stripe.ClassStripe.{ClassStripe}
+use Rattle.rc_machine.proofs.EdgeChangeLemmas.{insert_replies, present_replies, unanswered}
 use Rattle.rc_machine.proofs.GoLemmas.{applied_told, told_alike}
-use Rattle.rc_machine.proofs.LentLemmas.{lent_goes_on}
+use Rattle.rc_machine.proofs.InsertLemmas.{all_added, first_can, first_columns, first_exclusive, first_held, first_known, first_room, first_used, half_alike, half_lent, half_table, left_can, left_places, not_none, nowhere, somewhere, table, whole}
+use Rattle.rc_machine.proofs.LentLemmas.{lent_again, lent_goes_on}
 use Rattle.rc_machine.proofs.ReadLemmas.{is_held}
+use Rattle.rc_machine.proofs.RevertLemmas.{partly_alike, partly_lent}
 use Rattle.rc_machine.proofs.edge_change.insert_by_edge.Given.{Over}
-use Rattle.rc_machine.proofs.edge_change.insert_by_edge.Goals.{Else-is_some, In_ok-find_row, Start}
+use Rattle.rc_machine.proofs.edge_change.insert_by_edge.Goals.{After-edge, In-Ok, In_ok-make_room, Start}
 use Rattle.rc_machine.proofs.edge_change.insert_by_edge.Goals as goal
 
 -- what is held, as taken, is of one relation
 one : (g : Over) (c : Start g) → AreOfOneRelation c.args.compiled.now.spec (held_of (g.H.Holder.seen c.args.holder.now))
 one g c = g.met.H.Holder.sound_rows c.args.holder.now c.args.compiled.now.spec c.requires.sound
 
--- what was looked up, as the edge's
-abbrev IsLooked : (g : Over) (c : In_ok-find_row g) → Option (List ℕ) → Type 0
-IsLooked g c found = IsRowFound (shape_of c.args.compiled.now.spec c.args.path.edge) c.fragment-fragment.result.now.now c.args.path.edge c.args.call.now.args found
+-- the path's edge is the first whose row is added
+lead : (g : Over) (c : After-edge g) → IsFirstEdge c.args.compiled.now.spec c.args.path.edge
+lead g c = c.is_first.ensures c.if-not-is_first.false
 
-looked : (g : Over) (c : In_ok-find_row g) → IsLooked g c (option_copied c.in_ok-find_row.field-0)
-looked g c =
-    let spec = c.args.compiled.now.spec in
-    let rows = c.fragment-fragment.result.now.now in
-    let found = option_copied c.in_ok-find_row.field-0 in
-    subst (λ e. IsRowFound (shape_of spec e) rows e c.args.call.now.args found) c.of-read.ensures.edge
-    (subst (λ (s : Spec). IsRowFound (shape_of s c.of-read.result.edge) rows c.of-read.result.edge c.args.call.now.args found) c.of-read.ensures.spec c.in_ok-find_row.ensures)
+-- the first place has room
+roomy : (g : Over) (c : In_ok-make_room g) → HaveRoom (c.in-Some.first.now ∷ []) (g.H.Holder.seen c.make_room.new.holder)
+roomy g c = subst (λ (ps : List ClassStripe). HaveRoom ps (g.H.Holder.seen c.make_room.new.holder)) c.from_ref.ensures.value c.in_ok-make_room.ensures.room
 
-nowhere : (g : Over) (c : Else-is_some g) → IsLooked g c.before.before.before None
-nowhere g c = subst (IsLooked g c.before.before.before) (nothing_told c.in_ok-find_row.field-0 (sym c.is_some.ensures ∙ c.if-is_some.false)) (looked g c.before.before.before)
+-- the first place's rows are added
+added : (g : Over) (c : In-Ok g) → g.H.Holder.seen c.add_new_tuple.new.self ≡ with_tuple_at c.args.stripe (class_of c.args.compiled.now.spec c.args.path.edge) c.args.call.now.args (g.H.Holder.seen c.make_room.new.holder)
+added g c = subst (λ k. g.H.Holder.seen c.add_new_tuple.new.self ≡ with_tuple_at c.args.stripe k c.args.call.now.args (g.H.Holder.seen c.make_room.new.holder)) c.edge.ensures.class c.in-Ok.ensures.ok
 
 pub fragment-fragment-requires : goal.fragment-fragment-requires
 fragment-fragment-requires g c = is_held (held_of (g.H.Holder.seen c.args.holder.now)) c.args.stripe c.requires.locked.held
 
-pub returns-then-is_some-clause-answered : goal.returns-then-is_some-clause-answered
-returns-then-is_some-clause-answered g c =
-    let at = goal.at.returns-then-is_some-clause-answered g c in
-    let told = values_told c.in_ok-find_row.field-0 (sym c.is_some.ensures ∙ c.if-is_some.true) in
+pub place_classes-requires-clause-whole : goal.place_classes-requires-clause-whole
+place_classes-requires-clause-whole g c = let at = goal.at.place_classes-requires-clause-whole g c in whole c.args.compiled.now c.args.call.now c.args.path c.args.stripe (g.H.Holder.seen c.args.holder.now) c.requires.locked (one g at.Start) c.requires.insert
+
+pub unreachable-requires : goal.unreachable-requires
+unreachable-requires g c = let at = goal.at.unreachable-requires g c in not_none c.args.compiled.now c.args.call.now c.args.path c.args.stripe (g.H.Holder.seen c.args.holder.now) c.requires.locked (one g at.Start) c.requires.insert c.deref.result.now (c.deref.ensures.value ∙ c.in_ok-place_classes.ensures) (lead g at.After-edge).0 c.in_default.ensures.cases
+
+pub make_room-requires-clause-exclusive : goal.make_room-requires-clause-exclusive
+make_room-requires-clause-exclusive g c q m =
+    let at = goal.at.make_room-requires-clause-exclusive g c in
+    first_exclusive c.args.compiled.now c.args.call.now c.args.path c.args.stripe (g.H.Holder.seen c.args.holder.now) c.requires.locked (one g at.Start) c.requires.insert c.deref.result.now (c.deref.ensures.value ∙ c.in_ok-place_classes.ensures) (lead g at.After-edge).0 c.in-Some.first.now c.in-Some.others.now c.in-Some.ensures.cases.0 q (subst (In q) c.from_ref.ensures.value m)
+
+pub make_room-requires-clause-used : goal.make_room-requires-clause-used
+make_room-requires-clause-used g c q m =
+    let at = goal.at.make_room-requires-clause-used g c in
+    first_used c.args.compiled.now c.args.call.now c.args.path c.args.stripe (g.H.Holder.seen c.args.holder.now) c.requires.locked (one g at.Start) c.requires.insert c.deref.result.now (c.deref.ensures.value ∙ c.in_ok-place_classes.ensures) (lead g at.After-edge).0 c.in-Some.first.now c.in-Some.others.now c.in-Some.ensures.cases.0 q (subst (In q) c.from_ref.ensures.value m)
+
+pub add_new_tuple-requires-clause-exclusive : goal.add_new_tuple-requires-clause-exclusive
+add_new_tuple-requires-clause-exclusive g c = let at = goal.at.add_new_tuple-requires-clause-exclusive g c in first_held c.args.compiled.now c.args.call.now c.args.path c.args.stripe (g.H.Holder.seen c.args.holder.now) c.requires.locked (one g at.Start) c.requires.insert c.deref.result.now (c.deref.ensures.value ∙ c.in_ok-place_classes.ensures) (lead g at.After-edge).0 c.in-Some.first.now c.in-Some.others.now c.in-Some.ensures.cases.0 (g.H.Holder.seen c.make_room.new.holder) c.in_ok-make_room.ensures.held c.in_ok-make_room.ensures.lent (roomy g at.In_ok-make_room) c.fragment-fragment.result.now c.fragment-fragment.ensures
+
+pub add_new_tuple-requires-clause-known : goal.add_new_tuple-requires-clause-known
+add_new_tuple-requires-clause-known g c = let at = goal.at.add_new_tuple-requires-clause-known g c in first_known c.args.compiled.now c.args.call.now c.args.path c.args.stripe (g.H.Holder.seen c.args.holder.now) c.requires.locked (one g at.Start) c.requires.insert c.deref.result.now (c.deref.ensures.value ∙ c.in_ok-place_classes.ensures) (lead g at.After-edge).0 c.in-Some.first.now c.in-Some.others.now c.in-Some.ensures.cases.0 (g.H.Holder.seen c.make_room.new.holder) c.in_ok-make_room.ensures.held c.in_ok-make_room.ensures.lent (roomy g at.In_ok-make_room) c.fragment-fragment.result.now c.fragment-fragment.ensures
+
+pub add_new_tuple-requires-clause-first : goal.add_new_tuple-requires-clause-first
+add_new_tuple-requires-clause-first g c =
+    let at = goal.at.add_new_tuple-requires-clause-first g c in
+    subst (λ k. IsFirstKept (g.H.Holder.seen c.make_room.new.holder).table k c.args.path.edge) (sym c.edge.ensures.class)
+    (subst (λ z. IsFirstKept z (class_of c.args.compiled.now.spec c.args.path.edge) c.args.path.edge) (sym (table c.args.compiled.now c.args.call.now c.args.path c.args.stripe (g.H.Holder.seen c.args.holder.now) c.requires.locked (one g at.Start) c.requires.insert c.deref.result.now (c.deref.ensures.value ∙ c.in_ok-place_classes.ensures) (lead g at.After-edge).0 c.in-Some.first.now c.in-Some.others.now c.in-Some.ensures.cases.0 (g.H.Holder.seen c.make_room.new.holder) c.in_ok-make_room.ensures.held c.in_ok-make_room.ensures.lent (roomy g at.In_ok-make_room) c.fragment-fragment.result.now c.fragment-fragment.ensures)) (lead g at.After-edge).1)
+
+pub add_new_tuple-requires-clause-owned : goal.add_new_tuple-requires-clause-owned
+add_new_tuple-requires-clause-owned g c =
+    let at = goal.at.add_new_tuple-requires-clause-owned g c in
+    subst (λ k. HasRoomFor (g.H.Holder.seen c.make_room.new.holder) c.args.stripe k) (sym c.edge.ensures.class) (first_room c.args.compiled.now c.args.call.now c.args.path c.args.stripe (g.H.Holder.seen c.args.holder.now) c.requires.locked (one g at.Start) c.requires.insert c.deref.result.now (c.deref.ensures.value ∙ c.in_ok-place_classes.ensures) (lead g at.After-edge).0 c.in-Some.first.now c.in-Some.others.now c.in-Some.ensures.cases.0 (g.H.Holder.seen c.make_room.new.holder) c.in_ok-make_room.ensures.held c.in_ok-make_room.ensures.lent (roomy g at.In_ok-make_room) c.fragment-fragment.result.now c.fragment-fragment.ensures)
+
+pub add_new_tuple-requires-clause-columns : goal.add_new_tuple-requires-clause-columns
+add_new_tuple-requires-clause-columns g c = let at = goal.at.add_new_tuple-requires-clause-columns g c in first_columns c.args.compiled.now c.args.call.now c.args.path c.args.stripe (g.H.Holder.seen c.args.holder.now) c.requires.locked (one g at.Start) c.requires.insert c.deref.result.now (c.deref.ensures.value ∙ c.in_ok-place_classes.ensures) (lead g at.After-edge).0 c.in-Some.first.now c.in-Some.others.now c.in-Some.ensures.cases.0 (g.H.Holder.seen c.make_room.new.holder) c.in_ok-make_room.ensures.held c.in_ok-make_room.ensures.lent (roomy g at.In_ok-make_room) c.fragment-fragment.result.now c.fragment-fragment.ensures
+
+pub add_new_tuple-requires-clause-can : goal.add_new_tuple-requires-clause-can
+add_new_tuple-requires-clause-can g c =
+    let at = goal.at.add_new_tuple-requires-clause-can g c in
+    subst (λ k. CanRaiseNew (g.H.Holder.seen c.make_room.new.holder) c.args.stripe k c.args.path.edge c.args.call.now.args) (sym c.edge.ensures.class) (first_can c.args.compiled.now c.args.call.now c.args.path c.args.stripe (g.H.Holder.seen c.args.holder.now) c.requires.locked (one g at.Start) c.requires.insert c.deref.result.now (c.deref.ensures.value ∙ c.in_ok-place_classes.ensures) (lead g at.After-edge).0 c.in-Some.first.now c.in-Some.others.now c.in-Some.ensures.cases.0 (g.H.Holder.seen c.make_room.new.holder) c.in_ok-make_room.ensures.held c.in_ok-make_room.ensures.lent (roomy g at.In_ok-make_room) c.fragment-fragment.result.now c.fragment-fragment.ensures)
+
+pub returns-in-Err-There-clause-answered : goal.returns-in-Err-There-clause-answered
+returns-in-Err-There-clause-answered g c =
+    let at = goal.at.returns-in-Err-There-clause-answered g c in
+    let old = g.H.Holder.seen c.args.holder.now in
+    let mid = g.H.Holder.seen c.make_room.new.holder in
+    let new = g.H.Holder.seen c.add_new_tuple.new.self in
+    let there = c.in-Err-There.ensures.there (ap Err c.in-Err-There.field-0-is) in
+    let found = somewhere c.args.compiled.now c.args.call.now c.args.path c.args.stripe (g.H.Holder.seen c.args.holder.now) c.requires.locked (one g at.Start) c.requires.insert c.deref.result.now (c.deref.ensures.value ∙ c.in_ok-place_classes.ensures) (lead g at.After-edge).0 c.in-Some.first.now c.in-Some.others.now c.in-Some.ensures.cases.0 (g.H.Holder.seen c.make_room.new.holder) c.in_ok-make_room.ensures.held c.in_ok-make_room.ensures.lent (roomy g at.In_ok-make_room) c.fragment-fragment.result.now c.fragment-fragment.ensures there.0 in
+    let held : held_of new ≡ held_of old = ap held_of there.1 ∙ c.in_ok-make_room.ensures.held in
+    let lent : IsSameButLent old new = subst (IsSameButLent old) (sym there.1) c.in_ok-make_room.ensures.lent in
     record {
-      answered = present_replies c.args.compiled.now c.args.call.now c.args.path c.args.stripe (g.H.Holder.seen c.args.holder.now) c.requires.locked (one g at.Start) c.requires.insert c.fragment-fragment.result.now c.fragment-fragment.ensures told.0
-          (subst (IsLooked g at.In_ok-find_row) told.1 (looked g at.In_ok-find_row));
-      taken = c.requires.locked.taken;
-      lent = refl;
+      answered = subst (λ z. HasReplied c.args.compiled.now.spec (plan_at c.args.compiled.now.plans c.args.call.now.op) c.args.call.now z Present) (sym held)
+          (present_replies c.args.compiled.now c.args.call.now c.args.path c.args.stripe (g.H.Holder.seen c.args.holder.now) c.requires.locked (one g at.Start) c.requires.insert c.fragment-fragment.result.now c.fragment-fragment.ensures found.0 found.1);
+      taken = told_alike old new (lent_goes_on old new lent) (ap (map reverted) held) c.requires.locked.taken;
+      lent = lent;
     }
 
-pub add_rows-requires-clause-can : goal.add_rows-requires-clause-can
-add_rows-requires-clause-can g c =
-    let at = goal.at.add_rows-requires-clause-can g c in
-    can_insert c.args.compiled.now c.args.call.now c.args.path c.args.stripe (g.H.Holder.seen c.args.holder.now) c.requires.locked (one g at.Start) c.requires.insert c.fragment-fragment.result.now c.fragment-fragment.ensures (nowhere g at.Else-is_some)
-
-pub returns-in_err-add_rows-clause-answered : goal.returns-in_err-add_rows-clause-answered
-returns-in_err-add_rows-clause-answered g c =
+pub returns-in-Err-Memory-clause-answered : goal.returns-in-Err-Memory-clause-answered
+returns-in-Err-Memory-clause-answered g c =
     let old = g.H.Holder.seen c.args.holder.now in
-    let new = g.H.Holder.seen c.add_rows.new.holder in
-    let failed = c.in_err-add_rows.ensures in
-    unanswered c.args.compiled.now c.args.call.now old new c.from_residual-in_err-add_rows.result c.from_residual-in_err-add_rows.ensures.0
-    (told_alike old new (lent_goes_on old new failed.lent) failed.alike c.requires.locked.taken) failed.lent
+    let mid = g.H.Holder.seen c.make_room.new.holder in
+    let new = g.H.Holder.seen c.add_new_tuple.new.self in
+    let partly = c.in-Err-Memory.ensures.err in
+    let lent : IsSameButLent old new = lent_again old mid new c.in_ok-make_room.ensures.lent (partly_lent c.args.stripe c.edge.result.now.class c.args.call.now.args mid new partly) in
+    record {
+      answered = tt;
+      taken = told_alike old new (lent_goes_on old new lent) (partly_alike c.args.stripe c.edge.result.now.class c.args.call.now.args mid new partly ∙ ap (map reverted) c.in_ok-make_room.ensures.held) c.requires.locked.taken;
+      lent = lent;
+    }
+
+pub add_placed-requires-clause-table : goal.add_placed-requires-clause-table
+add_placed-requires-clause-table g c = let at = goal.at.add_placed-requires-clause-table g c in half_table c.args.compiled.now c.args.call.now c.args.path c.args.stripe (g.H.Holder.seen c.args.holder.now) c.requires.locked (one g at.Start) c.requires.insert c.deref.result.now (c.deref.ensures.value ∙ c.in_ok-place_classes.ensures) (lead g at.After-edge).0 c.in-Some.first.now c.in-Some.others.now c.in-Some.ensures.cases.0 (g.H.Holder.seen c.make_room.new.holder) c.in_ok-make_room.ensures.held c.in_ok-make_room.ensures.lent (roomy g at.In_ok-make_room) c.fragment-fragment.result.now c.fragment-fragment.ensures c.in-Ok.ensures.none (g.H.Holder.seen c.add_new_tuple.new.self) (added g at.In-Ok)
+
+pub add_placed-requires-clause-places : goal.add_placed-requires-clause-places
+add_placed-requires-clause-places g c = let at = goal.at.add_placed-requires-clause-places g c in left_places c.args.compiled.now c.args.call.now c.args.path c.args.stripe (g.H.Holder.seen c.args.holder.now) c.requires.locked (one g at.Start) c.requires.insert c.deref.result.now (c.deref.ensures.value ∙ c.in_ok-place_classes.ensures) (lead g at.After-edge).0 c.in-Some.first.now c.in-Some.others.now c.in-Some.ensures.cases.0 (g.H.Holder.seen c.make_room.new.holder) c.in_ok-make_room.ensures.held c.in_ok-make_room.ensures.lent (roomy g at.In_ok-make_room) c.fragment-fragment.result.now c.fragment-fragment.ensures c.in-Ok.ensures.none (g.H.Holder.seen c.add_new_tuple.new.self) (added g at.In-Ok)
+
+pub add_placed-requires-clause-can : goal.add_placed-requires-clause-can
+add_placed-requires-clause-can g c = let at = goal.at.add_placed-requires-clause-can g c in left_can c.args.compiled.now c.args.call.now c.args.path c.args.stripe (g.H.Holder.seen c.args.holder.now) c.requires.locked (one g at.Start) c.requires.insert c.deref.result.now (c.deref.ensures.value ∙ c.in_ok-place_classes.ensures) (lead g at.After-edge).0 c.in-Some.first.now c.in-Some.others.now c.in-Some.ensures.cases.0 (g.H.Holder.seen c.make_room.new.holder) c.in_ok-make_room.ensures.held c.in_ok-make_room.ensures.lent (roomy g at.In_ok-make_room) c.fragment-fragment.result.now c.fragment-fragment.ensures c.in-Ok.ensures.none (g.H.Holder.seen c.add_new_tuple.new.self) (added g at.In-Ok)
+
+pub returns-in_err-add_placed-clause-answered : goal.returns-in_err-add_placed-clause-answered
+returns-in_err-add_placed-clause-answered g c =
+    let at = goal.at.returns-in_err-add_placed-clause-answered g c in
+    let old = g.H.Holder.seen c.args.holder.now in
+    let half = g.H.Holder.seen c.add_new_tuple.new.self in
+    let new = g.H.Holder.seen c.add_placed.new.holder in
+    let lent : IsSameButLent old new = lent_again old half new (half_lent c.args.compiled.now c.args.call.now c.args.path c.args.stripe (g.H.Holder.seen c.args.holder.now) c.requires.locked (one g at.Start) c.requires.insert c.deref.result.now (c.deref.ensures.value ∙ c.in_ok-place_classes.ensures) (lead g at.After-edge).0 c.in-Some.first.now c.in-Some.others.now c.in-Some.ensures.cases.0 (g.H.Holder.seen c.make_room.new.holder) c.in_ok-make_room.ensures.held c.in_ok-make_room.ensures.lent (roomy g at.In_ok-make_room) c.fragment-fragment.result.now c.fragment-fragment.ensures c.in-Ok.ensures.none (g.H.Holder.seen c.add_new_tuple.new.self) (added g at.In-Ok)) c.in_err-add_placed.ensures.lent in
+    unanswered c.args.compiled.now c.args.call.now old new c.from_residual-in_err-add_placed.result c.from_residual-in_err-add_placed.ensures.0
+    (told_alike old new (lent_goes_on old new lent) (c.in_err-add_placed.ensures.alike ∙ half_alike c.args.compiled.now c.args.call.now c.args.path c.args.stripe (g.H.Holder.seen c.args.holder.now) c.requires.locked (one g at.Start) c.requires.insert c.deref.result.now (c.deref.ensures.value ∙ c.in_ok-place_classes.ensures) (lead g at.After-edge).0 c.in-Some.first.now c.in-Some.others.now c.in-Some.ensures.cases.0 (g.H.Holder.seen c.make_room.new.holder) c.in_ok-make_room.ensures.held c.in_ok-make_room.ensures.lent (roomy g at.In_ok-make_room) c.fragment-fragment.result.now c.fragment-fragment.ensures c.in-Ok.ensures.none (g.H.Holder.seen c.add_new_tuple.new.self) (added g at.In-Ok)) c.requires.locked.taken) lent
 
 pub returns-clause-answered : goal.returns-clause-answered
 returns-clause-answered g c =
     let at = goal.at.returns-clause-answered g c in
     let spec = c.args.compiled.now.spec in
     let old = g.H.Holder.seen c.args.holder.now in
-    let new = g.H.Holder.seen c.add_rows.new.holder in
-    let added = c.in_ok-add_rows.ensures in
+    let half = g.H.Holder.seen c.add_new_tuple.new.self in
+    let new = g.H.Holder.seen c.add_placed.new.holder in
+    let lent : IsSameButLent old new = lent_again old half new (half_lent c.args.compiled.now c.args.call.now c.args.path c.args.stripe (g.H.Holder.seen c.args.holder.now) c.requires.locked (one g at.Start) c.requires.insert c.deref.result.now (c.deref.ensures.value ∙ c.in_ok-place_classes.ensures) (lead g at.After-edge).0 c.in-Some.first.now c.in-Some.others.now c.in-Some.ensures.cases.0 (g.H.Holder.seen c.make_room.new.holder) c.in_ok-make_room.ensures.held c.in_ok-make_room.ensures.lent (roomy g at.In_ok-make_room) c.fragment-fragment.result.now c.fragment-fragment.ensures c.in-Ok.ensures.none (g.H.Holder.seen c.add_new_tuple.new.self) (added g at.In-Ok)) c.in_ok-add_placed.ensures.lent in
+    let all = all_added c.args.compiled.now c.args.call.now c.args.path c.args.stripe (g.H.Holder.seen c.args.holder.now) c.requires.locked (one g at.Start) c.requires.insert c.deref.result.now (c.deref.ensures.value ∙ c.in_ok-place_classes.ensures) (lead g at.After-edge).0 c.in-Some.first.now c.in-Some.others.now c.in-Some.ensures.cases.0 (g.H.Holder.seen c.make_room.new.holder) c.in_ok-make_room.ensures.held c.in_ok-make_room.ensures.lent (roomy g at.In_ok-make_room) c.fragment-fragment.result.now c.fragment-fragment.ensures c.in-Ok.ensures.none (g.H.Holder.seen c.add_new_tuple.new.self) (added g at.In-Ok) (held_of new) c.in_ok-add_placed.ensures.ok in
+    let sound = c.in_ok-add_placed.ensures.sound spec (c.in-Ok.ensures.sound spec (c.in_ok-make_room.ensures.sound spec c.requires.sound)) in
     record {
-      answered = insert_replies c.args.compiled.now c.args.call.now c.args.path c.args.stripe (g.H.Holder.seen c.args.holder.now) c.requires.locked (one g at.Start) c.requires.insert c.fragment-fragment.result.now c.fragment-fragment.ensures (nowhere g at.Else-is_some)
-          (held_of new) added.ok (g.met.H.Holder.sound_rows c.add_rows.new.holder spec (added.sound spec c.requires.sound));
-      taken = applied_told spec Insert c.args.call.now.args None [] old new Inserted (refl, added.ok) (lent_goes_on old new added.lent) c.requires.locked.taken;
-      lent = added.lent;
+      answered = insert_replies c.args.compiled.now c.args.call.now c.args.path c.args.stripe (g.H.Holder.seen c.args.holder.now) c.requires.locked (one g at.Start) c.requires.insert c.fragment-fragment.result.now c.fragment-fragment.ensures (nowhere c.args.compiled.now c.args.call.now c.args.path c.args.stripe (g.H.Holder.seen c.args.holder.now) c.requires.locked (one g at.Start) c.requires.insert c.deref.result.now (c.deref.ensures.value ∙ c.in_ok-place_classes.ensures) (lead g at.After-edge).0 c.in-Some.first.now c.in-Some.others.now c.in-Some.ensures.cases.0 (g.H.Holder.seen c.make_room.new.holder) c.in_ok-make_room.ensures.held c.in_ok-make_room.ensures.lent (roomy g at.In_ok-make_room) c.fragment-fragment.result.now c.fragment-fragment.ensures c.in-Ok.ensures.none) (held_of new) all (g.met.H.Holder.sound_rows c.add_placed.new.holder spec sound);
+      taken = applied_told spec Insert c.args.call.now.args None [] old new Inserted (refl, all) (lent_goes_on old new lent) c.requires.locked.taken;
+      lent = lent;
     }

@@ -1,0 +1,7 @@
+use Rattle.std.proofs.Common.{◌≡◌}
+use Rattle.rc_fragment.specs.Implied.{raised_all}
+use Rattle.rc_fragment.specs.TuplesLaws.{changed_before}
+use Rattle.rc_fragment.proofs.fragment.add_new_kept_rows.Given as goal
+
+abbrev pub invariant-loop-edge : goal.invariant-loop-edge
+invariant-loop-edge l = l.stored ≡ changed_before raised_all l.class l.tuple l.edge l.fn.stored

@@ -1,0 +1,67 @@
+use Rattle.std.proofs.Common.{rules, ◌≡◌, Some, None, sym, ap, ◌∙◌}
+use Rattle.std.specs.FinMap as fin
+use Rattle.std.specs.HashMap.Entry.{entry_value}
+use Rattle.std.proofs.lemmas.Result.{on_err_weaker}
+use Rattle.rc_edges.specs.OneMapLaws.{if_ok}
+use Rattle.rc_edges.specs.RowsLaws.{started_at, started_new}
+use Rattle.rc_maps.specs.PairKeys.{pairs_of}
+use Rattle.rc_maps.specs.TableLaws.{stays}
+use Rattle.rc_maps.specs.SplitLaws.{changed_two, found_two, two-changed}
+use Rattle.rc_maps.proofs.pair_keys.PairKeys+Entry.add_new.Goals as goal
+use Rattle.rc_maps.proofs.pair_keys.PairKeys+Entry.add_new.Goals.{After-into_mut, In-Vacant}
+
+-- the entry that is there is the map's at the key
+kept : (c : After-into_mut) → fin.get (pairs_of c.args.self.now) c.args.key.now ≡ Some c.into_mut.result.now
+kept c =
+    found_two c.args.key.now (Some c.into_mut.result.now) c.args.self.now.map.entries
+    (sym c.into_mut.ensures.value ∙ ap entry_value (sym c.in-Occupied.is) ∙ c.in_ok-own.ensures.value)
+
+-- where there is none the map has none at the key
+none : (c : In-Vacant) → fin.get (pairs_of c.args.self.now) c.args.key.now ≡ None
+none c = found_two c.args.key.now None c.args.self.now.map.entries (sym (rw c.in-Vacant.is at c.in_ok-own.ensures.found))
+
+pub invariant_of-self-in-Occupied : goal.invariant_of-self-in-Occupied
+invariant_of-self-in-Occupied c =
+    let w = c.start.new.self in
+    let u = c.in_ok-own.ensures.update.0 w in
+    let all = two-changed c.args.key.now w c.args.self.now.map.entries _ c.requires c.args.self.now.all_have_two u.3 u.1 in
+    record { all_have_two = search rules }
+
+pub invariant_of-self-in-Vacant : goal.invariant_of-self-in-Vacant
+invariant_of-self-in-Vacant c =
+    let w = c.in_ok-entry-in-Vacant.entry in
+    let u = c.in_ok-own.ensures.update.0 w in
+    let all = two-changed c.args.key.now w c.args.self.now.map.entries _ c.requires c.args.self.now.all_have_two u.3 u.1 in
+    record { all_have_two = search rules }
+
+pub returns-in-Occupied-clause-ok : goal.returns-in-Occupied-clause-ok
+returns-in-Occupied-clause-ok c =
+    let key = c.args.key.now in
+    let old = c.args.self.now in
+    let at = kept (goal.at.returns-in-Occupied-clause-ok c).After-into_mut in
+    let w = c.start.new.self in
+    let u = c.in_ok-own.ensures.update.0 w in
+    if_ok c.start.result
+    (started_at (pairs_of old) _ key c.args.extra.now c.into_mut.result.now w at
+    (changed_two key (Some w) old.map.entries _ (search rules) (search rules))) c.start.ensures.ok
+
+pub returns-in-Occupied-clause-err : goal.returns-in-Occupied-clause-err
+returns-in-Occupied-clause-err c =
+    let key = c.args.key.now in
+    let old = c.args.self.now in
+    let at = kept (goal.at.returns-in-Occupied-clause-err c).After-into_mut in
+    let w = c.start.new.self in
+    let u = c.in_ok-own.ensures.update.0 w in
+    on_err_weaker c.start.result
+    (λ e. stays (pairs_of old) _ key w (Some c.into_mut.result.now) at
+    (changed_two key (Some w) old.map.entries _ (search rules) (search rules)) (ap Some e)) c.start.ensures.err
+
+pub returns-in_ok-entry-in-Vacant-clause-ok : goal.returns-in_ok-entry-in-Vacant-clause-ok
+returns-in_ok-entry-in-Vacant-clause-ok c =
+    let key = c.args.key.now in
+    let old = c.args.self.now in
+    let at = none (goal.at.returns-in_ok-entry-in-Vacant-clause-ok c).In-Vacant in
+    let w = c.in_ok-entry-in-Vacant.entry in
+    let u = c.in_ok-own.ensures.update.0 w in
+    started_new (pairs_of old) _ key c.args.extra.now w at
+    (changed_two key (Some w) old.map.entries _ (search rules) (search rules)) c.in_ok-entry-in-Vacant.ensures

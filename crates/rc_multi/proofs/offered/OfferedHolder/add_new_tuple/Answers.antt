@@ -1,0 +1,76 @@
+use Rattle.std.proofs.lemmas.Result.{on_err_weaker, on_ok_weaker}
+use Rattle.std.proofs.Common.{ap, ◌∙◌}
+use Rattle.rc_fragment.specs.Fragment.{HasNoRowOf, HasRowOf}
+use Rattle.rc_fragment.specs.Holder.{Holding, held_of}
+use Rattle.rc_fragment.specs.HoldingLaws.{IsChangedAt}
+use Rattle.rc_fragment.specs.Implied.{raised_all}
+use Rattle.rc_fragment.specs.ImpliedTables.{class_rows}
+use Rattle.rc_fragment.specs.Tuples.{changes_of_class}
+use Rattle.rc_multi.specs.Offering.{offering}
+use Rattle.rc_multi.specs.OfferingLaws.{exclusive_there, raise_new_there, room_there, told_change, told_partly, told_rows}
+use Rattle.rc_multi.specs.OfferedLaws.{changed_lend, changed_offer, either_changed, is_held}
+use Rattle.rc_multi.proofs.offered.OfferedHolder.add_new_tuple.Goals as goal
+
+pub add_new_tuple-requires-clause-exclusive : goal.add_new_tuple-requires-clause-exclusive
+add_new_tuple-requires-clause-exclusive g c =
+    let o = c.args.self.now in
+    exclusive_there (held_of (g.H.Holder.seen o.begun.now.value)) (g.H.Holder.seen o.holder.now) o.taken.now.items o.holder.ghost_name o.kept c.args.stripe c.requires.exclusive
+
+pub add_new_tuple-requires-clause-owned : goal.add_new_tuple-requires-clause-owned
+add_new_tuple-requires-clause-owned g c =
+    let o = c.args.self.now in
+    room_there (held_of (g.H.Holder.seen o.begun.now.value)) (g.H.Holder.seen o.holder.now) o.taken.now.items o.holder.ghost_name c.args.stripe c.args.class (is_held _ c.args.stripe c.requires.exclusive) c.requires.owned
+
+pub add_new_tuple-requires-clause-can : goal.add_new_tuple-requires-clause-can
+add_new_tuple-requires-clause-can g c =
+    let o = c.args.self.now in
+    raise_new_there (held_of (g.H.Holder.seen o.begun.now.value)) (g.H.Holder.seen o.holder.now) o.taken.now.items o.holder.ghost_name c.args.stripe c.args.class c.args.edge c.args.tuple.now (is_held _ c.args.stripe c.requires.exclusive) c.requires.can
+
+pub invariant_of-self : goal.invariant_of-self
+invariant_of-self g c =
+    let o = c.args.self.now in
+    let old : Holding = g.H.Holder.seen o.holder.now in
+    let new : Holding = g.H.Holder.seen c.add_new_tuple.new.self in
+    let class = c.args.class in
+    let t = c.args.tuple.now in
+    let changed : IsChangedAt c.args.stripe old new =
+    either_changed c.add_new_tuple.result c.args.stripe class (changes_of_class old.table class) t (raised_all (class_rows old.table class t)) old new c.add_new_tuple.ensures.ok c.add_new_tuple.ensures.err in
+    record {
+      steady = changed_lend c.args.stripe (g.H.Holder.seen o.begun.now.value) old new o.steady changed;
+      kept = changed_offer c.args.stripe (held_of (g.H.Holder.seen o.begun.now.value)) old new o.taken.now.items o.holder.ghost_name o.kept (is_held _ c.args.stripe c.requires.exclusive) changed;
+    }
+
+pub returns-clause-ok : goal.returns-clause-ok
+returns-clause-ok g c =
+    let o = c.args.self.now in
+    let old : Holding = g.H.Holder.seen o.holder.now in
+    let class = c.args.class in
+    let t = c.args.tuple.now in
+    on_ok_weaker c.add_new_tuple.result
+    (λ e. ap (λ (s : Holding). offering (held_of (g.H.Holder.seen o.begun.now.value)) s o.taken.now.items o.holder.ghost_name) e
+    ∙ told_change (held_of (g.H.Holder.seen o.begun.now.value)) old o.taken.now.items o.holder.ghost_name c.args.stripe (changes_of_class old.table class) (raised_all (class_rows old.table class t)))
+    c.add_new_tuple.ensures.ok
+
+pub returns-clause-err : goal.returns-clause-err
+returns-clause-err g c =
+    let o = c.args.self.now in
+    on_err_weaker c.add_new_tuple.result
+    (told_partly (held_of (g.H.Holder.seen o.begun.now.value)) (g.H.Holder.seen o.holder.now) o.taken.now.items o.holder.ghost_name (g.H.Holder.seen c.add_new_tuple.new.self) c.args.stripe c.args.class c.args.tuple.now)
+    c.add_new_tuple.ensures.err
+
+pub returns-clause-none : goal.returns-clause-none
+returns-clause-none g c =
+    let o = c.args.self.now in
+    let old : Holding = g.H.Holder.seen o.holder.now in
+    on_ok_weaker c.add_new_tuple.result
+    (told_rows (held_of (g.H.Holder.seen o.begun.now.value)) old o.taken.now.items o.holder.ghost_name c.args.stripe (λ rows. HasNoRowOf old.table rows c.args.edge c.args.tuple.now))
+    c.add_new_tuple.ensures.none
+
+pub returns-clause-there : goal.returns-clause-there
+returns-clause-there g c e =
+    let o = c.args.self.now in
+    let old : Holding = g.H.Holder.seen o.holder.now in
+    let there = c.add_new_tuple.ensures.there e in (
+      told_rows (held_of (g.H.Holder.seen o.begun.now.value)) old o.taken.now.items o.holder.ghost_name c.args.stripe (λ rows. HasRowOf old.table rows c.args.edge c.args.tuple.now) there.0,
+      ap (λ (s : Holding). offering (held_of (g.H.Holder.seen o.begun.now.value)) s o.taken.now.items o.holder.ghost_name) there.1,
+    )
