@@ -8,16 +8,17 @@ ghost use Rattle.rc_spec.specs.declared.items.OpKind.TheVariants.{Insert};
 ghost use Rattle.rc_spec.specs.declared.lock.Mode.TheVariants.{Exclusive};
 ghost use Rattle.rc_spec.specs.Calls.{all_columns};
 ghost use Rattle.rc_spec.specs.InRange.{IsInRange};
-ghost use Rattle.rc_spec.specs.Placement.{IsPlaced, class_of, op_at};
-ghost use Rattle.rc_plan.specs.Compiled.{IsPlanOf};
+ghost use Rattle.rc_spec.specs.Placement.{IsPlaced, class_of};
 ghost use Rattle.rc_query.specs.declared.probe.PlannedProbe.{PlannedProbe};
+ghost use Rattle.rc_query.specs.Laws.{IsAcceptedFor};
+ghost use Rattle.rc_query.specs.Ops.{MayBePlanned};
 ghost use Rattle.rc_query.specs.Planned.{ChoosesRoutes, IsPlanned, Routing, insert_plan, insert_probes, locks, probe_statements, reads_unbound, which_under};
 
 use crate::classes::written_classes;
 use crate::probes::insert_probes;
 use rc_plan::{Plan, Statement, Which};
 use rc_query::{ClassSet, PlannedProbe, pattern_of, push_ending, push_locks_and_reads};
-use rc_spec::{Accepted, Mode, Spec};
+use rc_spec::{Accepted, Mode, Op, Spec};
 use rc_tuple::{ColSet, Memory};
 use std::alloc::Global;
 
@@ -129,15 +130,15 @@ fn plan_insertion(alloc: Global, accepted: &Accepted, pattern: ColSet) -> Result
     Ok(plan)
 }
 
-/// The plan of an insert, by the number of its operation. It locks all classes that have an edge Exclusive: all stripes of a class
+/// The plan of an insert. It locks all classes that have an edge Exclusive: all stripes of a class
 /// under which a probe reads without its columns, and else those of the new tuple. Then it searches for a tuple with the
 /// pattern values of the new one, and for each dependency whose left side doesn't hold the whole pattern for those with
 /// its left side, over the chosen routes; and then it adds the tuple. (PLDI 2011, insertion; PLDI 2012, put if absent.)
-pub fn plan_insert(alloc: Global, accepted: &Accepted, op: u8) -> Result<Plan, Memory>
-    requires known { op < length accepted.now.ops }
-    requires insert { (op_at accepted.now op).kind ≡ Insert }
-    ensures planned { IfOk result (IsPlanned accepted.now (op_at accepted.now op)) }
-    ensures accepted { IfOk result (IsPlanOf accepted.now op) }
+pub fn plan_insert(alloc: Global, accepted: &Accepted, op: &Op) -> Result<Plan, Memory>
+    requires op { MayBePlanned accepted.now op.now }
+    requires insert { op.now.kind ≡ Insert }
+    ensures planned { IfOk result (IsPlanned accepted.now op.now) }
+    ensures accepted { IfOk result (IsAcceptedFor accepted.now op.now) }
 {
     plan_insertion(alloc, accepted, pattern_of(accepted, op))
 }

@@ -9,6 +9,6 @@ mod remove;
 mod update;
 
 pub use insert::plan_insert;
-pub use operations::{compile, plan_op};
+pub use operations::{compile, plan_all, plan_of, plan_op};
 pub use remove::plan_remove;
 pub use update::plan_update;

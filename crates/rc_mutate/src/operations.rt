@@ -3,23 +3,25 @@
 ghost use Rattle.std.specs.Prelude.{◌≡◌, ℕ, ◌<◌, length, IfOk};
 ghost use Rattle.rc_spec.specs.Placement.{op_at};
 ghost use Rattle.rc_plan.specs.Compiled.{ArePlansOf, IsPlanOf, plan_at};
+ghost use Rattle.rc_query.specs.Laws.{IsAcceptedFor};
+ghost use Rattle.rc_query.specs.Ops.{MayBePlanned};
 ghost use Rattle.rc_query.specs.Planned.{IsPlanned};
 
 use crate::{plan_insert, plan_remove, plan_update};
 use rc_plan::{Compiled, Plan};
 use rc_query::plan_query;
-use rc_spec::{Accepted, OpKind};
+use rc_spec::{Accepted, Op, OpKind};
 use rc_tuple::Memory;
 use std::alloc::Global;
 
-/// The plan that the planning rules give an operation, by its number. It keeps K1 to K7.
-pub fn plan_op(alloc: Global, accepted: &Accepted, op: u8) -> Result<Plan, Memory>
-    requires { op < length accepted.now.ops }
-    ensures planned { IfOk result (IsPlanned accepted.now (op_at accepted.now op)) }
-    ensures accepted { IfOk result (IsPlanOf accepted.now op) }
+/// The plan that the planning rules give an operation over the specification's columns that keeps O1 to O3, also one that the
+/// specification doesn't declare. It keeps K1 to K7.
+pub fn plan_of(alloc: Global, accepted: &Accepted, op: &Op) -> Result<Plan, Memory>
+    requires { MayBePlanned accepted.now op.now }
+    ensures planned { IfOk result (IsPlanned accepted.now op.now) }
+    ensures accepted { IfOk result (IsAcceptedFor accepted.now op.now) }
 {
-    let operation = accepted.spec().op(op);
-    match &operation.kind {
+    match &op.kind {
         OpKind::Query { .. } => plan_query(alloc, accepted, op),
         OpKind::Insert => plan_insert(alloc, accepted, op),
         OpKind::Remove => plan_remove(alloc, accepted, op),
@@ -27,8 +29,17 @@ pub fn plan_op(alloc: Global, accepted: &Accepted, op: u8) -> Result<Plan, Memor
     }
 }
 
+/// The plan that the planning rules give an operation of the specification, by its number. It keeps K1 to K7.
+pub fn plan_op(alloc: Global, accepted: &Accepted, op: u8) -> Result<Plan, Memory>
+    requires { op < length accepted.now.ops }
+    ensures planned { IfOk result (IsPlanned accepted.now (op_at accepted.now op)) }
+    ensures accepted { IfOk result (IsPlanOf accepted.now op) }
+{
+    plan_of(alloc, accepted, accepted.spec().op(op))
+}
+
 /// The plans of all operations, by their numbers.
-fn plan_all(alloc: Global, accepted: &Accepted) -> Result<Vec<Plan>, Memory>
+pub fn plan_all(alloc: Global, accepted: &Accepted) -> Result<Vec<Plan>, Memory>
     ensures planned { IfOk result (λ plans. (op : ℕ) → op < length accepted.now.ops → IsPlanned accepted.now (op_at accepted.now op) (plan_at plans.items op)) }
     ensures accepted { IfOk result (λ plans. ArePlansOf accepted.now plans.items) }
 {

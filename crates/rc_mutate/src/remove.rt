@@ -3,18 +3,18 @@
 ghost use Rattle.std.specs.Prelude.{◌≡◌, ◌++◌, ◌<◌, length, IfOk, OnOk};
 ghost use Rattle.rc_tuple.specs.ColSet.{Within};
 ghost use Rattle.rc_spec.specs.Calls.{all_columns};
-ghost use Rattle.rc_spec.specs.Placement.{op_at};
 ghost use Rattle.rc_spec.specs.declared.items.OpKind.TheVariants.{Remove};
 ghost use Rattle.rc_spec.specs.declared.lock.Mode.TheVariants.{Exclusive};
-ghost use Rattle.rc_plan.specs.Compiled.{IsPlanOf};
 ghost use Rattle.rc_plan.specs.declared.statement.Which.TheVariants as which;
+ghost use Rattle.rc_query.specs.Laws.{IsAcceptedFor};
+ghost use Rattle.rc_query.specs.Ops.{MayBePlanned};
 ghost use Rattle.rc_query.specs.Planned.{ChoosesRoutes, IsPlanned, Routing, locks, remove_plan};
 
 use crate::classes::written_classes;
 use rc_plan::{Plan, Statement, Which};
 use rc_query::{ClassSet, pattern_of, push_ending, push_locks_and_reads};
 use rc_route::route_for;
-use rc_spec::{Accepted, Mode};
+use rc_spec::{Accepted, Mode, Op};
 use rc_tuple::{ColSet, Memory};
 use std::alloc::Global;
 
@@ -53,14 +53,14 @@ fn plan_removal(alloc: Global, accepted: &Accepted, pattern: ColSet) -> Result<P
     Ok(plan)
 }
 
-/// The plan of a remove, by the number of its operation. It reads the chosen route for all columns as a query does, and
+/// The plan of a remove. It reads the chosen route for all columns as a query does, and
 /// locks all classes that have an edge Exclusive: those that are left after its reads keyed, since all columns are bound then.
 /// (PLDI 2011, removal; PLDI 2012, locks of mutations.)
-pub fn plan_remove(alloc: Global, accepted: &Accepted, op: u8) -> Result<Plan, Memory>
-    requires known { op < length accepted.now.ops }
-    requires remove { (op_at accepted.now op).kind ≡ Remove }
-    ensures planned { IfOk result (IsPlanned accepted.now (op_at accepted.now op)) }
-    ensures accepted { IfOk result (IsPlanOf accepted.now op) }
+pub fn plan_remove(alloc: Global, accepted: &Accepted, op: &Op) -> Result<Plan, Memory>
+    requires op { MayBePlanned accepted.now op.now }
+    requires remove { op.now.kind ≡ Remove }
+    ensures planned { IfOk result (IsPlanned accepted.now op.now) }
+    ensures accepted { IfOk result (IsAcceptedFor accepted.now op.now) }
 {
     plan_removal(alloc, accepted, pattern_of(accepted, op))
 }

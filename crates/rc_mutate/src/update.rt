@@ -6,8 +6,8 @@ ghost use Rattle.rc_tuple.specs.ColSet.{Within};
 ghost use Rattle.rc_spec.specs.declared.items.OpKind.TheVariants.{Update};
 ghost use Rattle.rc_spec.specs.declared.lock.Mode.TheVariants.{Exclusive};
 ghost use Rattle.rc_spec.specs.Calls.{all_columns};
-ghost use Rattle.rc_spec.specs.Placement.{op_at};
-ghost use Rattle.rc_plan.specs.Compiled.{IsPlanOf};
+ghost use Rattle.rc_query.specs.Laws.{IsAcceptedFor};
+ghost use Rattle.rc_query.specs.Ops.{MayBePlanned};
 ghost use Rattle.rc_query.specs.Planned.{ChoosesRoutes, IsPlanned, Routing, locks, update_plan, update_probes, update_which};
 
 use crate::classes::written_classes;
@@ -15,7 +15,7 @@ use crate::insert::{push_probes, which_under};
 use crate::probes::update_probes;
 use rc_plan::{Plan, Statement, Which};
 use rc_query::{ClassSet, PlannedProbe, pattern_of, push_ending};
-use rc_spec::{Accepted, Mode, Spec};
+use rc_spec::{Accepted, Mode, Op, Spec};
 use rc_tuple::{ColSet, Memory};
 use std::alloc::Global;
 
@@ -68,16 +68,16 @@ fn plan_replacement(alloc: Global, accepted: &Accepted, pattern: ColSet) -> Resu
     Ok(plan)
 }
 
-/// The plan of an update, by the number of its operation. It locks all classes that have an edge Exclusive: the stripes of the new
+/// The plan of an update. It locks all classes that have an edge Exclusive: the stripes of the new
 /// tuple where the pattern has the class's columns, so that the old tuple's rows fall there too, and no probe reads beyond them, and
 /// else all. Then it searches for the whole tuple that has the pattern values of the new one, and for each dependency whose left
 /// side doesn't hold the whole pattern for those with its left side; and then it takes the old tuple out and adds the new one.
 /// (PLDI 2011, update by a key; PLDI 2012, locks of mutations.)
-pub fn plan_update(alloc: Global, accepted: &Accepted, op: u8) -> Result<Plan, Memory>
-    requires known { op < length accepted.now.ops }
-    requires update { (op_at accepted.now op).kind ≡ Update }
-    ensures planned { IfOk result (IsPlanned accepted.now (op_at accepted.now op)) }
-    ensures accepted { IfOk result (IsPlanOf accepted.now op) }
+pub fn plan_update(alloc: Global, accepted: &Accepted, op: &Op) -> Result<Plan, Memory>
+    requires op { MayBePlanned accepted.now op.now }
+    requires update { op.now.kind ≡ Update }
+    ensures planned { IfOk result (IsPlanned accepted.now op.now) }
+    ensures accepted { IfOk result (IsAcceptedFor accepted.now op.now) }
 {
     plan_replacement(alloc, accepted, pattern_of(accepted, op))
 }

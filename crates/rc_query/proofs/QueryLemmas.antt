@@ -7,20 +7,19 @@ use Rattle.rc_spec.specs.declared.lock.Mode.TheVariants.{Shared}
 use Rattle.rc_spec.specs.declared.spec.Spec.{Spec}
 use Rattle.rc_spec.specs.Acceptance.{IsSealed}
 use Rattle.rc_spec.specs.InRange.{AreBelow, HasOutsAmong}
-use Rattle.rc_spec.specs.Placement.{op_at}
 use Rattle.rc_spec.specs.Ranges.{range_columns}
 use Rattle.rc_plan.specs.declared.statement.Statement.{Statement}
 use Rattle.rc_plan.specs.declared.statement.Statement.TheVariants.{Emit}
 use Rattle.rc_plan.specs.PlanRules.{pattern_columns}
-use Rattle.rc_query.specs.OpLaws.{IsOpFound, op_among}
+use Rattle.rc_query.specs.Ops.{MayBePlanned}
 use Rattle.rc_query.specs.Planned.{Routing, ChoosesRoutes, IsPlanned, classes_of_edges, locks_and_reads, ending, asked_columns, query_plan, plan_for}
 use Rattle.rc_query.specs.PlannedLaws.{chosen_routing, routing_chooses}
 
-pub outs_among : (spec : Spec) → IsSealed spec → (number : ℕ) (op : Op) → IsOpFound spec number op → (outs ranges : List ℕ) → op.kind ≡ Query outs ranges → AreBelow (length spec.columns) outs
-outs_among spec s number op f outs ranges e = subst (HasOutsAmong (length spec.columns)) e (op_among spec s number op f).outs
+pub outs_among : (spec : Spec) (op : Op) → MayBePlanned spec op → (outs ranges : List ℕ) → op.kind ≡ Query outs ranges → AreBelow (length spec.columns) outs
+outs_among spec op may outs ranges e = subst (HasOutsAmong (length spec.columns)) e may.among.outs
 
-pub ranges_among : (spec : Spec) → IsSealed spec → (number : ℕ) (op : Op) → IsOpFound spec number op → (outs ranges : List ℕ) → op.kind ≡ Query outs ranges → AreBelow (length spec.columns) ranges
-ranges_among spec s number op f outs ranges e = subst (λ k. AreBelow (length spec.columns) (range_columns k)) e (op_among spec s number op f).ranges
+pub ranges_among : (spec : Spec) (op : Op) → MayBePlanned spec op → (outs ranges : List ℕ) → op.kind ≡ Query outs ranges → AreBelow (length spec.columns) ranges
+ranges_among spec op may outs ranges e = subst (λ k. AreBelow (length spec.columns) (range_columns k)) e may.among.ranges
 
 -- ---- the plan of a query
 
@@ -34,16 +33,16 @@ query_made spec given pattern classes route first second begun reads plan same o
     ∙ ap (locks_and_reads spec Shared pattern classes) two ∙ ap (λ z. locks_and_reads spec Shared pattern z route) wanted in
     end ∙ ap (λ z. z ++ ending Emit classes) made ∙ ap (λ z. locks_and_reads spec Shared pattern (classes_of_edges spec route) route ++ ending Emit z) wanted
 
-pub query_planned : (spec : Spec) → IsSealed spec → (number : ℕ) (op : Op) → IsOpFound spec number op → (outs ranges pattern need : List ℕ) (plan : List Statement) → op.kind ≡ Query outs ranges
-    → pattern ≡ pattern_columns (op_at spec number) → need ≡ asked_columns ranges outs
+pub query_planned : (spec : Spec) → IsSealed spec → (op : Op) (outs ranges pattern need : List ℕ) (plan : List Statement) → op.kind ≡ Query outs ranges
+    → pattern ≡ pattern_columns op → need ≡ asked_columns ranges outs
     → ((route : Routing) → ChoosesRoutes spec route → plan ≡ query_plan spec pattern (route pattern (union pattern need)))
-    → IsPlanned spec (op_at spec number) plan
-query_planned spec s number op f outs ranges pattern need plan kind given found made =
+    → IsPlanned spec op plan
+query_planned spec s op outs ranges pattern need plan kind given found made =
     let route : Routing = chosen_routing spec s in
-    let bound : List ℕ = pattern_columns (op_at spec number) in
+    let bound : List ℕ = pattern_columns op in
     record {
       route = route;
       chosen = routing_chooses spec s;
       value = made route (routing_chooses spec s) ∙ ap (λ z. query_plan spec z (route z (union z need))) given
-          ∙ ap (λ z. query_plan spec bound (route bound (union bound z))) found ∙ ap (plan_for spec route bound) (sym kind ∙ ap (λ (o : Op). o.kind) (sym f.same));
+          ∙ ap (λ z. query_plan spec bound (route bound (union bound z))) found ∙ ap (plan_for spec route bound) (sym kind);
     }

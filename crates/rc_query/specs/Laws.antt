@@ -1,5 +1,5 @@
 -- Laws of planned plans, each named by the contract of a function.
-use Rattle.std.specs.Prelude.{◌≡◌, ℕ, ◌<◌, List, length}
+use Rattle.std.specs.Prelude.{◌≡◌, ℕ, List, length}
 use Rattle.rc_tuple.specs.ColSet.{Within}
 use Rattle.rc_spec.specs.declared.items.Op.{Op}
 use Rattle.rc_spec.specs.declared.spec.Spec.{Spec}
@@ -7,9 +7,8 @@ use Rattle.rc_spec.specs.Acceptance.{IsSealed}
 use Rattle.rc_spec.specs.Adequacy.{IsAdequate}
 use Rattle.rc_spec.specs.Calls.{all_columns}
 use Rattle.rc_spec.specs.InRange.{IsInRange, IsOpAmong}
-use Rattle.rc_spec.specs.Placement.{IsPlaced, op_at}
+use Rattle.rc_spec.specs.Placement.{IsPlaced}
 use Rattle.rc_plan.specs.declared.statement.Statement.{Statement}
-use Rattle.rc_plan.specs.Compiled.{IsPlanOf}
 use Rattle.rc_plan.specs.PlanRules.{AreKnown, KeepsPlanRules}
 use Rattle.rc_route.specs.GoodRoutes.{IsGoodRoute}
 use Rattle.rc_query.specs.Planned.{Routing, planned_by, IsPlanned}
@@ -28,9 +27,9 @@ abbrev pub PlansOverGoodRoutesAreAccepted : Type 0
 PlansOverGoodRoutesAreAccepted = (spec : Spec) → IsInRange spec → IsAdequate spec → IsPlaced spec → (route : Routing) → GivesGoodRoutes spec route
     → (op : Op) → IsOpAmong (length spec.columns) op → IsAcceptedFor spec op (planned_by spec route op)
 
--- Each planned plan of an accepted specification is accepted.
+-- Where the specification is accepted, each planned plan is accepted for its operation, also for one that isn't the specification's own.
 abbrev pub PlannedPlansAreAccepted : Type 0
-PlannedPlansAreAccepted = (spec : Spec) → IsSealed spec → (op : ℕ) → op < length spec.ops → (plan : List Statement) → IsPlanned spec (op_at spec op) plan → IsPlanOf spec op plan
+PlannedPlansAreAccepted = (spec : Spec) → IsSealed spec → (op : Op) → IsOpAmong (length spec.columns) op → (plan : List Statement) → IsPlanned spec op plan → IsAcceptedFor spec op plan
 
 -- Each operation of an accepted specification has a planned plan, and no other.
 abbrev pub HasPlannedPlan : Type 0

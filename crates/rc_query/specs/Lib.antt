@@ -1,6 +1,7 @@
 pub mod InsertPlanLaws
 pub mod Laws
 pub mod OpLaws
+pub mod Ops
 pub mod Planned
 pub mod PlannedLaws
 pub mod ProgressLaws

@@ -1,32 +1,21 @@
--- Laws of an operation found by its number, and of columns that it names.
-use Rattle.std.proofs.Common.{◌≡◌, ℕ, ◌<◌, ◌≤◌, List, [], ◌∷◌, length, inl, refl, sym, ap, subst, ◌∙◌, arith}
+-- Laws of operations that may be planned, and of columns that they name.
+use Rattle.std.proofs.Common.{◌≡◌, ℕ, ◌<◌, ◌≤◌, List, [], ◌∷◌, length, inl, refl, subst, arith}
 use Rattle.std.specs.Ordering.{nat_cmp}
 use Rattle.rc_tuple.specs.RisingSet.{In, gather}
 use Rattle.rc_tuple.specs.RisingSetLaws.{nat_order, get_or_in, in_gather, gather_in}
 use Rattle.rc_tuple.specs.ColSet.{Within, union}
 use Rattle.rc_tuple.specs.ColSetLaws.{union_right, in_range_below}
-use Rattle.rc_spec.specs.declared.items.Op.{Op}
 use Rattle.rc_spec.specs.declared.spec.Spec.{Spec}
 use Rattle.rc_spec.specs.Acceptance.{IsSealed}
 use Rattle.rc_spec.specs.Calls.{all_columns}
-use Rattle.rc_spec.specs.InRange.{AreBelow, IsOpAmong}
-use Rattle.rc_spec.specs.Placement.{op_at, no_op, KeepsO}
+use Rattle.rc_spec.specs.InRange.{AreBelow}
+use Rattle.rc_spec.specs.Placement.{op_at, no_op}
+use Rattle.rc_query.specs.Ops.{MayBePlanned}
 
--- ---- an operation that was found
+-- ---- the operations of an accepted specification
 
--- the operation with a number, as it was read from a specification
-pub record IsOpFound (spec : Spec) (number : ℕ) (op : Op) : Type 0 where
-  pub known : number < length spec.ops
-  pub same : op_at spec number ≡ op
-
-pub op_found : (spec given : Spec) (number : ℕ) (op : Op) → given ≡ spec → number < length spec.ops → op ≡ op_at given number → IsOpFound spec number op
-op_found spec given number op same l is = record { known = l; same = sym (is ∙ ap (λ (s : Spec). op_at s number) same) }
-
-pub op_among : (spec : Spec) → IsSealed spec → (number : ℕ) (op : Op) → IsOpFound spec number op → IsOpAmong (length spec.columns) op
-op_among spec s number op f = subst (IsOpAmong (length spec.columns)) f.same (s.in_range.known_ops (op_at spec number) (get_or_in spec.ops number no_op f.known))
-
-pub op_keeps : (spec : Spec) → IsSealed spec → (number : ℕ) (op : Op) → IsOpFound spec number op → KeepsO spec op
-op_keeps spec s number op f = subst (KeepsO spec) f.same (s.accepted.ops number f.known)
+pub own_ops : (spec : Spec) → IsSealed spec → (number : ℕ) → number < length spec.ops → MayBePlanned spec (op_at spec number)
+own_ops spec s number l = record { among = s.in_range.known_ops (op_at spec number) (get_or_in spec.ops number no_op l); keeps = s.accepted.ops number l }
 
 pub below_32 : (spec : Spec) → IsSealed spec → (cols : List ℕ) → AreBelow (length spec.columns) cols → (c : ℕ) → In c cols → c < 32
 below_32 spec s cols b c m =

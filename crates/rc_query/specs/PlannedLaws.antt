@@ -1,5 +1,5 @@
 -- Laws of planned plans: they are accepted, and each operation has one.
-use Rattle.std.specs.Prelude.{◌≡◌, ℕ, List, length}
+use Rattle.std.specs.Prelude.{◌≡◌, ℕ, ◌<◌, List, length}
 use Rattle.std.specs.Ordering.{nat_cmp}
 use Rattle.std.proofs.Common.{refl, sym, ap, subst, ◌∙◌}
 use Rattle.rc_tuple.specs.RisingSet.{gather}
@@ -16,13 +16,14 @@ use Rattle.rc_spec.specs.Calls.{all_columns}
 use Rattle.rc_spec.specs.InRange.{IsInRange, AreBelow, HasOutsAmong}
 use Rattle.rc_spec.specs.Placement.{IsPlaced, op_at, no_op}
 use Rattle.rc_spec.specs.Ranges.{range_columns}
+use Rattle.rc_plan.specs.declared.statement.Statement.{Statement}
 use Rattle.rc_plan.specs.Compiled.{IsPlanOf}
 use Rattle.rc_plan.specs.PlanRules.{at_start}
 use Rattle.rc_route.specs.LeastPathLaws.{chosen_routes_are_good, one_chosen_route, has_chosen_route}
 use Rattle.rc_route.specs.Paths.{IsChosenRoute}
 use Rattle.rc_query.specs.InsertPlanLaws.{insert_fits}
 use Rattle.rc_query.specs.Laws.{GivesGoodRoutes, IsAcceptedFor, PlansOverGoodRoutesAreAccepted, PlannedPlansAreAccepted, HasPlannedPlan, OnePlannedPlan}
-use Rattle.rc_query.specs.Planned.{Routing, asked_columns, plan_for, planned_by, ChoosesRoutes}
+use Rattle.rc_query.specs.Planned.{Routing, asked_columns, plan_for, planned_by, ChoosesRoutes, IsPlanned}
 use Rattle.rc_query.specs.ProgressLaws.{AreAcceptedFrom, known_of_fit, rules_of_fit}
 use Rattle.rc_query.specs.SearchPlanLaws.{query_fits, remove_fits}
 use Rattle.rc_query.specs.UpdatePlanLaws.{update_fits}
@@ -56,12 +57,18 @@ accepted_over_good_routes spec i a pl route good op among =
 pub chosen_good : (spec : Spec) → IsSealed spec → (route : Routing) → ChoosesRoutes spec route → GivesGoodRoutes spec route
 chosen_good spec s route chosen pattern need w = chosen_routes_are_good spec s.populated s.accepted.adequate pattern need (route pattern need) w (chosen pattern need)
 
-pub planned_accepted : PlannedPlansAreAccepted
+pub accepted_if_planned : PlannedPlansAreAccepted
+accepted_if_planned spec s op among plan planned =
+    subst (IsAcceptedFor spec op) (sym planned.value)
+    (accepted_over_good_routes spec s.in_range s.accepted.adequate s.accepted.placed planned.route (chosen_good spec s planned.route planned.chosen) op among)
+
+-- a plan that is accepted for an operation of the specification is one of its number
+pub plan_of_number : (spec : Spec) (number : ℕ) (plan : List Statement) → IsAcceptedFor spec (op_at spec number) plan → IsPlanOf spec number plan
+plan_of_number spec number plan k = record { known = k.known; rules = k.rules }
+
+pub planned_accepted : (spec : Spec) → IsSealed spec → (op : ℕ) → op < length spec.ops → (plan : List Statement) → IsPlanned spec (op_at spec op) plan → IsPlanOf spec op plan
 planned_accepted spec s op l plan planned =
-    let k : IsAcceptedFor spec (op_at spec op) (planned_by spec planned.route (op_at spec op)) =
-    accepted_over_good_routes spec s.in_range s.accepted.adequate s.accepted.placed planned.route (chosen_good spec s planned.route planned.chosen) (op_at spec op)
-    (s.in_range.known_ops (op_at spec op) (get_or_in spec.ops op no_op l)) in
-    subst (IsPlanOf spec op) (sym planned.value) (record { known = k.known; rules = k.rules })
+    plan_of_number spec op plan (accepted_if_planned spec s (op_at spec op) (s.in_range.known_ops (op_at spec op) (get_or_in spec.ops op no_op l)) plan planned)
 
 -- the one way to choose routes
 pub chosen_routing : (spec : Spec) → IsSealed spec → Routing

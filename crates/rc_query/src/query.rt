@@ -1,18 +1,18 @@
 //! The plans of queries.
 
-ghost use Rattle.std.specs.Prelude.{◌≡◌, ◌<◌, [], length, IfOk};
+ghost use Rattle.std.specs.Prelude.{◌≡◌, [], IfOk};
 ghost use Rattle.rc_tuple.specs.ColSet.{Within, union};
 ghost use Rattle.rc_spec.specs.Calls.{all_columns};
-ghost use Rattle.rc_spec.specs.Placement.{op_at};
-ghost use Rattle.rc_plan.specs.Compiled.{IsPlanOf};
 ghost use Rattle.rc_plan.specs.PlanRules.{IsQuery};
+ghost use Rattle.rc_query.specs.Laws.{IsAcceptedFor};
+ghost use Rattle.rc_query.specs.Ops.{MayBePlanned};
 ghost use Rattle.rc_query.specs.Planned.{ChoosesRoutes, IsPlanned, Routing, query_plan};
 
 use crate::operation::pattern_of;
 use crate::statements::{classes_of_edges, push_ending, push_locks_and_reads};
 use rc_plan::{Plan, Statement};
 use rc_route::route_for;
-use rc_spec::{Accepted, Mode, OpKind};
+use rc_spec::{Accepted, Mode, Op, OpKind};
 use rc_tuple::{ColSet, Memory};
 use std::alloc::Global;
 
@@ -44,18 +44,17 @@ fn plan_search(
     Ok(plan)
 }
 
-/// The plan of a query, by the number of its operation. It reads the chosen route for the pattern and the outputs, each
+/// The plan of a query. It reads the chosen route for the pattern and the outputs, each
 /// edge by look-up where its key is bound, and locks the classes of those edges Shared: before a read each that isn't
 /// after its edge's class, keyed where its columns are bound. (PLDI 2011, query planning; PLDI 2012, locks in query plans.)
-pub fn plan_query(alloc: Global, accepted: &Accepted, op: u8) -> Result<Plan, Memory>
-    requires known { op < length accepted.now.ops }
-    requires query { IsQuery (op_at accepted.now op).kind }
-    ensures planned { IfOk result (IsPlanned accepted.now (op_at accepted.now op)) }
-    ensures accepted { IfOk result (IsPlanOf accepted.now op) }
+pub fn plan_query(alloc: Global, accepted: &Accepted, op: &Op) -> Result<Plan, Memory>
+    requires op { MayBePlanned accepted.now op.now }
+    requires query { IsQuery op.now.kind }
+    ensures planned { IfOk result (IsPlanned accepted.now op.now) }
+    ensures accepted { IfOk result (IsAcceptedFor accepted.now op.now) }
 {
     let pattern = pattern_of(accepted, op);
-    let query = accepted.spec().op(op);
-    match &query.kind {
+    match &op.kind {
         OpKind::Query { outs, ranges } => {
             let bounded = ColSet::from_list(ranges.list());
             let answered = ColSet::from_list(outs.list());

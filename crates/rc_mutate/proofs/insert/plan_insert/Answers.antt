@@ -1,17 +1,16 @@
 use Rattle.std.proofs.Common.{◌≡◌, ◌∙◌, List, sym}
 use Rattle.std.proofs.lemmas.Result.{IfOk-weaker}
-use Rattle.rc_spec.specs.Placement.{op_at}
 use Rattle.rc_plan.specs.declared.statement.Statement.{Statement}
-use Rattle.rc_plan.specs.Compiled.{IsPlanOf}
 use Rattle.rc_query.specs.OpLaws.{gather_some}
+use Rattle.rc_query.specs.Laws.{IsAcceptedFor}
 use Rattle.rc_query.specs.Planned.{Routing, ChoosesRoutes, IsPlanned, insert_plan, insert_probes}
-use Rattle.rc_query.specs.PlannedLaws.{planned_accepted}
+use Rattle.rc_query.specs.PlannedLaws.{accepted_if_planned}
 use Rattle.rc_mutate.proofs.WriteLemmas.{insert_planned}
 use Rattle.rc_mutate.proofs.insert.plan_insert.Goals as goal
 
 pub plan_insertion-requires-clause-some : goal.plan_insertion-requires-clause-some
 plan_insertion-requires-clause-some c = λ e.
-    gather_some (op_at c.args.accepted.now c.args.op).pattern ((c.pattern_of.ensures.sealed.accepted.ops c.args.op c.requires.known).o1 c.requires.insert) (sym c.pattern_of.ensures.value ∙ e)
+    gather_some c.args.op.now.pattern (c.requires.op.keeps.o1 c.requires.insert) (sym c.pattern_of.ensures.value ∙ e)
 
 pub returns-clause-planned : goal.returns-clause-planned
 returns-clause-planned c =
@@ -19,11 +18,11 @@ returns-clause-planned c =
     let pattern = c.pattern_of.result in
     IfOk-weaker c.plan_insertion.result
     (λ (plan : List Statement). (route : Routing) → ChoosesRoutes spec route → plan ≡ insert_plan spec (insert_probes spec route pattern))
-    (IsPlanned spec (op_at spec c.args.op))
-    (λ plan made. insert_planned spec c.pattern_of.ensures.sealed (op_at spec c.args.op) pattern plan c.requires.insert c.pattern_of.ensures.value made)
+    (IsPlanned spec c.args.op.now)
+    (λ plan made. insert_planned spec c.pattern_of.ensures.sealed c.args.op.now pattern plan c.requires.insert c.pattern_of.ensures.value made)
     c.plan_insertion.ensures
 
 pub returns-clause-accepted : goal.returns-clause-accepted
 returns-clause-accepted c =
     let spec = c.args.accepted.now in
-    IfOk-weaker c.plan_insertion.result (IsPlanned spec (op_at spec c.args.op)) (IsPlanOf spec c.args.op) (planned_accepted spec c.pattern_of.ensures.sealed c.args.op c.requires.known) (returns-clause-planned c)
+    IfOk-weaker c.plan_insertion.result (IsPlanned spec c.args.op.now) (IsAcceptedFor spec c.args.op.now) (accepted_if_planned spec c.pattern_of.ensures.sealed c.args.op.now c.requires.op.among) (returns-clause-planned c)
