@@ -9,3 +9,4 @@ mod placement;
 
 pub use acceptance::{AcceptFault, accept};
 pub use judging::judge;
+pub use ops::keeps_o;

@@ -5,11 +5,10 @@ ghost use Rattle.rc_spec.specs.InRange.{IsInRange};
 ghost use Rattle.rc_reader.specs.Forms.{texts, form_text, column_line, dependency_line, node_line};
 ghost use Rattle.rc_reader.specs.Forms.{edge_line, lock_line, place_line, query_line, insert_line};
 ghost use Rattle.rc_reader.specs.Forms.{remove_line, update_line};
-ghost use Rattle.rc_reader.specs.Columns.{repeat_in_both};
 ghost use Rattle.rc_reader.specs.Found.{found_line, found_change, found_mark};
 
 use crate::forms::Form;
-use crate::names::{NamedColumns, is_refused_name, named_columns, number_among};
+use crate::names::{is_refused_name, named_columns, number_among, repeat_in_both};
 use crate::sections::LineKind;
 use rc_spec::{Class, ColKind, Column, Edge, EdgeKind, Name, Node, Op, OpKind, Place, Spec};
 use rc_tuple::{Dep, Memory};
@@ -177,13 +176,6 @@ fn found_place(spec: &Spec, edge: &[u8], class: &[u8]) -> FoundLine
             class: class.unwrap_or(0) as u8,
         }),
     }
-}
-
-/// Whether a column stands twice in a query's pattern and range columns together.
-fn repeat_in_both(pattern: &NamedColumns, ranges: &NamedColumns) -> bool
-    ensures { result ≡ repeat_in_both pattern.now ranges.now }
-{
-    pattern.names_twice || ranges.names_twice || !pattern.set.inter(ranges.set).is_empty()
 }
 
 fn found_query(

@@ -3,3 +3,4 @@ pub mod RawLemmas
 pub mod WordLemmas
 pub mod ReadingLemmas
 pub mod PartLemmas
+mod OpenReadingLemmas

@@ -5,7 +5,7 @@ use Rattle.rc_reader.specs.Answers.{FailsLine, Refuses, rest_place}
 use Rattle.rc_reader.specs.Grammar.{Broken}
 use Rattle.rc_reader.specs.declared.reading.Rest.{Rest}
 use Rattle.rc_reader.specs.declared.refusal.LineRule.{LineRule}
-use Rattle.rc_reader.specs.declared.refusal.LineRule.TheVariants.{S1, S2, S3, S4, S5, S6, S7, S8, W1, W2, W3, W5}
+use Rattle.rc_reader.specs.declared.refusal.LineRule.TheVariants.{S1, S2, S3, S4, S5, S6, S7, S8, W1, W2, W3, W4, W5}
 use Rattle.rc_reader.specs.declared.refusal.ReadRefusal.{ReadRefusal}
 use Rattle.rc_reader.specs.declared.refusal.ReadRefusal.TheVariants as refusals
 use Rattle.rc_reader.specs.declared.refusal.LineFault.{LineFault}
@@ -54,6 +54,7 @@ IsWorkRule also S8 = Unit {0}
 IsWorkRule also W1 = Unit {0}
 IsWorkRule also W2 = Unit {0}
 IsWorkRule also W3 = Unit {0}
+IsWorkRule also W4 = ⊥
 IsWorkRule Nothing W5 = ⊥
 IsWorkRule Groups W5 = Unit {0}
 

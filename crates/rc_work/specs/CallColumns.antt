@@ -1,9 +1,11 @@
 -- The columns to which calls give values, and the call that values make.
-use Rattle.std.specs.Prelude.{ℕ, List, [], ◌∷◌, ◌++◌, length, take, drop}
+use Rattle.std.specs.Prelude.{ℕ, ◌≤◌, List, [], ◌∷◌, ◌++◌, length, take, drop}
 use Rattle.std.specs.List.{flat_map, slice_get}
 use Rattle.std.specs.Option.{option_map_or}
+use Rattle.rc_tuple.specs.RisingSet.{In, AreDistinct}
 use Rattle.rc_tuple.specs.Tuple.{tuple_of}
 use Rattle.rc_spec.specs.Calls.{value_columns}
+use Rattle.rc_spec.specs.InRange.{IsOpAmong}
 use Rattle.rc_spec.specs.Ranges.{range_columns}
 use Rattle.rc_spec.specs.declared.call.Call.{Call}
 use Rattle.rc_spec.specs.declared.items.Op.{Op}
@@ -42,3 +44,13 @@ call_of spec op values = record {
   args = tuple_of (columns_at spec op) (take (length (columns_at spec op)) values);
   ranges = ranges_of (ranges_at spec op) (drop (length (columns_at spec op)) values);
 }
+
+-- no operation's pattern and ranges name a column twice
+abbrev pub HasDistinctColumns : Spec → Type 0
+HasDistinctColumns spec = (op : Op) → In op spec.ops → AreDistinct (op.pattern ++ range_columns op.kind)
+
+-- the columns of each operation are the specification's, of which there are at most 32, and it names none twice
+pub record HasKnownColumns (spec : Spec) : Type 0 where
+  pub few : length spec.columns ≤ 32
+  pub among : (op : Op) → In op spec.ops → IsOpAmong (length spec.columns) op
+  pub distinct : HasDistinctColumns spec

@@ -16,7 +16,7 @@ use Rattle.rc_spec.specs.declared.items.Op.{Op}
 use Rattle.rc_spec.specs.declared.items.OpKind.{OpKind}
 use Rattle.rc_spec.specs.declared.items.OpKind.TheVariants.{Query, Insert, Remove, Update}
 use Rattle.rc_spec.specs.declared.spec.Spec.{Spec}
-use Rattle.rc_work.specs.CallColumns.{columns_at, ranges_at, twice, written_columns, written_columns_at}
+use Rattle.rc_work.specs.CallColumns.{HasDistinctColumns, HasKnownColumns, columns_at, ranges_at, twice, written_columns, written_columns_at}
 use Rattle.rc_work.specs.DistinctLaws.{length-distinct-le}
 
 abbrev columns_by : Spec → Option Op → List ℕ
@@ -39,22 +39,26 @@ distinct_by spec pattern Insert distinct = distinct_rising (value_columns spec p
 distinct_by spec pattern Remove distinct = distinct_left pattern [] distinct
 distinct_by spec pattern Update distinct = distinct_rising (value_columns spec pattern Update) (rising_range 0 (length spec.columns))
 
-below_at : (spec : Spec) (n : ℕ) (found : Option Op) → IsInRange spec → slice_get spec.ops n ≡ found → (c : ℕ) → In c (columns_by spec found) → c < 32
-below_at spec n None range is c m = absurd m
-below_at spec n (Some op) range is c m =
-    omega (arith, range.columns, below_by spec op.pattern op.kind (range.known_ops op (slice_get_in spec.ops n op is)).pattern c m)
+below_at : (spec : Spec) (n : ℕ) (found : Option Op) → HasKnownColumns spec → slice_get spec.ops n ≡ found → (c : ℕ) → In c (columns_by spec found) → c < 32
+below_at spec n None known is c m = absurd m
+below_at spec n (Some op) known is c m =
+    omega (arith, known.few, below_by spec op.pattern op.kind (known.among op (slice_get_in spec.ops n op is)).pattern c m)
 
 -- an operation's columns are numbers of a column set
-pub columns_at-below : (spec : Spec) (n : ℕ) → IsInRange spec → (c : ℕ) → In c (columns_at spec n) → c < 32
-columns_at-below spec n range = below_at spec n (slice_get spec.ops n) range refl
+pub columns_at-below : (spec : Spec) (n : ℕ) → HasKnownColumns spec → (c : ℕ) → In c (columns_at spec n) → c < 32
+columns_at-below spec n known = below_at spec n (slice_get spec.ops n) known refl
 
-distinct_at : (spec : Spec) (n : ℕ) (found : Option Op) → IsWellNamed spec → slice_get spec.ops n ≡ found → AreDistinct (columns_by spec found)
-distinct_at spec n None named is = tt
-distinct_at spec n (Some op) named is = distinct_by spec op.pattern op.kind (named.patterns op (slice_get_in spec.ops n op is))
+distinct_at : (spec : Spec) (n : ℕ) (found : Option Op) → HasDistinctColumns spec → slice_get spec.ops n ≡ found → AreDistinct (columns_by spec found)
+distinct_at spec n None distinct is = tt
+distinct_at spec n (Some op) distinct is = distinct_by spec op.pattern op.kind (distinct op (slice_get_in spec.ops n op is))
 
 -- and no column stands twice
-pub columns_at-distinct : (spec : Spec) (n : ℕ) → IsWellNamed spec → AreDistinct (columns_at spec n)
-columns_at-distinct spec n named = distinct_at spec n (slice_get spec.ops n) named refl
+pub columns_at-distinct : (spec : Spec) (n : ℕ) → HasDistinctColumns spec → AreDistinct (columns_at spec n)
+columns_at-distinct spec n distinct = distinct_at spec n (slice_get spec.ops n) distinct refl
+
+-- the operations of a text have such columns
+pub HasKnownColumns-named : (spec : Spec) → IsInRange spec → IsWellNamed spec → HasKnownColumns spec
+HasKnownColumns-named spec range named = record { few = range.columns; among = range.known_ops; distinct = named.patterns }
 
 -- ---- what a call is written with
 

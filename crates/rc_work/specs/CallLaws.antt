@@ -15,8 +15,8 @@ use Rattle.rc_spec.specs.Names.{IsWellNamed}
 use Rattle.rc_spec.specs.Ranges.{AreBounded, IsBounded, range_column, range_columns}
 use Rattle.rc_spec.specs.declared.items.Op.{Op}
 use Rattle.rc_spec.specs.declared.spec.Spec.{Spec}
-use Rattle.rc_work.specs.CallColumns.{columns_at, ranges_at, twice, written_columns_at, ranges_of, call_of}
-use Rattle.rc_work.specs.CallColumnsLaws.{columns_at-below, columns_at-distinct, length-written_columns_at, written_columns_at-parts}
+use Rattle.rc_work.specs.CallColumns.{HasDistinctColumns, columns_at, ranges_at, twice, written_columns_at, ranges_of, call_of}
+use Rattle.rc_work.specs.CallColumnsLaws.{HasKnownColumns-named, columns_at-below, columns_at-distinct, length-written_columns_at, written_columns_at-parts}
 use Rattle.rc_work.specs.Fitting.{IsOfWords}
 use Rattle.rc_work.specs.Printed.{bounds_given}
 
@@ -66,16 +66,16 @@ known_place (x ∷ xs) zero below = (x, refl)
 known_place (x ∷ xs) (suc i) below = known_place xs i (omega arith)
 
 -- where there are as many values as the operation's calls have, and each is of 64 bits
-pub Fits-call_of : (spec : Spec) (op : ℕ) (values : List ℕ) → op < length spec.ops → IsWellNamed spec
+pub Fits-call_over : (spec : Spec) (op : ℕ) (values : List ℕ) → op < length spec.ops → HasDistinctColumns spec
     → length values ≡ length (written_columns_at spec op) → IsOfWords (call_of spec op values) → Fits spec (call_of spec op values)
-Fits-call_of spec op values known named count words =
+Fits-call_over spec op values known distinct count words =
     let at = known_place spec.ops op known in (
       at.0,
       record {
         known = at.1;
         tuple = words.tuple;
         columns =
-            cols_of-tuple_of (columns_at spec op) (take (length (columns_at spec op)) values) (columns_at-distinct spec op named)
+            cols_of-tuple_of (columns_at spec op) (take (length (columns_at spec op)) values) (columns_at-distinct spec op distinct)
             (length-tuple_values spec op values count)
             ∙ ap (λ found. gather nat_cmp (option_map_or (λ (o : Op). value_columns spec o.pattern o.kind) found [])) at.1;
         ranges =
@@ -84,6 +84,11 @@ Fits-call_of spec op values known named count words =
         bounds = words.bounds;
       },
     )
+
+-- so over a text's specification
+pub Fits-call_of : (spec : Spec) (op : ℕ) (values : List ℕ) → op < length spec.ops → IsWellNamed spec
+    → length values ≡ length (written_columns_at spec op) → IsOfWords (call_of spec op values) → Fits spec (call_of spec op values)
+Fits-call_of spec op values known named count words = Fits-call_over spec op values known named.patterns count words
 
 in_parts : (n : ℕ) (values : List ℕ) (v : ℕ) → In v (take n values ++ drop n values) → In v values
 in_parts n values v m = subst (λ (l : List ℕ). In v l) (take-append-drop n values) m
@@ -95,7 +100,7 @@ IsOfWords-call_of spec op values named range small =
     let n = length (columns_at spec op) in
     record {
       tuple =
-          IsTuple-tuple_of (columns_at spec op) (take n values) (columns_at-distinct spec op named) (columns_at-below spec op range)
+          IsTuple-tuple_of (columns_at spec op) (take n values) (columns_at-distinct spec op named.patterns) (columns_at-below spec op (HasKnownColumns-named spec range named))
           (λ v m. small v (in_parts n values v (append_in_left v (take n values) (drop n values) m)));
       bounds =
           AreBounded-ranges_of (ranges_at spec op) (drop n values)

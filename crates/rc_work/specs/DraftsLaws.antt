@@ -85,7 +85,7 @@ IsDraft-with_call spec draft (Some group) thread call e is begun few below right
 
 -- ---- a line
 
-IsDraft-with_line : (spec : Spec) (draft : Draft) (form : FormText) (next : Draft) → IsDraft spec draft → IsWorkLineTaken spec draft form next → IsDraft spec (with_line spec draft form)
+pub IsDraft-with_line : (spec : Spec) (draft : Draft) (form : FormText) (next : Draft) → IsDraft spec draft → IsWorkLineTaken spec draft form next → IsDraft spec (with_line spec draft form)
 IsDraft-with_line spec draft round_line next is line = record {
   some_thread = is.some_thread;
   few_threads = is.few_threads;
@@ -228,7 +228,7 @@ headed_by-count bytes (Err rule) line others head is e = absurd cc
 headed_by-count bytes (Ok threads) line others head is e =
     subst (λ (x : Headed). IsThreadCount x.threads) (same_head (record { threads = threads; others = others }) head e) (threads_of-count bytes threads is)
 
-headed-count : (past_end : ℕ) (lines : List ContentLine) (head : Headed) → headed past_end lines ≡ Ok head → IsThreadCount head.threads
+pub headed-count : (past_end : ℕ) (lines : List ContentLine) (head : Headed) → headed past_end lines ≡ Ok head → IsThreadCount head.threads
 headed-count past_end [] head e = absurd cc
 headed-count past_end (line ∷ others) head e = headed_by-count line.bytes (threads_of line.bytes) line others head refl e
 

@@ -25,7 +25,7 @@ use Rattle.rc_work.specs.DraftsLaws.{kept_by_all}
 -- ---- the form of a line
 
 -- no form, or one that is no group's
-abbrev IsNoGroup : Option FormText → Type 0
+abbrev pub IsNoGroup : Option FormText → Type 0
 IsNoGroup None = Unit {0}
 IsNoGroup (Some round_line) = Unit {0}
 IsNoGroup (Some end_line) = Unit {0}
@@ -51,7 +51,7 @@ no_group_by first words =
     (no_group_either (bytes_eq first (codes "end")) (alone end_line words) _ (no_group_alone end_line words tt)
     (no_group_either (is_number first) (call_form first words) None (no_group_call first words) tt))
 
-no_group_of : (words : List WordText) → IsNoGroup (form_of Nothing words)
+pub no_group_of : (words : List WordText) → IsNoGroup (form_of Nothing words)
 unfolding form_of
 no_group_of [] = tt
 no_group_of (plain_text first ∷ words) = no_group_by first words
@@ -59,7 +59,7 @@ no_group_of (quoted_text text ∷ words) = tt
 
 -- ---- what a line keeps
 
-keeps_call : (draft : Draft) (found : Option UnfilledGroup) (thread : ℕ) (call : RawCall) → found ≡ None → HasNoGroup draft
+pub keeps_call : (draft : Draft) (found : Option UnfilledGroup) (thread : ℕ) (call : RawCall) → found ≡ None → HasNoGroup draft
     → HasNoGroup (with_call_by found draft thread call)
 keeps_call draft None thread call e is = record {
   none = refl;
@@ -77,7 +77,7 @@ keeps_line spec draft (call_line thread op values) plain is =
     keeps_call draft draft.group (thread_in draft thread) (raw_call spec op values) is.none is
 keeps_line spec draft (group_line thread size) plain is = absurd plain
 
-keeps_form : (spec : Spec) (draft : Draft) (found : Option FormText) (next : Draft) → IsNoGroup found → HasNoGroup draft
+pub keeps_form : (spec : Spec) (draft : Draft) (found : Option FormText) (next : Draft) → IsNoGroup found → HasNoGroup draft
     → after_form_of spec draft found ≡ Ok next → HasNoGroup next
 keeps_form spec draft None next plain is e = absurd cc
 keeps_form spec draft (Some form) next plain is e = subst HasNoGroup (taken spec draft form next e).value (keeps_line spec draft form plain is)

@@ -40,3 +40,13 @@ pub mod PrefixLineLaws
 pub mod PrefixLaws
 pub mod PrefixLastLaws
 pub mod PartReadingLaws
+pub mod Shapes
+pub mod ShapesLaws
+pub mod Determined
+pub mod DeterminedLaws
+pub mod ShapeForms
+pub mod ShapeRules
+pub mod OpenGrammar
+pub mod OpenAnswers
+pub mod OpenLaws
+pub mod OpenRunLaws

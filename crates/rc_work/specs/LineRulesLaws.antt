@@ -22,14 +22,14 @@ use Rattle.rc_work.specs.Drafts.{IsRawCall}
 
 -- ---- the tests that a line passed
 
-abbrev ok : {X : Type 0} → X → Result X LineRule
+abbrev pub ok : {X : Type 0} → X → Result X LineRule
 ok x = Ok x
 
 same_ok : {X : Type 0} (x y : X) → ok x ≡ ok y → x ≡ y
 same_ok x y e = cc
 
 -- a test that did not refuse
-unrefused : {X : Type 0} (b : Bool) (rule : LineRule) (gives : Result X LineRule) (next : X) → cond b (Err rule) gives ≡ Ok next → (b ≡ false) × (gives ≡ Ok next)
+pub unrefused : {X : Type 0} (b : Bool) (rule : LineRule) (gives : Result X LineRule) (next : X) → cond b (Err rule) gives ≡ Ok next → (b ≡ false) × (gives ≡ Ok next)
 unrefused true rule gives next e = absurd cc
 unrefused false rule gives next e = (refl, e)
 
@@ -88,7 +88,7 @@ length-filter_map f (x ∷ xs) none = filter_map_first f x xs (f x) refl none (l
 pub length-raw_values : (words : List WordText) → list_any is_too_large words ≡ false → length (raw_values words) ≡ length words
 length-raw_values words none = length-filter_map _ words none
 
-thread_below : (threads : ℕ) (found : Result ℕ NumFault) → is_none (thread_by threads found) ≡ false → unwrap_or (thread_by threads found) 0 < threads
+pub thread_below : (threads : ℕ) (found : Result ℕ NumFault) → is_none (thread_by threads found) ≡ false → unwrap_or (thread_by threads found) 0 < threads
 thread_below threads (Err fault) e = absurd cc
 thread_below threads (Ok number) e =
     elim (ltb number threads) as (λ v. ltb number threads ≡ v → is_none (cond v (Some number) None) ≡ false → unwrap_or (cond v (Some number) None) 0 < threads) [

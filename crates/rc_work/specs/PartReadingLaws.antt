@@ -1,5 +1,5 @@
 -- The lines of a workload up to its `end`, read one after another, and what they mean.
-use Rattle.std.proofs.Common.{◌≡◌, ℕ, Bool, true, false, cond, List, [], ◌∷◌, ◌++◌, Result, Ok, Err, refl, sym, ap, ◌∙◌, subst, inl, inr}
+use Rattle.std.proofs.Common.{◌≡◌, ℕ, Bool, true, false, cond, List, [], ◌∷◌, ◌++◌, Result, Ok, Err, refl, sym, ap, ◌∙◌, subst, inl}
 use Rattle.std.specs.Prelude.{MatchResult, ◌↔◌}
 use Rattle.rc_text.specs.Language as language
 use Rattle.rc_text.specs.LanguageLaws as laws

@@ -26,8 +26,8 @@ use Rattle.rc_work.specs.declared.draft.Draft.{Draft}
 use Rattle.rc_work.specs.declared.work.Turn.{Turn}
 use Rattle.rc_work.specs.declared.work.Work.{Work}
 use Rattle.rc_work.specs.Printed.{kind_at}
-use Rattle.rc_work.specs.CallColumns.{written_columns_at}
-use Rattle.rc_work.specs.CallLaws.{Fits-call_of, args_written, bounds_written}
+use Rattle.rc_work.specs.CallColumns.{HasDistinctColumns, written_columns_at}
+use Rattle.rc_work.specs.CallLaws.{Fits-call_over, args_written, bounds_written}
 use Rattle.rc_work.specs.LineRules.{is_wrong_kind, has_wrong_kind}
 use Rattle.rc_work.specs.RawTurns.{count_raw}
 use Rattle.rc_work.specs.Drafts.{HasNoGroup, IsRawCall, IsRawTurn, IsDraft}
@@ -98,27 +98,32 @@ HasSingleTurns-work_with spec texts draft is =
 
 -- ---- calls fit
 
-fits_call : (spec : Spec) (texts : List (List ℕ)) (call : RawCall) → IsWellNamed spec → IsRawCall spec call → IsOfWords (ranked_call spec texts call)
+fits_call : (spec : Spec) (texts : List (List ℕ)) (call : RawCall) → HasDistinctColumns spec → IsRawCall spec call → IsOfWords (ranked_call spec texts call)
     → Fits spec (ranked_call spec texts call)
-fits_call spec texts call named is words =
-    Fits-call_of spec call.op (map (ranked_value texts) call.values) is.known named (length-map call.values (ranked_value texts) ∙ is.count) words
+fits_call spec texts call distinct is words =
+    Fits-call_over spec call.op (map (ranked_value texts) call.values) is.known distinct (length-map call.values (ranked_value texts) ∙ is.count) words
 
-calls_fit : (spec : Spec) (texts : List (List ℕ)) (calls : List RawCall) → IsWellNamed spec → AllByRecursion (IsRawCall spec) calls
+calls_fit : (spec : Spec) (texts : List (List ℕ)) (calls : List RawCall) → HasDistinctColumns spec → AllByRecursion (IsRawCall spec) calls
     → AllByRecursion IsOfWords (map (ranked_call spec texts) calls) → AllByRecursion (Fits spec) (map (ranked_call spec texts) calls)
-calls_fit spec texts [] named all words = tt
-calls_fit spec texts (call ∷ calls) named all words = (fits_call spec texts call named all.0 words.0, calls_fit spec texts calls named all.1 words.1)
+calls_fit spec texts [] distinct all words = tt
+calls_fit spec texts (call ∷ calls) distinct all words = (fits_call spec texts call distinct all.0 words.0, calls_fit spec texts calls distinct all.1 words.1)
 
-turns_fit : (spec : Spec) (texts : List (List ℕ)) (turns : List RawTurn) → IsWellNamed spec → AllByRecursion (IsRawTurn spec) turns
+turns_fit : (spec : Spec) (texts : List (List ℕ)) (turns : List RawTurn) → HasDistinctColumns spec → AllByRecursion (IsRawTurn spec) turns
     → AllByRecursion (λ turn. AllByRecursion IsOfWords turn.calls) (ranked_round spec texts turns) → TurnsFit spec (ranked_round spec texts turns)
-turns_fit spec texts [] named all words = tt
-turns_fit spec texts (turn ∷ turns) named all words =
-    (calls_fit spec texts turn.calls named all.0.calls words.0, turns_fit spec texts turns named all.1 words.1)
+turns_fit spec texts [] distinct all words = tt
+turns_fit spec texts (turn ∷ turns) distinct all words =
+    (calls_fit spec texts turn.calls distinct all.0.calls words.0, turns_fit spec texts turns distinct all.1 words.1)
 
+pub RoundsFit-ranked_over : (spec : Spec) (texts : List (List ℕ)) (rounds : List (List RawTurn)) → HasDistinctColumns spec
+    → AllByRecursion (AllByRecursion (IsRawTurn spec)) rounds → AreOfWords (ranked_rounds spec texts rounds) → RoundsFit spec (ranked_rounds spec texts rounds)
+RoundsFit-ranked_over spec texts [] distinct all words = tt
+RoundsFit-ranked_over spec texts (round ∷ rounds) distinct all words =
+    (turns_fit spec texts round distinct all.0 words.0, RoundsFit-ranked_over spec texts rounds distinct all.1 words.1)
+
+-- so over a text's specification
 pub RoundsFit-ranked_rounds : (spec : Spec) (texts : List (List ℕ)) (rounds : List (List RawTurn)) → IsWellNamed spec
     → AllByRecursion (AllByRecursion (IsRawTurn spec)) rounds → AreOfWords (ranked_rounds spec texts rounds) → RoundsFit spec (ranked_rounds spec texts rounds)
-RoundsFit-ranked_rounds spec texts [] named all words = tt
-RoundsFit-ranked_rounds spec texts (round ∷ rounds) named all words =
-    (turns_fit spec texts round named all.0 words.0, RoundsFit-ranked_rounds spec texts rounds named all.1 words.1)
+RoundsFit-ranked_rounds spec texts rounds named all words = RoundsFit-ranked_over spec texts rounds named.patterns all words
 
 -- ---- texts are known
 

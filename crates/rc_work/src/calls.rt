@@ -4,11 +4,13 @@ ghost use Rattle.std.specs.Prelude.{◌≡◌, ◌<◌, ◌*◌, length, OnOk};
 ghost use Rattle.rc_spec.specs.InRange.{IsInRange};
 ghost use Rattle.rc_spec.specs.Names.{IsWellNamed};
 ghost use Rattle.rc_spec.specs.Ranges.{AreBounded};
-ghost use Rattle.rc_work.specs.CallColumns.{call_of, ranges_of, written_columns_at};
+ghost use Rattle.rc_spec.specs.Placement.{op_at};
+ghost use Rattle.rc_work.specs.CallColumns.{HasKnownColumns, call_of, ranges_of, written_columns_at};
 ghost use Rattle.rc_work.specs.Fitting.{IsOfWords};
+ghost use Rattle.rc_work.specs.Shapes.{with_operations};
 
 use crate::columns::range_columns;
-use rc_spec::{Call, Ranges, Spec};
+use rc_spec::{Call, Op, Ranges, Spec};
 use rc_tuple::Memory;
 
 /// Makes the ranges those of the columns, with a lower and an upper bound for each, in the memory that they have.
@@ -23,6 +25,47 @@ fn refill_ranges(ranges: &mut Ranges, cols: &[u8], bounds: &[u64]) -> Result<(),
     }
     // A call of `list` tells the check that they are bounded.
     let _ = ranges.list();
+    Ok(())
+}
+
+/// The operation with this number of a specification with further operations.
+fn op_over<'a>(spec: &'a Spec, shapes: &'a [Op], number: u8) -> &'a Op
+    requires { number < length (with_operations spec.now shapes.now).ops }
+    ensures { result.now ≡ op_at (with_operations spec.now shapes.now) number }
+{
+    let own = spec.ops.list();
+    let number = number as usize;
+    if number < own.len() {
+        &own[number]
+    } else {
+        &shapes[number - own.len()]
+    }
+}
+
+/// Makes the call that of the operation with this number, of a specification with further operations, and these values, as
+/// `refill_call` does.
+pub(crate) fn refill_over(
+    call: &mut Call,
+    spec: &Spec,
+    shapes: &[Op],
+    op: u8,
+    cols: &[u8],
+    values: &[u64],
+) -> Result<(), Memory>
+    requires columns { HasKnownColumns (with_operations spec.now shapes.now) }
+    requires known { op < length (with_operations spec.now shapes.now).ops }
+    requires cols { cols.now ≡ written_columns_at (with_operations spec.now shapes.now) op }
+    requires count { length values.now ≡ length cols.now }
+    ensures call { OnOk result (call.new ≡ call_of (with_operations spec.now shapes.now) op values.now) }
+    ensures words { OnOk result (IsOfWords call.new) }
+{
+    let ranges = range_columns(&op_over(spec, shapes, op).kind);
+    let given = cols.len() - 2 * ranges.len();
+    call.op = op;
+    call.args.refill(&cols[..given], &values[..given])?;
+    refill_ranges(&mut call.ranges, ranges, &values[given..])?;
+    // A call of `pairs` tells the check that they are a tuple.
+    let _ = call.args.pairs();
     Ok(())
 }
 
@@ -44,12 +87,5 @@ pub fn refill_call(
     ensures call { OnOk result (call.new ≡ call_of spec.now op values.now) }
     ensures words { OnOk result (IsOfWords call.new) }
 {
-    let ranges = range_columns(&spec.op(op).kind);
-    let given = cols.len() - 2 * ranges.len();
-    call.op = op;
-    call.args.refill(&cols[..given], &values[..given])?;
-    refill_ranges(&mut call.ranges, ranges, &values[given..])?;
-    // A call of `pairs` tells the check that they are a tuple.
-    let _ = call.args.pairs();
-    Ok(())
+    refill_over(call, spec, &[], op, cols, values)
 }

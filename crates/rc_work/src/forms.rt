@@ -39,7 +39,7 @@ fn is_value(word: &Word<'_>) -> bool
 }
 
 /// Whether each word stands for a value.
-fn are_values(words: &[Word<'_>]) -> bool
+pub(crate) fn are_values(words: &[Word<'_>]) -> bool
     ensures { result ≡ list_all is_value (word_texts words.now) }
 {
     for word in words {

@@ -1,3 +1,5 @@
+ghost use Rattle.rc_work.specs.DeterminedLaws.{OperationTestIsExact};
+ghost use Rattle.rc_work.specs.OpenRunLaws.{WithoutShapesWorksAreRead};
 ghost use Rattle.rc_work.specs.PartLaws.{PartsAreRefused, PartsAreWorks};
 ghost use Rattle.rc_work.specs.PartReadingLaws.{WorksAreParts};
 ghost use Rattle.rc_work.specs.PrintedLaws.{TextsPrintAsWritten};
@@ -48,4 +50,14 @@ pub fn parts_are_works()
     ensures works { PartsAreWorks }
     ensures refused { PartsAreRefused }
     ensures found { WorksAreParts }
+{}
+
+/// The test by which a line of a workload breaks W4 is exact: it passes where the operation keeps O1 to O3.
+pub fn operation_test_is_exact()
+    ensures { OperationTestIsExact }
+{}
+
+/// Where no line brings an operation, a workload is read as one without such lines, and it has no shapes.
+pub fn without_shapes_works_are_read()
+    ensures { WithoutShapesWorksAreRead }
 {}

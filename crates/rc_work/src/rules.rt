@@ -32,7 +32,7 @@ const MIN_GROUP: u64 = 2;
 const MAX_GROUP: u64 = 16;
 
 /// The thread that a word names, if it is below the number of threads.
-fn thread_of(threads: u32, word: &[u8]) -> Option<u32>
+pub(crate) fn thread_of(threads: u32, word: &[u8]) -> Option<u32>
     ensures { result ≡ thread_of threads word.now }
 {
     match read_u64(word) {
@@ -106,7 +106,11 @@ fn raw_values(alloc: Global, words: &[Word<'_>]) -> Result<Option<RawValues>, Me
 
 /// The values that words stand for where there are so many of them, or `None` where one is too large. Of another count none
 /// is kept, since a line may have millions of words that are no call's.
-fn call_values(alloc: Global, words: &[Word<'_>], count: usize) -> Result<Option<RawValues>, Memory>
+pub(crate) fn call_values(
+    alloc: Global,
+    words: &[Word<'_>],
+    count: usize,
+) -> Result<Option<RawValues>, Memory>
     ensures large { IfOk result (λ values. is_none values ≡ list_any is_too_large (word_texts words.now)) }
     ensures values { length words.now ≡ count
         → IfOk result (λ values. IfSome values (λ read. read ≡ raw_values (word_texts words.now))) }
@@ -145,7 +149,7 @@ fn is_wrong_kind(kind: ColKind, value: &RawValue) -> bool
 }
 
 /// Whether some value is none for the column beside it.
-fn has_wrong_kind(spec: &Spec, cols: &[u8], values: &[RawValue]) -> bool
+pub(crate) fn has_wrong_kind(spec: &Spec, cols: &[u8], values: &[RawValue]) -> bool
     requires { length values.now ≡ length cols.now }
     ensures { result ≡ has_wrong_kind spec.now cols.now values.now }
 {

@@ -3,11 +3,12 @@ use Rattle.std.specs.List.{AllByRecursion}
 use Rattle.rc_work.specs.Drafts.{IsRawTurn}
 use Rattle.rc_work.specs.Fitting.{IsOfWords}
 use Rattle.rc_work.specs.Ranking.{ranked_round}
+use Rattle.rc_work.specs.Shapes.{with_operations}
 use Rattle.rc_work.proofs.ranking.ranked_round.Given as goal
 
 abbrev pub invariant-loop-turn : goal.invariant-loop-turn
 invariant-loop-turn l = record {
-  so_far : l.ranked ≡ ranked_round l.spec l.ranks (take l.turn-index l.round);
+  so_far : l.ranked ≡ ranked_round (with_operations l.spec l.shapes) l.ranks (take l.turn-index l.round);
   words : AllByRecursion (λ turn. AllByRecursion IsOfWords turn.calls) l.ranked;
-  left : AllByRecursion (IsRawTurn l.spec) (drop l.turn-index l.round);
+  left : AllByRecursion (IsRawTurn (with_operations l.spec l.shapes)) (drop l.turn-index l.round);
 }

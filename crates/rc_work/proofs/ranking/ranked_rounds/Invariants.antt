@@ -3,11 +3,12 @@ use Rattle.std.specs.List.{AllByRecursion}
 use Rattle.rc_work.specs.Drafts.{IsRawTurn}
 use Rattle.rc_work.specs.Fitting.{AreOfWords}
 use Rattle.rc_work.specs.Ranking.{ranked_rounds}
+use Rattle.rc_work.specs.Shapes.{with_operations}
 use Rattle.rc_work.proofs.ranking.ranked_rounds.Given as goal
 
 abbrev pub invariant-loop-round : goal.invariant-loop-round
 invariant-loop-round l = record {
-  so_far : l.ranked ≡ ranked_rounds l.spec l.ranks (take l.round-index l.rounds);
+  so_far : l.ranked ≡ ranked_rounds (with_operations l.spec l.shapes) l.ranks (take l.round-index l.rounds);
   words : AreOfWords l.ranked;
-  left : AllByRecursion (AllByRecursion (IsRawTurn l.spec)) (drop l.round-index l.rounds);
+  left : AllByRecursion (AllByRecursion (IsRawTurn (with_operations l.spec l.shapes))) (drop l.round-index l.rounds);
 }

@@ -1,0 +1,29 @@
+use Rattle.std.proofs.Common.{sym, ap, subst, ◌∙◌}
+use Rattle.rc_text.specs.Lines.{content_from, past_end_of}
+use Rattle.rc_reader.specs.Answers.{Refuses, refusal_at}
+use Rattle.rc_reader.specs.declared.refusal.LineRule.TheVariants.{S8}
+use Rattle.rc_work.specs.WorkGrammar.{broken_at}
+use Rattle.rc_work.proofs.OpenReadingLemmas.{behind_header, whole, unended, refused}
+use Rattle.rc_work.proofs.open_work.read_open_draft.Goals as goal
+
+pub returns-in-Err : goal.returns-in-Err
+returns-in-Err c =
+    rw c.at.ensures
+    (subst (Refuses (refusal_at c.in-Err.unread.fault c.in-Err.unread.line))
+    (sym (behind_header c.args.later c.args.spec.now c.args.lines.now c.read_header.new.lines c.in_ok-threads.threads _ c.new-read.ensures c.in_ok-threads.ensures.ok))
+    (refused c.args.later c.args.spec.now (past_end_of c.args.lines.now.text) _ (content_from c.read_header.new.lines) c.in-Err.unread
+    c.in-Err.ensures.lines))
+
+pub returns-then-read : goal.returns-then-read
+returns-then-read c =
+    behind_header c.args.later c.args.spec.now c.args.lines.now c.read_header.new.lines c.in_ok-threads.threads _ c.new-read.ensures c.in_ok-threads.ensures.ok
+    ∙ whole c.args.later c.args.spec.now (past_end_of c.args.lines.now.text) _ (content_from c.read_header.new.lines) c.in_default.field-0
+    c.read_lines.new.state (content_from c.read_lines.new.lines) c.in_default.ensures.lines c.if-read.true
+
+pub returns-else-read : goal.returns-else-read
+returns-else-read c =
+    let past_end = c.past_end.ensures ∙ ap past_end_of (c.in_default.ensures.text ∙ c.in_ok-threads.ensures.text) in
+    behind_header c.args.later c.args.spec.now c.args.lines.now c.read_header.new.lines c.in_ok-threads.threads _ c.new-read.ensures c.in_ok-threads.ensures.ok
+    ∙ unended c.args.later c.args.spec.now (past_end_of c.args.lines.now.text) _ (content_from c.read_header.new.lines) c.in_default.field-0
+    c.read_lines.new.state (content_from c.read_lines.new.lines) c.in_default.ensures.lines c.if-read.false
+    ∙ ap (broken_at S8) (sym past_end)

@@ -1,0 +1,18 @@
+-- Operations that a specification doesn't declare, and the specification with them.
+use Rattle.std.specs.Prelude.{◌++◌, List, length}
+use Rattle.rc_tuple.specs.RisingSet.{AreDistinct}
+use Rattle.rc_spec.specs.declared.items.Op.{Op}
+use Rattle.rc_spec.specs.declared.spec.Spec.{Spec}
+use Rattle.rc_spec.specs.InRange.{IsOpAmong}
+use Rattle.rc_spec.specs.Placement.{KeepsO}
+use Rattle.rc_spec.specs.Ranges.{range_columns}
+
+-- the specification with further operations behind its own
+abbrev pub with_operations : Spec → List Op → Spec
+with_operations spec shapes = record spec { ops = spec.ops ++ shapes }
+
+-- the operation's columns are the specification's, each once in its pattern and ranges, and it keeps O1 to O3
+pub record IsShapeOf (spec : Spec) (op : Op) : Type 0 where
+  pub among : IsOpAmong (length spec.columns) op
+  pub distinct : AreDistinct (op.pattern ++ range_columns op.kind)
+  pub keeps : KeepsO spec op
