@@ -1,0 +1,4 @@
+pub mod Apart
+pub mod ApartLaws
+pub mod Extended
+pub mod ExtendedLaws

@@ -1,0 +1,3 @@
+pub mod ShapeText
+pub mod ExtendedLaws
+pub mod ShapeTextLaws
