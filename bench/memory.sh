@@ -46,5 +46,7 @@ tell("plan", ["plan"], specification, same)
 tell("run", ["run"], seats, lambda written, whole: len(written) == len(whole))
 group = open(os.path.join(here, "..", "examples", "group.relc"), "rb").read()
 tell("group", ["group"], group, lambda written, whole: len(written) == len(whole))
+further = open(os.path.join(here, "..", "examples", "open.relc"), "rb").read()
+tell("open", ["open"], further, lambda written, whole: len(written) == len(whole))
 tell("big 7 20", ["big", "7", "20"], b"", same)
 END

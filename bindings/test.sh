@@ -34,6 +34,8 @@ compile -o "$out/test" "$here/c/test.c" "$out/librelc.a" || exit 1
 run "$out/test"
 compile -o "$out/test-shared" "$here/c/test.c" -L"$out" -lrelc -Wl,-rpath,"$out" || exit 1
 run "$out/test-shared"
+compile -o "$out/plans" "$here/c/plans.c" "$out/librelc.a" || exit 1
+run "$out/plans"
 compile -o "$out/wakes" "$here/c/wakes.c" "$out/librelc.a" || exit 1
 run "$out/wakes"
 compile -o "$out/patience" "$here/c/patience.c" "$out/librelc.a" || exit 1
@@ -47,6 +49,8 @@ compile -o "$out/wrong" "$here/c/wrong.c" "$out/librelc-check.a" || exit 1
 run "$out/wrong"
 compile -o "$out/test-check" "$here/c/test.c" "$out/librelc-check.a" || exit 1
 run "$out/test-check"
+compile -o "$out/plans-check" "$here/c/plans.c" "$out/librelc-check.a" || exit 1
+run "$out/plans-check"
 compile -o "$out/sessions-check" "$here/c/sessions.c" "$out/librelc-check.a" || exit 1
 run "$out/sessions-check"
 compile -o "$out/texts" "$here/c/texts.c" "$out/librelc.a" || exit 1
@@ -62,6 +66,7 @@ if has python3 "the page of refusals and what is made of its text"; then
 fi
 if has valgrind "the tests in C once more, for memory"; then
     run valgrind -q --error-exitcode=1 --leak-check=full "$out/test"
+    run valgrind -q --error-exitcode=1 --leak-check=full "$out/plans"
     run valgrind -q --error-exitcode=1 --leak-check=full "$out/memory"
     run valgrind -q --error-exitcode=1 --leak-check=full "$out/texts"
 fi

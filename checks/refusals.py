@@ -20,6 +20,8 @@ GROUPS = [
     ("Adequacy", "A", "The decomposition keeps every tuple and makes none. A refusal names a node, an edge or a column."),
     ("Placement", "P", "Each row has one lock, and locks are taken in one order. A refusal names an edge or a class."),
     ("Operations", "O", "A refusal names the operation."),
+    ("Written plans", "H", "`relc hand` reads plans between a specification and a workload, and a program may open a store with them, where S8 may come too. A refusal names the line: in a program that of the plans' text."),
+    ("Plans", "K", "Each written plan is tested by these. A refusal names the operation and the statement, counted from 0."),
     ("Calls", "W", "Only a workload has these: `relc run` and `relc group`. A refusal names the line."),
 ]
 
@@ -33,16 +35,18 @@ class Rule:
 
 
 def read():
-    """The rules, the forms of lines, and the lines of the text that the examples change."""
-    rules, forms, text, part = [], [], [], None
+    """The rules, the forms of lines and those of statements, and the lines of the text that the examples change."""
+    rules, forms, statements, text, part = [], [], [], [], None
     for line in open(DATA, encoding="ascii").read().split("\n"):
         word, _, rest = line.partition(" ")
-        if line in ("forms", "text"):
+        if line in ("forms", "statements", "text"):
             part = line
         elif part == "text":
             text.append(line)
         elif part == "forms":
             forms.append(line)
+        elif part == "statements":
+            statements.append(line)
         elif word == "rule":
             rules.append(Rule(rest))
         elif word in ("asks", "does"):
@@ -52,10 +56,13 @@ def read():
         elif word == "-":
             rules[-1].old.append(rest)
         elif word == "+":
-            rules[-1].new.append(rest)
+            rules[-1].new.append((1, rest))
+        elif word == "*":
+            count, _, repeated = rest.partition(" ")
+            rules[-1].new.append((int(count), repeated))
         elif line and word != "#":
             sys.exit(f"refusals.py: no such line: {line}")
-    return rules, [form for form in forms if form], [line for line in text if line]
+    return rules, *([line for line in lines if line] for lines in (forms, statements, text))
 
 
 def changed(text, rule):
@@ -63,7 +70,7 @@ def changed(text, rule):
     lines = []
     for line in text:
         if line == rule.old[0]:
-            lines += rule.new
+            lines += [new for count, new in rule.new for _ in range(count)]
         elif line not in rule.old:
             lines.append(line)
     return lines
@@ -73,10 +80,10 @@ def wrapped(paragraph):
     return textwrap.wrap(paragraph, 120, break_long_words=False, break_on_hyphens=False) + [""]
 
 
-def page(rules, forms, text):
+def page(rules, forms, statements, text):
     out = ["# Why a text is refused", ""]
     out += wrapped(
-        "RELC refuses a specification by the first rule that it breaks. This page says of each rule what it asks, what the item or "
+        "RELC refuses a specification by the first rule that it breaks, and so plans that are written for it. This page says of each rule what it asks, what the item or "
         "line that the refusal names does, and what to try; a store that a program opens says the same (`Display` of the crate's "
         "`Error`, `relc_rule_text` in C). It is made by `checks/refusals.py` from `bindings/rust/src/rules.txt`. The rules in full are in "
         "[LANGUAGE.md](LANGUAGE.md) and [RULES.md](RULES.md)."
@@ -84,7 +91,7 @@ def page(rules, forms, text):
     out += wrapped(
         "Each example changes the text at the end of this page: with the lines marked `+` in the place of the first that is marked "
         "`-`, and without the others that are, it is refused; as it stands it isn't. Those of S, A, P and O change the specification alone, up to the "
-        "first `end`, as `relc check` reads it; those of W the whole, as `relc run` does, and W5 `relc group`. Besides, a text of more than 2^24 bytes is "
+        "first `end`, as `relc check` reads it; those of H and K the whole, as `relc hand` reads it, and those of W as `relc run` does, W4 `relc open` and W5 `relc group`. Besides, a text of more than 2^24 bytes is "
         "`refused size`, and `relc dot OP` with no such operation `refused operation`."
     )
     for title, letter, what in GROUPS:
@@ -94,10 +101,13 @@ def page(rules, forms, text):
                 continue
             out += [f"### {rule.name}", ""]
             out += wrapped(rule.asks) + wrapped(f"*Broken:* {rule.does}") + wrapped(f"*Try:* {rule.advice}")
-            out += ["```diff"] + [f"-{line}" for line in rule.old] + [f"+{line}" for line in rule.new] + ["```", ""]
+            out += ["```diff"] + [f"-{line}" for line in rule.old] + [f"+{line}" + (f" ({count} times)" if count > 1 else "") for count, line in rule.new] + ["```", ""]
             if rule.name == "S2":
                 out += wrapped("The forms of a specification's lines, with what may be left out in brackets; those of a workload are in LANGUAGE.md:")
                 out += ["```"] + forms + ["```", ""]
+            if rule.name == "H2":
+                out += wrapped("The forms of the lines of plans, with what may be left out in brackets:")
+                out += ["```"] + statements + ["```", ""]
     out += ["## The text", "", "```"] + text + ["```", ""]
     return "\n".join(out)
 
@@ -107,8 +117,8 @@ def quoted(text):
 
 
 def header(rules):
-    out = ["/* relc_rules.h: of each rule of acceptance what it asks, what the item or line that a refusal names does,"]
-    out += [" * and what to try. Made by checks/refusals.py. */", "#ifndef RELC_RULES_H", "#define RELC_RULES_H", ""]
+    out = ["/* relc_rules.h: of each rule of acceptance and of plans what it asks, what the item or line that a refusal names"]
+    out += [" * does, and what to try. Made by checks/refusals.py. */", "#ifndef RELC_RULES_H", "#define RELC_RULES_H", ""]
     out += ["static const struct relc_rule {", "    char name[3];", "    const char *text;", "} relc_rules[] = {"]
     for rule in rules:
         if rule.name[0] == "W":
@@ -119,10 +129,10 @@ def header(rules):
 
 
 def missing(rules):
-    """The rules that docs/LANGUAGE.md and docs/RULES.md have in their tables, and that aren't in the data. (Those of plans, H and K, are asked by `hand` alone.)"""
+    """The rules that docs/LANGUAGE.md and docs/RULES.md have in their tables, and that aren't in the data."""
     have = {rule.name for rule in rules}
     pages = "".join(open(os.path.join(TOP, "docs", name), encoding="utf-8").read() for name in ("LANGUAGE.md", "RULES.md"))
-    return sorted(set(re.findall(r"^\| ([SAPOW]\d) \|", pages, re.MULTILINE)) - have)
+    return sorted(set(re.findall(r"^\| ([SAPOHKW]\d) \|", pages, re.MULTILINE)) - have)
 
 
 def answer(program, command, lines):
@@ -135,13 +145,15 @@ def tried(program, rules, text):
     """Which examples aren't refused by their rule."""
     end = text.index("end")
     wrong = []
-    for command, lines in (("check", text[: end + 1]), ("run", text), ("group", text)):
+    for command, lines in (("check", text[: end + 1]), ("run", text), ("open", text), ("group", text), ("hand", text)):
         if answer(program, command, lines).startswith("refused"):
             wrong.append(f"the text itself, by {command}")
     for rule in rules:
         lines = changed(text, rule)
         if rule.name[0] == "W":
-            command = "group" if rule.name == "W5" else "run"
+            command = {"W4": "open", "W5": "group"}.get(rule.name, "run")
+        elif rule.name[0] in "HK":
+            command = "hand"
         else:
             command = "check"
             lines = changed(text[: end + 1], rule)
@@ -152,8 +164,8 @@ def tried(program, rules, text):
 
 
 def main():
-    rules, forms, text = read()
-    made = ((PAGE, page(rules, forms, text)), (HEADER, header(rules)))
+    rules, forms, statements, text = read()
+    made = ((PAGE, page(rules, forms, statements, text)), (HEADER, header(rules)))
     if sys.argv[1:] == ["--write"]:
         for path, content in made:
             open(path, "w", encoding="utf-8").write(content)

@@ -119,6 +119,9 @@ static void end(struct handle *handle)
 
 uint32_t relc_unchecked_open(
     const uint8_t *text, size_t length, relc_open_frame *frame, relc_store **store);
+uint32_t relc_unchecked_open_with_plans(const uint8_t *text, size_t length, const uint8_t *plans,
+    size_t plans_length, relc_open_frame *frame, relc_store **store);
+uint32_t relc_unchecked_plans(relc_store *store, relc_text_page *page);
 uint32_t relc_unchecked_operation(relc_store *store, relc_operation_frame *frame);
 uint32_t relc_unchecked_open_session(relc_store *store, relc_session **session);
 uint32_t relc_unchecked_give_back(relc_store *store, relc_session *session);
@@ -133,6 +136,27 @@ uint32_t relc_open(const uint8_t *text, size_t length, relc_open_frame *frame, r
     uint32_t code = relc_unchecked_open(text, length, frame, store);
     if (code == RELC_DONE)
         add(__func__, *store, NULL);
+    return code;
+}
+
+uint32_t relc_open_with_plans(const uint8_t *text, size_t length, const uint8_t *plans, size_t plans_length,
+    relc_open_frame *frame, relc_store **store)
+{
+    want(__func__, text);
+    want(__func__, frame);
+    want(__func__, store);
+    uint32_t code = relc_unchecked_open_with_plans(text, length, plans, plans_length, frame, store);
+    if (code == RELC_DONE)
+        add(__func__, *store, NULL);
+    return code;
+}
+
+uint32_t relc_plans(relc_store *store, relc_text_page *page)
+{
+    struct handle *handle = enter(__func__, store, STORE);
+    want(__func__, page);
+    uint32_t code = relc_unchecked_plans(store, page);
+    leave(handle);
     return code;
 }
 

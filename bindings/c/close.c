@@ -1,8 +1,10 @@
-/* What librelc has beside the exports of crates/rc_c: its version, and how handles are closed, or
- * given back. What is behind a handle ends, and then its block is given back to the allocator that
+/* What librelc has beside the exports of crates/rc_c: its version, plans that may be none, and how
+ * handles are closed, or given back. What is behind a handle ends, and then its block is given back to the allocator that
  * librelc took it from. */
 #include "relc.h"
 
+uint32_t relc_open_planned(const uint8_t *text, size_t length, const uint8_t *plans, size_t plans_length,
+                           relc_open_frame *frame, relc_store **store);
 void relc_end_store(relc_store *store);
 void relc_end_session(relc_session *session);
 uint32_t relc_take_back(relc_store *store, relc_session *session);
@@ -11,6 +13,15 @@ void rattle_dealloc(void *block);
 uint32_t relc_version(void)
 {
     return RELC_VERSION;
+}
+
+uint32_t relc_open_with_plans(const uint8_t *text, size_t length, const uint8_t *plans, size_t plans_length,
+                              relc_open_frame *frame, relc_store **store)
+{
+    static const uint8_t none;
+    if (plans == NULL)
+        return relc_open_planned(text, length, &none, 0, frame, store);
+    return relc_open_planned(text, length, plans, plans_length, frame, store);
 }
 
 void relc_close_store(relc_store *store)

@@ -26,7 +26,8 @@
  *             and session are written to (= NULL). What is lent is aligned as its type is. What one
  *             call is lent doesn't overlap, and but for a text nobody else reads or writes it
  *             meanwhile. No pointer is NULL, not even that of a text of no bytes, nor the frame of
- *             relc_cancel; but the functions that close take NULL, and do nothing. No function is
+ *             relc_cancel; but the text of plans of relc_open_with_plans may be, and the functions that
+ *             close take NULL, and do nothing. No function is
  *             called from a signal handler, nor in a forked child of a process with threads.
  *
  * What is proved of each function (crates/rc_c), and what is not, says docs/EMBEDDING.md. That
@@ -60,6 +61,9 @@ extern "C" {
 #define RELC_NAME 16
 #define RELC_REFUSAL 64
 
+/* how many bytes of a text at once */
+#define RELC_TEXT 4096
+
 /* A store with the sessions that are left to begin, and a session. */
 typedef struct relc_store relc_store;
 typedef struct relc_session relc_session;
@@ -76,7 +80,7 @@ enum relc_code {
     RELC_NOT_PREPARED = 7, /* nothing is prepared, and no group open */
     RELC_NO_ROW = 8,       /* the reply has no such row, or there is no such reply */
     RELC_OPTIONS = 9,      /* passes, limit or rows are out of their ranges */
-    RELC_TOO_LONG = 10,    /* the text is longer than 2^24 bytes */
+    RELC_TOO_LONG = 10,    /* the text, or that of the plans, is longer than 2^24 bytes */
     RELC_LINE = 11,        /* the text breaks a line rule: refusal of the frame */
     RELC_RULE = 12,        /* the specification breaks a rule of acceptance: the same */
     RELC_NONE_LEFT = 13,   /* of the store's passes none is left to begin a session with */
@@ -84,7 +88,9 @@ enum relc_code {
     RELC_COUNT = 15,       /* a group has no call, or would have more than RELC_GROUP */
     RELC_NOT_OPEN = 16,    /* no group is open */
     RELC_UNCOVERED = 17,   /* what the open group declared doesn't suffice for the call */
-    RELC_NO_CALL = 18      /* the open group had made no call, and is over */
+    RELC_NO_CALL = 18,     /* the open group had made no call, and is over */
+    RELC_PLAN_LINE = 19,   /* the text of the plans breaks a rule of their lines: refusal of the frame */
+    RELC_PLAN = 20         /* a plan that is written breaks a rule of plans: the same */
 };
 
 /* kinds of a reply */
@@ -109,16 +115,18 @@ enum relc_found {
 /* How a store is to be opened, and why it is not. */
 typedef struct relc_open_frame {
     uint32_t passes;               /* asked: how many sessions there may be, 1 to 255 */
-    uint32_t length;               /* told: how many bytes the refusal has; 0 but for RELC_LINE
-                                      and RELC_RULE */
+    uint32_t length;               /* told: how many bytes the refusal has; 0 but for RELC_LINE,
+                                      RELC_RULE, RELC_PLAN_LINE and RELC_PLAN */
     uint64_t limit;                /* asked: how many calls each session may make, 1 to 2^48 */
     uint64_t rows;                 /* asked: the most rows that a query tells one by one, 1 to
                                       2^32 - 1, or 0 for no limit; of more it tells the number */
     uint64_t seed[2];              /* asked: the secret of the store's hash tables: two numbers
                                       drawn at random (getrandom) and told to nobody, where who
                                       chooses the values isn't trusted; else any, as 0 */
-    uint8_t refusal[RELC_REFUSAL]; /* told with RELC_LINE and RELC_RULE: as `relc check` prints it,
-                                      `refused S3 line 12` or `refused A6 edge e2` */
+    uint8_t refusal[RELC_REFUSAL]; /* told with these: as `relc check` and `relc hand` print it,
+                                      `refused S3 line 12`, `refused A6 edge e2`, `refused H2 line 3`
+                                      of the text of the plans, or `refused K2 plan succ statement 1`,
+                                      the statements counted from 0 */
 } relc_open_frame;
 
 /* Which operation is meant, what its calls give and are told, and what it finds tuples by. */
@@ -168,6 +176,14 @@ typedef struct relc_page {
     uint64_t cells[RELC_PAGE]; /* told: their values, one row behind the other */
 } relc_page;
 
+/* A part of a text. */
+typedef struct relc_text_page {
+    uint64_t at;              /* asked: the first of the bytes, from 0 */
+    uint64_t length;          /* told: how many bytes the whole text has */
+    uint64_t count;           /* told: how many bytes were copied, 0 where none is left */
+    uint8_t bytes[RELC_TEXT]; /* told: they */
+} relc_text_page;
+
 /* The RELC_VERSION of the library, for programs that load it as they start: where it is another
  * than the one that they were compiled with, they call nothing else. */
 uint32_t relc_version(void);
@@ -177,7 +193,23 @@ uint32_t relc_version(void);
  * written. */
 uint32_t relc_open(const uint8_t *text, size_t length, relc_open_frame *frame, relc_store **store);
 
-/* Of a refusal that relc_open told with RELC_LINE or RELC_RULE: what the rule asks, what the item or line
+/* Opens a store so, with plans of operations that are written by hand: in the form in which relc_plans
+ * tells them, each under a line `plan NAME`, with the line `end` behind the last. They name the edges, the
+ * classes and the columns of the specification that the store has, in which singletons are inlined: so begin
+ * with what relc_plans tells of a store of it. An operation without a plan there has the one that is planned for it, as all
+ * have where `plans` is NULL or the text is empty. A plan is taken exactly where it keeps K1 to K7; replies
+ * and history are the same by any. Codes as relc_open, in that order of tests, then RELC_PLAN_LINE for the
+ * first broken rule of the lines of plans (H1 to H4, S8), and RELC_PLAN for the first plan that breaks a
+ * rule. RELC_TOO_LONG comes for either text. */
+uint32_t relc_open_with_plans(const uint8_t *text, size_t length, const uint8_t *plans, size_t plans_length,
+                              relc_open_frame *frame, relc_store **store);
+
+/* Copies the text of the plans by which the store answers its operations, from byte `at` on, as many bytes
+ * as there is room for: of each operation a line `plan NAME`, and a line for each statement. With a line
+ * `end` behind it is what relc_open_with_plans reads. RELC_DONE or RELC_MEMORY. */
+uint32_t relc_plans(relc_store *store, relc_text_page *page);
+
+/* Of a refusal that relc_open or relc_open_with_plans told: what the rule asks, what the item or line
  * that it names does, and what to try, as docs/REFUSALS.md has it. NULL where the frame tells none. */
 const char *relc_rule_text(const relc_open_frame *frame);
 

@@ -1,5 +1,5 @@
-/* relc_rules.h: of each rule of acceptance what it asks, what the item or line that a refusal names does,
- * and what to try. Made by checks/refusals.py. */
+/* relc_rules.h: of each rule of acceptance and of plans what it asks, what the item or line that a refusal names
+ * does, and what to try. Made by checks/refusals.py. */
 #ifndef RELC_RULES_H
 #define RELC_RULES_H
 
@@ -36,9 +36,9 @@ static const struct relc_rule {
      "This line comes behind a line of a later section, or is a second header, or ends a specification that has no column or no node; or it is a call before the first `round`. "
      "Move the line to its section; leave out a second header; declare a column and a node before `end`; write `round` before the first call."},
     {"S8",
-     "A specification and a workload end with the line `end`, and nothing comes behind the last one. "
-     "The lines run out before `end`; or this line comes behind it. "
-     "Write `end`; a store that a program opens takes the specification alone, without a workload."},
+     "A specification and a workload end with the line `end`, and so do plans that a store is opened with; nothing comes behind the last one. Behind plans between a specification and a workload stands the line `work`. "
+     "The lines run out before `end`, or before `work`; or this line comes behind the last `end`. "
+     "Write `end`; a store that a program opens takes the specification alone, without a workload, and plans alone."},
     {"A1",
      "The first node, the root, binds no column, no edge enters it and one leaves it; an edge enters each other node. "
      "This node is a root that breaks that, or another node that no edge enters. "
@@ -103,6 +103,50 @@ static const struct relc_rule {
      "A query has outputs, each of which is named once. "
      "This query has none, or names one twice. "
      "Name the columns of its rows behind `->`."},
+    {"H1",
+     "A written plan begins with the line `plan` and the name of one operation, which has no other plan. "
+     "This line names no operation, or more than one word, or an operation that has a plan above. "
+     "Correct the name, as `op` lines have it, and write one plan for each operation; one that has none is planned."},
+    {"H2",
+     "A line of a written plan has one of the forms of a statement, as `relc plan` prints them, without quotes; behind the last plan stands the line `work`, or `end` where plans stand alone. "
+     "This line has none: its first word is no statement's, a word is missing, one too many or of another kind, or it stands before the first `plan`. "
+     "Compare the line with the form of its first word; begin with plans that were printed."},
+    {"H3",
+     "A statement names classes, edges and columns of the specification, a column once, and the number of a dependency, counted from 1. In a program they are those of the specification that the store has, in which singletons are inlined. "
+     "This line names one that isn't there, a column twice, or a dependency with the number 0 or above the last. "
+     "Correct the spelling; in a program take the names from the plans that the store prints, since an edge that is inlined isn't there."},
+    {"H4",
+     "A written plan has at most 256 statements. "
+     "This line is the 257th. "
+     "Read each edge once, and release each class once; a plan with that many statements reads more than it needs."},
+    {"K1",
+     "A plan has two phases: locks and reads, then what answers (`emit` of a query, `apply` of a remove; an insert and an update have probes and checks before theirs), then `commit`, then one `release` of each locked class. A query locks shared, or not; the others don't. "
+     "This statement stands in another place than the kind of its operation has for it; or, where its number is that of all statements, the plan ends too early. "
+     "Put it where a plan that is printed has it: nothing is released before `commit`, and nothing locked or read after the answer."},
+    {"K2",
+     "A plan locks classes in the order in which the specification has them, each once. "
+     "This lock's class isn't behind every class that was locked before it. "
+     "Move the lock in front of that of the later class, or exchange the `lock` lines of the specification."},
+    {"K3",
+     "A lock is `keyed` where the columns of its class are known by then, from the pattern, a probe or what was read; an edge is read under a lock of its class, one that is keyed by what is sought. "
+     "This lock is keyed and a column of its class isn't known yet; or this read's class isn't locked, or is locked by other columns than the probe has. "
+     "Lock `all` of the class, or lock it behind the read that finds the column; lock each class before its edges are read."},
+    {"K4",
+     "What changes is locked: at `apply` every class that has an edge, and in an update all of a class whose columns the pattern hasn't. "
+     "At this `apply` a class isn't locked, or an update's is keyed by a column that may change. "
+     "Lock each class that has an edge before `apply`; in an update lock `all` of one that isn't keyed by the pattern."},
+    {"K5",
+     "An edge is read from the root or from a node that was reached; a `lookup` knows all columns of the edge's key; and what the edge's target has in common with what was read determines the one or the other. "
+     "This read begins at a node that wasn't reached, looks up by a column that isn't known, or joins rows that don't belong together. "
+     "Read the edges from the root down, as they are written; `scan` where a column of the key isn't known."},
+    {"K6",
+     "What answers has been found: at `emit` the pattern and all outputs are read, at a remove's `apply` all columns, and at `absent`, `found` and `check` the columns that they speak of, behind a probe of them. "
+     "At this statement a column is missing that it speaks of, or the last probe was by others. "
+     "Read the edges that bind the missing columns first; probe by the pattern before `absent` or `found`, and by the left side of the dependency before its `check`."},
+    {"K7",
+     "An insert tests that no tuple is there (`absent`), an update that one is (`found`), and behind that each dependency that could break, in the order of their numbers. "
+     "This `check` comes before `absent` or `found`, or behind one with a larger number; or this `apply` comes before a test that it needs. "
+     "Write `absent` or `found` first, then a `check` for each dependency whose left side doesn't hold the whole pattern."},
 };
 
 #endif

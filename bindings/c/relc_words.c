@@ -34,7 +34,7 @@ const char *relc_code_text(uint32_t code)
         [RELC_NOT_PREPARED] = "nothing is prepared, and no group open",
         [RELC_NO_ROW] = "the reply has no such row, or there is no such reply",
         [RELC_OPTIONS] = "passes, limit or rows are out of their ranges",
-        [RELC_TOO_LONG] = "the text is longer than 2^24 bytes",
+        [RELC_TOO_LONG] = "the text, or that of the plans, is longer than 2^24 bytes",
         [RELC_LINE] = "the text breaks a rule of lines",
         [RELC_RULE] = "the specification breaks a rule of acceptance",
         [RELC_NONE_LEFT] = "as many sessions were begun as the store has passes",
@@ -43,6 +43,8 @@ const char *relc_code_text(uint32_t code)
         [RELC_NOT_OPEN] = "no group is open",
         [RELC_UNCOVERED] = "what the open group declared doesn't suffice for the call",
         [RELC_NO_CALL] = "the open group had made no call, and is over",
+        [RELC_PLAN_LINE] = "the text of the plans breaks a rule of their lines",
+        [RELC_PLAN] = "a plan that is written breaks a rule of plans",
     };
     return code < COUNT(texts) ? texts[code] : "no such code";
 }

@@ -47,9 +47,10 @@ pub enum Error {
     Memory,
     /// There are not 1 to 255 sessions, or not 1 to 2^48 calls each.
     Options,
-    /// The text is longer than 2^24 bytes.
+    /// The text, or that of the plans, is longer than 2^24 bytes.
     TooLong,
-    /// The specification is refused: the first broken rule, with its line or its item, and why.
+    /// The specification is refused, or plans that are written: the first broken rule, with its line or its item, and
+    /// why.
     Refused(Refusal),
     /// No operation has this name.
     Unknown(String),
@@ -118,7 +119,10 @@ impl fmt::Display for Error {
         match self {
             Error::Memory => write!(f, "memory was wanted"),
             Error::Options => write!(f, "1 to 255 sessions, and 1 to 2^48 calls each"),
-            Error::TooLong => write!(f, "the text is longer than 2^24 bytes"),
+            Error::TooLong => write!(
+                f,
+                "the text, or that of the plans, is longer than 2^24 bytes"
+            ),
             Error::Refused(refusal) => refusal.fmt(f),
             Error::Unknown(name) => write!(f, "no operation is named {name}"),
             Error::Kind(name) => write!(f, "the operation {name} is of another kind"),

@@ -1,4 +1,4 @@
-//! Why a specification is refused.
+//! Why a specification, or plans of its operations, are refused.
 
 use std::fmt;
 
@@ -8,13 +8,16 @@ const RULES: &str = include_str!("rules.txt");
 /// How many characters of a refused line are shown.
 const SHOWN: usize = 80;
 
-/// A specification that is refused: the first rule that it breaks, with the line or the item that breaks it.
+/// A specification that is refused, or plans of its operations: the first rule that is broken, with the line or the item that
+/// breaks it.
 ///
 /// `Display` says it in words: what the rule asks, what the line or the item does, and what to try.
 #[derive(Clone, Debug, PartialEq, Eq)]
 pub struct Refusal {
-    /// As `relc check` prints it.
+    /// As `relc check` and `relc hand` print it.
     said: String,
+    /// Whether plans are refused.
+    plans: bool,
     /// The line that is refused, where one is.
     line: Option<String>,
 }
@@ -33,7 +36,11 @@ fn part(rule: &str, word: &str) -> &'static str {
 impl Refusal {
     /// The refusal that the store told of the text.
     pub(crate) fn new(said: String, text: &str) -> Refusal {
-        let mut refusal = Refusal { said, line: None };
+        let mut refusal = Refusal {
+            said,
+            plans: false,
+            line: None,
+        };
         refusal.line = refusal
             .line_number()
             .and_then(|number| text.lines().nth(number.checked_sub(1)?))
@@ -41,7 +48,20 @@ impl Refusal {
         refusal
     }
 
-    /// As `relc check` prints it: `refused S2 line 11`, or `refused A3 edge e2`.
+    /// That of plans, told of their text.
+    pub(crate) fn of_plans(said: String, plans: &str) -> Refusal {
+        let mut refusal = Refusal::new(said, plans);
+        refusal.plans = true;
+        refusal
+    }
+
+    /// Whether the plans are refused, and not the specification: a line of their text, or a plan.
+    pub fn is_of_plans(&self) -> bool {
+        self.plans
+    }
+
+    /// As `relc check` prints it: `refused S2 line 11`, or `refused A3 edge e2`; and of plans as `relc hand` does:
+    /// `refused H2 line 3`, or `refused K2 plan succ statement 1`.
     pub fn as_str(&self) -> &str {
         &self.said
     }
@@ -55,12 +75,12 @@ impl Refusal {
         self.word(1)
     }
 
-    /// What is refused: `line`, `node`, `edge`, `column`, `lock` or `op`.
+    /// What is refused: `line`, `node`, `edge`, `column`, `lock`, `op` or `plan`.
     pub fn kind(&self) -> &str {
         self.word(2)
     }
 
-    /// The item's name, or the line's number: `e2`, or `11`.
+    /// The item's name, that of a plan's operation, or the line's number: `e2`, `succ`, or `11`.
     pub fn item(&self) -> &str {
         self.word(3)
     }
@@ -68,6 +88,11 @@ impl Refusal {
     /// The number of the line, from 1, where the rule is one of lines. It may be one past the last.
     pub fn line_number(&self) -> Option<usize> {
         (self.kind() == "line").then(|| self.item().parse().ok())?
+    }
+
+    /// The number of the statement, from 0, where a plan is refused. It may be one past the last.
+    pub fn statement(&self) -> Option<usize> {
+        (self.kind() == "plan").then(|| self.word(5).parse().ok())?
     }
 
     /// What the rule asks.
@@ -85,12 +110,12 @@ impl Refusal {
         part(self.rule(), "try")
     }
 
-    /// The forms of a line that begins as the refused one does; all forms, where none begins so. What may be
-    /// left out stands in brackets.
+    /// The forms of a line that begins as the refused one does, of a specification or of plans; all forms, where none
+    /// begins so. What may be left out stands in brackets.
     pub fn forms(&self) -> Vec<&'static str> {
         let line = self.line.as_deref().unwrap_or("");
         let word = line.split_ascii_whitespace().next();
-        let all = forms();
+        let all = forms(if self.plans { "statements" } else { "forms" });
         let some: Vec<_> = (all.clone())
             .filter(|form| form.split(' ').next() == word)
             .collect();
@@ -98,11 +123,11 @@ impl Refusal {
     }
 }
 
-/// The forms of a specification's lines.
-fn forms() -> impl Iterator<Item = &'static str> + Clone {
+/// The forms of the lines of a specification, or of plans.
+fn forms(of: &str) -> impl Iterator<Item = &'static str> + Clone {
     RULES
         .lines()
-        .skip_while(|line| *line != "forms")
+        .skip_while(move |line| *line != of)
         .skip(1)
         .take_while(|line| !line.is_empty())
 }
@@ -118,7 +143,7 @@ impl fmt::Display for Refusal {
             write!(f, " (`{}{rest}`)", shown.escape_debug())?;
         }
         write!(f, ". {} {} {}", self.asks(), self.does(), self.advice())?;
-        if self.rule() == "S2" {
+        if self.rule() == "S2" || self.rule() == "H2" {
             for form in self.forms() {
                 write!(f, " `{form}`.")?;
             }

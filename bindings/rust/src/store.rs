@@ -125,10 +125,27 @@ fn drawn_seed() -> [u64; 2] {
     [(); 2].map(|()| RandomState::new().build_hasher().finish())
 }
 
+/// The refusal that a frame tells.
+fn said(frame: &sys::OpenFrame) -> String {
+    String::from_utf8_lossy(&frame.refusal[..frame.length as usize]).into_owned()
+}
+
 impl Store {
     /// Opens a store by its specification's text. The secret of its hash tables is drawn at
     /// random, so that nobody who gives it values can tell which collide.
     pub fn open(text: &str, options: Options) -> Result<Store, Error> {
+        Store::open_with_plans(text, "", options)
+    }
+
+    /// Opens a store so, with plans of operations that are written by hand: in the form in which
+    /// [`Store::plans`] has them, each under a line `plan NAME`, with the line `end` behind the last. They name the
+    /// edges, classes and columns of the specification that the store has, in which singletons are inlined. An
+    /// operation without a plan there has the one that is planned for it, as all have where the text is empty.
+    ///
+    /// A plan is taken exactly where it keeps the rules of plans; what calls answer is the same by any. Else it is
+    /// `Error::Refused`, whose [`Refusal`] says whether the plans are refused, with the line, or the operation and the
+    /// statement.
+    pub fn open_with_plans(text: &str, plans: &str, options: Options) -> Result<Store, Error> {
         static STORES: AtomicU64 = AtomicU64::new(0);
         let mut frame = sys::OpenFrame {
             passes: options.sessions,
@@ -139,17 +156,25 @@ impl Store {
             refusal: [0; sys::REFUSAL],
         };
         let mut store = ptr::null_mut();
-        // SAFETY: text and frame are lent for the call, and `store` is written by it where it
-        // answers 0.
-        let code = unsafe { sys::relc_open(text.as_ptr(), text.len(), &mut frame, &mut store) };
+        // SAFETY: the texts and the frame are lent for the call, and `store` is written by it where
+        // it answers 0.
+        let code = unsafe {
+            sys::relc_open_with_plans(
+                text.as_ptr(),
+                text.len(),
+                plans.as_ptr(),
+                plans.len(),
+                &mut frame,
+                &mut store,
+            )
+        };
         match code {
             sys::DONE => {}
             sys::OPTIONS => return Err(Error::Options),
             sys::TOO_LONG => return Err(Error::TooLong),
-            sys::LINE | sys::RULE => {
-                let refusal = &frame.refusal[..frame.length as usize];
-                let said = String::from_utf8_lossy(refusal).into_owned();
-                return Err(Error::Refused(Refusal::new(said, text)));
+            sys::LINE | sys::RULE => return Err(Error::Refused(Refusal::new(said(&frame), text))),
+            sys::PLAN_LINE | sys::PLAN => {
+                return Err(Error::Refused(Refusal::of_plans(said(&frame), plans)));
             }
             sys::MEMORY => return Err(Error::Memory),
             code => unreachable!("a store is never refused by code {code}"),
@@ -195,6 +220,32 @@ impl Store {
             },
             sys::MEMORY => Err(Error::Memory),
             code => unreachable!("a session is never refused by code {code}"),
+        }
+    }
+
+    /// The plans by which operations are answered, in the order of these: of each a line `plan NAME`, and a line for
+    /// each statement. With `end` behind it is what [`Store::open_with_plans`] reads.
+    pub fn plans(&self) -> Result<String, Error> {
+        let mut page = sys::TextPage {
+            at: 0,
+            length: 0,
+            count: 0,
+            bytes: [0; sys::TEXT],
+        };
+        let mut text = Vec::new();
+        let store = locked(&self.shared.store);
+        loop {
+            page.at = text.len() as u64;
+            // SAFETY: the lock lets one call at a time use the store.
+            match unsafe { sys::relc_plans(store.handle.0.as_ptr(), &mut page) } {
+                sys::DONE => {}
+                sys::MEMORY => return Err(Error::Memory),
+                code => unreachable!("plans are never refused by code {code}"),
+            }
+            text.extend_from_slice(&page.bytes[..page.count as usize]);
+            if text.len() as u64 >= page.length {
+                return Ok(String::from_utf8_lossy(&text).into_owned());
+            }
         }
     }
 

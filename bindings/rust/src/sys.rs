@@ -15,6 +15,8 @@ pub const GROUP: usize = 16;
 pub const NAME: usize = 16;
 /// The longest refusal.
 pub const REFUSAL: usize = 64;
+/// The most bytes of a text at once.
+pub const TEXT: usize = 4096;
 
 // What a function answers.
 pub const DONE: u32 = 0;
@@ -32,6 +34,8 @@ pub const COUNT: u32 = 15;
 pub const NOT_OPEN: u32 = 16;
 pub const UNCOVERED: u32 = 17;
 pub const NO_CALL: u32 = 18;
+pub const PLAN_LINE: u32 = 19;
+pub const PLAN: u32 = 20;
 
 // Kinds of a reply.
 pub const ROWS: u32 = 0;
@@ -102,6 +106,14 @@ pub struct Page {
     pub cells: [u64; PAGE],
 }
 
+#[repr(C)]
+pub struct TextPage {
+    pub at: u64,
+    pub length: u64,
+    pub count: u64,
+    pub bytes: [u8; TEXT],
+}
+
 /// Compares the size of a struct, and the place of each of its fields, with the given numbers.
 macro_rules! lies {
     ($kind:ty, $size:literal, $($field:ident $at:literal),+) => {
@@ -117,6 +129,7 @@ lies!(OperationFrame, 144, pattern_count 104, pattern 112);
 lies!(Frame, 840, op 0, count 4, values 8, kind 520, found 524, stripe 528, who 532);
 lies!(Frame, 840, number 536, place 544, nth 552, seen 560, row 568, width 576, cells 584);
 lies!(Page, 8208, row 0, rows 8, cells 16);
+lies!(TextPage, 4120, at 0, length 8, count 16, bytes 24);
 
 impl Frame {
     /// Asks for a call.
@@ -159,12 +172,15 @@ impl Page {
 }
 
 unsafe extern "C" {
-    pub fn relc_open(
+    pub fn relc_open_with_plans(
         text: *const u8,
         length: usize,
+        plans: *const u8,
+        plans_length: usize,
         frame: *mut OpenFrame,
         store: *mut *mut c_void,
     ) -> u32;
+    pub fn relc_plans(store: *mut c_void, page: *mut TextPage) -> u32;
     pub fn relc_operation(store: *mut c_void, frame: *mut OperationFrame) -> u32;
     pub fn relc_open_session(store: *mut c_void, session: *mut *mut c_void) -> u32;
     pub fn relc_try_call(session: *mut c_void, frame: *mut Frame) -> u32;

@@ -8,11 +8,13 @@ use Rattle.rc_row.specs.Passes.{PassSeen, spec_of}
 use Rattle.rc_embed.specs.declared.frame.Frame.{Frame}
 use Rattle.rc_embed.specs.declared.frame.Page.{Page}
 use Rattle.rc_embed.specs.declared.open_frame.OperationFrame.{OperationFrame}
+use Rattle.rc_embed.specs.declared.text_page.TextPage.{TextPage}
 use Rattle.rc_embed.specs.Codes as codes
 use Rattle.rc_embed.specs.Frames.{AnswersCancel, AnswersPick, AnswersRow, AnswersRows}
 use Rattle.rc_embed.specs.OpenFrames.{AnswersOperation}
 use Rattle.rc_embed.specs.Opened.{OpenSeen}
 use Rattle.rc_embed.specs.Session.{SessionSeen}
+use Rattle.rc_embed.specs.TextPages.{AnswersPlans}
 
 -- a value of the type lies at the pointer again, and this is so of it
 abbrev pub lies_again : (T : RattleType) → Ptr → (T.Denot → Type 0) → Fml
@@ -48,6 +50,11 @@ pub record AnswersSameOperation (old : OpenSeen) (before : OperationFrame)
     (new : OpenSeen) (after : OperationFrame) (code : ℕ) : Type 0 where
   pub same : new ≡ old
   pub told : AnswersOperation (spec_of old.store.row) before after code
+
+-- the store is the same, and the page tells of its plans
+pub record AnswersSamePlans (old : OpenSeen) (before : TextPage) (new : OpenSeen) (after : TextPage) (code : ℕ) : Type 0 where
+  pub same : new ≡ old
+  pub told : AnswersPlans old before after code
 
 -- the store is the same, but for its first pass where a session was begun; or it has none, or
 -- memory was wanted

@@ -9,19 +9,21 @@ ghost use Rattle.std.specs.Ptr.{lies_at, room_at};
 ghost use Rattle.rc_embed.specs.Codes as codes;
 ghost use Rattle.rc_embed.specs.Frames.{AnswersBegin, AnswersBeginGroup, AnswersCall, AnswersCommit};
 ghost use Rattle.rc_embed.specs.Frames.{AnswersGroup, AnswersLearn};
-ghost use Rattle.rc_embed.specs.OpenFrames.{HasOpened, IsRefusedBy, KeepsAsked};
+ghost use Rattle.rc_embed.specs.OpenFrames.{HasOpened, HasOpenedWith, IsRefusedBy};
+ghost use Rattle.rc_embed.specs.OpenFrames.{IsRefusedWithBy, KeepsAsked};
 ghost use Rattle.rc_embed.specs.OpenGroupFrames.{AnswersCallOpen, AnswersOpenGroup};
 ghost use Rattle.rc_embed.specs.Opened.{OpenSeen};
 ghost use Rattle.rc_embed.specs.Session.{IsIdle, SessionSeen};
 ghost use Rattle.rc_embed.specs.contracts.opening.OpenStore as stores;
 ghost use Rattle.rc_embed.specs.contracts.session.Session as sessions;
 ghost use Rattle.rc_c.specs.Answered.{AnswersSameFrame, AnswersSameOperation, AnswersSamePick};
+ghost use Rattle.rc_c.specs.Answered.{AnswersSamePlans};
 ghost use Rattle.rc_c.specs.Answered.{AnswersSameRow, AnswersSameRows, AnswersSession, lies_again};
 ghost use Rattle.rc_c.specs.GivenBack.{AnswersGivenBack, Handles, HasSettled};
 
 use rc_embed::{
-    DONE, Frame, MEMORY, NotPrepared, OpenFrame, OpenStore, OperationFrame, Page, Session, open_by,
-    session_code,
+    DONE, Frame, MEMORY, NotPrepared, OpenFrame, OpenStore, OperationFrame, Page, Session,
+    TextPage, open_by, open_with_plans_by, session_code,
 };
 use std::alloc::Global;
 
@@ -49,6 +51,54 @@ pub extern "C" fn relc_open(
         }
         Err(_) => MEMORY,
     }
+}
+
+/// Opens a store so, with the plans of operations that are written in the second text. (What callers
+/// in C are given takes no plans also where there is no second text: `relc_open_with_plans`.)
+#[unsafe(no_mangle)]
+pub extern "C" fn relc_open_planned(
+    alloc: Global,
+    text: &[u8],
+    plans: &[u8],
+    frame: &mut OpenFrame,
+    out: &mut *mut u8,
+) -> u32
+    ensures opened { result ≡ codes.done
+        → HasOpenedWith text.now plans.now frame.old frame.new }
+    ensures refused { (result ≡ codes.done → ⊥)
+        → IsRefusedWithBy text.now plans.now frame.old frame.new result }
+    ensures asked { KeepsAsked frame.old frame.new }
+{
+    let store = match open_with_plans_by(alloc, text, plans, frame) {
+        Ok(store) => store,
+        Err(code) => return code,
+    };
+    match Box::new(alloc, store) {
+        Ok(held) => {
+            *out = Box::into_raw(held) as *mut u8;
+            DONE
+        }
+        Err(_) => MEMORY,
+    }
+}
+
+/// Copies a part of the text of the store's plans.
+fn plans_on(store: &mut OpenStore, page: &mut TextPage) -> u32
+    ensures { AnswersSamePlans store.old page.old store.new page.new result }
+{
+    store.plans_by(page)
+}
+
+/// Copies the text of the plans of the store at the pointer, from the byte on that the page asks for, as
+/// many bytes as it has room for.
+#[unsafe(no_mangle)]
+pub unsafe extern "C" fn relc_plans(store: *mut u8, page: &mut TextPage) -> u32
+    ghost held: { OpenSeen }
+    requires* { sem 𝓛 (lies_at stores.the_row full_share store held) }
+    ensures* { sem 𝓛 (lies_again stores.the_row store
+        (λ after. AnswersSamePlans held page.old after page.new result)) }
+{
+    plans_on(&mut *(store as *mut OpenStore), page)
 }
 
 /// Looks the operation up that the frame names.

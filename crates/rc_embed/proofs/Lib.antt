@@ -5,5 +5,6 @@ pub mod FaultLemmas
 pub mod FrameLemmas
 pub mod RowsLemmas
 pub mod NumberLemmas
+pub mod PlanningLemmas
 pub mod SendLemmas
 pub mod SessionLemmas

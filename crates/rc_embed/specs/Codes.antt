@@ -41,7 +41,7 @@ no_row = 8
 abbrev pub options : ℕ
 options = 9
 
--- the text is longer than 2^24 bytes
+-- the text, or that of the plans, is longer than 2^24 bytes
 abbrev pub too_long : ℕ
 too_long = 10
 
@@ -76,3 +76,11 @@ uncovered = 17
 -- an open group had no call to commit, and is over
 abbrev pub no_call : ℕ
 no_call = 18
+
+-- the text of the plans breaks a rule of their lines
+abbrev pub plan_line : ℕ
+plan_line = 19
+
+-- a plan that is written breaks a rule of plans
+abbrev pub plan : ℕ
+plan = 20

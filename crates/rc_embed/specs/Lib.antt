@@ -23,4 +23,5 @@ pub mod Replies
 pub mod Session
 pub mod SessionInside
 pub mod SharedInside
+pub mod TextPages
 pub mod ToldLaws

@@ -12,10 +12,12 @@ use Rattle.rc_spec.specs.RefusalText.{refusal_text}
 use Rattle.rc_reader.specs.declared.refusal.LineRule.{LineRule}
 use Rattle.rc_reader.specs.Names.{number_among}
 use Rattle.rc_reader.specs.RuleText.{line_rule_text}
+use Rattle.rc_handplan.specs.declared.refusal.HandRule.{HandRule}
+use Rattle.rc_handplan.specs.RuleText.{hand_rule_text, plan_refusal_text}
 use Rattle.rc_work.specs.CallColumns.{written_columns_at}
 use Rattle.rc_embed.specs.declared.fault.OpenFault.{OpenFault}
 use Rattle.rc_embed.specs.declared.fault.OpenFault.TheVariants.{Memory, Options, TooLong, Line}
-use Rattle.rc_embed.specs.declared.fault.OpenFault.TheVariants.{Rule}
+use Rattle.rc_embed.specs.declared.fault.OpenFault.TheVariants.{Plan, PlanLine, Rule}
 use Rattle.rc_embed.specs.declared.fault.SessionFault.{SessionFault}
 use Rattle.rc_embed.specs.declared.fault.SessionFault.TheVariants as sessions
 use Rattle.rc_embed.specs.declared.open_frame.OpenFrame.{OpenFrame}
@@ -23,7 +25,7 @@ use Rattle.rc_embed.specs.declared.open_frame.OperationFrame.{OperationFrame}
 use Rattle.rc_embed.specs.declared.opening.Options as asked
 use Rattle.rc_embed.specs.Codes as codes
 use Rattle.rc_embed.specs.Declaring.{pattern_at}
-use Rattle.rc_embed.specs.Opened.{IsOpened, IsRefusedFor, OpenSeen}
+use Rattle.rc_embed.specs.Opened.{IsOpenedWith, IsRefusedFor, IsRefusedWith, OpenSeen}
 
 -- ---- stores
 
@@ -42,6 +44,8 @@ open_code Options = codes.options
 open_code TooLong = codes.too_long
 open_code (Line rule line) = codes.line
 open_code (Rule spec refusal) = codes.rule
+open_code (PlanLine rule line) = codes.plan_line
+open_code (Plan spec op refusal) = codes.plan
 
 -- the code of a session that does not begin
 abbrev pub session_code : SessionFault → ℕ
@@ -53,6 +57,11 @@ abbrev pub line_text : LineRule → ℕ → List ℕ
 line_text rule line =
     text.codes "refused " ++ line_rule_text rule ++ text.codes " line " ++ text.decimal line
 
+-- that of plans for the first broken rule of their lines
+abbrev pub plan_line_text : HandRule → ℕ → List ℕ
+plan_line_text rule line =
+    text.codes "refused " ++ hand_rule_text rule ++ text.codes " line " ++ text.decimal line
+
 -- the refusal of a text, as the command line prints it, and nothing for other faults
 abbrev pub fault_text : OpenFault → List ℕ
 fault_text Memory = []
@@ -60,22 +69,28 @@ fault_text Options = []
 fault_text TooLong = []
 fault_text (Line rule line) = line_text rule line
 fault_text (Rule spec refusal) = refusal_text spec refusal
+fault_text (PlanLine rule line) = plan_line_text rule line
+fault_text (Plan spec op refusal) = plan_refusal_text spec op refusal
 
--- the item that breaks a rule is one of the specification's
+-- the item that breaks a rule, or the operation whose plan does, is one of the specification's
 abbrev pub HasItem : OpenFault → Type 0
 HasItem Memory = Unit {0}
 HasItem Options = Unit {0}
 HasItem TooLong = Unit {0}
 HasItem (Line rule line) = Unit {0}
 HasItem (Rule spec refusal) = IsItemOf spec refusal.item
+HasItem (PlanLine rule line) = Unit {0}
+HasItem (Plan spec op refusal) = op < length spec.ops
 
--- a text has the fault: it breaks a line rule or a rule of acceptance, and its refusal is told
+-- a text has the fault: it breaks a line rule, a rule of acceptance or one of plans, and its refusal is told
 abbrev pub BreaksRule : OpenFault → Type 0
 BreaksRule Memory = ⊥
 BreaksRule Options = ⊥
 BreaksRule TooLong = ⊥
 BreaksRule (Line rule line) = Unit {0}
 BreaksRule (Rule spec refusal) = Unit {0}
+BreaksRule (PlanLine rule line) = Unit {0}
+BreaksRule (Plan spec op refusal) = Unit {0}
 
 -- the frame tells the refusal, where it has room for it
 pub record HasRefusal (text : List ℕ) (frame : OpenFrame) : Type 0 where
@@ -90,24 +105,37 @@ pub record KeepsAsked (before after : OpenFrame) : Type 0 where
   pub rows : after.rows ≡ before.rows
   pub seed : after.seed ≡ before.seed
 
--- the text gives a specification that keeps all rules, and this is a new store of it, as the frame
--- asks
-abbrev pub IsOpenedBy : List ℕ → OpenFrame → OpenSeen → Type 0
-IsOpenedBy text frame store = (seed : Seed) × IsOpened text (options_asked frame seed) store
+-- the text gives a specification that keeps all rules, the other text gives plans that do, and this is a new store of both,
+-- as the frame asks
+abbrev pub IsOpenedWithBy : List ℕ → List ℕ → OpenFrame → OpenSeen → Type 0
+IsOpenedWithBy text plans frame store = (seed : Seed) × IsOpenedWith text plans (options_asked frame seed) store
 
--- a store was opened by the text, as the frame asks, and the frame tells no refusal
-pub record HasOpened (text : List ℕ) (before after : OpenFrame) : Type 0 where
+-- so it is with no plan written
+abbrev pub IsOpenedBy : List ℕ → OpenFrame → OpenSeen → Type 0
+IsOpenedBy text frame store = IsOpenedWithBy text [] frame store
+
+-- a store was opened by the texts, as the frame asks, and the frame tells no refusal
+pub record HasOpenedWith (text plans : List ℕ) (before after : OpenFrame) : Type 0 where
   pub store : OpenSeen
-  pub opened : IsOpenedBy text before store
+  pub opened : IsOpenedWithBy text plans before store
   pub none : after.length ≡ 0
 
+abbrev pub HasOpened : List ℕ → OpenFrame → OpenFrame → Type 0
+HasOpened text before after = HasOpenedWith text [] before after
+
 -- no store was opened, for a cause, which the code and the frame tell
-pub record IsRefusedBy (text : List ℕ) (before after : OpenFrame) (code : ℕ) : Type 0 where
+pub record IsRefusedAs (IsCause : asked.Options → OpenFault → Type 0) (before after : OpenFrame) (code : ℕ) : Type 0 where
   pub fault : OpenFault
   pub seed : Seed
-  pub cause : IsRefusedFor text (options_asked before seed) fault
+  pub cause : IsCause (options_asked before seed) fault
   pub code_is : code ≡ open_code fault
   pub told : HasRefusal (fault_text fault) after
+
+abbrev pub IsRefusedWithBy : List ℕ → List ℕ → OpenFrame → OpenFrame → ℕ → Type 0
+IsRefusedWithBy text plans before after code = IsRefusedAs (IsRefusedWith text plans) before after code
+
+abbrev pub IsRefusedBy : List ℕ → OpenFrame → OpenFrame → ℕ → Type 0
+IsRefusedBy text before after code = IsRefusedAs (IsRefusedFor text) before after code
 
 -- ---- operations
 

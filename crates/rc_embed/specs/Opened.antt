@@ -1,10 +1,16 @@
 -- What opening a store answers, and what it hands out.
-use Rattle.std.specs.Prelude.{◌≡◌, ℕ, ◌-◌, ◌<◌, ◌≤◌, ◌^◌, List, [], ◌∷◌, Result, Ok, Err, IfSome, length, unwrap_or}
+use Rattle.std.specs.Prelude.{◌≡◌, ◌⊎◌, ℕ, ◌-◌, ◌<◌, ◌≤◌, ◌^◌, List, [], ◌∷◌, Result, Ok, Err, IfSome, length, unwrap_or}
 use Rattle.rc_spec.specs.declared.spec.Spec.{Spec}
 use Rattle.rc_spec.specs.declared.refusal.Refusal.{Refusal}
 use Rattle.rc_spec.specs.Acceptance.{IsAccepted, IsFirstBroken, IsItemOf}
+use Rattle.rc_spec.specs.Names.{IsWellNamed}
 use Rattle.rc_spec.specs.Placement.{op_at}
 use Rattle.rc_inline.specs.Placing.{embedded}
+use Rattle.rc_handplan.specs.declared.hand.Hand.{Hand}
+use Rattle.rc_handplan.specs.declared.refusal.HandRule.{HandRule}
+use Rattle.rc_handplan.specs.Chosen.{AllKeepRules, AreChosen, IsFirstRefused}
+use Rattle.rc_handplan.specs.HandGrammar.{plans_of}
+use Rattle.rc_plan.specs.declared.refusal.PlanRefusal.{PlanRefusal}
 use Rattle.rc_plan.specs.Compiled.{IsCompiled, SpecWithPlans, plan_at}
 use Rattle.rc_query.specs.Planned.{IsPlanned}
 use Rattle.rc_reader.specs.Grammar.{spec_of}
@@ -14,7 +20,7 @@ use Rattle.rc_row.specs.Passes.{PassSeen, compiled_of, new_passes}
 use Rattle.rc_store.specs.Store.{StoreSeen}
 use Rattle.rc_embed.specs.declared.fault.OpenFault.{OpenFault}
 use Rattle.rc_embed.specs.declared.fault.OpenFault.TheVariants.{Memory, Options, TooLong, Line}
-use Rattle.rc_embed.specs.declared.fault.OpenFault.TheVariants.{Rule}
+use Rattle.rc_embed.specs.declared.fault.OpenFault.TheVariants.{Plan, PlanLine, Rule}
 use Rattle.rc_embed.specs.declared.opening.Options as asked
 use Rattle.rc_embed.specs.declared.session.State.TheVariants.{Idle}
 use Rattle.rc_embed.specs.Session.{SessionSeen}
@@ -49,14 +55,21 @@ abbrev pub ArePlannedOf : SpecWithPlans → Type 0
 ArePlannedOf compiled = (op : ℕ) → op < length compiled.spec.ops
     → IsPlanned compiled.spec (op_at compiled.spec op) (plan_at compiled.plans op)
 
--- A new store of the specification with its singletons inlined and its edges placed together, which keeps the most rows of
--- a reply, whose operations have their planned plans, which are accepted, with all of its passes, by number, and with the
--- seed that was given.
+-- The plans that a text gives for operations of the specification that a store has: of the one with its singletons inlined
+-- and its edges placed together. Each keeps K1 to K7.
+pub record AreWritten (spec : Spec) (plans : List ℕ) (hands : List Hand) : Type 0 where
+  pub read : plans_of (embedded spec) plans ≡ Ok hands
+  pub kept : AllKeepRules (embedded spec) hands
+
+-- A new store of the specification with its singletons inlined and its edges placed together, which keeps names apart and
+-- the most rows of a reply, whose operations have the plans that are written, and else their planned plans, which are accepted, with all of
+-- its passes, by number, and with the seed that was given.
 -- None of them has made a call, and none keeps its entries.
-pub record IsStoreOf (spec : Spec) (options : asked.Options) (opened : OpenSeen) : Type 0 where
+pub record IsStoreOf (spec : Spec) (hands : List Hand) (options : asked.Options) (opened : OpenSeen) : Type 0 where
   pub of_spec : rows.spec_of opened.store.row ≡ embedded spec
+  pub named : IsWellNamed (rows.spec_of opened.store.row)
   pub most_rows : (rows.spec_of opened.store.row).most_rows ≡ spec.most_rows
-  pub planned : ArePlannedOf (compiled_of opened.store.row)
+  pub chosen : AreChosen (rows.spec_of opened.store.row) hands (compiled_of opened.store.row).plans
   pub compiled : IsCompiled (rows.spec_of opened.store.row) (compiled_of opened.store.row).plans
   pub counts : opened.store.row.keeping ≡ Counts
   pub number : opened.store.row.key.passes ≡ options.passes
@@ -70,14 +83,22 @@ pub record IsAskedBy (text : List ℕ) (options : asked.Options) (spec : Spec) :
   pub read : spec_of text ≡ Ok written
   pub is : spec ≡ spec_asked options written
 
--- The text gives an accepted specification, and this is a new store of it, with the most rows of a reply that are asked for.
-pub record IsOpened (text : List ℕ) (options : asked.Options) (opened : OpenSeen) : Type 0 where
+-- The text gives an accepted specification, the other text gives plans of operations of it, and this is a new store of both,
+-- with the most rows of a reply that are asked for.
+pub record IsOpenedWith (text plans : List ℕ) (options : asked.Options) (opened : OpenSeen) : Type 0 where
   pub spec : Spec
+  pub hands : List Hand
   pub allowed : AreInBounds options
   pub short : length text ≤ 2 ^ 24
+  pub short_plans : length plans ≤ 2 ^ 24
   pub from : IsAskedBy text options spec
   pub accepted : IsAccepted spec
-  pub store : IsStoreOf spec options opened
+  pub written : AreWritten spec plans hands
+  pub store : IsStoreOf spec hands options opened
+
+-- So it is with no plan written: each operation has its planned plan (`ArePlannedOf`).
+abbrev pub IsOpened : List ℕ → asked.Options → OpenSeen → Type 0
+IsOpened text options opened = IsOpenedWith text [] options opened
 
 -- the text gives a specification that isn't accepted, and this is the first rule that it breaks,
 -- with the first item that breaks it
@@ -86,7 +107,54 @@ pub record IsRuleOf (text : List ℕ) (options : asked.Options) (spec : Spec) (r
   pub first : IsFirstBroken spec refusal
   pub item : IsItemOf spec refusal.item
 
--- why there is this fault: for the options first, then for the text's length, then for its first
+-- the text gives an accepted specification, and this is the first rule of the lines of plans that the other text breaks, for
+-- the specification that the store would have, and its line
+pub record IsPlanLineOf (text plans : List ℕ) (options : asked.Options) (rule : HandRule) (line : ℕ) : Type 0 where
+  pub spec : Spec
+  pub from : IsAskedBy text options spec
+  pub accepted : IsAccepted spec
+  pub broken : plans_of (embedded spec) plans ≡ Err (record { rule = rule; line = line })
+
+-- An accepted specification is refused with plans that a text gives: as a store would have it, that of this operation is the
+-- first that breaks one of K1 to K7, and this is the first rule that it breaks.
+pub record IsRefusedPlan (spec : Spec) (plans : List ℕ) (planned : Spec) (op : ℕ) (refusal : PlanRefusal) : Type 0 where
+  pub is : planned ≡ embedded spec
+  pub hands : List Hand
+  pub read : plans_of planned plans ≡ Ok hands
+  pub known : op < length planned.ops
+  pub first : IsFirstRefused planned hands op refusal
+
+-- so it is where a text gives the specification
+pub record IsPlanOf (text plans : List ℕ) (options : asked.Options) (planned : Spec) (op : ℕ) (refusal : PlanRefusal) : Type 0 where
+  pub spec : Spec
+  pub from : IsAskedBy text options spec
+  pub accepted : IsAccepted spec
+  pub refused : IsRefusedPlan spec plans planned op refusal
+
+-- both texts have at most 2^24 bytes
+pub record AreShort (text plans : List ℕ) : Type 0 where
+  pub of_text : length text ≤ 2 ^ 24
+  pub of_plans : length plans ≤ 2 ^ 24
+
+-- Why there is this fault: for the options first, then for the length of one of the texts, then for the first line rule
+-- that the specification's breaks, then for the first rule of acceptance, then for the first rule of lines that the plans'
+-- text breaks, and then for the first rule that a plan does.
+abbrev pub IsRefusedWith : List ℕ → List ℕ → asked.Options → OpenFault → Type 0
+IsRefusedWith text plans options Memory = AreInBounds options × AreShort text plans
+IsRefusedWith text plans options Options = AreInBounds options → ⊥
+IsRefusedWith text plans options TooLong =
+    AreInBounds options × ((2 ^ 24 < length text) ⊎ (2 ^ 24 < length plans))
+IsRefusedWith text plans options (Line rule line) =
+    AreInBounds options × AreShort text plans
+    × (spec_of text ≡ Err (record { rule = rule; line = line }))
+IsRefusedWith text plans options (Rule spec refusal) =
+    AreInBounds options × AreShort text plans × IsRuleOf text options spec refusal
+IsRefusedWith text plans options (PlanLine rule line) =
+    AreInBounds options × AreShort text plans × IsPlanLineOf text plans options rule line
+IsRefusedWith text plans options (Plan spec op refusal) =
+    AreInBounds options × AreShort text plans × IsPlanOf text plans options spec op refusal
+
+-- why there is this fault where no plan is written: for the options first, then for the text's length, then for its first
 -- broken line rule
 abbrev pub IsRefusedFor : List ℕ → asked.Options → OpenFault → Type 0
 IsRefusedFor text options Memory = AreInBounds options × (length text ≤ 2 ^ 24)
@@ -97,6 +165,8 @@ IsRefusedFor text options (Line rule line) =
     × (spec_of text ≡ Err (record { rule = rule; line = line }))
 IsRefusedFor text options (Rule spec refusal) =
     AreInBounds options × (length text ≤ 2 ^ 24) × IsRuleOf text options spec refusal
+IsRefusedFor text options (PlanLine rule line) = ⊥
+IsRefusedFor text options (Plan spec op refusal) = ⊥
 
 -- why a specification isn't read
 abbrev pub IsUnreadFor : List ℕ → OpenFault → Type 0
@@ -105,6 +175,8 @@ IsUnreadFor text Options = ⊥
 IsUnreadFor text TooLong = ⊥
 IsUnreadFor text (Line rule line) = spec_of text ≡ Err (record { rule = rule; line = line })
 IsUnreadFor text (Rule spec refusal) = ⊥
+IsUnreadFor text (PlanLine rule line) = ⊥
+IsUnreadFor text (Plan spec op refusal) = ⊥
 
 -- what reading an accepted specification answers
 abbrev pub ReadsAccepted : List ℕ → asked.Options → Result Spec OpenFault → Type 0
@@ -114,6 +186,45 @@ ReadsAccepted text options (Err Options) = ⊥
 ReadsAccepted text options (Err TooLong) = ⊥
 ReadsAccepted text options (Err (Line rule line)) = spec_of text ≡ Err (record { rule = rule; line = line })
 ReadsAccepted text options (Err (Rule spec refusal)) = IsRuleOf text options spec refusal
+ReadsAccepted text options (Err (PlanLine rule line)) = ⊥
+ReadsAccepted text options (Err (Plan spec op refusal)) = ⊥
+
+-- what reading the plans of a specification's operations answers, where they aren't read
+abbrev pub AreUnreadFor : Spec → List ℕ → OpenFault → Type 0
+AreUnreadFor spec plans Memory = Unit {0}
+AreUnreadFor spec plans Options = ⊥
+AreUnreadFor spec plans TooLong = ⊥
+AreUnreadFor spec plans (Line rule line) = ⊥
+AreUnreadFor spec plans (Rule broken refusal) = ⊥
+AreUnreadFor spec plans (PlanLine rule line) = plans_of spec plans ≡ Err (record { rule = rule; line = line })
+AreUnreadFor spec plans (Plan planned op refusal) = ⊥
+
+-- an accepted specification as a store has it, with the plans that are written and else the planned ones
+pub record IsPlannedWith (spec : Spec) (plans : List ℕ) (compiled : SpecWithPlans) : Type 0 where
+  pub hands : List Hand
+  pub spec_is : compiled.spec ≡ embedded spec
+  pub written : AreWritten spec plans hands
+  pub chosen : AreChosen compiled.spec hands compiled.plans
+
+-- why an accepted specification isn't planned with plans that are written
+abbrev pub IsUnplannedFor : Spec → List ℕ → OpenFault → Type 0
+IsUnplannedFor spec plans Memory = Unit {0}
+IsUnplannedFor spec plans Options = ⊥
+IsUnplannedFor spec plans TooLong = ⊥
+IsUnplannedFor spec plans (Line rule line) = ⊥
+IsUnplannedFor spec plans (Rule broken refusal) = ⊥
+IsUnplannedFor spec plans (PlanLine rule line) = plans_of (embedded spec) plans ≡ Err (record { rule = rule; line = line })
+IsUnplannedFor spec plans (Plan planned op refusal) = IsRefusedPlan spec plans planned op refusal
+
+-- a new store of a specification with plans, with all of its passes
+pub record IsBuiltOf (compiled : SpecWithPlans) (options : asked.Options) (opened : OpenSeen) : Type 0 where
+  pub compiled_is : compiled_of opened.store.row ≡ compiled
+  pub accepted : IsCompiled compiled.spec compiled.plans
+  pub counts : opened.store.row.keeping ≡ Counts
+  pub number : opened.store.row.key.passes ≡ options.passes
+  pub limit : opened.store.limit ≡ options.limit
+  pub seed : opened.store.row.key.seed ≡ options.seed
+  pub passes : opened.passes ≡ new_passes opened.store.row
 
 -- a session of the store with this pass: no call is prepared, and none was made
 abbrev pub new_session : StoreSeen → PassSeen → SessionSeen

@@ -19,7 +19,7 @@ use Rattle.rc_embed.specs.declared.session.State.{State}
 use Rattle.rc_embed.specs.declared.session.State.TheVariants.{Idle}
 use Rattle.rc_embed.specs.Closing.{HasAllPasses, HasTakenBack, number_of, pass_count}
 use Rattle.rc_embed.specs.Entries.{number_in}
-use Rattle.rc_embed.specs.Opened.{HasDealt, IsOpened, OpenSeen}
+use Rattle.rc_embed.specs.Opened.{HasDealt, IsOpenedWith, OpenSeen}
 use Rattle.rc_embed.specs.Outside.{AreOutside}
 use Rattle.rc_embed.specs.Session.{SessionSeen}
 
@@ -42,11 +42,11 @@ numbers_of_new row (k ∷ ks) = ap (λ (l : List ℕ). k ∷ l) (numbers_of_new 
 
 -- A new store has all of its passes.
 abbrev pub NoneOutsideAtFirst : Type 0
-NoneOutsideAtFirst = (text : List ℕ) (options : asked.Options) (opened : OpenSeen) → IsOpened text options opened
+NoneOutsideAtFirst = (text plans : List ℕ) (options : asked.Options) (opened : OpenSeen) → IsOpenedWith text plans options opened
     → AreOutside opened []
 
 pub none_at_first : NoneOutsideAtFirst
-none_at_first text options opened is =
+none_at_first text plans options opened is =
     let row = opened.store.row in
     let n : ℕ = row.key.passes in
     let same : map number_of opened.passes ≡ range_with_len 0 n =

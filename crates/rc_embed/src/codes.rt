@@ -21,7 +21,7 @@ pub const NOT_PREPARED: u32 = 7;
 pub const NO_ROW: u32 = 8;
 /// The options are out of their ranges.
 pub const OPTIONS: u32 = 9;
-/// The text is longer than 2^24 bytes.
+/// The text, or that of the plans, is longer than 2^24 bytes.
 pub const TOO_LONG: u32 = 10;
 /// The text breaks a line rule.
 pub const LINE: u32 = 11;
@@ -39,3 +39,7 @@ pub const NOT_OPEN: u32 = 16;
 pub const UNCOVERED: u32 = 17;
 /// An open group had no call to commit, and is over.
 pub const NO_CALL: u32 = 18;
+/// The text of the plans breaks a rule of their lines.
+pub const PLAN_LINE: u32 = 19;
+/// A plan that is written breaks a rule of plans.
+pub const PLAN: u32 = 20;

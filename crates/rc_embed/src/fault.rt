@@ -5,6 +5,8 @@ ghost use Rattle.rc_embed.specs.Refused.{call_fault};
 ghost use Rattle.rc_embed.specs.declared.fault.CallFault.TheVariants as call_faults;
 ghost use Rattle.rc_embed.specs.declared.fault.OpenFault.TheVariants as open_faults;
 
+use rc_handplan::HandRule;
+use rc_plan::PlanRefusal;
 use rc_reader::LineRule;
 use rc_spec::{Found, Refusal, Spec};
 use rc_store::TryFault;
@@ -18,13 +20,31 @@ pub enum OpenFault {
     /// There are not 1 to 255 passes, not 1 to 2^48 calls, or not 1 to 2^32 - 1 rows where these
     /// are limited.
     Options,
-    /// The text is longer than 2^24 bytes.
+    /// The text, or that of the plans, is longer than 2^24 bytes.
     TooLong,
     /// The text breaks a line rule: the first, and its line, counted from 1.
-    Line { rule: LineRule, line: u32 },
+    Line {
+        rule: LineRule,
+        line: u32,
+    },
     /// The specification breaks a rule of acceptance: the specification, its first broken rule and
     /// the first item that breaks it.
     Rule(Spec, Refusal),
+    /// The text of the plans breaks a rule of their lines: the first, and its line in that text, counted
+    /// from 1.
+    PlanLine {
+        rule: HandRule,
+        line: u32,
+    },
+    /// A plan that is written breaks a rule.
+    Plan {
+        /// The specification that the store would have.
+        spec: Spec,
+        /// The operation of the first such plan, by its number.
+        op: u8,
+        /// The first rule that the plan breaks, and the statement that breaks it, counted from 0.
+        refusal: PlanRefusal,
+    },
 }
 
 impl From<Memory> for OpenFault {

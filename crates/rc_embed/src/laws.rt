@@ -11,7 +11,7 @@ ghost use Rattle.rc_embed.specs.OpenGroupLaws.{NoDeclaredCallIsUncovered, OpenCa
 ghost use Rattle.rc_embed.specs.OpenGroupLaws.{OpenGroupsKeepTheirLocks, OpenRepliesArePlain};
 ghost use Rattle.rc_embed.specs.OpenGroupLaws.{OpeningKeepsPasses};
 ghost use Rattle.rc_embed.specs.OpenedLaws.{HistoriesAreOfTheText, OpenedCalls, OpenedFits};
-ghost use Rattle.rc_embed.specs.OpenedLaws.{OpenedPlain, OpenedRows, OpenedSchema};
+ghost use Rattle.rc_embed.specs.OpenedLaws.{OpenedPlain, OpenedPlans, OpenedRows, OpenedSchema};
 ghost use Rattle.rc_embed.specs.OutsideLaws.{AllAreInside, DealtGoOutside, NoneOutsideAtFirst};
 ghost use Rattle.rc_embed.specs.OutsideLaws.{SomeOutsideLeaveRoom, TakenBackComeInside};
 ghost use Rattle.rc_embed.specs.ReceiptsOfText.{ReceiptsAreOfTheText};
@@ -25,8 +25,8 @@ use crate::session::Session;
 /// An open store has the calls and the histories of the specification that its text gives, with the
 /// most rows of a reply that were asked for: an operation's number and values make one call by
 /// both, it fits both alike, has the same reply and leaves the same relation on each relation; so a
-/// good history of the store is one of the text's specification. (PLDI 2011, a decomposition
-/// represents a relation.)
+/// good history of the store is one of the text's specification. So it is whichever plans are written;
+/// where none is, each operation has its planned plan. (PLDI 2011, a decomposition represents a relation.)
 pub fn opened_stores_are_of_the_text()
     ensures rows { OpenedRows }
     ensures schema { OpenedSchema }
@@ -34,6 +34,7 @@ pub fn opened_stores_are_of_the_text()
     ensures fits { OpenedFits }
     ensures plain { OpenedPlain }
     ensures histories { HistoriesAreOfTheText }
+    ensures plans { OpenedPlans }
 {}
 
 /// A receipt means one history, of a call or of a group, whether the store is ever closed or not:

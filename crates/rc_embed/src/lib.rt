@@ -15,11 +15,13 @@ mod laws;
 mod open_frame;
 mod open_group;
 mod opening;
+mod planning;
 mod prepared;
 mod replies;
 mod session;
 mod shared;
 mod telling;
+mod text_page;
 
 pub use closing::CloseBack;
 pub use codes::{DONE, MEMORY};
@@ -32,6 +34,7 @@ pub use laws::{
     opened_stores_are_of_the_text, passes_come_back, receipts_are_of_the_text, sessions_are_send,
     stores_are_send, told_replies_are_plain,
 };
-pub use open_frame::{OpenFrame, OperationFrame, open_by, session_code};
-pub use opening::{OpenStore, Options, open};
+pub use open_frame::{OpenFrame, OperationFrame, open_by, open_with_plans_by, session_code};
+pub use opening::{OpenStore, Options, open, open_with_plans};
 pub use session::{Position, Session};
+pub use text_page::TextPage;

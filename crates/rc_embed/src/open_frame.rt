@@ -3,15 +3,19 @@
 ghost use Rattle.std.specs.Prelude.{◌≡◌, IfErr, IfOk};
 ghost use Rattle.rc_row.specs.Passes.{spec_of};
 ghost use Rattle.rc_embed.specs.OpenFrames.{AnswersOperation, BreaksRule, HasItem, HasRefusal};
-ghost use Rattle.rc_embed.specs.OpenFrames.{IsOpenedBy, IsRefusedBy, KeepsAsked, fault_text, line_text};
+ghost use Rattle.rc_embed.specs.OpenFrames.{IsOpenedBy, IsOpenedWithBy, IsRefusedBy, IsRefusedWithBy};
+ghost use Rattle.rc_embed.specs.OpenFrames.{KeepsAsked, fault_text, line_text, plan_line_text};
 ghost use Rattle.rc_embed.specs.OpenFrames.{op_kind_code, open_code, row_width, rows_asked};
 ghost use Rattle.rc_embed.specs.OpenFrames.{session_code};
 
-use crate::codes::{DONE, LINE, MEMORY, NONE_LEFT, OPERATION, OPTIONS, RULE, TOO_LONG};
+use crate::codes::{
+    DONE, LINE, MEMORY, NONE_LEFT, OPERATION, OPTIONS, PLAN, PLAN_LINE, RULE, TOO_LONG,
+};
 use crate::fault::{OpenFault, SessionFault};
 use crate::frame::{MAX_CELLS, MAX_VALUES};
-use crate::opening::{OpenStore, Options, open};
+use crate::opening::{OpenStore, Options, open_with_plans};
 use crate::replies::copy_over;
+use rc_handplan::{HandRule, print_plan_refusal};
 use rc_maps::Seed;
 use rc_reader::LineRule;
 use rc_spec::{Op, OpKind, Spec, print_refusal};
@@ -51,6 +55,12 @@ fn open_code(fault: &OpenFault) -> u32
         OpenFault::TooLong => TOO_LONG,
         OpenFault::Line { rule: _, line: _ } => LINE,
         OpenFault::Rule(_, _) => RULE,
+        OpenFault::PlanLine { rule: _, line: _ } => PLAN_LINE,
+        OpenFault::Plan {
+            spec: _,
+            op: _,
+            refusal: _,
+        } => PLAN,
     }
 }
 
@@ -74,6 +84,8 @@ fn fault_text(alloc: Global, fault: &OpenFault) -> Result<Vec<u8>, Memory>
     match fault {
         OpenFault::Line { rule, line } => line_text(alloc, *rule, *line),
         OpenFault::Rule(spec, refusal) => print_refusal(alloc, spec, refusal),
+        OpenFault::PlanLine { rule, line } => plan_line_text(alloc, *rule, *line),
+        OpenFault::Plan { spec, op, refusal } => print_plan_refusal(alloc, spec, *op, refusal),
         OpenFault::Memory | OpenFault::Options | OpenFault::TooLong => Ok(Vec::new(alloc)),
     }
 }
@@ -81,6 +93,14 @@ fn fault_text(alloc: Global, fault: &OpenFault) -> Result<Vec<u8>, Memory>
 /// The refusal of a text for its first broken line rule.
 fn line_text(alloc: Global, rule: LineRule, line: u32) -> Result<Vec<u8>, Memory>
     ensures { IfOk result (λ text. text.items ≡ line_text rule line) }
+{
+    let text = format!(in alloc; "refused {rule} line {line}")?;
+    Ok(text.into_bytes())
+}
+
+/// The refusal of plans for the first broken rule of their lines.
+fn plan_line_text(alloc: Global, rule: HandRule, line: u32) -> Result<Vec<u8>, Memory>
+    ensures { IfOk result (λ text. text.items ≡ plan_line_text rule line) }
 {
     let text = format!(in alloc; "refused {rule} line {line}")?;
     Ok(text.into_bytes())
@@ -119,6 +139,21 @@ pub fn open_by(alloc: Global, text: &[u8], frame: &mut OpenFrame) -> Result<Open
     ensures refused { IfErr result (IsRefusedBy text.now frame.old frame.new) }
     ensures asked { KeepsAsked frame.old frame.new }
 {
+    open_with_plans_by(alloc, text, b"".as_slice(), frame)
+}
+
+/// Opens a store by the text so, and by the plans that are written in the second text.
+pub fn open_with_plans_by(
+    alloc: Global,
+    text: &[u8],
+    plans: &[u8],
+    frame: &mut OpenFrame,
+) -> Result<OpenStore, u32>
+    ensures opened { IfOk result (IsOpenedWithBy text.now plans.now frame.old) }
+    ensures none { IfOk result (λ _. frame.new.length ≡ 0) }
+    ensures refused { IfErr result (IsRefusedWithBy text.now plans.now frame.old frame.new) }
+    ensures asked { KeepsAsked frame.old frame.new }
+{
     frame.length = 0;
     let options = Options {
         passes: frame.passes,
@@ -126,7 +161,7 @@ pub fn open_by(alloc: Global, text: &[u8], frame: &mut OpenFrame) -> Result<Open
         rows: rows_asked(frame.rows),
         seed: Seed::new(frame.seed[0], frame.seed[1]),
     };
-    match open(alloc, text, options) {
+    match open_with_plans(alloc, text, plans, options) {
         Ok(store) => Ok(store),
         Err(fault) => match frame.tell_fault(alloc, &fault) {
             Ok(code) => Err(code),

@@ -1,28 +1,31 @@
 //! How a store is opened, and what it hands out.
 
-ghost use Rattle.std.specs.Prelude.{◌≡◌, ◌<◌, ◌≤◌, ◌^◌, ◌↔◌, [], Err, IfErr, IfOk, IfSome, IsTrue};
+ghost use Rattle.std.specs.Prelude.{◌≡◌, ◌<◌, ◌≤◌, ◌^◌, ◌↔◌, [], Err, IfErr, IfOk, IfSome, IsOk, IsTrue};
 ghost use Rattle.std.specs.Prelude.{length, option_copied};
 ghost use Rattle.std.specs.Arc.{arc_value};
 ghost use Rattle.rc_spec.specs.InRange.{IsInRange};
 ghost use Rattle.rc_spec.specs.Names.{IsWellNamed, op_names};
 ghost use Rattle.rc_reader.specs.Names.{number_among};
-ghost use Rattle.rc_row.specs.Passes.{spec_of};
+ghost use Rattle.rc_handplan.specs.PlansText.{OpsHaveSets, plans_text};
+ghost use Rattle.rc_row.specs.Passes.{compiled_of, spec_of};
 ghost use Rattle.rc_store.specs.Store.{IsFree};
 ghost use Rattle.rc_embed.specs.Asked.{columns_of_all, known_columns};
 ghost use Rattle.rc_embed.specs.Declaring.{known_pattern};
-ghost use Rattle.rc_embed.specs.Opened.{AreInBounds, AreRowsInBounds, HasDealt, IsAskedBy};
-ghost use Rattle.rc_embed.specs.Opened.{IsOpened, IsRefusedFor, IsStoreOf, IsUnreadFor, ReadsAccepted};
+ghost use Rattle.rc_embed.specs.Opened.{AreInBounds, ArePlannedOf, AreRowsInBounds, HasDealt};
+ghost use Rattle.rc_embed.specs.Opened.{IsAskedBy, IsBuiltOf, IsOpened, IsOpenedWith, IsRefusedFor};
+ghost use Rattle.rc_embed.specs.Opened.{IsRefusedWith, IsUnreadFor, ReadsAccepted};
 ghost use Rattle.rc_embed.specs.Opened.{most_rows_asked, new_session};
 ghost use Rattle.rc_embed.specs.declared.fault.OpenFault.TheVariants as faults;
 ghost use Rattle.rc_embed.specs.declared.fault.SessionFault.TheVariants as session_faults;
 
 use crate::fault::{OpenFault, SessionFault};
+use crate::planning::plan_embedded;
 use crate::session::{Last, Session, State};
 use crate::shared::{Shared, blank_call};
-use rc_inline::embed;
+use rc_handplan::print_plans;
 use rc_maps::Seed;
-use rc_mutate::compile;
 use rc_place::{AcceptFault, accept};
+use rc_plan::Compiled;
 use rc_reader::{ReadRefusal, number_among, read_spec_only};
 use rc_row::{Keeping, Pass};
 use rc_spec::{Accepted, Spec, WellFormed};
@@ -113,16 +116,38 @@ impl Model for OpenStore {
 /// fragment of each stripe.
 pub fn open(alloc: Global, text: &[u8], options: Options) -> Result<OpenStore, OpenFault>
     ensures opened { IfOk result (IsOpened text.now options) }
+    ensures planned { IfOk result (λ opened. ArePlannedOf (compiled_of opened.store.row)) }
     ensures refused { IfErr result (IsRefusedFor text.now options) }
+{
+    open_with_plans(alloc, text, b"".as_slice(), options)
+}
+
+/// Opens a store so, with plans of operations that are written in a second text: in the form in which
+/// `OpenStore::plans` prints them, each under a line `plan NAME`, and the line `end` behind the last. They
+/// name the items of the specification that the store has (`OpenStore::spec`). An operation that has no
+/// plan there gets its planned plan; so do all where the text is empty.
+///
+/// A written plan is taken exactly where it keeps K1 to K7, and whichever it is, replies and histories
+/// are those of the specification. `PlanLine` is for the first broken rule of the lines of plans, H1 to
+/// H4 and S8, with its line; `Plan` for the first plan that breaks one of K1 to K7.
+pub fn open_with_plans(
+    alloc: Global,
+    text: &[u8],
+    plans: &[u8],
+    options: Options,
+) -> Result<OpenStore, OpenFault>
+    ensures opened { IfOk result (IsOpenedWith text.now plans.now options) }
+    ensures refused { IfErr result (IsRefusedWith text.now plans.now options) }
 {
     if !options.are_in_bounds() {
         return Err(OpenFault::Options);
     }
-    if text.len() > MAX_TEXT {
+    if text.len() > MAX_TEXT || plans.len() > MAX_TEXT {
         return Err(OpenFault::TooLong);
     }
     let accepted = read_accepted(alloc, text, options)?;
-    open_accepted(alloc, accepted, options)
+    let compiled = plan_embedded(alloc, accepted, plans)?;
+    open_compiled(alloc, compiled, options)
 }
 
 /// Reads a specification that stands alone, which has then the most rows of a reply that are asked
@@ -157,23 +182,18 @@ fn read_accepted(alloc: Global, text: &[u8], options: Options) -> Result<Accepte
     }
 }
 
-/// Inlines an accepted specification's singletons and places its edges together, plans its
-/// operations, and opens a store of it.
-fn open_accepted(
+/// Opens a store of a specification whose operations are planned.
+fn open_compiled(
     alloc: Global,
-    accepted: Accepted,
+    compiled: Compiled,
     options: Options,
 ) -> Result<OpenStore, OpenFault>
-    requires named { IsWellNamed accepted }
+    requires named { IsWellNamed compiled.spec }
     requires options { AreInBounds options }
-    ensures store { IfOk result (IsStoreOf accepted options) }
+    ensures store { IfOk result (IsBuiltOf compiled options) }
     ensures memory { IfErr result (λ fault. fault ≡ faults.Memory) }
 {
-    let embedded = embed(alloc, accepted)?;
-    let columns = all_columns(alloc, embedded.spec())?;
-    let compiled = compile(alloc, embedded)?;
-    // A read tells the check that the plans are accepted.
-    let _ = compiled.accepted();
+    let columns = all_columns(alloc, compiled.accepted().spec())?;
     let Options {
         passes,
         limit,
@@ -226,6 +246,19 @@ impl OpenStore {
         ensures named { IsWellNamed (spec_of self.now.store.row) }
     {
         self.shared.spec()
+    }
+
+    /// The plans by which the operations are answered, in the order of the operations: of each a line
+    /// `plan` with its name, and a line for each statement. With the line `end` behind it is what
+    /// `open_with_plans` reads, where none has more than 256 statements (`opened_plans_are_given_back` of
+    /// `rc_text_laws`). It also tells that the columns of their Probes are sets.
+    pub fn plans(&self) -> Result<Vec<u8>, Memory>
+        ensures text { IfOk result (λ text. text.items
+            ≡ plans_text (spec_of self.now.store.row) (compiled_of self.now.store.row).plans) }
+        ensures sets { IsOk result
+            → OpsHaveSets (spec_of self.now.store.row) (compiled_of self.now.store.row).plans }
+    {
+        print_plans(self.alloc, self.shared.store.compiled())
     }
 
     /// The number of the operation with this name; `None` exactly where no operation has it.

@@ -83,17 +83,17 @@ parted (first ∷ hands) zero hand lt is = ap (λ (h : Hand). h ∷ hands) (sym 
 parted (first ∷ hands) (suc at) hand lt is =
     ap (λ (rest : List Hand). first ∷ rest) (parted hands at hand (omega arith) is)
 
-one_more : (hands : List Hand) (at : ℕ) (hand : Hand) → at < length hands → hand ≡ get_or hands at hand
+one_more : {X : Type 0} (hands : List X) (at : ℕ) (hand : X) → at < length hands → hand ≡ get_or hands at hand
     → take (suc at) hands ≡ take at hands ++ hand ∷ []
 one_more [] at hand lt is = absurd (omega arith)
-one_more (first ∷ hands) zero hand lt is = ap (λ (h : Hand). h ∷ []) (sym is)
+one_more (first ∷ hands) zero hand lt is = ap (λ h. h ∷ []) (sym is)
 one_more (first ∷ hands) (suc at) hand lt is =
-    ap (λ (rest : List Hand). first ∷ rest) (one_more hands at hand (omega arith) is)
+    ap (λ (rest : List _). first ∷ rest) (one_more hands at hand (omega arith) is)
 
 -- what holds of the first elements, and of the next
-pub next_too : (P : Hand → Type 0) (hands : List Hand) (at : ℕ) (hand : Hand) → at < length hands
-    → hand ≡ get_or hands at hand → ((h : Hand) → In h (take at hands) → P h) → P hand
-    → (h : Hand) → In h (take (at + 1) hands) → P h
+pub next_too : {X : Type 0} (P : X → Type 0) (hands : List X) (at : ℕ) (hand : X) → at < length hands
+    → hand ≡ get_or hands at hand → ((h : X) → In h (take at hands) → P h) → P hand
+    → (h : X) → In h (take (at + 1) hands) → P h
 next_too P hands at hand lt is all here h m =
     each_push P (take at hands) hand all here h
     (subst (In h) (ap (λ (n : ℕ). take n hands) (add-one at) ∙ one_more hands at hand lt is) m)

@@ -7,20 +7,21 @@ use Rattle.rc_spec.specs.declared.spec.Spec.{Spec}
 use Rattle.rc_handplan.specs.declared.hand.Hand.{Hand}
 use Rattle.rc_handplan.specs.declared.refusal.LineFault.{LineFault}
 use Rattle.rc_handplan.specs.declared.refusal.LineFault.TheVariants as faults
+use Rattle.rc_handplan.specs.declared.starts.Closing.{Closing}
 use Rattle.rc_handplan.specs.declared.starts.LineStart.{LineStart}
 use Rattle.rc_handplan.specs.Answers.{FailsLine, Refuses, refusal_at}
 use Rattle.rc_handplan.specs.HandGrammar.{hand_language, hands_from, after_line, going_on}
 use Rattle.rc_handplan.specs.Starts.{line_start, ends_plans}
 
-module _ (spec : Spec) (past_end : ℕ) (hands : List Hand) (lines : List ContentLine) where
+module _ (closing : Closing) (spec : Spec) (past_end : ℕ) (hands : List Hand) (lines : List ContentLine) where
   -- the first line is not read
   pub fails : (line : ContentLine) (others : List ContentLine) (fault : LineFault) → lines ≡ line ∷ others
-      → ends_plans hands (line_start line.bytes) ≡ false → FailsLine fault (after_line spec hands line.bytes)
-      → Refuses (refusal_at fault line.number) (hands_from spec past_end hands lines)
+      → ends_plans closing hands (line_start line.bytes) ≡ false → FailsLine fault (after_line spec hands line.bytes)
+      → Refuses (refusal_at fault line.number) (hands_from closing spec past_end hands lines)
   unfolding hands_from
   fails line others faults.Memory lines-are e gives = tt
   fails line others (faults.Broken rule) lines-are e gives =
-      laws.breaks (hand_language spec) past_end hands lines line others rule lines-are (rw e (ap going_on gives))
+      laws.breaks (hand_language closing spec) past_end hands lines line others rule lines-are (rw e (ap going_on gives))
 
 -- the place behind a line
 pub place_behind : (old new : TextPlace) (line : Line) (text : List ℕ)
@@ -30,11 +31,11 @@ place_behind old new line text behind text-is =
     behind ∙ ap (λ (t : List ℕ). record { text = t; at = line.next; line = line.number + 1 }) text-is
 
 -- whether the plans end before a line, as it was found
-pub ends_told : (hands seen : List Hand) (bytes : List ℕ) (start : LineStart) (answer told : Bool) → seen ≡ hands
-    → start ≡ line_start bytes → answer ≡ ends_plans seen start → answer ≡ told
-    → ends_plans hands (line_start bytes) ≡ told
-ends_told hands seen bytes start answer told seen-is start-is answers is =
-    ap (λ (h : List Hand). ends_plans h (line_start bytes)) (sym seen-is)
-    ∙ ap (λ (s : LineStart). ends_plans seen s) (sym start-is)
+pub ends_told : (closing : Closing) (hands seen : List Hand) (bytes : List ℕ) (start : LineStart) (answer told : Bool) → seen ≡ hands
+    → start ≡ line_start bytes → answer ≡ ends_plans closing seen start → answer ≡ told
+    → ends_plans closing hands (line_start bytes) ≡ told
+ends_told closing hands seen bytes start answer told seen-is start-is answers is =
+    ap (λ (h : List Hand). ends_plans closing h (line_start bytes)) (sym seen-is)
+    ∙ ap (λ (s : LineStart). ends_plans closing seen s) (sym start-is)
     ∙ sym answers
     ∙ is

@@ -32,7 +32,7 @@ refusal_at faults.Memory line = refusals.Memory
 refusal_at (faults.Broken rule) line = refusals.Line rule line
 
 -- plans are refused for the first broken rule and its line
-abbrev pub Refuses : HandRefusal → Result HandReading Broken → Type 0
+abbrev pub Refuses : {Y : Type 0} → HandRefusal → Result Y Broken → Type 0
 Refuses refusals.Memory gives = Unit {0}
 Refuses (refusals.Line rule line) gives = gives ≡ Err (record { rule = rule; line = line })
 

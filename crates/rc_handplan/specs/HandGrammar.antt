@@ -1,10 +1,11 @@
 -- The plans that the content lines behind a specification give, or the first broken rule of such lines with its line.
-use Rattle.std.specs.Prelude.{ℕ, Bool, true, false, nat_le, ◌==◌, if◌then◌else◌, List, [], ◌∷◌, length, Option, Some, None, Result, Ok, Err}
+use Rattle.std.specs.Prelude.{ℕ, Bool, true, false, nat_le, ◌==◌, if◌then◌else◌, List, [], ◌∷◌, length, Option, Some, None, Result, Ok, Err, codes}
 use Rattle.std.specs.List.{list_any}
 use Rattle.std.specs.Option.{option_and_then, ok_or}
+use Rattle.std.specs.Str.{bytes_eq}
 use Rattle.rc_text.specs.Language as language
 use Rattle.rc_text.specs.Language.{Language}
-use Rattle.rc_text.specs.Lines.{ContentLine, TextPlace, content_from, past_end_of}
+use Rattle.rc_text.specs.Lines.{ContentLine, TextPlace, content_from, past_end_of, start_of}
 use Rattle.rc_spec.specs.Names.{op_names}
 use Rattle.rc_spec.specs.declared.spec.Spec.{Spec}
 use Rattle.rc_reader.specs.Forms.{plain_words_of}
@@ -13,6 +14,8 @@ use Rattle.rc_plan.specs.declared.statement.Statement.{Statement}
 use Rattle.rc_handplan.specs.declared.hand.Hand.{Hand}
 use Rattle.rc_handplan.specs.declared.refusal.HandRule.{HandRule}
 use Rattle.rc_handplan.specs.declared.refusal.HandRule.TheVariants.{H1, H2, H3, H4, S8}
+use Rattle.rc_handplan.specs.declared.starts.Closing.{Closing}
+use Rattle.rc_handplan.specs.declared.starts.Closing.TheVariants as closings
 use Rattle.rc_handplan.specs.declared.starts.LineStart.{LineStart}
 use Rattle.rc_handplan.specs.declared.starts.LineStart.TheVariants as starts
 use Rattle.rc_handplan.specs.Forms.{StatementForm, form_of}
@@ -60,10 +63,11 @@ after_statement spec hands bytes = with_next hands (statement_in spec bytes)
 
 -- ---- a line
 
--- what a line gives by what it is; before one that begins with `work` the plans have ended
+-- what a line gives by what it is; before one that closes them the plans have ended
 abbrev pub after_start : Spec → List Hand → LineStart → List ℕ → Result (List Hand) HandRule
 after_start spec hands starts.Plan bytes = after_head spec hands bytes
 after_start spec hands starts.Work bytes = after_statement spec hands bytes
+after_start spec hands starts.End bytes = after_statement spec hands bytes
 after_start spec hands starts.Other bytes = after_statement spec hands bytes
 
 -- H1 to H4 for a line behind those that gave these plans
@@ -79,9 +83,9 @@ abbrev pub going_on : Result (List Hand) HandRule → Result After HandRule
 going_on (Err rule) = Err rule
 going_on (Ok hands) = Ok (record { ended = false; hands = hands })
 
-abbrev pub after_bytes : Spec → List Hand → List ℕ → Result After HandRule
-after_bytes spec hands bytes =
-    if ends_plans hands (line_start bytes) then Ok (record { ended = true; hands = hands })
+abbrev pub after_bytes : Closing → Spec → List Hand → List ℕ → Result After HandRule
+after_bytes closing spec hands bytes =
+    if ends_plans closing hands (line_start bytes) then Ok (record { ended = true; hands = hands })
     else going_on (after_line spec hands bytes)
 
 -- ---- the lines
@@ -95,11 +99,11 @@ pub record HandReading : Type 0 where
   pub hands : List Hand
   pub others : List ContentLine
 
--- The language of the lines of plans. S8: behind a plan they run out before a line that begins with `work`, and then the
--- line is one past the last.
-abbrev pub hand_language : Spec → Language (List Hand) After HandReading HandRule
-hand_language spec = record {
-  next = after_bytes spec;
+-- The language of the lines of plans. S8: behind a plan they run out before a line that closes the plans, and then the line
+-- is one past the last.
+abbrev pub hand_language : Closing → Spec → Language (List Hand) After HandReading HandRule
+hand_language closing spec = record {
+  next = after_bytes closing spec;
   ended = λ after. after.ended;
   state = λ after. after.hands;
   done = λ hands last others. record { hands = hands; others = last ∷ others };
@@ -109,9 +113,41 @@ hand_language spec = record {
 }
 
 -- the lines from some plans on, tested in order
-unfoldable pub hands_from : Spec → ℕ → List Hand → List ContentLine → Result HandReading Broken
-hands_from spec past_end hands lines = language.reading_from (hand_language spec) past_end hands lines
+unfoldable pub hands_from : Closing → Spec → ℕ → List Hand → List ContentLine → Result HandReading Broken
+hands_from closing spec past_end hands lines = language.reading_from (hand_language closing spec) past_end hands lines
 
--- the plans that stand from a place of a text on, where a specification ends before it
+-- the plans that stand from a place of a text on, up to a line that begins with the word that closes them
+abbrev pub hands_reading_to : Closing → Spec → TextPlace → Result HandReading Broken
+hands_reading_to closing spec place = hands_from closing spec (past_end_of place.text) [] (content_from place)
+
+-- those between a specification, which ends before the place, and a workload
 abbrev pub hands_reading : Spec → TextPlace → Result HandReading Broken
-hands_reading spec place = hands_from spec (past_end_of place.text) [] (content_from place)
+hands_reading spec place = hands_reading_to closings.Work spec place
+
+-- ---- plans alone
+
+-- the words of the line `end`
+abbrev pub are_end : Option (List (List ℕ)) → Bool
+are_end None = false
+are_end (Some []) = false
+are_end (Some (word ∷ [])) = bytes_eq word (codes "end")
+are_end (Some (word ∷ next ∷ words)) = false
+
+abbrev pub says_end : List ℕ → Bool
+says_end bytes = are_end (plain_words_of bytes)
+
+-- what may stand behind the last plan: nothing, where no line was there at all, or the line `end` and nothing behind it;
+-- another line in its place breaks H2, and one behind it S8
+abbrev pub closed_by : List Hand → List ContentLine → Result (List Hand) Broken
+closed_by hands [] = Ok hands
+closed_by hands (line ∷ []) = if says_end line.bytes then Ok hands else language.broken_at H2 line.number
+closed_by hands (line ∷ next ∷ others) =
+    if says_end line.bytes then language.broken_at S8 next.number else language.broken_at H2 line.number
+
+abbrev pub alone_by : Result HandReading Broken → Result (List Hand) Broken
+alone_by (Err broken) = Err broken
+alone_by (Ok reading) = closed_by reading.hands reading.others
+
+-- the plans that a text gives in which they stand alone, or the first broken rule with its line
+abbrev pub plans_of : Spec → List ℕ → Result (List Hand) Broken
+plans_of spec text = alone_by (hands_reading_to closings.End spec (start_of text))

@@ -33,10 +33,11 @@ use Rattle.rc_plan.specs.declared.statement.Statement.{Statement}
 use Rattle.rc_plan.specs.PlanRules.{IsKnown, AreKnown}
 use Rattle.rc_handplan.specs.declared.hand.Hand.{Hand}
 use Rattle.rc_handplan.specs.declared.refusal.HandRule.{HandRule}
+use Rattle.rc_handplan.specs.declared.starts.Closing.{Closing}
 use Rattle.rc_handplan.specs.declared.starts.LineStart.{LineStart}
 use Rattle.rc_handplan.specs.declared.starts.LineStart.TheVariants as starts
 use Rattle.rc_handplan.specs.Forms.{StatementForm, lock_form, probe_form, read_form, absent_form, found_form, check_form, apply_form, emit_form, commit_form, release_form, form_of}
-use Rattle.rc_handplan.specs.HandGrammar.{After, HandReading, hand_language, hands_from, hands_reading, op_in_words, op_in_head, after_op, statement_by, statement_in, with_next, after_statement, after_start, after_line, going_on}
+use Rattle.rc_handplan.specs.HandGrammar.{After, HandReading, hand_language, hands_from, hands_reading_to, op_in_words, op_in_head, after_op, statement_by, statement_in, with_next, after_statement, after_start, after_line, going_on}
 use Rattle.rc_handplan.specs.Hands.{is_of, ops_of, with_plan, with_statement, last_plan, onto_last, AreHands, HasSet, HaveSets, AllHaveSets}
 use Rattle.rc_handplan.specs.Starts.{line_start, ends_plans}
 use Rattle.rc_handplan.specs.Statements.{class_named, edge_named, columns_named, dependency_by, dependency_named, statement_of}
@@ -205,6 +206,7 @@ module _ (spec : Spec) (Q : List Hand → Type 0)
     kept_start hands starts.Plan bytes next are e =
         kept_by_op hands (op_in_head spec bytes) next are (head_below bytes) e
     kept_start hands starts.Work bytes next are e = kept_statement hands bytes next are e
+    kept_start hands starts.End bytes next are e = kept_statement hands bytes next are e
     kept_start hands starts.Other bytes next are e = kept_statement hands bytes next are e
 
     kept_going : (gives : Result (List Hand) HandRule) (after : After) → going_on gives ≡ Ok after
@@ -213,28 +215,29 @@ module _ (spec : Spec) (Q : List Hand → Type 0)
     kept_going (Ok hands) after e = ap (λ (a : After). Ok a.hands) (same_Ok (record { ended = false; hands = hands }) after e)
 
     -- each line keeps it
-    kept_line : Keeps (hand_language spec) Q
+    kept_line : (closing : Closing) → Keeps (hand_language closing spec) Q
     unfolding after_line
-    kept_line hands bytes after are e =
-        elim (ends_plans hands (line_start bytes)) as (λ v. cond v (Ok (record { ended = true; hands = hands })) (going_on (after_line spec hands bytes)) ≡ Ok after → Q after.hands) [
+    kept_line closing hands bytes after are e =
+        elim (ends_plans closing hands (line_start bytes)) as (λ v. cond v (Ok (record { ended = true; hands = hands })) (going_on (after_line spec hands bytes)) ≡ Ok after → Q after.hands) [
           | true ↦ λ h. subst Q (ap (λ (a : After). a.hands) (same_Ok (record { ended = true; hands = hands }) after h)) are
           | false ↦ λ h. kept_start hands (line_start bytes) bytes after.hands are (kept_going (after_line spec hands bytes) after h)
         ] e
 
-    out_keeps : (past_end : ℕ) (hands : List Hand) (reading : HandReading) → Q hands
-        → (hand_language spec).out past_end hands ≡ Ok reading → Q reading.hands
-    out_keeps past_end hands reading are e =
+    out_keeps : (closing : Closing) (past_end : ℕ) (hands : List Hand) (reading : HandReading) → Q hands
+        → (hand_language closing spec).out past_end hands ≡ Ok reading → Q reading.hands
+    out_keeps closing past_end hands reading are e =
         elim (eqb (length hands) 0) as (λ v. cond v (Ok (record { hands = hands; others = [] })) (broken_at S8 past_end) ≡ Ok reading → Q reading.hands) [
           | true ↦ λ h. subst Q (ap (λ (r : HandReading). r.hands) (same_Ok (record { hands = hands; others = [] }) reading h)) are
           | false ↦ λ h. absurd cc
         ] e
 
     -- so has what is read
-    read_has : Q [] → (place : TextPlace) (reading : HandReading) → hands_reading spec place ≡ Ok reading → Q reading.hands
+    read_has : Q [] → (closing : Closing) (place : TextPlace) (reading : HandReading)
+        → hands_reading_to closing spec place ≡ Ok reading → Q reading.hands
     unfolding hands_from
-    read_has none_yet place reading e =
-        read_keeps (hand_language spec) Q (λ (r : HandReading). Q r.hands) kept_line
-        (λ hands last others are. are) out_keeps (past_end_of place.text) [] (content_from place) reading none_yet e
+    read_has none_yet closing place reading e =
+        read_keeps (hand_language closing spec) Q (λ (r : HandReading). Q r.hands) (kept_line closing)
+        (λ hands last others are. are) (out_keeps closing) (past_end_of place.text) [] (content_from place) reading none_yet e
 
 -- ---- plans that are read
 
@@ -265,12 +268,12 @@ module _ (spec : Spec) where
   }
 
   -- they are plans of operations
-  pub read_hands : (place : TextPlace) (reading : HandReading) → hands_reading spec place ≡ Ok reading
-      → AreHands spec reading.hands
-  read_hands place reading e =
+  pub read_hands : (closing : Closing) (place : TextPlace) (reading : HandReading)
+      → hands_reading_to closing spec place ≡ Ok reading → AreHands spec reading.hands
+  read_hands closing place reading e =
       read_has spec (AreHands spec) with_hand with_more
       (record { ops = λ hand m. absurd m; once = tt; known = λ hand m. absurd m; short = λ hand m. absurd m })
-      place reading e
+      closing place reading e
 
   set_by : (words : List (List ℕ)) (columns : List ℕ) → columns_named spec words ≡ Some columns → IsRising nat_cmp columns
   set_by words columns e =
@@ -297,11 +300,12 @@ module _ (spec : Spec) where
       mapped HasSet Release (class_named spec class) statement e (λ n is. tt)
 
   -- and the columns of their Probes are sets
-  pub read_sets : (place : TextPlace) (reading : HandReading) → hands_reading spec place ≡ Ok reading → AllHaveSets reading.hands
-  read_sets place reading e =
+  pub read_sets : (closing : Closing) (place : TextPlace) (reading : HandReading)
+      → hands_reading_to closing spec place ≡ Ok reading → AllHaveSets reading.hands
+  read_sets closing place reading e =
       read_has spec AllHaveSets
       (λ hands op are below new. each_push (λ (hand : Hand). HaveSets hand.plan) hands _ are (λ x m. absurd m))
       (λ hands statement are from free.
       each_onto_last (λ (hand : Hand). HaveSets hand.plan) hands statement are
       (λ hand last all. each_push HasSet hand.plan statement all (has_set from.0 statement from.1)))
-      (λ hand m. absurd m) place reading e
+      (λ hand m. absurd m) closing place reading e

@@ -1,3 +1,5 @@
+pub mod Alone
+pub mod AloneLaws
 pub mod Answers
 pub mod Chosen
 pub mod ChosenLaws
@@ -8,6 +10,7 @@ pub mod HandGrammar
 pub mod HandGrammarLaws
 pub mod Hands
 pub mod HandsLaws
+pub mod PlansText
 pub mod RuleText
 pub mod Starts
 pub mod StartsLaws

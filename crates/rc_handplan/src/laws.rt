@@ -1,5 +1,6 @@
 //! Laws of the plans that lines give, and of the choice between these and the planned ones.
 
+ghost use Rattle.rc_handplan.specs.Alone.{NoTextNoPlans};
 ghost use Rattle.rc_handplan.specs.Chosen.{OneChosenPlan, PlannedPlansMayBeWritten};
 ghost use Rattle.rc_handplan.specs.FirstBroken.{FirstBrokenPlanLine, NothingIsRead};
 
@@ -14,6 +15,11 @@ pub fn first_broken_plan_line()
 /// refused, and all lines are left.
 pub fn without_plans_nothing_is_read()
     ensures { NothingIsRead }
+{}
+
+/// A text without a byte, in which plans stand alone, has no plan.
+pub fn without_a_text_no_plan_is_read()
+    ensures { NoTextNoPlans }
 {}
 
 /// Written plans decide what the plans of all operations are: each has one chosen plan.

@@ -19,8 +19,9 @@ pub use compiling::{HandFault, compile_with};
 pub use hand::{Hand, MAX_STATEMENTS};
 pub use laws::{
     first_broken_plan_line, one_chosen_plan, planned_plans_may_be_written,
-    without_plans_nothing_is_read,
+    without_a_text_no_plan_is_read, without_plans_nothing_is_read,
 };
-pub use printing::print_plan_refusal;
-pub use reading::read_plans;
+pub use printing::{print_plan_refusal, print_plans};
+pub use reading::{read_plans, read_plans_only};
 pub use refusal::{HandRefusal, HandRule};
+pub use starts::Closing;

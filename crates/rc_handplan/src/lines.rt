@@ -1,10 +1,11 @@
 //! Reads the lines of plans, each by the rules in their order.
 
-ghost use Rattle.std.specs.Prelude.{◌≡◌, ◌<◌, length, false};
+ghost use Rattle.std.specs.Prelude.{◌≡◌, ◌<◌, length};
 ghost use Rattle.rc_spec.specs.InRange.{IsInRange};
 ghost use Rattle.rc_handplan.specs.Answers.{Gives, TakesLine};
 ghost use Rattle.rc_handplan.specs.HandGrammar.{statement_in, after_statement, after_line};
-ghost use Rattle.rc_handplan.specs.Starts.{line_start, ends_plans};
+ghost use Rattle.rc_handplan.specs.Starts.{line_start};
+ghost use Rattle.rc_handplan.specs.declared.starts.LineStart.TheVariants as starts;
 
 use crate::forms::form_of;
 use crate::hand::Hand;
@@ -65,7 +66,7 @@ pub(crate) fn take_line(
 ) -> Result<(), LineFault>
     requires range { IsInRange spec.now }
     requires start { start ≡ line_start bytes.now }
-    requires goes_on { ends_plans hands.old.items start ≡ false }
+    requires begun { (start ≡ starts.Plan → ⊥) → 0 < length hands.old.items }
     ensures { TakesLine result hands.new.items (after_line spec.now hands.old.items bytes.now) }
 {
     match start {

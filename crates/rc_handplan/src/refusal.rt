@@ -13,14 +13,16 @@ pub enum HandRule {
     /// Behind `plan` stands something else than the name of one operation, or the operation has a
     /// plan already.
     H1,
-    /// A word has a fault or is quoted, or the line has none of the forms of a statement.
+    /// A word has a fault or is quoted, or the line has none of the forms of a statement, nor, where plans
+    /// stand alone, is it their `end`.
     H2,
     /// A word names no class, edge or column, a column is named twice, or `check` has a number that
     /// is 0 or above the number of dependencies.
     H3,
     /// It is the 257th statement of its plan.
     H4,
-    /// The lines run out before `work`.
+    /// The lines run out before the word that closes the plans; or, where they stand alone, a line stands
+    /// behind their `end`.
     S8,
 }
 
@@ -48,6 +50,14 @@ pub enum HandRefusal {
     /// The first broken rule, and the line that breaks it, counted from 1. Where the lines run out,
     /// it is one past the last.
     Line { rule: HandRule, line: u32 },
+}
+
+impl From<Memory> for HandRefusal {
+    ghost from_gives = { λ _ refusal. refusal ≡ refusals.Memory };
+
+    fn from(_: Memory) -> Self {
+        HandRefusal::Memory
+    }
 }
 
 /// Why a line is not read.

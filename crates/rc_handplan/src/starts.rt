@@ -6,6 +6,15 @@ ghost use Rattle.rc_handplan.specs.Starts.{start_of_word, line_start, ends_plans
 use crate::hand::Hand;
 use rc_text::{Word, Words};
 
+/// The word that closes plans: the first of the line behind them.
+#[derive(Clone, Copy, Debug, PartialEq, Eq)]
+pub enum Closing {
+    /// `work`: this line is the first of a workload, which others read.
+    Work,
+    /// `end`: the plans stand alone, and this line is the last.
+    End,
+}
+
 /// What a line is, by its first word.
 #[derive(Clone, Copy, Debug, PartialEq, Eq)]
 pub(crate) enum LineStart {
@@ -13,6 +22,8 @@ pub(crate) enum LineStart {
     Plan,
     /// It begins with `work`.
     Work,
+    /// It begins with `end`.
+    End,
     /// It begins with another word, or its first word has a fault or is quoted.
     Other,
 }
@@ -24,6 +35,8 @@ fn start_of_word(word: &[u8]) -> LineStart
         LineStart::Plan
     } else if word == b"work".as_slice() {
         LineStart::Work
+    } else if word == b"end".as_slice() {
+        LineStart::End
     } else {
         LineStart::Other
     }
@@ -39,14 +52,14 @@ pub(crate) fn line_start(bytes: &[u8]) -> LineStart
     }
 }
 
-/// Whether the lines of these plans end before a line: it is that of the workload, or there is no
-/// plan, and the line begins none.
-pub(crate) fn ends_plans(hands: &[Hand], start: LineStart) -> bool
-    ensures { result ≡ ends_plans hands.now start }
+/// Whether the lines of these plans end before a line: it begins with the word that closes them, or
+/// there is no plan, and the line begins none.
+pub(crate) fn ends_plans(closing: Closing, hands: &[Hand], start: LineStart) -> bool
+    ensures { result ≡ ends_plans closing hands.now start }
 {
-    match start {
-        LineStart::Plan => false,
-        LineStart::Work => true,
-        LineStart::Other => hands.is_empty(),
+    match (closing, start) {
+        (_, LineStart::Plan) => false,
+        (Closing::Work, LineStart::Work) | (Closing::End, LineStart::End) => true,
+        _ => hands.is_empty(),
     }
 }

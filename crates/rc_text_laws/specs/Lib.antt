@@ -10,6 +10,7 @@ pub mod LineFormLaws
 pub mod LineLaws
 pub mod LinesLaws
 pub mod NumberedLaws
+pub mod PlansAloneLaws
 pub mod PlansLaws
 pub mod PlansRead
 pub mod PrintedStatementsLaws
@@ -21,6 +22,8 @@ pub mod RunsLaws
 pub mod SectionsLaws
 pub mod SpecLaws
 pub mod StepsLaws
+pub mod StorePlans
+pub mod StorePlansLaws
 pub mod TextsLaws
 pub mod BehindLaws
 pub mod PrintedRunLaws

@@ -21,11 +21,12 @@ use Rattle.rc_plan.specs.declared.statement.Statement.{Statement}
 use Rattle.rc_plan.specs.PlanRules.{IsKnown, AreKnown}
 use Rattle.rc_plan.specs.PlanText.{statement_text}
 use Rattle.rc_handplan.specs.declared.hand.Hand.{Hand}
+use Rattle.rc_handplan.specs.declared.starts.Closing.{Closing}
 use Rattle.rc_handplan.specs.HandGrammar.{hands_from, op_in_words, op_in_head, after_op, after_head, with_next, after_statement}
-use Rattle.rc_handplan.specs.HandGrammarLaws.{reads_head, reads_statement, ends_at_work}
+use Rattle.rc_handplan.specs.HandGrammarLaws.{reads_head, reads_statement, ends_at}
 use Rattle.rc_handplan.specs.HandsLaws.{read_hands, read_sets}
 use Rattle.rc_handplan.specs.Hands.{is_of, ops_of, with_plan, with_statement, last_plan, onto_last, HasSet, HaveSets}
-use Rattle.rc_handplan.specs.Starts.{BeginsPlan, BeginsWork, BeginsOtherwise}
+use Rattle.rc_handplan.specs.Starts.{BeginsPlan, BeginsOtherwise, Closes}
 use Rattle.rc_handplan.specs.StartsLaws.{start_is_first}
 use Rattle.rc_text_laws.specs.NumberedLaws.{number_of_name}
 use Rattle.rc_text_laws.specs.PlansRead.{PlansAreReadAgain, plan_lines, AllPlansAreReadBack, PlansAreReadBack, PlanLinesArePrinted}
@@ -66,7 +67,7 @@ begins_with [] bytes others e = absurd cc
 begins_with (line ∷ behind) bytes others e =
     record { line = line; behind = behind; whole = refl; bytes_are = cc; others_are = cc }
 
-module _ (spec : Spec) (range : IsInRange spec) (named : IsWellNamed spec) (past_end : ℕ) where
+module _ (closing : Closing) (spec : Spec) (range : IsInRange spec) (named : IsWellNamed spec) (past_end : ℕ) where
   -- ---- a statement
 
   takes_statement : (front : List Hand) (op : ℕ) (plan : List Statement) (x : Statement) → IsKnown spec x → HasSet x
@@ -83,7 +84,7 @@ module _ (spec : Spec) (range : IsInRange spec) (named : IsWellNamed spec) (past
   -- what statements leave of lines that begin with theirs
   record ReadsOn (hands : List Hand) (lines : List ContentLine) (next : List Hand) (left : List (List ℕ)) : Type 0 where
     pub others : List ContentLine
-    pub goes_on : hands_from spec past_end hands lines ≡ hands_from spec past_end next others
+    pub goes_on : hands_from closing spec past_end hands lines ≡ hands_from closing spec past_end next others
     pub left_are : bytes_of_content others ≡ left
 
   statements_read : (front : List Hand) (op : ℕ) (plan more : List Statement) (lines : List ContentLine)
@@ -92,7 +93,7 @@ module _ (spec : Spec) (range : IsInRange spec) (named : IsWellNamed spec) (past
       → ReadsOn (front ++ hand_of op plan ∷ []) lines (front ++ hand_of op (plan ++ more) ∷ []) left
   statements_read front op plan [] lines left known sets few e = record {
     others = lines;
-    goes_on = ap (λ (p : List Statement). hands_from spec past_end (front ++ hand_of op p ∷ []) lines) (sym (append-nil plan));
+    goes_on = ap (λ (p : List Statement). hands_from closing spec past_end (front ++ hand_of op p ∷ []) lines) (sym (append-nil plan));
     left_are = e;
   }
   statements_read front op plan (x ∷ more) lines left known sets few e =
@@ -100,7 +101,7 @@ module _ (spec : Spec) (range : IsInRange spec) (named : IsWellNamed spec) (past
       let count = length-append plan (x ∷ []) in
       let rest = statements_read front op (plan ++ x ∷ []) more first.behind left (λ y m. known y (inr m))
       (λ y m. sets y (inr m)) (omega arith) first.others_are in
-      let one = reads_statement spec past_end (front ++ hand_of op plan ∷ []) first.line first.behind
+      let one = reads_statement closing spec past_end (front ++ hand_of op plan ∷ []) first.line first.behind
       (front ++ hand_of op (plan ++ x ∷ []) ∷ [])
       (subst BeginsOtherwise (sym first.bytes_are) (statement_begins spec range named x (known x (inl refl))))
       (some_behind front (hand_of op plan))
@@ -108,8 +109,8 @@ module _ (spec : Spec) (range : IsInRange spec) (named : IsWellNamed spec) (past
       ∙ takes_statement front op plan x (known x (inl refl)) (sets x (inl refl)) (omega arith)) in
       record {
         others = rest.others;
-        goes_on = ap (hands_from spec past_end (front ++ hand_of op plan ∷ [])) first.whole ∙ one ∙ rest.goes_on
-            ∙ ap (λ (p : List Statement). hands_from spec past_end (front ++ hand_of op p ∷ []) rest.others)
+        goes_on = ap (hands_from closing spec past_end (front ++ hand_of op plan ∷ [])) first.whole ∙ one ∙ rest.goes_on
+            ∙ ap (λ (p : List Statement). hands_from closing spec past_end (front ++ hand_of op p ∷ []) rest.others)
             (append_assoc plan (x ∷ []) more);
         left_are = rest.left_are;
       }
@@ -163,45 +164,45 @@ module _ (spec : Spec) (range : IsInRange spec) (named : IsWellNamed spec) (past
   plan_read front hand lines left can new e =
       let first = begins_with lines (codes "plan " ++ (op_at spec hand.op).name)
       (map (statement_text spec) hand.plan ++ left) e in
-      let head = reads_head spec past_end front first.line first.behind (with_plan front hand.op)
+      let head = reads_head closing spec past_end front first.line first.behind (with_plan front hand.op)
       (subst BeginsPlan (sym first.bytes_are) (head_begins hand.op can.below))
       (ap (after_head spec front) first.bytes_are ∙ takes_head front hand.op can.below new) in
       let rest = statements_read front hand.op [] hand.plan first.behind left can.known can.sets (omega (arith, can.short)) first.others_are in
       record {
         others = rest.others;
-        goes_on = ap (hands_from spec past_end front) first.whole ∙ head ∙ rest.goes_on;
+        goes_on = ap (hands_from closing spec past_end front) first.whole ∙ head ∙ rest.goes_on;
         left_are = rest.left_are;
       }
 
-  -- what plans leave, of lines that begin with theirs and in which one that begins with `work` comes next
+  -- what plans leave, of lines that begin with theirs and in which one that closes them comes next
   record ReadsAll (hands : List Hand) (lines : List ContentLine) (all : List Hand) (left : List (List ℕ)) : Type 0 where
     pub others : List ContentLine
-    pub read : hands_from spec past_end hands lines ≡ Ok (record { hands = all; others = others })
+    pub read : hands_from closing spec past_end hands lines ≡ Ok (record { hands = all; others = others })
     pub left_are : bytes_of_content others ≡ left
 
-  plans_read : (front hands : List Hand) (lines : List ContentLine) (work : List ℕ) (others : List (List ℕ))
-      → ((hand : Hand) → In hand hands → CanBePrinted hand) → AreDistinct (ops_of (front ++ hands)) → BeginsWork work
-      → bytes_of_content lines ≡ flat_map (plan_lines spec) hands ++ work ∷ others
-      → ReadsAll front lines (front ++ hands) (work ∷ others)
-  plans_read front [] lines work others can once begins e =
-      let first = begins_with lines work others e in
+  plans_read : (front hands : List Hand) (lines : List ContentLine) (last : List ℕ) (others : List (List ℕ))
+      → ((hand : Hand) → In hand hands → CanBePrinted hand) → AreDistinct (ops_of (front ++ hands)) → Closes closing last
+      → bytes_of_content lines ≡ flat_map (plan_lines spec) hands ++ last ∷ others
+      → ReadsAll front lines (front ++ hands) (last ∷ others)
+  plans_read front [] lines last others can once closes e =
+      let first = begins_with lines last others e in
       record {
         others = lines;
-        read = ap (hands_from spec past_end front) first.whole
-            ∙ ends_at_work spec past_end front first.line first.behind (subst BeginsWork (sym first.bytes_are) begins)
+        read = ap (hands_from closing spec past_end front) first.whole
+            ∙ ends_at closing spec past_end front first.line first.behind (subst (Closes closing) (sym first.bytes_are) closes)
             ∙ ap (λ (xs : List ContentLine). Ok (record { hands = front; others = xs })) (sym first.whole)
             ∙ ap (λ (h : List Hand). Ok (record { hands = h; others = lines })) (sym (append-nil front));
         left_are = e;
       }
-  plans_read front (hand ∷ hands) lines work others can once begins e =
+  plans_read front (hand ∷ hands) lines last others can once closes e =
       let apart = subst AreDistinct (map-append (λ (h : Hand). h.op) front (hand ∷ hands)) once in
       let new : In hand.op (ops_of front) → ⊥ = λ m.
       distinct_apart (ops_of front) (ops_of (hand ∷ hands)) apart hand.op m (inl refl) in
-      let one = plan_read front hand lines (flat_map (plan_lines spec) hands ++ work ∷ others) (can hand (inl refl)) new
-      (e ∙ append_assoc (plan_lines spec hand) (flat_map (plan_lines spec) hands) (work ∷ others)) in
+      let one = plan_read front hand lines (flat_map (plan_lines spec) hands ++ last ∷ others) (can hand (inl refl)) new
+      (e ∙ append_assoc (plan_lines spec hand) (flat_map (plan_lines spec) hands) (last ∷ others)) in
       let whole = append_assoc front (hand ∷ []) hands in
-      let rest = plans_read (front ++ hand ∷ []) hands one.others work others (λ h m. can h (inr m))
-      (subst (λ (h : List Hand). AreDistinct (ops_of h)) (sym whole) once) begins one.left_are in
+      let rest = plans_read (front ++ hand ∷ []) hands one.others last others (λ h m. can h (inr m))
+      (subst (λ (h : List Hand). AreDistinct (ops_of h)) (sym whole) once) closes one.left_are in
       record {
         others = rest.others;
         read = one.goes_on ∙ rest.read
@@ -210,34 +211,34 @@ module _ (spec : Spec) (range : IsInRange spec) (named : IsWellNamed spec) (past
       }
 
 pub all_plans_are_read_back : AllPlansAreReadBack
-all_plans_are_read_back spec hands work others place range named are sets begins e =
-    let read = plans_read spec range named (past_end_of place.text) [] hands (content_from place) work others
+all_plans_are_read_back closing spec hands last others place range named are sets closes e =
+    let read = plans_read closing spec range named (past_end_of place.text) [] hands (content_from place) last others
     (λ hand m. record {
       below = are.ops hand m;
       known = are.known hand m;
       sets = sets hand m;
       short = are.short hand m;
-    }) are.once begins e in
+    }) are.once closes e in
     record { others = read.others; read = read.read; left_are = read.left_are }
 
 pub plans_are_read_back : PlansAreReadBack
-plans_are_read_back spec op plan work others place range named below known sets short begins e =
+plans_are_read_back closing spec op plan last others place range named below known sets short closes e =
     let hand = hand_of op plan in
     let only : (P : Hand → Type 0) → P hand → (h : Hand) → In h (hand ∷ []) → P h = λ P here h m.
     elim m [ inl same ↦ subst P (sym same) here | inr none ↦ absurd none ] in
-    all_plans_are_read_back spec (hand ∷ []) work others place range named
+    all_plans_are_read_back closing spec (hand ∷ []) last others place range named
     (record {
       ops = only (λ (h : Hand). h.op < length spec.ops) below;
       once = ((λ m. m), tt);
       known = only (λ (h : Hand). AreKnown spec h.plan) known;
       short = only (λ (h : Hand). length h.plan ≤ 256) short;
-    }) (only (λ (h : Hand). HaveSets h.plan) sets) begins
-    (e ∙ ap (λ (lines : List (List ℕ)). lines ++ work ∷ others) (sym (append-nil (plan_lines spec hand))))
+    }) (only (λ (h : Hand). HaveSets h.plan) sets) closes
+    (e ∙ ap (λ (lines : List (List ℕ)). lines ++ last ∷ others) (sym (append-nil (plan_lines spec hand))))
 
 pub plans_are_read_again : PlansAreReadAgain
-plans_are_read_again spec first reading work others place range named e begins lines =
-    all_plans_are_read_back spec reading.hands work others place range named (read_hands spec first reading e)
-    (read_sets spec first reading e) begins lines
+plans_are_read_again closing spec first reading last others place range named e closes lines =
+    all_plans_are_read_back closing spec reading.hands last others place range named (read_hands spec closing first reading e)
+    (read_sets spec closing first reading e) closes lines
 
 pub plan_lines_are_printed : PlanLinesArePrinted
 plan_lines_are_printed spec hand =

@@ -7,7 +7,9 @@ mod plans;
 mod reports;
 mod specifications;
 
-pub use plans::printed_plans_are_read_back;
+pub use plans::{
+    opened_plans_are_given_back, printed_plans_are_read_back, printed_plans_are_taken,
+};
 pub use reports::{
     audits_are_one, journals_are_legal, one_report_one_history, one_report_one_journal,
     one_report_one_run, one_text_one_history, printed_texts_by_hand_tell_runs,

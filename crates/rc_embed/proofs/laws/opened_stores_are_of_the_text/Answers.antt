@@ -18,3 +18,6 @@ returns-clause-plain c = laws.opened_plain
 
 pub returns-clause-histories : goal.returns-clause-histories
 returns-clause-histories c = laws.histories_are_of_the_text
+
+pub returns-clause-plans : goal.returns-clause-plans
+returns-clause-plans c = laws.opened_plans

@@ -3,7 +3,7 @@ use Rattle.rc_text.specs.Lines.{IsLineStart, content_from, content_of, past_end_
 use Rattle.rc_reader.specs.Answers.{rest_place}
 use Rattle.rc_spec.specs.declared.spec.Spec.{Spec}
 use Rattle.rc_handplan.specs.Answers.{FailsLine, Refuses, refusal_at}
-use Rattle.rc_handplan.specs.HandGrammar.{hands_reading, after_line}
+use Rattle.rc_handplan.specs.HandGrammar.{hands_reading_to, after_line}
 use Rattle.rc_handplan.specs.HandsLaws.{read_hands}
 use Rattle.rc_handplan.specs.declared.refusal.HandRule.TheVariants.{S8}
 use Rattle.rc_handplan.specs.HandGrammarLaws.{ended, goes_on, none_left, runs_out}
@@ -12,13 +12,13 @@ use Rattle.rc_handplan.proofs.reading.read_plans.Goals.{Then-ends_plans, Then-is
 use Rattle.rc_handplan.proofs.reading.read_plans.Goals as goal
 
 -- what is read where a line ends the plans
-read_before : (c : Then-ends_plans) → hands_reading c.args.accepted.now (rest_place c.args.bytes.now c.args.rest)
+read_before : (c : Then-ends_plans) → hands_reading_to c.args.closing c.args.accepted.now (rest_place c.args.bytes.now c.args.rest)
     ≡ Ok (record { hands = c.loop-line.hands.items; others = content_from c.loop-line.lines })
 read_before c =
     sym c.loop-line.invariant.gives
-    ∙ ended c.args.accepted.now (past_end_of c.args.bytes.now) c.loop-line.hands.items (content_from c.loop-line.lines)
+    ∙ ended c.args.closing c.args.accepted.now (past_end_of c.args.bytes.now) c.loop-line.hands.items (content_from c.loop-line.lines)
     (content_of c.in-Some.line) (content_from c.next_line.new.self) c.in-Some.ensures.line
-    (ends_told c.loop-line.hands.items c.deref.result.now c.in-Some.line.bytes.now c.line_start-start.result
+    (ends_told c.args.closing c.loop-line.hands.items c.deref.result.now c.in-Some.line.bytes.now c.line_start-start.result
     c.ends_plans.result true c.deref.ensures.value c.line_start-start.ensures c.ends_plans.ensures c.if-ends_plans.true)
 
 pub returns-then-ends_plans-clause-read : goal.returns-then-ends_plans-clause-read
@@ -33,34 +33,34 @@ returns-then-ends_plans-clause-read c = record {
 
 pub returns-then-ends_plans-clause-hands : goal.returns-then-ends_plans-clause-hands
 returns-then-ends_plans-clause-hands c =
-    read_hands c.args.accepted.now (rest_place c.args.bytes.now c.args.rest)
+    read_hands c.args.accepted.now c.args.closing (rest_place c.args.bytes.now c.args.rest)
     (record { hands = c.loop-line.hands.items; others = content_from c.loop-line.lines })
     (read_before (goal.at.returns-then-ends_plans-clause-hands c).Then-ends_plans)
 
 pub returns-in-Err-clause-refused : goal.returns-in-Err-clause-refused
 returns-in-Err-clause-refused c =
-    let going = ends_told c.loop-line.hands.items c.deref.result.now c.in-Some.line.bytes.now c.line_start-start.result
+    let going = ends_told c.args.closing c.loop-line.hands.items c.deref.result.now c.in-Some.line.bytes.now c.line_start-start.result
     c.ends_plans.result false c.deref.ensures.value c.line_start-start.ensures c.ends_plans.ensures c.if-ends_plans.false in
     let failing = subst
     (λ (spec : Spec). FailsLine c.in-Err.fault (after_line spec c.loop-line.hands.items c.in-Some.line.bytes.now))
     c.spec.ensures.value c.in-Err.ensures in
     rw c.at.ensures
     (subst (Refuses (refusal_at c.in-Err.fault c.in-Some.line.number)) c.loop-line.invariant.gives
-    (fails c.args.accepted.now (past_end_of c.args.bytes.now) c.loop-line.hands.items (content_from c.loop-line.lines)
+    (fails c.args.closing c.args.accepted.now (past_end_of c.args.bytes.now) c.loop-line.hands.items (content_from c.loop-line.lines)
     (content_of c.in-Some.line) (content_from c.next_line.new.self) c.in-Err.fault c.in-Some.ensures.line going failing))
 
 pub loop-line-preserved : goal.loop-line-preserved
 loop-line-preserved c =
     let behind = place_behind c.loop-line.lines c.next_line.new.self c.in-Some.line c.args.bytes.now c.in-Some.ensures.after
     c.loop-line.invariant.text in
-    let going = ends_told c.loop-line.hands.items c.deref.result.now c.in-Some.line.bytes.now c.line_start-start.result
+    let going = ends_told c.args.closing c.loop-line.hands.items c.deref.result.now c.in-Some.line.bytes.now c.line_start-start.result
     c.ends_plans.result false c.deref.ensures.value c.line_start-start.ensures c.ends_plans.ensures c.if-ends_plans.false in
     let taken : after_line c.args.accepted.now c.loop-line.hands.items c.in-Some.line.bytes.now
     ≡ Ok c.take_line.new.hands.items =
     subst (λ (spec : Spec). after_line spec c.loop-line.hands.items c.in-Some.line.bytes.now ≡ Ok c.take_line.new.hands.items)
     c.spec.ensures.value c.in_default-take_line.ensures in
     record {
-      gives = sym (goes_on c.args.accepted.now (past_end_of c.args.bytes.now) c.loop-line.hands.items
+      gives = sym (goes_on c.args.closing c.args.accepted.now (past_end_of c.args.bytes.now) c.loop-line.hands.items
           (content_from c.loop-line.lines) (content_of c.in-Some.line) (content_from c.next_line.new.self)
           c.take_line.new.hands.items c.in-Some.ensures.line going taken) ∙ c.loop-line.invariant.gives;
       others = ap content_from (sym behind);
@@ -77,7 +77,7 @@ returns-then-is_empty-clause-read c =
     record {
       reading = record { hands = c.loop-line.hands.items; others = [] };
       gives_it = sym c.loop-line.invariant.gives
-          ∙ none_left c.args.accepted.now (past_end_of c.args.bytes.now) c.loop-line.hands.items
+          ∙ none_left c.args.closing c.args.accepted.now (past_end_of c.args.bytes.now) c.loop-line.hands.items
           (content_from c.loop-line.lines) left none;
       hands_are = refl;
       version = c.loop-line.invariant.version;
@@ -91,6 +91,6 @@ returns-else-is_empty-clause-refused c =
     ap (λ (n : ℕ). eqb n 0) (sym c.loop-line.hands.ok.0) ∙ sym c.is_empty.ensures ∙ c.if-is_empty.false in
     let text = c.in_default.ensures.text ∙ c.loop-line.invariant.text in
     sym c.loop-line.invariant.gives
-    ∙ runs_out c.args.accepted.now (past_end_of c.args.bytes.now) c.loop-line.hands.items
+    ∙ runs_out c.args.closing c.args.accepted.now (past_end_of c.args.bytes.now) c.loop-line.hands.items
     (content_from c.loop-line.lines) c.in_default.ensures.none some
     ∙ ap (λ (line : ℕ). Err (record { rule = S8; line = line })) (sym (c.past_end.ensures ∙ ap past_end_of text))

@@ -1,0 +1,7 @@
+use Rattle.std.proofs.Common.{take}
+use Rattle.rc_handplan.specs.Hands.{HaveSets}
+use Rattle.rc_handplan.proofs.printing.have_sets.Given as goal
+
+-- the statements so far
+abbrev pub invariant-loop-statement : goal.invariant-loop-statement
+invariant-loop-statement l = HaveSets (take l.statement-index l.plan)
