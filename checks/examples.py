@@ -1,6 +1,6 @@
 #!/usr/bin/env python3
 """checks/examples.py PROGRAM: whether the program prints of each text in examples/ what stands beside it, by `run`, of a text with
-groups by `group`, of one with plans by `hand`, and of one with a journal by `audit bare`; whether `audit` finds what `run` printed legal behind its text, and `audit
+groups by `group`, of one with plans by `hand`, of one whose calls bring operations by `open`, and of one with a journal by `audit bare`; whether `audit` finds what `run` printed legal behind its text, and `audit
 bare` the journal in it, of these and of 20,000 calls that eight threads make beside each other; and whether it accepts the specification
 at the top of README.md."""
 import pathlib
@@ -21,6 +21,8 @@ def command_of(text):
         return "audit bare"
     if re.search(rb"^plan \w+$", text, re.MULTILINE):
         return "hand"
+    if re.search(rb"^\d+ [-?+!] .*=", text, re.MULTILINE):
+        return "open"
     return "group" if re.search(rb"^\d+ & \d+$", text, re.MULTILINE) else "run"
 
 

@@ -6,3 +6,4 @@ pub mod RanLemmas
 pub mod SummingLemmas
 pub mod AuditLemmas
 pub mod ByHandLemmas
+mod OpenLemmas

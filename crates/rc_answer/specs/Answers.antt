@@ -20,15 +20,19 @@ use Rattle.rc_rel.specs.declared.entry.Entry.{Entry}
 use Rattle.rc_rel.specs.History.{replay}
 use Rattle.rc_reader.specs.Grammar.{Broken, Reading, spec_reading, spec_of}
 use Rattle.rc_reader.specs.RuleText.{line_rule_text}
+use Rattle.rc_reader.specs.Versions.{version_number}
 use Rattle.rc_work.specs.declared.also.Also.{Also}
 use Rattle.rc_work.specs.declared.also.Also.TheVariants.{Nothing, Groups}
+use Rattle.rc_work.specs.declared.open_work.OpenWork.{OpenWork}
 use Rattle.rc_work.specs.declared.work.Work.{Work}
 use Rattle.rc_work.specs.LineRules.{op_number}
+use Rattle.rc_work.specs.OpenGrammar.{open_reading}
 use Rattle.rc_work.specs.PartGrammar.{WorkPart, part_reading}
 use Rattle.rc_work.specs.Printed.{words_text}
 use Rattle.rc_work.specs.Ranking.{work_by, work_reading}
 use Rattle.rc_work.specs.Report.{report}
 use Rattle.rc_work.specs.Runs.{Runs}
+use Rattle.rc_work.specs.Shapes.{with_operations}
 use Rattle.rc_work.specs.WholeText.{place_after}
 use Rattle.rc_work.specs.WorkGrammar.{reading_all}
 use Rattle.rc_audit.specs.declared.form.Form.{Form}
@@ -36,6 +40,7 @@ use Rattle.rc_audit.specs.declared.form.Form.TheVariants as forms
 use Rattle.rc_audit.specs.declared.verdict.Verdict.{Verdict}
 use Rattle.rc_audit.specs.declared.verdict.Verdict.TheVariants as verdicts
 use Rattle.rc_audit.specs.GoodReports.{IsVerdict}
+use Rattle.rc_open.specs.ShapeText.{shapes_text}
 use Rattle.rc_answer.specs.Plans.{ArePlanned, plans_and_end, plans_text}
 use Rattle.rc_command.specs.declared.command.TextCommand.{TextCommand}
 use Rattle.rc_command.specs.declared.command.TextCommand.TheVariants as commands
@@ -141,6 +146,25 @@ abbrev pub AnswersRun : Also → List ℕ → Result Reading Broken → List ℕ
 AnswersRun also input (Err broken) text status = IsRefusal broken text status
 AnswersRun also input (Ok reading) text status = AnswersRules reading.spec (AnswersWork reading.spec (work_reading also reading.spec (place_after input reading))) text status
 
+-- ---- open
+
+-- a line for each shape, and then the report of a run over the specification with these operations
+pub record IsOpenReport (spec : Spec) (read : OpenWork) (text : List ℕ) (status : Status) : Type 0 where
+  pub others : List ℕ
+  pub report : IsReport (with_operations spec read.shapes) read.work others status
+  pub printed : text ≡ shapes_text spec read.shapes ++ others
+
+abbrev pub AnswersOpenWork : Spec → Result OpenWork Broken → List ℕ → Status → Type 0
+AnswersOpenWork spec (Err broken) text status = IsRefusal broken text status
+AnswersOpenWork spec (Ok read) text status = IsOpenReport spec read text status
+
+-- what is written of a specification and a workload whose calls may bring their own operation
+abbrev pub AnswersOpen : List ℕ → Result Reading Broken → List ℕ → Status → Type 0
+AnswersOpen input (Err broken) text status = IsRefusal broken text status
+AnswersOpen input (Ok reading) text status =
+    AnswersRules reading.spec
+    (AnswersOpenWork reading.spec (open_reading (version_number reading.version) reading.spec (place_after input reading))) text status
+
 -- ---- hand
 
 -- the first broken rule of the lines of plans, with its line
@@ -219,7 +243,8 @@ AnswersAudit form input (Ok reading) text status =
 -- first broken line rule, then of its first broken rule of acceptance, else `accepted`, the plans, or the drawing. Where an
 -- operation is named, the drawing has its plan; where none has the name, the name is refused. `run` and `group` read a workload
 -- behind it, `group` one in which groups may stand, and refuse by its line rules last; else they write the plans and the report
--- of a run. `hand` reads plans between the two, refuses the first broken line rule of these, then the first plan that breaks a
+-- of a run. `open` reads a workload whose calls may bring their own operation, and writes a line for each such operation before
+-- that, and the plans and the report of a run over the specification with them. `hand` reads plans between the two, refuses the first broken line rule of these, then the first plan that breaks a
 -- rule of plans, and then as `run` does; else it writes the plans that were written, in the place of the planned ones, and the
 -- report of a run. `audit` reads a workload up to its `end`, refuses as `run` does, and else judges the lines behind that, as what is
 -- printed of a run, or as a journal alone.
@@ -231,6 +256,7 @@ Answers commands.Group input text status = AnswersRun Groups input (spec_reading
 Answers commands.Audit input text status = AnswersAudit forms.Run input (spec_reading input) text status
 Answers commands.AuditJournal input text status = AnswersAudit forms.Journal input (spec_reading input) text status
 Answers commands.Hand input text status = AnswersByHand input (spec_reading input) text status
+Answers commands.Open input text status = AnswersOpen input (spec_reading input) text status
 Answers commands.Dot input text status = AnswersAlone IsDrawing (spec_of input) text status
 Answers (commands.DotPlan op) input text status = AnswersAlone (IsPlanDrawingNamed op) (spec_of input) text status
 
@@ -243,6 +269,7 @@ MakesCalls commands.Group = Unit {0}
 MakesCalls commands.Audit = ⊥
 MakesCalls commands.AuditJournal = ⊥
 MakesCalls commands.Hand = Unit {0}
+MakesCalls commands.Open = Unit {0}
 MakesCalls commands.Dot = ⊥
 MakesCalls (commands.DotPlan op) = ⊥
 
@@ -255,6 +282,7 @@ ArePlansFor commands.Group spec plans = ArePlanned spec plans
 ArePlansFor commands.Audit spec plans = ArePlanned spec plans
 ArePlansFor commands.AuditJournal spec plans = ArePlanned spec plans
 ArePlansFor commands.Hand spec plans = ArePlansOf spec plans
+ArePlansFor commands.Open spec plans = ArePlanned spec plans
 ArePlansFor commands.Dot spec plans = ArePlanned spec plans
 ArePlansFor (commands.DotPlan op) spec plans = ArePlanned spec plans
 
@@ -267,6 +295,7 @@ also_of commands.Group = Groups
 also_of commands.Audit = Nothing
 also_of commands.AuditJournal = Nothing
 also_of commands.Hand = Nothing
+also_of commands.Open = Nothing
 also_of commands.Dot = Nothing
 also_of (commands.DotPlan op) = Nothing
 

@@ -9,7 +9,7 @@ use Rattle.rc_work.specs.PrefixLaws.{cut_texts_are_refused}
 use Rattle.rc_work.specs.Ranking.{work_reading}
 use Rattle.rc_work.specs.WholeText.{Whole, place_after, text_reading, text_reading_by, whole_by}
 use Rattle.rc_command.specs.declared.command.TextCommand.{TextCommand}
-use Rattle.rc_command.specs.declared.command.TextCommand.TheVariants.{Check, Plan, Run, Group, Audit, AuditJournal, Hand, Dot, DotPlan}
+use Rattle.rc_command.specs.declared.command.TextCommand.TheVariants.{Check, Plan, Run, Group, Audit, AuditJournal, Hand, Open, Dot, DotPlan}
 use Rattle.rc_answer.specs.declared.status.Status.{Status}
 use Rattle.rc_answer.specs.declared.status.Status.TheVariants.{Refused}
 use Rattle.rc_answer.specs.Answers.{Answers, AnswersRules, AnswersRun, AnswersWork, also_of}
@@ -40,6 +40,7 @@ HasWorkBehind Group = Unit {0}
 HasWorkBehind Audit = ⊥
 HasWorkBehind AuditJournal = ⊥
 HasWorkBehind Hand = ⊥
+HasWorkBehind Open = ⊥
 HasWorkBehind Dot = ⊥
 HasWorkBehind (DotPlan op) = ⊥
 
@@ -58,5 +59,6 @@ cut_runs_are_refused Group calls text whole at n is letter before out status ans
 cut_runs_are_refused Audit calls text whole at n is letter before out status answers = absurd calls
 cut_runs_are_refused AuditJournal calls text whole at n is letter before out status answers = absurd calls
 cut_runs_are_refused Hand calls text whole at n is letter before out status answers = absurd calls
+cut_runs_are_refused Open calls text whole at n is letter before out status answers = absurd calls
 cut_runs_are_refused Dot calls text whole at n is letter before out status answers = absurd calls
 cut_runs_are_refused (DotPlan op) calls text whole at n is letter before out status answers = absurd calls

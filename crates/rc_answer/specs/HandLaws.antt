@@ -8,6 +8,7 @@ use Rattle.rc_handplan.specs.FirstBrokenLaws.{nothing_is_read}
 use Rattle.rc_handplan.specs.HandGrammar as hand_lines
 use Rattle.rc_handplan.specs.HandGrammar.{HandReading, hands_reading}
 use Rattle.rc_handplan.specs.declared.hand.Hand.{Hand}
+use Rattle.rc_handplan.specs.declared.starts.Closing.TheVariants as closings
 use Rattle.rc_reader.specs.Grammar.{Broken, Reading, spec_reading}
 use Rattle.rc_work.specs.declared.also.Also.TheVariants.{Nothing}
 use Rattle.rc_work.specs.declared.work.Work.{Work}
@@ -54,7 +55,7 @@ module _ (input : List ℕ) (text : List ℕ) (status : Status) where
 
   nothing_read : (reading : Reading) → BeginNoPlan (content_from (place_after input reading))
       → hands_reading reading.spec (place_after input reading) ≡ Ok (none reading)
-  nothing_read reading begins = nothing_is_read reading.spec (place_after input reading) begins
+  nothing_read reading begins = nothing_is_read closings.Work reading.spec (place_after input reading) begins
 
   of_none : (reading : Reading) → AnswersHands (past_end_of input) reading.spec (Ok (none reading)) text status
       → AnswersWork reading.spec (work_reading Nothing reading.spec (place_after input reading)) text status

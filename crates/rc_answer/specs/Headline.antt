@@ -1,4 +1,4 @@
--- THE HEADLINE: what `relc run`, `relc group`, `relc hand` and `relc audit` have done with a text, and `relc check` with a
+-- THE HEADLINE: what `relc run`, `relc group`, `relc open`, `relc hand` and `relc audit` have done with a text, and `relc check` with a
 -- specification, in one place.
 --
 --   A specification is accepted exactly where the written rules hold, and a refusal names the first broken one. For an accepted
@@ -6,6 +6,8 @@
 --   earlier rounds; every reply is that of the plain relation at its place; and every state satisfies the dependencies.
 --   Where groups are read, the calls of a group stand there as one entry, between which there is no other; each other call is an
 --   entry by itself, and so is every call of `run`.
+--   `relc open` reads a workload whose calls may bring their own operation. Where it keeps the rules of its lines, a line for each such
+--   operation is printed, and then the plans and the journal of a run over the specification with these operations behind its own.
 --   `relc hand` reads plans between specification and workload. Where each of them keeps the written rules of plans, the store has
 --   them for their operations, and the planned plans for the others, and the journal is one legal history all the same. A refusal
 --   names the first broken rule of the lines, or of the first plan that breaks one. (That a call locks exactly by the plan that the
@@ -13,15 +15,15 @@
 --   `relc audit` judges lines that stand behind a workload: they are legal exactly where they are what is printed of some run,
 --   and else exactly one line is the first with which no such text begins. So `relc audit bare` judges the journal alone.
 --
--- The call `relc` (rc_top/src/top.rt, clauses `headline`, `group_headline`, `hand_headline`, `check_headline` and
+-- The call `relc` (rc_top/src/top.rt, clauses `headline`, `group_headline`, `open_headline`, `hand_headline`, `check_headline` and
 -- `audit_headline`) promises it
 -- where the words say so, the source tells its bytes, these are at most 2^24, and the status is Done, Refused or, of `audit`, Bad. Read this file to its end, and then
 -- what its words stand on, in this order (docs/BELIEVING.md lists each file):
 --   the rules           rc_spec: Acceptance (IsAccepted, IsFirstBroken), Adequacy (A1 to A7), Placement (P1 to P6, O1 to O3)
 --   the plain relation  rc_spec: Plain; rc_tuple: Relation (Satisfies, Follows), Tuple
 --   histories and runs  rc_rel: History (AreLegalFrom, relation_at); rc_work: Runs (thread_calls, thread_turns, MakesRounds)
---   the grammar         rc_reader: Grammar (spec_reading); rc_work: Ranking (work_reading); here: Answers (work_in_lines)
---   the printed forms   rc_work: Report; rc_spec: RefusalText; rc_plan: PlanText
+--   the grammar         rc_reader: Grammar (spec_reading); rc_work: Ranking (work_reading), OpenGrammar (open_reading), Shapes (with_operations); here: Answers (work_in_lines)
+--   the printed forms   rc_work: Report; rc_open: ShapeText; rc_spec: RefusalText; rc_plan: PlanText
 --   planned plans       rc_query: Planned (IsPlanned)
 --   written plans       rc_handplan: HandGrammar (hands_reading), Chosen (AreChosen, AllKeepRules, IsFirstRefused); rc_plan: PlanRules (K1 to K7)
 --   good reports        rc_audit: GoodReports (IsGoodReport, IsVerdict)
@@ -45,14 +47,19 @@ use Rattle.rc_handplan.specs.RuleText.{plan_refusal_text}
 use Rattle.rc_handplan.specs.declared.hand.Hand.{Hand}
 use Rattle.rc_rel.specs.declared.entry.Entry.{Entry}
 use Rattle.rc_rel.specs.History.{AllFit, AreLegalFrom, after_steps, calls_of, own, relation_at, replay}
+use Rattle.rc_open.specs.ShapeText.{shapes_text}
 use Rattle.rc_reader.specs.Grammar.{Broken, Reading, spec_of, spec_reading}
+use Rattle.rc_reader.specs.Versions.{version_number}
 use Rattle.rc_work.specs.declared.also.Also.{Also}
 use Rattle.rc_work.specs.declared.also.Also.TheVariants.{Nothing}
+use Rattle.rc_work.specs.declared.open_work.OpenWork.{OpenWork}
 use Rattle.rc_work.specs.declared.work.Work.{Work}
+use Rattle.rc_work.specs.OpenGrammar.{open_reading}
 use Rattle.rc_work.specs.PartGrammar.{WorkPart, part_reading}
 use Rattle.rc_work.specs.Ranking.{work_reading}
 use Rattle.rc_work.specs.Report.{report}
 use Rattle.rc_work.specs.Runs.{HasSingleSteps, MakesRounds, thread_calls, thread_turns, turns_of}
+use Rattle.rc_work.specs.Shapes.{with_operations}
 use Rattle.rc_work.specs.WholeText.{place_after}
 use Rattle.rc_audit.specs.declared.form.Form.{Form}
 use Rattle.rc_audit.specs.declared.verdict.Verdict.{Verdict}
@@ -148,6 +155,17 @@ OfWorkBy ArePlans also spec (Ok work) old new outcome = HasRunOnceBy ArePlans al
 abbrev pub OfWork : Also → Spec → Result Work Broken → Option (List ℕ) → Option (List ℕ) → Outcome → Type 0
 OfWork also spec found old new outcome = OfWorkBy (ArePlanned spec) also spec found old new outcome
 
+-- The sink has gained a line for each shape, and then all that is said of the workload over the specification with these operations.
+pub record HasRunOpen (spec : Spec) (read : OpenWork) (old new : Option (List ℕ)) (outcome : Outcome) : Type 0 where
+  pub between : Option (List ℕ)
+  pub shapes : Adds old (shapes_text spec read.shapes) between
+  pub run : HasRunOnce Nothing (with_operations spec read.shapes) read.work between new outcome
+
+-- a workload whose calls may bring their own operation is refused where it breaks a line rule, and else run
+abbrev pub OfOpenWork : Spec → Result OpenWork Broken → Option (List ℕ) → Option (List ℕ) → Outcome → Type 0
+OfOpenWork spec (Err broken) old new outcome = Refuses (line_refusal_text broken) old new outcome
+OfOpenWork spec (Ok read) old new outcome = HasRunOpen spec read old new outcome
+
 -- Where each of these plans keeps K1 to K7, what is said of the workload behind them, and of a store that has them and the planned
 -- plans of the other operations; and where not all do, the first that doesn't is refused for its first broken rule.
 abbrev pub OfChosen : Spec → List Hand → Result Work Broken → Option (List ℕ) → Option (List ℕ) → Outcome → Type 0
@@ -174,6 +192,12 @@ OfReading also input (Err broken) old new outcome = Refuses (line_refusal_text b
 OfReading also input (Ok reading) old new outcome =
     OfSpec reading.spec (OfWork also reading.spec (work_reading also reading.spec (place_after input reading))) old new outcome
 
+-- behind one that is accepted stands a workload whose calls may bring their own operation
+abbrev pub OfOpen : List ℕ → Result Reading Broken → Option (List ℕ) → Option (List ℕ) → Outcome → Type 0
+OfOpen input (Err broken) old new outcome = Refuses (line_refusal_text broken) old new outcome
+OfOpen input (Ok reading) old new outcome =
+    OfSpec reading.spec (OfOpenWork reading.spec (open_reading (version_number reading.version) reading.spec (place_after input reading))) old new outcome
+
 -- behind one that is accepted stand plans and a workload
 abbrev pub OfByHand : List ℕ → Result Reading Broken → Option (List ℕ) → Option (List ℕ) → Outcome → Type 0
 OfByHand input (Err broken) old new outcome = Refuses (line_refusal_text broken) old new outcome
@@ -196,6 +220,10 @@ OfJudged form input (Ok reading) old new outcome =
 -- of `run`, which reads no groups (`Nothing`), and of `group`, which does (`Groups`)
 abbrev pub Headline : Also → List ℕ → Option (List ℕ) → Option (List ℕ) → Outcome → Type 0
 Headline also input old new outcome = OfReading also input (spec_reading input) old new outcome
+
+-- and of `open`, whose calls may bring their own operation
+abbrev pub OpenHeadline : List ℕ → Option (List ℕ) → Option (List ℕ) → Outcome → Type 0
+OpenHeadline input old new outcome = OfOpen input (spec_reading input) old new outcome
 
 -- and of `hand`, which reads plans behind the specification
 abbrev pub HandHeadline : List ℕ → Option (List ℕ) → Option (List ℕ) → Outcome → Type 0

@@ -2,7 +2,7 @@
 use Rattle.std.proofs.Common.{◌≡◌, ◌↔◌, ℕ, suc, ◌+◌, List, [], ◌∷◌, ◌++◌, take, drop, Option, Some, None, Result, Ok, Err, refl, sym, ap, subst, ◌∙◌, inl, inr, arith}
 use Rattle.std.specs.Prelude.{IfSome, IsSome}
 use Rattle.std.specs.List.{slice_get}
-use Rattle.std.proofs.lemmas.List.{take-append-drop, take_more}
+use Rattle.std.proofs.lemmas.List.{append_assoc, take-append-drop, take_more}
 use Rattle.std.proofs.lemmas.Option.{get_or_from_slice_get, slice_get_within}
 use Rattle.rc_tuple.specs.RisingSet.{In}
 use Rattle.rc_tuple.specs.RisingSetLaws.{append_in_right}
@@ -28,10 +28,14 @@ use Rattle.rc_rel.specs.declared.entry.Step.{Step}
 use Rattle.rc_rel.specs.History.{AllFit, AreLegalFrom, IsLegal, after_steps, relation_at, replay, steps_of}
 use Rattle.rc_rel.specs.HistoryLaws.{replay_in_states, states_satisfy, steps_of-append}
 use Rattle.rc_rel.specs.PlaceLaws.{legal_last}
+use Rattle.rc_open.specs.ShapeText.{shapes_text}
 use Rattle.rc_reader.specs.Grammar.{Broken, Reading, spec_of, spec_reading}
+use Rattle.rc_reader.specs.Versions.{version_number}
 use Rattle.rc_work.specs.declared.also.Also.{Also}
 use Rattle.rc_work.specs.declared.also.Also.TheVariants.{Nothing}
+use Rattle.rc_work.specs.declared.open_work.OpenWork.{OpenWork}
 use Rattle.rc_work.specs.declared.work.Work.{Work}
+use Rattle.rc_work.specs.OpenGrammar.{open_reading}
 use Rattle.rc_work.specs.DraftsLaws.{IsDraft-reading_all}
 use Rattle.rc_work.specs.Fitting.{HasThreads}
 use Rattle.rc_work.specs.Limits.{HasSingleTurns}
@@ -42,6 +46,7 @@ use Rattle.rc_work.specs.RankingLaws.{HasThreads-work_with}
 use Rattle.rc_work.specs.Report.{report}
 use Rattle.rc_work.specs.Runs.{HasSingleSteps, Runs}
 use Rattle.rc_work.specs.RunsLaws.{runs_make_calls, runs_make_turns, single_turns_are_single_steps}
+use Rattle.rc_work.specs.Shapes.{with_operations}
 use Rattle.rc_work.specs.WholeText.{place_after}
 use Rattle.rc_work.specs.WorkGrammar.{draft_of, reading_all}
 use Rattle.rc_audit.specs.declared.form.Form.{Form}
@@ -55,12 +60,12 @@ use Rattle.rc_answer.specs.declared.outcome.Outcome.{Outcome}
 use Rattle.rc_answer.specs.declared.outcome.Ran.{Ran}
 use Rattle.rc_answer.specs.declared.status.Status.{Status}
 use Rattle.rc_answer.specs.declared.status.Status.TheVariants.{Done, Bad, Refused}
-use Rattle.rc_answer.specs.Answers.{Answers, AnswersAlone, AnswersAudit, AnswersByHand, AnswersHands, AnswersPart, AnswersRules, AnswersRun, AnswersWork, AnswersWorkBy, IsAcceptedText, IsJudgement, audit_for, hand_refusal_text, line_refusal_text, verdict_status, work_in_lines}
+use Rattle.rc_answer.specs.Answers.{Answers, AnswersAlone, AnswersAudit, AnswersByHand, AnswersHands, AnswersOpen, AnswersOpenWork, AnswersPart, AnswersRules, AnswersRun, AnswersWork, AnswersWorkBy, IsAcceptedText, IsJudgement, audit_for, hand_refusal_text, line_refusal_text, verdict_status, work_in_lines}
 use Rattle.rc_answer.specs.Plans.{ArePlanned, plans_text}
-use Rattle.rc_answer.specs.Ran.{HasHandText, HasRunText, IsRunBy, IsRunOf, entries_in, run_text}
+use Rattle.rc_answer.specs.Ran.{HasHandText, HasOpenText, HasRunText, IsRunBy, IsRunOf, entries_in, run_text}
 use Rattle.rc_answer.specs.RanLaws.{single_in_lines, single_without_groups}
 use Rattle.rc_answer.specs.Writes.{WritesWhole}
-use Rattle.rc_answer.specs.Headline.{Accepts, AuditHeadline, CheckHeadline, HandHeadline, Headline, HasJudged, HasRunOnce, HasRunOnceBy, IsAnswered, IsOneLegalHistory, OfAlone, OfByHand, OfHands, OfJudged, OfPart, OfReading, OfSpec, OfWork, OfWorkBy, Refuses}
+use Rattle.rc_answer.specs.Headline.{Accepts, AuditHeadline, CheckHeadline, HandHeadline, Headline, OpenHeadline, HasJudged, HasRunOnce, HasRunOnceBy, IsAnswered, IsOneLegalHistory, OfAlone, OfByHand, OfHands, OfJudged, OfOpen, OfOpenWork, HasRunOpen, OfPart, OfReading, OfSpec, OfWork, OfWorkBy, Refuses}
 
 -- ---- one legal history
 
@@ -305,6 +310,57 @@ module _ (also : Also) (input : List ℕ) (old new : Option (List ℕ)) (outcome
 
   pub headline : WritesWhole (AnswersRun also input (spec_reading input)) old new outcome.status → Headline also input old new outcome
   headline (out, answers, adds) = of_reading (spec_reading input) refl out answers adds
+
+-- ---- open
+
+open_in : OpenWork → Result OpenWork Broken → OpenWork
+open_in read (Ok x) = x
+open_in read (Err e) = read
+
+-- bytes of two parts are added one after another
+adds_apart : (old new : Option (List ℕ)) (xs ys : List ℕ) → Adds old (xs ++ ys) new
+    → (between : Option (List ℕ)) × Adds old xs between × Adds between ys new
+adds_apart None new xs ys adds = (None, refl, adds)
+adds_apart (Some held) new xs ys adds = (Some (held ++ xs), refl, adds ∙ ap (λ (l : List ℕ). Some l) (sym (append_assoc held xs ys)))
+
+module _ (input : List ℕ) (old new : Option (List ℕ)) (outcome : Outcome)
+    (has : IsSome outcome.ran ↔ (outcome.status ≡ Done)) (ran : IfSome outcome.ran (HasOpenText input old new)) where
+  of_open_work : (reading : Reading) → spec_reading input ≡ Ok reading → (read : Result OpenWork Broken)
+      → open_reading (version_number reading.version) reading.spec (place_after input reading) ≡ read
+      → (out : List ℕ) → AnswersOpenWork reading.spec read out outcome.status → Adds old out new → OfOpenWork reading.spec read old new outcome
+  unfolding reading_in open_in
+  of_open_work reading is (Err broken) works out (printed, refused) adds =
+      refuses old new outcome (line_refusal_text broken) out (none_of outcome has outcome.ran refl refused) printed refused adds
+  of_open_work reading is (Ok read) works out answers adds = go (some_of outcome has (HasOpenText input old new) ran outcome.ran refl answers.report.done)
+    where
+      go : ((r : Ran) × (outcome.ran ≡ Some r) × HasOpenText input old new r) → HasRunOpen reading.spec read old new outcome
+      go (r, at, h) =
+          let same : reading ≡ h.read.reading = ap (reading_in reading) (sym is ∙ h.read.read) in
+          let spec_same : reading.spec ≡ h.spec = ap (λ (x : Reading). x.spec) same ∙ h.read.of_spec in
+          let read_same : read ≡ h.work =
+          ap (open_in read) (sym works ∙ (λ i. open_reading (version_number (same i).version) (spec_same i) (place_after input (same i))) ∙ h.read.work_read) in
+          let apart = adds_apart old new (shapes_text reading.spec read.shapes) (run_text read.work.ranks r)
+          (subst (λ (z : Spec × OpenWork). Adds old (shapes_text z.0 z.1.shapes ++ run_text z.1.work.ranks r) new) (λ i. (sym spec_same i, sym read_same i)) h.written) in
+          record {
+            between = apart.0;
+            shapes = apart.1;
+            run = run_once (ArePlanned (with_operations reading.spec read.shapes)) Nothing (with_operations reading.spec read.shapes) read.work apart.0 new outcome r at
+                answers.report.done (λ nothing. subst (λ (w : OpenWork). HasSingleTurns w.work) (sym read_same) h.read.single)
+                (subst (λ (z : Spec × OpenWork). IsRunOf (with_operations z.0 z.1.shapes) z.1.work r) (λ i. (sym spec_same i, sym read_same i)) h.run) h.store.fit
+                apart.2;
+          }
+
+  of_open : (read : Result Reading Broken) → spec_reading input ≡ read → (out : List ℕ)
+      → AnswersOpen input read out outcome.status → Adds old out new → OfOpen input read old new outcome
+  of_open (Err broken) is out (printed, refused) adds =
+      refuses old new outcome (line_refusal_text broken) out (none_of outcome has outcome.ran refl refused) printed refused adds
+  of_open (Ok reading) is out answers adds =
+      let found = open_reading (version_number reading.version) reading.spec (place_after input reading) in
+      of_rules old new outcome reading.spec (AnswersOpenWork reading.spec found) (OfOpenWork reading.spec found) out
+      (none_of outcome has outcome.ran refl) (λ h. of_open_work reading is found refl out h adds) answers adds
+
+  pub open_headline : WritesWhole (AnswersOpen input (spec_reading input)) old new outcome.status → OpenHeadline input old new outcome
+  open_headline (out, answers, adds) = of_open (spec_reading input) refl out answers adds
 
 -- ---- hand
 

@@ -12,3 +12,4 @@ pub mod RanLaws
 pub mod Refusals
 pub mod Statuses
 pub mod Writes
+pub mod OpenLaws

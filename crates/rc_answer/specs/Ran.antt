@@ -1,10 +1,10 @@
 -- What a run leaves, and what is written of it. (PLDI 2012, serializable transactions: the calls of all threads are one
 -- history.)
-use Rattle.std.specs.Prelude.{◌≡◌, ℕ, ◌<◌, List, [], ◌++◌, length, Option, Some, None, Result, Ok, Err}
+use Rattle.std.specs.Prelude.{◌≡◌, ℕ, ◌<◌, List, [], ◌++◌, drop, length, Option, Some, None, Result, Ok, Err}
 use Rattle.rc_tuple.specs.Relation.{Satisfies}
 use Rattle.rc_tuple.specs.RisingSet.{In}
 use Rattle.rc_tuple.specs.Tuple.{Pairs}
-use Rattle.rc_text.specs.Lines.{past_end_of, printed_lines}
+use Rattle.rc_text.specs.Lines.{TextPlace, past_end_of, printed_lines}
 use Rattle.rc_io.specs.Bytes.{Adds}
 use Rattle.rc_spec.specs.declared.spec.Spec.{Spec}
 use Rattle.rc_spec.specs.Acceptance.{IsAccepted}
@@ -15,10 +15,16 @@ use Rattle.rc_handplan.specs.HandGrammar.{HandReading, hands_reading}
 use Rattle.rc_handplan.specs.declared.hand.Hand.{Hand}
 use Rattle.rc_rel.specs.declared.entry.Entry.{Entry}
 use Rattle.rc_rel.specs.History.{AllFit, IsLegal, IsNumbered, replay, states}
+use Rattle.rc_open.specs.ShapeText.{shapes_text}
 use Rattle.rc_reader.specs.Grammar.{Reading, spec_reading}
+use Rattle.rc_reader.specs.Versions.{version_number}
 use Rattle.rc_work.specs.declared.also.Also.{Also}
 use Rattle.rc_work.specs.declared.also.Also.TheVariants.{Nothing}
+use Rattle.rc_work.specs.declared.open_work.OpenWork.{OpenWork}
 use Rattle.rc_work.specs.declared.work.Work.{Work}
+use Rattle.rc_work.specs.Limits.{HasSingleTurns}
+use Rattle.rc_work.specs.OpenGrammar.{open_reading}
+use Rattle.rc_work.specs.Shapes.{with_operations}
 use Rattle.rc_work.specs.Ranking.{work_reading}
 use Rattle.rc_work.specs.Report.{report}
 use Rattle.rc_work.specs.Runs.{HasSingleSteps, Runs}
@@ -45,6 +51,11 @@ abbrev pub run_text : List (List ℕ) → Ran → List ℕ
 run_text texts ran =
     plans_text ran.closed.compiled.spec ran.closed.compiled.plans
     ++ printed_lines (report ran.closed.compiled.spec texts (entries_in ran.closed.journal) ran.last)
+
+-- the lines of the operations behind the declared ones, and then that
+abbrev pub open_text : ℕ → List (List ℕ) → Ran → List ℕ
+open_text declared texts ran =
+    shapes_text ran.closed.compiled.spec (drop declared ran.closed.compiled.spec.ops) ++ run_text texts ran
 
 -- ---- what a run is
 
@@ -107,6 +118,36 @@ pub record HasHandText (input : List ℕ) (old new : Option (List ℕ)) (ran : R
   pub store : IsOfItsStore ran
   pub written : Adds old (run_text work.ranks ran) new
 
+-- An input is read as an accepted specification, and a workload behind it whose calls bring these operations: the specification
+-- with them is accepted too.
+pub record IsReadOpen (input : List ℕ) (spec : Spec) (work : OpenWork) : Type 0 where
+  pub reading : Reading
+  pub read : spec_reading input ≡ Ok reading
+  pub of_spec : reading.spec ≡ spec
+  pub accepted : IsAccepted spec
+  pub work_read : open_reading (version_number reading.version) spec (place_after input reading) ≡ Ok work
+  pub extended : IsAccepted (with_operations spec work.shapes)
+  pub single : HasSingleTurns work.work
+
+-- a run of what was read was made, and the lines of the shapes and its text were written
+pub record HasOpenText (input : List ℕ) (old new : Option (List ℕ)) (ran : Ran) : Type 0 where
+  pub spec : Spec
+  pub work : OpenWork
+  pub read : IsReadOpen input spec work
+  pub run : IsRunOf (with_operations spec work.shapes) work.work ran
+  pub store : IsOfItsStore ran
+  pub written : Adds old (shapes_text spec work.shapes ++ run_text work.work.ranks ran) new
+
+-- so where the workload stands from a place on, in a text of this version
+pub record HasOpenWorkText (version : ℕ) (spec : Spec) (place : TextPlace) (old new : Option (List ℕ)) (ran : Ran) : Type 0 where
+  pub work : OpenWork
+  pub work_read : open_reading version spec place ≡ Ok work
+  pub extended : IsAccepted (with_operations spec work.shapes)
+  pub single : HasSingleTurns work.work
+  pub run : IsRunOf (with_operations spec work.shapes) work.work ran
+  pub store : IsOfItsStore ran
+  pub written : Adds old (shapes_text spec work.shapes ++ run_text work.work.ranks ran) new
+
 -- a run of the command
 abbrev pub HasTextOf : TextCommand → List ℕ → Option (List ℕ) → Option (List ℕ) → Ran → Type 0
 HasTextOf commands.Check = HasRunText (also_of commands.Check)
@@ -116,6 +157,7 @@ HasTextOf commands.Group = HasRunText (also_of commands.Group)
 HasTextOf commands.Audit = HasRunText (also_of commands.Audit)
 HasTextOf commands.AuditJournal = HasRunText (also_of commands.AuditJournal)
 HasTextOf commands.Hand = HasHandText
+HasTextOf commands.Open = HasOpenText
 HasTextOf commands.Dot = HasRunText (also_of commands.Dot)
 HasTextOf (commands.DotPlan op) = HasRunText (also_of (commands.DotPlan op))
 

@@ -21,6 +21,7 @@ use Rattle.rc_work.specs.RankingLaws.{HasSingleTurns-work_with, turns_without_gr
 use Rattle.rc_work.specs.Report.{report}
 use Rattle.rc_work.specs.Runs.{Runs}
 use Rattle.rc_work.specs.RunsLaws.{single_turns_are_single_steps}
+use Rattle.rc_work.specs.Shapes.{with_operations}
 use Rattle.rc_work.specs.WholeText.{place_after}
 use Rattle.rc_work.specs.WorkGrammar.{draft_of, reading_all}
 use Rattle.rc_generate.specs.Summary.{summary}
@@ -37,7 +38,7 @@ use Rattle.rc_command.specs.declared.command.TextCommand.TheVariants as commands
 use Rattle.rc_answer.specs.Answers.{IsReportBy, also_of, plans_and_report, ArePlansFor, work_in_lines}
 use Rattle.rc_answer.specs.Big.{HasSummaryText, big_text, ran_text}
 use Rattle.rc_answer.specs.Plans.{ArePlanned, plans_text}
-use Rattle.rc_answer.specs.Ran.{HasHandText, HasRunText, HasTextOf, IsOfItsStore, IsOneHistory, IsRunBy, IsRunOf, entries_in, run_text}
+use Rattle.rc_answer.specs.Ran.{HasHandText, HasOpenText, HasRunText, HasTextOf, IsOfItsStore, IsOneHistory, IsRunBy, IsRunOf, entries_in, run_text}
 
 -- so of one that may have groups, where none are read
 pub single_without_groups : (also : Also) (spec : Spec) (place : TextPlace) (work : Work) → work_reading also spec place ≡ Ok work → also ≡ Nothing
@@ -143,6 +144,12 @@ hand_is_one_history input old new ran h =
     (run_by (AreChosen h.spec h.hands) (ArePlansOf h.spec) h.spec h.spec h.work ran refl
     (λ chosen. subst (λ (s : Spec). ArePlansOf s ran.closed.compiled.plans) h.run.of_spec h.store.kept) h.run) h.store
 
+-- a run of a workload whose calls bring their own operation is of one history, over the specification with these operations
+pub open_is_one_history : (input : List ℕ) (old new : Option (List ℕ)) (ran : Ran) → HasOpenText input old new ran
+    → IsOneHistory ArePlanned Nothing ran
+open_is_one_history input old new ran h =
+    is_one_history ArePlanned Nothing (with_operations h.spec h.work.shapes) h.work.work ran h.read.extended (λ nothing. h.read.single) h.run h.store
+
 -- and of each command that makes a run
 pub text_is_one_history : (command : TextCommand) (input : List ℕ) (old new : Option (List ℕ)) (ran : Ran) → HasTextOf command input old new ran
     → IsOneHistory (ArePlansFor command) (also_of command) ran
@@ -153,6 +160,7 @@ text_is_one_history commands.Group = written_is_one_history (also_of commands.Gr
 text_is_one_history commands.Audit = written_is_one_history (also_of commands.Audit)
 text_is_one_history commands.AuditJournal = written_is_one_history (also_of commands.AuditJournal)
 text_is_one_history commands.Hand = hand_is_one_history
+text_is_one_history commands.Open = open_is_one_history
 text_is_one_history commands.Dot = written_is_one_history (also_of commands.Dot)
 text_is_one_history (commands.DotPlan op) = written_is_one_history (also_of (commands.DotPlan op))
 

@@ -16,7 +16,7 @@ use crate::outcome::{Outcome, with_run};
 use crate::performing::perform;
 use crate::refusing::{refuse_hands, refuse_plan, refuse_run, refuse_run_of};
 use crate::status::{Status, Stop};
-use rc_handplan::{Hand, compile_with, read_plans};
+use rc_handplan::{Closing, Hand, compile_with, read_plans};
 use rc_io::Sink;
 use rc_maps::Seed;
 use rc_place::accept;
@@ -79,7 +79,7 @@ fn run_by_hand<R: Threads + Wait + Sync, K: Sink, G: Gate + Sync>(
         accepted (rest_place text.now rest) (K.held sink.old) (K.held sink.new))) }
     ensures faults { CountsFaults (K.faults sink.old) (K.faults sink.new) result }
 {
-    match read_plans(alloc, text, rest, &accepted) {
+    match read_plans(alloc, text, rest, &accepted, Closing::Work) {
         Ok((hands, behind)) => {
             run_by_plans(
                 rt, alloc, hash_seed, accepted, hands, text, behind, sink, gate,

@@ -6,6 +6,7 @@ mod auditing;
 mod by_hand;
 mod drawing;
 mod laws;
+mod open_run;
 mod outcome;
 mod performing;
 mod planning;
@@ -14,7 +15,7 @@ mod status;
 mod summing;
 mod writing;
 
-pub use laws::{cut_runs_are_refused, without_plans_hand_is_run};
+pub use laws::{cut_runs_are_refused, without_plans_hand_is_run, without_shapes_open_is_run};
 pub use outcome::{Outcome, Ran};
 pub use performing::answer;
 pub use refusing::refuse_size;

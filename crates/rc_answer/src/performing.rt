@@ -15,6 +15,7 @@ ghost use Rattle.rc_answer.specs.Asked.{IsAskedText};
 use crate::auditing::answer_audit;
 use crate::by_hand::answer_by_hand;
 use crate::drawing::{write_drawing, write_drawn_plan};
+use crate::open_run::answer_open;
 use crate::outcome::{Outcome, Ran, with_run, without_run};
 use crate::planning::{write_planned, write_plans};
 use crate::refusing::{refuse, refuse_run, refuse_run_of, refuse_spec};
@@ -62,7 +63,12 @@ pub(crate) fn make_run<R: Threads + Wait + Sync, G: Gate + Sync>(
 }
 
 /// Writes the plans, and the report of a run.
-fn write_run<K: Sink>(alloc: Global, sink: &mut K, ran: &Ran, work: &Work) -> Result<(), Stop>
+pub(crate) fn write_run<K: Sink>(
+    alloc: Global,
+    sink: &mut K,
+    ran: &Ran,
+    work: &Work,
+) -> Result<(), Stop>
     requires kept { IsSome ran.now.closed.journal }
     requires fit { AllFit ran.now.closed.compiled.spec (entries_in ran.now.closed.journal) }
     ensures ok { OnOk result (Adds (K.held sink.old) (run_text work.now.ranks ran.now)
@@ -228,8 +234,8 @@ fn run<R: Threads + Wait + Sync, K: Sink, G: Gate + Sync>(
 
 /// Answers a text of at most 2^24 bytes as the command asks, and writes the answer line by line: what the command asks of
 /// a text that keeps its rules, else the refusal of the first broken one. `run` makes the calls of its workload by threads
-/// that run beside each other, and hands out what they left; `group` does so too, and makes the calls of each group as one; and
-/// `hand` does as `run`, by plans that are written in the text.
+/// that run beside each other, and hands out what they left; `group` does so too, and makes the calls of each group as one, and
+/// `open`, with calls that may bring their own operation; and `hand` does as `run`, by plans that are written in the text.
 /// `audit` makes the calls of a report one after another, on a relation of its own. The gate is told of each point that a turn
 /// reaches, and the seed is that of the hash tables. Costs the text's length and, for these four, what the plans of the calls
 /// cost.
@@ -264,6 +270,7 @@ pub fn answer<R: Threads + Wait + Sync, K: Sink, G: Gate + Sync>(
             without_run(answer_audit(alloc, hash_seed, Form::Journal, text, sink))
         }
         TextCommand::Hand => answer_by_hand(rt, alloc, hash_seed, text, sink, gate),
+        TextCommand::Open => answer_open(rt, alloc, hash_seed, text, sink, gate),
         TextCommand::Dot => without_run(answer_alone(alloc, Asked::Drawing, text, sink)),
         TextCommand::DotPlan { op } => {
             without_run(answer_alone(alloc, Asked::DrawnPlan { op }, text, sink))

@@ -111,9 +111,9 @@ differs xs ys e = go (bytes_eq xs ys) refl
         let flipped : bytes_eq ys xs ≡ true = (bytes_eq-Decides ys xs).1 (sym ((bytes_eq-Decides xs ys).0 t)) in
         cc
 
--- a name is one of the five behind which no word stands
+-- a name is one of the six behind which no word stands
 abbrev IsName : Text → Type 0
-IsName word = (word ≡ codes "check") ⊎ ((word ≡ codes "plan") ⊎ ((word ≡ codes "run") ⊎ ((word ≡ codes "hand") ⊎ (word ≡ codes "group"))))
+IsName word = (word ≡ codes "check") ⊎ ((word ≡ codes "plan") ⊎ ((word ≡ codes "run") ⊎ ((word ≡ codes "hand") ⊎ ((word ≡ codes "group") ⊎ (word ≡ codes "open")))))
 
 abbrev IsBig : Text → Type 0
 IsBig word = word ≡ codes "big"
@@ -130,20 +130,21 @@ one_word false = codes "FORM"
 abbrev IsOne : Text → Type 0
 IsOne word = (word ≡ codes "dot") ⊎ (word ≡ codes "audit")
 
--- another word is none of the eight
+-- another word is none of the nine
 record IsOther (word : Text) : Type 0 where
   pub not_check : bytes_eq word (codes "check") ≡ false
   pub not_plan : bytes_eq word (codes "plan") ≡ false
   pub not_run : bytes_eq word (codes "run") ≡ false
   pub not_hand : bytes_eq word (codes "hand") ≡ false
   pub not_group : bytes_eq word (codes "group") ≡ false
+  pub not_open : bytes_eq word (codes "open") ≡ false
   pub not_audit : bytes_eq word (codes "audit") ≡ false
   pub not_dot : bytes_eq word (codes "dot") ≡ false
   pub not_big : bytes_eq word (codes "big") ≡ false
 
 no_name : (word : Text) → IsOther word → subcommand_met names idle word ≡ None
 no_name word other =
-    rw (differs (codes "check") word other.not_check, differs (codes "plan") word other.not_plan, differs (codes "run") word other.not_run, differs (codes "hand") word other.not_hand, differs (codes "group") word other.not_group, differs (codes "audit") word other.not_audit, differs (codes "dot") word other.not_dot, differs (codes "big") word other.not_big) refl
+    rw (differs (codes "check") word other.not_check, differs (codes "plan") word other.not_plan, differs (codes "run") word other.not_run, differs (codes "hand") word other.not_hand, differs (codes "group") word other.not_group, differs (codes "open") word other.not_open, differs (codes "audit") word other.not_audit, differs (codes "dot") word other.not_dot, differs (codes "big") word other.not_big) refl
 
 -- clap leaves the words after a name to the name's subcommand
 rest_is_left : (name word : Text) (words : List Text) → IsName name → stop_at (name ∷ word ∷ words) ≡ Some (name, word ∷ words)
@@ -152,7 +153,8 @@ rest_is_left name word words (inl e) = rw e (ap (λ w. w.stopped) (sym (walk_sto
 rest_is_left name word words (inr (inl e)) = rw e (ap (λ w. w.stopped) (sym (walk_stopped [] names (walk_from nothing_held) (codes "plan") [] (word ∷ words))))
 rest_is_left name word words (inr (inr (inl e))) = rw e (ap (λ w. w.stopped) (sym (walk_stopped [] names (walk_from nothing_held) (codes "run") [] (word ∷ words))))
 rest_is_left name word words (inr (inr (inr (inl e)))) = rw e (ap (λ w. w.stopped) (sym (walk_stopped [] names (walk_from nothing_held) (codes "hand") [] (word ∷ words))))
-rest_is_left name word words (inr (inr (inr (inr e)))) = rw e (ap (λ w. w.stopped) (sym (walk_stopped [] names (walk_from nothing_held) (codes "group") [] (word ∷ words))))
+rest_is_left name word words (inr (inr (inr (inr (inl e))))) = rw e (ap (λ w. w.stopped) (sym (walk_stopped [] names (walk_from nothing_held) (codes "group") [] (word ∷ words))))
+rest_is_left name word words (inr (inr (inr (inr (inr e))))) = rw e (ap (λ w. w.stopped) (sym (walk_stopped [] names (walk_from nothing_held) (codes "open") [] (word ∷ words))))
 
 -- and that takes no word
 rest_fails : (name word : Text) (words : List Text) → IsName name → is_flag word ≡ false → entered_fault (built grammar) (Some (name, word ∷ words)) ≡ [] → ⊥
@@ -160,7 +162,8 @@ rest_fails name word words (inl e) plain h = stray_word _ [] word words false []
 rest_fails name word words (inr (inl e)) plain h = stray_word _ [] word words false [] refl refl plain (rw e at h)
 rest_fails name word words (inr (inr (inl e))) plain h = stray_word _ [] word words false [] refl refl plain (rw e at h)
 rest_fails name word words (inr (inr (inr (inl e)))) plain h = stray_word _ [] word words false [] refl refl plain (rw e at h)
-rest_fails name word words (inr (inr (inr (inr e)))) plain h = stray_word _ [] word words false [] refl refl plain (rw e at h)
+rest_fails name word words (inr (inr (inr (inr (inl e))))) plain h = stray_word _ [] word words false [] refl refl plain (rw e at h)
+rest_fails name word words (inr (inr (inr (inr (inr e))))) plain h = stray_word _ [] word words false [] refl refl plain (rw e at h)
 
 several_words : (program name word : Text) (words : List Text) → IsName name → is_flag word ≡ false → fault_of grammar (program ∷ name ∷ word ∷ words) ≡ [] → ⊥
 several_words program name word words known plain e =
@@ -173,21 +176,22 @@ IsWord word = IsName word ⊎ (IsOne word ⊎ (IsBig word ⊎ IsOther word))
 name_or_other : (word : Text) → IsWord word
 name_or_other word =
     go (bytes_eq word (codes "check")) (bytes_eq word (codes "plan")) (bytes_eq word (codes "run")) (bytes_eq word (codes "hand")) (bytes_eq word (codes "group"))
-    (bytes_eq word (codes "audit")) (bytes_eq word (codes "dot")) (bytes_eq word (codes "big")) refl refl refl refl refl refl refl refl
+    (bytes_eq word (codes "open")) (bytes_eq word (codes "audit")) (bytes_eq word (codes "dot")) (bytes_eq word (codes "big")) refl refl refl refl refl refl refl refl refl
   where
-    go : (check plan run hand group audit dot big : Bool) → bytes_eq word (codes "check") ≡ check → bytes_eq word (codes "plan") ≡ plan → bytes_eq word (codes "run") ≡ run
-        → bytes_eq word (codes "hand") ≡ hand → bytes_eq word (codes "group") ≡ group → bytes_eq word (codes "audit") ≡ audit → bytes_eq word (codes "dot") ≡ dot
-        → bytes_eq word (codes "big") ≡ big → IsWord word
-    go true plan run hand group audit dot big c p r h g a d b = inl (inl ((bytes_eq-Decides word (codes "check")).0 c))
-    go false true run hand group audit dot big c p r h g a d b = inl (inr (inl ((bytes_eq-Decides word (codes "plan")).0 p)))
-    go false false true hand group audit dot big c p r h g a d b = inl (inr (inr (inl ((bytes_eq-Decides word (codes "run")).0 r))))
-    go false false false true group audit dot big c p r h g a d b = inl (inr (inr (inr (inl ((bytes_eq-Decides word (codes "hand")).0 h)))))
-    go false false false false true audit dot big c p r h g a d b = inl (inr (inr (inr (inr ((bytes_eq-Decides word (codes "group")).0 g)))))
-    go false false false false false true dot big c p r h g a d b = inr (inl (inr ((bytes_eq-Decides word (codes "audit")).0 a)))
-    go false false false false false false true big c p r h g a d b = inr (inl (inl ((bytes_eq-Decides word (codes "dot")).0 d)))
-    go false false false false false false false true c p r h g a d b = inr (inr (inl ((bytes_eq-Decides word (codes "big")).0 b)))
-    go false false false false false false false false c p r h g a d b =
-        inr (inr (inr (record { not_check = c; not_plan = p; not_run = r; not_hand = h; not_group = g; not_audit = a; not_dot = d; not_big = b })))
+    go : (check plan run hand group opened audit dot big : Bool) → bytes_eq word (codes "check") ≡ check → bytes_eq word (codes "plan") ≡ plan → bytes_eq word (codes "run") ≡ run
+        → bytes_eq word (codes "hand") ≡ hand → bytes_eq word (codes "group") ≡ group → bytes_eq word (codes "open") ≡ opened → bytes_eq word (codes "audit") ≡ audit
+        → bytes_eq word (codes "dot") ≡ dot → bytes_eq word (codes "big") ≡ big → IsWord word
+    go true plan run hand group opened audit dot big c p r h g o a d b = inl (inl ((bytes_eq-Decides word (codes "check")).0 c))
+    go false true run hand group opened audit dot big c p r h g o a d b = inl (inr (inl ((bytes_eq-Decides word (codes "plan")).0 p)))
+    go false false true hand group opened audit dot big c p r h g o a d b = inl (inr (inr (inl ((bytes_eq-Decides word (codes "run")).0 r))))
+    go false false false true group opened audit dot big c p r h g o a d b = inl (inr (inr (inr (inl ((bytes_eq-Decides word (codes "hand")).0 h)))))
+    go false false false false true opened audit dot big c p r h g o a d b = inl (inr (inr (inr (inr (inl ((bytes_eq-Decides word (codes "group")).0 g))))))
+    go false false false false false true audit dot big c p r h g o a d b = inl (inr (inr (inr (inr (inr ((bytes_eq-Decides word (codes "open")).0 o))))))
+    go false false false false false false true dot big c p r h g o a d b = inr (inl (inr ((bytes_eq-Decides word (codes "audit")).0 a)))
+    go false false false false false false false true big c p r h g o a d b = inr (inl (inl ((bytes_eq-Decides word (codes "dot")).0 d)))
+    go false false false false false false false false true c p r h g o a d b = inr (inr (inl ((bytes_eq-Decides word (codes "big")).0 b)))
+    go false false false false false false false false false c p r h g o a d b =
+        inr (inr (inr (record { not_check = c; not_plan = p; not_run = r; not_hand = h; not_group = g; not_open = o; not_audit = a; not_dot = d; not_big = b })))
 
 other_fails : (program word : Text) (words : List Text) → IsOther word → is_flag word ≡ false → fault_of grammar (program ∷ word ∷ words) ≡ [] → ⊥
 other_fails program word words other plain e = stray_word top names word words _ _ refl (no_name word other) plain e
@@ -375,7 +379,8 @@ taken_is_command (program ∷ word ∷ []) plain e = go (name_or_other word)
     go (inl (inr (inl same))) = rw same refl
     go (inl (inr (inr (inl same)))) = rw same refl
     go (inl (inr (inr (inr (inl same))))) = rw same refl
-    go (inl (inr (inr (inr (inr same))))) = rw same refl
+    go (inl (inr (inr (inr (inr (inl same)))))) = rw same refl
+    go (inl (inr (inr (inr (inr (inr same)))))) = rw same refl
     go (inr (inl (inl same))) = rw same refl
     go (inr (inl (inr same))) = rw same refl
     go (inr (inr (inl same))) = absurd (some_fault _ _ (rw same at e))
@@ -441,11 +446,12 @@ refused_is_none (program ∷ word ∷ []) kind plain h = go (name_or_other word)
     go (inl (inr (inl same))) = absurd (rw same at h)
     go (inl (inr (inr (inl same)))) = absurd (rw same at h)
     go (inl (inr (inr (inr (inl same))))) = absurd (rw same at h)
-    go (inl (inr (inr (inr (inr same))))) = absurd (rw same at h)
+    go (inl (inr (inr (inr (inr (inl same)))))) = absurd (rw same at h)
+    go (inl (inr (inr (inr (inr (inr same)))))) = absurd (rw same at h)
     go (inr (inl (inl same))) = absurd (rw same at h)
     go (inr (inl (inr same))) = absurd (rw same at h)
     go (inr (inr (inl same))) = rw same refl
-    go (inr (inr (inr other))) = rw (other.not_check, other.not_plan, other.not_run, other.not_hand, other.not_group, other.not_audit, other.not_dot) refl
+    go (inr (inr (inr other))) = rw (other.not_check, other.not_plan, other.not_run, other.not_hand, other.not_group, other.not_open, other.not_audit, other.not_dot) refl
 refused_is_none (program ∷ word ∷ op ∷ []) kind plain h = go (name_or_other word)
   where
     after : (is_flag word ≡ false) × (list_any is_flag (op ∷ []) ≡ false)
@@ -459,7 +465,8 @@ refused_is_none (program ∷ word ∷ op ∷ []) kind plain h = go (name_or_othe
     go (inl (inr (inl same))) = rw same refl
     go (inl (inr (inr (inl same)))) = rw same refl
     go (inl (inr (inr (inr (inl same))))) = rw same refl
-    go (inl (inr (inr (inr (inr same))))) = rw same refl
+    go (inl (inr (inr (inr (inr (inl same)))))) = rw same refl
+    go (inl (inr (inr (inr (inr (inr same)))))) = rw same refl
     go (inr (inl (inl same))) = absurd (passes true same)
     go (inr (inl (inr same))) = absurd (passes false same)
     go (inr (inr (inl same))) = rw same refl

@@ -7,7 +7,7 @@ use Rattle.rc_spec.specs.Names.{is_name}
 use Rattle.rc_command.specs.declared.command.Command.{Command}
 use Rattle.rc_command.specs.declared.command.Command.TheVariants.{OfText, Big}
 use Rattle.rc_command.specs.declared.command.TextCommand.{TextCommand}
-use Rattle.rc_command.specs.declared.command.TextCommand.TheVariants.{Check, Plan, Run, Group, Audit, AuditJournal, Hand, Dot, DotPlan}
+use Rattle.rc_command.specs.declared.command.TextCommand.TheVariants.{Check, Plan, Run, Group, Audit, AuditJournal, Hand, Open, Dot, DotPlan}
 
 -- the command of a name behind which no word may stand
 abbrev pub command_named : List ℕ → Option TextCommand
@@ -15,7 +15,8 @@ command_named name = if bytes_eq name (codes "check") then Some Check
     else (if bytes_eq name (codes "plan") then Some Plan
     else (if bytes_eq name (codes "run") then Some Run
     else (if bytes_eq name (codes "hand") then Some Hand
-    else (if bytes_eq name (codes "group") then Some Group else None))))
+    else (if bytes_eq name (codes "group") then Some Group
+    else (if bytes_eq name (codes "open") then Some Open else None)))))
 
 -- `dot` with a word that an operation can have as its name
 abbrev pub dot_of : List ℕ → Option Command

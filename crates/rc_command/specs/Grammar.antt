@@ -37,8 +37,8 @@ audit_app = with_rule (new_app (codes "audit")) (new_rule (codes "FORM"))
 -- the program with the commands that make something of what they read, and take no further word
 abbrev pub program_making : App
 program_making =
-    with_subcommand (with_subcommand (with_subcommand (with_subcommand (with_subcommand program (new_app (codes "check")).top)
-    (new_app (codes "plan")).top) (new_app (codes "run")).top) (new_app (codes "hand")).top) (new_app (codes "group")).top
+    with_subcommand (with_subcommand (with_subcommand (with_subcommand (with_subcommand (with_subcommand program (new_app (codes "check")).top)
+    (new_app (codes "plan")).top) (new_app (codes "run")).top) (new_app (codes "hand")).top) (new_app (codes "group")).top) (new_app (codes "open")).top
 
 -- the program with its commands
 abbrev pub grammar : App

@@ -34,6 +34,9 @@ pub enum TextCommand {
     /// Reads a specification, plans that are written for some of its operations, and a workload, and
     /// does as `run` does, by these plans in the place of the planned ones.
     Hand,
+    /// Reads a specification and a workload whose calls may bring their own operation, and does as `run` does, with a line for
+    /// each such operation before the plans.
+    Open,
     /// Reads a specification alone, and prints its drawing.
     Dot,
     /// Reads a specification alone, and prints its drawing with the plan of an operation.
@@ -97,6 +100,7 @@ fn reader<'a>(alloc: Global) -> Result<clap::Command<'a>, AllocError>
     let run = clap::Command::new(alloc, "run");
     let hand = clap::Command::new(alloc, "hand");
     let group = clap::Command::new(alloc, "group");
+    let opened = clap::Command::new(alloc, "open");
     let program = clap::Command::new(alloc, "relc")
         .subcommand_required(true)
         .disable_help_flag(true)
@@ -105,7 +109,8 @@ fn reader<'a>(alloc: Global) -> Result<clap::Command<'a>, AllocError>
         .subcommand(plan)?
         .subcommand(run)?
         .subcommand(hand)?
-        .subcommand(group)?;
+        .subcommand(group)?
+        .subcommand(opened)?;
     let program = add_audit(alloc, program)?;
     let program = add_dot(alloc, program)?;
     add_big(alloc, program)
@@ -253,6 +258,7 @@ fn command_named(name: &str) -> Option<TextCommand>
         "run" => Some(TextCommand::Run),
         "hand" => Some(TextCommand::Hand),
         "group" => Some(TextCommand::Group),
+        "open" => Some(TextCommand::Open),
         _ => None,
     }
 }

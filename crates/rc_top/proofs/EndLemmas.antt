@@ -14,7 +14,10 @@ use Rattle.rc_handplan.specs.HandGrammar as hand_lines
 use Rattle.rc_handplan.specs.HandGrammar.{HandReading, hands_reading}
 use Rattle.rc_work.specs.declared.also.Also.{Also}
 use Rattle.rc_work.specs.declared.also.Also.TheVariants.{Nothing, Groups}
+use Rattle.rc_work.specs.declared.open_work.OpenWork.{OpenWork}
 use Rattle.rc_work.specs.declared.work.Work.{Work}
+use Rattle.rc_work.specs.OpenGrammar.{open_reading}
+use Rattle.rc_reader.specs.Versions.{version_number}
 use Rattle.std.specs.Prelude.{IsSome}
 use Rattle.rc_work.specs.LineRules.{op_number}
 use Rattle.rc_work.specs.PartGrammar.{WorkPart, part_reading}
@@ -24,18 +27,18 @@ use Rattle.rc_audit.specs.declared.form.Form.{Form}
 use Rattle.rc_audit.specs.declared.form.Form.TheVariants as forms
 use Rattle.rc_audit.specs.declared.verdict.Verdict.{Verdict}
 use Rattle.rc_audit.specs.declared.verdict.Verdict.TheVariants as verdicts
-use Rattle.rc_answer.specs.Answers.{Answers, AnswersAlone, AnswersAudit, AnswersByHand, AnswersHands, AnswersPart, AnswersRules, AnswersRun, AnswersWork, AnswersWorkBy, IsAcceptedText, IsPlanDrawingNamed, IsDrawing, IsPlanDrawingOrRefusal, IsPlansText, IsSizeRefusal, audit_for, verdict_status, work_in_lines}
+use Rattle.rc_answer.specs.Answers.{Answers, AnswersAlone, AnswersAudit, AnswersByHand, AnswersHands, AnswersOpen, AnswersOpenWork, AnswersPart, AnswersRules, AnswersRun, AnswersWork, AnswersWorkBy, IsAcceptedText, IsPlanDrawingNamed, IsDrawing, IsPlanDrawingOrRefusal, IsPlansText, IsSizeRefusal, audit_for, verdict_status, work_in_lines}
 use Rattle.rc_work.specs.WholeText.{place_after}
 use Rattle.rc_answer.specs.Big.{IsBigText, big_text}
 use Rattle.rc_answer.specs.HeadlineLaws.{refused_plans_fail}
 use Rattle.rc_answer.specs.Plans.{ArePlanned}
 use Rattle.rc_answer.specs.Writes.{Writes}
-use Rattle.rc_top.specs.Answer.{IsAnswer, IsAnswered, IsGoodByHand, IsGoodPart, IsGoodReading, IsGoodReadingByHand, IsGoodReadingUpToEnd, IsGoodSpec, IsGoodSpecWith, IsGoodWork, KeepsRules}
+use Rattle.rc_top.specs.Answer.{IsAnswer, IsAnswered, IsGoodByHand, IsGoodOpen, IsGoodPart, IsGoodReading, IsGoodReadingByHand, IsGoodReadingOpen, IsGoodReadingUpToEnd, IsGoodSpec, IsGoodSpecWith, IsGoodWork, KeepsRules}
 use Rattle.rc_top.specs.Asks.{LeavesAllBut}
 use Rattle.rc_top.specs.Ends.{Ends, EndsBig, status_of}
 use Rattle.rc_command.specs.declared.command.Command.TheVariants.{OfText}
 use Rattle.rc_command.specs.declared.command.TextCommand.{TextCommand}
-use Rattle.rc_command.specs.declared.command.TextCommand.TheVariants.{Check, Plan, Run, Group, Audit, AuditJournal, Hand, Dot, DotPlan}
+use Rattle.rc_command.specs.declared.command.TextCommand.TheVariants.{Check, Plan, Run, Group, Audit, AuditJournal, Hand, Open, Dot, DotPlan}
 use Rattle.rc_answer.specs.declared.status.Status.{Status}
 use Rattle.rc_answer.specs.declared.status.Status.TheVariants.{Done, Bad, Usage, Refused, SourceFailed, SinkFailed, OutOfMemory}
 use Rattle.rc_answer.specs.declared.status.Stop.{Stop}
@@ -119,6 +122,18 @@ written_run also input (Ok reading) text status is =
     let work : Result Work Broken = work_reading also reading.spec (place_after input reading) in
     written_rules reading.spec (AnswersWork reading.spec work) text status (written_work (ArePlanned reading.spec) reading.spec work text status) is
 
+written_open_work : (spec : Spec) (found : Result OpenWork Broken) (text : List ℕ) (status : Status) → AnswersOpenWork spec found text status
+    → IsDoneOrRefused status
+written_open_work spec (Err broken) text status is = inr is.1
+written_open_work spec (Ok read) text status is = inl is.report.done
+
+written_open : (input : List ℕ) (reading : Result Reading Broken) (text : List ℕ) (status : Status) → AnswersOpen input reading text status
+    → IsDoneOrRefused status
+written_open input (Err broken) text status is = inr is.1
+written_open input (Ok reading) text status is =
+    let found = open_reading (version_number reading.version) reading.spec (place_after input reading) in
+    written_rules reading.spec (AnswersOpenWork reading.spec found) text status (written_open_work reading.spec found text status) is
+
 written_hands : (past_end : ℕ) (spec : Spec) (found : Result HandReading hand_lines.Broken) (text : List ℕ) (status : Status)
     → AnswersHands past_end spec found text status → IsDoneOrRefused status
 written_hands past_end spec (Err broken) text status is = inr is.1
@@ -158,6 +173,7 @@ EndsBy Group status = IsDoneOrRefused status
 EndsBy Audit status = IsWritten status
 EndsBy AuditJournal status = IsWritten status
 EndsBy Hand status = IsDoneOrRefused status
+EndsBy Open status = IsDoneOrRefused status
 EndsBy Dot status = IsDoneOrRefused status
 EndsBy (DotPlan op) status = IsDoneOrRefused status
 
@@ -169,6 +185,7 @@ written Group input text status is = written_run Groups input (spec_reading inpu
 written Audit input text status is = written_audit forms.Run input (spec_reading input) text status is
 written AuditJournal input text status is = written_audit forms.Journal input (spec_reading input) text status is
 written Hand input text status is = written_by_hand input (spec_reading input) text status is
+written Open input text status is = written_open input (spec_reading input) text status is
 written Dot input text status is = written_alone IsDrawing (spec_of input) text status (λ spec h. inl (dot_done spec text status h)) is
 written (DotPlan op) input text status is =
     written_alone (IsPlanDrawingNamed op) (spec_of input) text status (λ spec h. drawn_written spec (op_number spec op) text status h) is
@@ -181,6 +198,7 @@ by_written Group status h = done_or_refused status h
 by_written Audit status h = h
 by_written AuditJournal status h = h
 by_written Hand status h = done_or_refused status h
+by_written Open status h = done_or_refused status h
 by_written Dot status h = done_or_refused status h
 by_written (DotPlan op) status h = done_or_refused status h
 
@@ -197,6 +215,7 @@ by_bad Group h = absurd (no_bad h)
 by_bad Audit h = (forms.Run, refl)
 by_bad AuditJournal h = (forms.Journal, refl)
 by_bad Hand h = absurd (no_bad h)
+by_bad Open h = absurd (no_bad h)
 by_bad Dot h = absurd (no_bad h)
 by_bad (DotPlan op) h = absurd (no_bad h)
 
@@ -308,6 +327,17 @@ refused_run also input (Ok reading) text good is =
     let work : Result Work Broken = work_reading also reading.spec (place_after input reading) in
     refused_rules reading.spec (AnswersWork reading.spec work) text good.0 (refused_work (ArePlanned reading.spec) work reading.spec text good.1) is
 
+refused_open_work : (spec : Spec) (found : Result OpenWork Broken) (text : List ℕ) → IsGoodOpen found → AnswersOpenWork spec found text Refused → ⊥
+refused_open_work spec (Err broken) text good is = absurd good
+refused_open_work spec (Ok read) text good is = let e : Refused ≡ Done = is.report.done in cc
+
+refused_open : (input : List ℕ) (reading : Result Reading Broken) (text : List ℕ) → IsGoodReadingOpen input reading
+    → AnswersOpen input reading text Refused → ⊥
+refused_open input (Err broken) text good is = absurd good
+refused_open input (Ok reading) text good is =
+    let found = open_reading (version_number reading.version) reading.spec (place_after input reading) in
+    refused_rules reading.spec (AnswersOpenWork reading.spec found) text good.0 (refused_open_work reading.spec found text good.1) is
+
 refused_hands : (past_end : ℕ) (spec : Spec) (found : Result HandReading hand_lines.Broken) (text : List ℕ) → IsGoodByHand past_end spec found
     → AnswersHands past_end spec found text Refused → ⊥
 refused_hands past_end spec (Err broken) text good is = absurd good
@@ -345,6 +375,7 @@ refused_text Group input text good is = refused_run Groups input (spec_reading i
 refused_text Audit input text good is = refused_audit forms.Run input (spec_reading input) text good is
 refused_text AuditJournal input text good is = refused_audit forms.Journal input (spec_reading input) text good is
 refused_text Hand input text good is = refused_by_hand input (spec_reading input) text good is
+refused_text Open input text good is = refused_open input (spec_reading input) text good is
 refused_text Dot input text good is = refused_alone IsDrawing (spec_of input) text dot_done good is
 refused_text (DotPlan op) input text good is = refused_plan op (spec_of input) text good is
 
@@ -356,6 +387,7 @@ done_is_answered Group = refl
 done_is_answered Audit = inl refl
 done_is_answered AuditJournal = inl refl
 done_is_answered Hand = refl
+done_is_answered Open = refl
 done_is_answered Dot = refl
 done_is_answered (DotPlan op) = refl
 

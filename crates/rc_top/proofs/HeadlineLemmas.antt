@@ -8,12 +8,12 @@ use Rattle.rc_answer.specs.declared.outcome.Ran.{Ran}
 use Rattle.rc_answer.specs.declared.status.Status.{Status}
 use Rattle.rc_answer.specs.declared.status.Status.TheVariants.{Done, Bad, Usage, Refused, SourceFailed, SinkFailed, OutOfMemory}
 use Rattle.rc_answer.specs.Answers.{Answers, MakesCalls, also_of, audit_for}
-use Rattle.rc_answer.specs.Headline.{AuditHeadline, CheckHeadline, HandHeadline, Headline}
-use Rattle.rc_answer.specs.HeadlineLaws.{audit_headline, check_headline, hand_headline, headline}
+use Rattle.rc_answer.specs.Headline.{AuditHeadline, CheckHeadline, HandHeadline, Headline, OpenHeadline}
+use Rattle.rc_answer.specs.HeadlineLaws.{audit_headline, check_headline, hand_headline, headline, open_headline}
 use Rattle.rc_answer.specs.Ran.{HasTextOf}
 use Rattle.rc_answer.specs.Writes.{WritesWhole}
 use Rattle.rc_command.specs.declared.command.TextCommand.{TextCommand}
-use Rattle.rc_command.specs.declared.command.TextCommand.TheVariants.{Check, Run, Group, Hand}
+use Rattle.rc_command.specs.declared.command.TextCommand.TheVariants.{Check, Run, Group, Hand, Open}
 use Rattle.rc_top.specs.Answer.{IsAnswer}
 use Rattle.rc_top.specs.Ends.{Ends}
 use Rattle.rc_top.proofs.EndLemmas.{IsWritten}
@@ -60,6 +60,12 @@ module _ (command : TextCommand) (input : List ℕ) (old new : Option (List ℕ)
   pub by_hand_headline : command ≡ Hand → IfSome outcome.ran (HasTextOf command input old new) → HandHeadline input old new outcome
   by_hand_headline is ran =
       hand_headline input old new outcome (λ some. (has.0 some).1, λ done. has.1 (subst MakesCalls (sym is) tt, done))
+      (subst (λ (k : TextCommand). IfSome outcome.ran (HasTextOf k input old new)) is ran)
+      (subst (λ (k : TextCommand). WritesWhole (Answers k input) old new outcome.status) is answers)
+
+  pub opened_headline : command ≡ Open → IfSome outcome.ran (HasTextOf command input old new) → OpenHeadline input old new outcome
+  opened_headline is ran =
+      open_headline input old new outcome (λ some. (has.0 some).1, λ done. has.1 (subst MakesCalls (sym is) tt, done))
       (subst (λ (k : TextCommand). IfSome outcome.ran (HasTextOf k input old new)) is ran)
       (subst (λ (k : TextCommand). WritesWhole (Answers k input) old new outcome.status) is answers)
 

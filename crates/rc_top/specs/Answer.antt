@@ -4,24 +4,27 @@ use Rattle.rc_text.specs.Lines.{past_end_of, printed_lines}
 use Rattle.rc_spec.specs.declared.spec.Spec.{Spec}
 use Rattle.rc_spec.specs.Acceptance.{IsAccepted}
 use Rattle.rc_reader.specs.Grammar.{Broken, Reading, spec_reading, spec_of}
+use Rattle.rc_reader.specs.Versions.{version_number}
 use Rattle.rc_handplan.specs.Chosen.{AllKeepRules}
 use Rattle.rc_handplan.specs.HandGrammar as hand_lines
 use Rattle.rc_handplan.specs.HandGrammar.{HandReading, hands_reading}
 use Rattle.rc_work.specs.declared.also.Also.{Also}
 use Rattle.rc_work.specs.declared.also.Also.TheVariants.{Nothing, Groups}
+use Rattle.rc_work.specs.declared.open_work.OpenWork.{OpenWork}
 use Rattle.rc_work.specs.declared.work.Work.{Work}
 use Rattle.rc_work.specs.LineRules.{op_number}
+use Rattle.rc_work.specs.OpenGrammar.{open_reading}
 use Rattle.rc_work.specs.PartGrammar.{WorkPart, part_reading}
 use Rattle.rc_work.specs.Ranking.{work_reading}
 use Rattle.rc_answer.specs.Answers.{Answers, IsSizeRefusal, work_in_lines}
 use Rattle.rc_work.specs.WholeText.{place_after}
 use Rattle.rc_command.specs.declared.command.TextCommand.{TextCommand}
-use Rattle.rc_command.specs.declared.command.TextCommand.TheVariants.{Check, Plan, Run, Group, Audit, AuditJournal, Hand, Dot, DotPlan}
+use Rattle.rc_command.specs.declared.command.TextCommand.TheVariants.{Check, Plan, Run, Group, Audit, AuditJournal, Hand, Open, Dot, DotPlan}
 use Rattle.rc_answer.specs.declared.status.Status.{Status}
 use Rattle.rc_answer.specs.declared.status.Status.TheVariants.{Done, Bad}
 
 abbrev pub usage_text : List ℕ
-usage_text = printed_lines (codes "usage: relc check, plan, run, dot [OP], audit, hand, group or big SEED N" ∷ [])
+usage_text = printed_lines (codes "usage: relc check, plan, run, dot [OP], audit, hand, open, group or big SEED N" ∷ [])
 
 -- a workload was read
 abbrev pub IsGoodWork : Result Work Broken → Type 0
@@ -31,6 +34,16 @@ IsGoodWork (Ok work) = Unit {0}
 abbrev pub IsGoodReading : Also → List ℕ → Result Reading Broken → Type 0
 IsGoodReading also input (Err broken) = ⊥
 IsGoodReading also input (Ok reading) = IsAccepted reading.spec × IsGoodWork (work_reading also reading.spec (place_after input reading))
+
+-- a workload whose calls may bring their own operation was read
+abbrev pub IsGoodOpen : Result OpenWork Broken → Type 0
+IsGoodOpen (Err broken) = ⊥
+IsGoodOpen (Ok read) = Unit {0}
+
+abbrev pub IsGoodReadingOpen : List ℕ → Result Reading Broken → Type 0
+IsGoodReadingOpen input (Err broken) = ⊥
+IsGoodReadingOpen input (Ok reading) =
+    IsAccepted reading.spec × IsGoodOpen (open_reading (version_number reading.version) reading.spec (place_after input reading))
 
 -- a workload was read up to its `end`
 abbrev pub IsGoodPart : Result WorkPart Broken → Type 0
@@ -69,6 +82,7 @@ KeepsRules Group input = IsGoodReading Groups input (spec_reading input)
 KeepsRules Audit input = IsGoodReadingUpToEnd input (spec_reading input)
 KeepsRules AuditJournal input = IsGoodReadingUpToEnd input (spec_reading input)
 KeepsRules Hand input = IsGoodReadingByHand input (spec_reading input)
+KeepsRules Open input = IsGoodReadingOpen input (spec_reading input)
 KeepsRules Dot input = IsGoodSpec (spec_of input)
 KeepsRules (DotPlan op) input = IsGoodSpecWith op (spec_of input)
 
@@ -81,6 +95,7 @@ IsAnswered Group status = status ≡ Done
 IsAnswered Audit status = (status ≡ Done) ⊎ (status ≡ Bad)
 IsAnswered AuditJournal status = (status ≡ Done) ⊎ (status ≡ Bad)
 IsAnswered Hand status = status ≡ Done
+IsAnswered Open status = status ≡ Done
 IsAnswered Dot status = status ≡ Done
 IsAnswered (DotPlan op) status = status ≡ Done
 

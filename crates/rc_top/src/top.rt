@@ -7,7 +7,7 @@ ghost use Rattle.rc_top.specs.Asks.{HasRead, LeavesAllBut, MakesRun, ReadsNothin
 ghost use Rattle.rc_top.specs.Ends.{Ends, EndsBig, EndsUsage, status_of};
 ghost use Rattle.rc_answer.specs.Answers.{MakesCalls, also_of, audit_for, ArePlansFor};
 ghost use Rattle.rc_answer.specs.Big.{HasSummaryText};
-ghost use Rattle.rc_answer.specs.Headline.{AuditHeadline, CheckHeadline, HandHeadline, Headline};
+ghost use Rattle.rc_answer.specs.Headline.{AuditHeadline, CheckHeadline, HandHeadline, Headline, OpenHeadline};
 ghost use Rattle.rc_answer.specs.Ran.{HasTextOf, IsOneHistory, ran_in, status_in};
 ghost use Rattle.rc_answer.specs.Plans.{ArePlanned};
 ghost use Rattle.rc_audit.specs.declared.form.Form.{Form};
@@ -28,7 +28,7 @@ use std::alloc::Global;
 use std::sync::Wait;
 use std::thread::Threads;
 
-/// Does what the words ask. `words[0]` is the program's name. The commands `check`, `plan`, `run`, `group`, `hand`, `audit` and `dot`
+/// Does what the words ask. `words[0]` is the program's name. The commands `check`, `plan`, `run`, `group`, `open`, `hand`, `audit` and `dot`
 /// read the source to its end, or until 2^24 + 1 bytes are taken, and never more; `big SEED N` and other words take nothing
 /// from it.
 ///
@@ -36,7 +36,8 @@ use std::thread::Threads;
 /// all rules, `plan` the planned plan of each of its operations and then `end`, `dot` its drawing, `dot OP` the drawing
 /// with the planned plan of the operation of this name, and `run` the same plans as `plan` and then the report of a
 /// journal that is a run of the workload and of the rows of its replay. `group` is `run` on a workload in which calls may
-/// stand in groups, each of which is one entry of the journal. `hand` is `run` on a text in which plans of some
+/// stand in groups, each of which is one entry of the journal. `open` is `run` on a workload in which calls may bring their own
+/// operation, for each kind of which, with its columns, a line stands before the plans. `hand` is `run` on a text in which plans of some
 /// operations may stand between specification and workload, each of which keeps K1 to K7, and has
 /// these in the place of the planned ones. `audit` reads a workload up to its `end`, and writes `legal N`
 /// exactly where the lines behind that are what `run` may print for the text up to there, with N entries, and else
@@ -48,7 +49,7 @@ use std::thread::Threads;
 /// written, `SinkFailed` with a prefix of such a text, and `OutOfMemory` with nothing or a prefix, where no read or write
 /// was counted as failed.
 ///
-/// `run`, `group`, `hand` and `big` make the calls of each round by threads that run beside each other, on one shared store, and `ran` has
+/// `run`, `group`, `open`, `hand` and `big` make the calls of each round by threads that run beside each other, on one shared store, and `ran` has
 /// what they left: whatever was read, the journal is one legal history, every state of which satisfies the dependencies,
 /// and the rows are those that it leaves; it is a run of the workload that the told bytes have, or of the generated one,
 /// and what was written are the plans and the report, or the summary, of these very values. The gate is told of each
@@ -73,7 +74,7 @@ pub fn relc<R: Threads + Wait + Sync, S: Source, K: Sink, G: Gate + Sync>(
     ensures untouched { ReadsNothing (command_of (map string_bytes words.now))
         → source.new ≡ source.old }
 
-    // THE HEADLINE (rc_answer/specs/Headline.antt): the words say `run`, `group`, `hand`, `check` or `audit`, the source tells
+    // THE HEADLINE (rc_answer/specs/Headline.antt): the words say `run`, `group`, `open`, `hand`, `check` or `audit`, the source tells
     // its bytes, and all of them were read and answered.
     ensures headline { command_of (map string_bytes words.now) ≡ Some (OfText commands.Run)
         → (input : List ℕ) → S.left source.old ≡ Some input → length input ≤ 2 ^ 24
@@ -83,6 +84,10 @@ pub fn relc<R: Threads + Wait + Sync, S: Source, K: Sink, G: Gate + Sync>(
         → (input : List ℕ) → S.left source.old ≡ Some input → length input ≤ 2 ^ 24
         → (result.status ≡ Status.Done) ⊎ (result.status ≡ Status.Refused)
         → Headline Groups input (K.held sink.old) (K.held sink.new) result }
+    ensures open_headline { command_of (map string_bytes words.now) ≡ Some (OfText commands.Open)
+        → (input : List ℕ) → S.left source.old ≡ Some input → length input ≤ 2 ^ 24
+        → (result.status ≡ Status.Done) ⊎ (result.status ≡ Status.Refused)
+        → OpenHeadline input (K.held sink.old) (K.held sink.new) result }
     ensures hand_headline { command_of (map string_bytes words.now) ≡ Some (OfText commands.Hand)
         → (input : List ℕ) → S.left source.old ≡ Some input → length input ≤ 2 ^ 24
         → (result.status ≡ Status.Done) ⊎ (result.status ≡ Status.Refused)
@@ -171,7 +176,7 @@ fn usage<K: Sink>(sink: &mut K) -> Status
 {
     match write_all(
         sink,
-        b"usage: relc check, plan, run, dot [OP], audit, hand, group or big SEED N\n",
+        b"usage: relc check, plan, run, dot [OP], audit, hand, open, group or big SEED N\n",
     ) {
         Ok(()) => Status::Usage,
         Err(WriteFault::Sink) => Status::SinkFailed,

@@ -5,7 +5,7 @@ use Rattle.rc_answer.specs.Answers.{audit_for}
 use Rattle.rc_answer.specs.Ran.{HasTextOf}
 use Rattle.rc_command.specs.declared.command.Command.TheVariants.{Big, OfText}
 use Rattle.rc_command.specs.declared.command.TextCommand.{TextCommand}
-use Rattle.rc_command.specs.declared.command.TextCommand.TheVariants.{Check, Run, Group, Hand}
+use Rattle.rc_command.specs.declared.command.TextCommand.TheVariants.{Check, Run, Group, Hand, Open}
 use Rattle.rc_top.specs.Answer.{IsAnswered, KeepsRules}
 use Rattle.rc_answer.specs.declared.status.Status.{Status}
 use Rattle.rc_answer.specs.declared.status.Status.TheVariants.{OutOfMemory}
@@ -14,7 +14,7 @@ use Rattle.rc_top.specs.Ends.{EndsBig, EndsUsage}
 use Rattle.rc_top.proofs.EndLemmas.{answered, done_bad_or_refused, done_or_refused, one_command}
 use Rattle.rc_command.specs.Command.{command_of}
 use Rattle.rc_top.proofs.RanLemmas.{history_by_seed}
-use Rattle.rc_top.proofs.HeadlineLemmas.{by_hand_headline, checked_headline, group_headline, judged_headline, run_headline}
+use Rattle.rc_top.proofs.HeadlineLemmas.{by_hand_headline, checked_headline, group_headline, judged_headline, opened_headline, run_headline}
 use Rattle.rc_top.proofs.top.relc.Goals as goal
 
 pub returns-in-Ok-Some-OfText-clause-headline : goal.returns-in-Ok-Some-OfText-clause-headline
@@ -38,6 +38,14 @@ returns-in-Ok-Some-OfText-clause-hand_headline g c = λ named input told short w
     by_hand_headline c.in-Ok-Some-OfText.command input (g.K.Sink.held c.args.sink.now) (g.K.Sink.held c.answer_text.new.sink) c.answer_text.result
     short (done_or_refused c.answer_text.result.status written) (c.answer_text.ensures.answers input told) c.answer_text.ensures.has_ran
     (one_command c.in-Ok-Some-OfText.command Hand
+    (sym (ap Some c.in-Ok-Some-OfText.field-0-0-is) ∙ sym c.in-Ok-Some-OfText.field-0-is ∙ c.in-Ok-Some-OfText.ensures.value ∙ named))
+    (c.answer_text.ensures.report input told)
+
+pub returns-in-Ok-Some-OfText-clause-open_headline : goal.returns-in-Ok-Some-OfText-clause-open_headline
+returns-in-Ok-Some-OfText-clause-open_headline g c = λ named input told short written.
+    opened_headline c.in-Ok-Some-OfText.command input (g.K.Sink.held c.args.sink.now) (g.K.Sink.held c.answer_text.new.sink) c.answer_text.result
+    short (done_or_refused c.answer_text.result.status written) (c.answer_text.ensures.answers input told) c.answer_text.ensures.has_ran
+    (one_command c.in-Ok-Some-OfText.command Open
     (sym (ap Some c.in-Ok-Some-OfText.field-0-0-is) ∙ sym c.in-Ok-Some-OfText.field-0-is ∙ c.in-Ok-Some-OfText.ensures.value ∙ named))
     (c.answer_text.ensures.report input told)
 
