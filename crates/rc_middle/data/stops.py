@@ -7,7 +7,8 @@ as docs/RULES.md says. A plan locks classes in rising order, and takes of each
 the stripes on which its bindings fall, or all. An insert and an update bind all columns from the start. A query or a remove binds what the patterns
 of the tuples that it has read so far give: below, each class that an operation locks stands with the columns that are read
 before. A class is locked for each tuple with the call's values in them; where none was to be read, for the call itself. What is
-added or taken out makes room before any row changes: once for each class, on the stripe on which the tuple falls. An
+added or taken out makes room before any row changes: once for each class, on the stripe on which the tuple falls. An insert
+whose pattern stands in rows of the first class makes room there before it looks for the tuple, also where it then finds one. An
 update takes out the old tuple's rows, and then adds the new one's, in each class with an edge of which they have other rows, and
 makes no room in the others.
 
@@ -254,9 +255,17 @@ class Striped:
             taken += sorted({self.stripe(locked, b) for b in bindings})
         return taken
 
-    def owns(self):
+    def owns(self, name, reply):
         """How often room was made for the rows that went or came, class by class: for those of one tuple after those of the other."""
+        if reply == "present":
+            return 1 if self.is_searched_first(name) else 0
         return len({name for _, name, _ in self.changed_edges()}) * len(self.model.changed)
+
+    def is_searched_first(self, name):
+        """Whether the first class has the first edge whose rows have the pattern of this insert."""
+        _, pattern, _ = self.model.operations[name]
+        edges = EDGES[self.subject]
+        return next(class_ for _, class_, columns in edges if set(pattern) <= set(columns)) == edges[0][1]
 
     def changed_edges(self):
         """The edges of which rows went or came: all, but for those in which the two tuples of an update have one row."""
@@ -278,7 +287,7 @@ class Striped:
         """What is told of a call, which is made."""
         takes = self.takes(name, values)
         reply = self.model.answer(name, values)
-        owns = self.owns()
+        owns = self.owns(name, reply)
         lines = [f"take {n + 1} held same rows" for n in range(len(takes))]
         lines.append(f"take {len(takes) + 1} none same rows")
         lines += [f"own {n + 1} memory same rows" for n in range(owns)]

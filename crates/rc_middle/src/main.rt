@@ -7,7 +7,6 @@ mod events;
 mod forms;
 mod lines;
 mod machine;
-mod plans;
 mod play;
 mod printing;
 mod rows;

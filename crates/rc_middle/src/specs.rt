@@ -7,9 +7,8 @@ use rc_mutate::compile;
 use rc_place::{AcceptFault, accept};
 use rc_plan::Compiled;
 use rc_reader::{ReadRefusal, number_among, read_spec};
-use rc_spec::{Accepted, Named, Spec, WellFormed};
+use rc_spec::{Accepted, Named, WellFormed};
 use rc_text::MAX_TEXT_BYTES;
-use rc_tuple::ColSet;
 use std::alloc::Global;
 
 /// The specification with which a text begins, with its plans. What stands behind its line `end` isn't read.
@@ -49,13 +48,4 @@ pub(crate) fn number_of<T: Named>(items: &[T], name: &str) -> Result<u8, Stop>
         Some(number) if number < 256 => Ok(number as u8),
         _ => Err(Stop::Name),
     }
-}
-
-/// The set with the column of this name.
-pub(crate) fn with_column(spec: &Spec, cols: ColSet, name: &str) -> Result<ColSet, Stop> {
-    let col = number_of(spec.columns.list(), name)?;
-    if col >= 32 {
-        return Err(Stop::Many);
-    }
-    Ok(cols.with(col))
 }
