@@ -10,6 +10,7 @@ use Rattle.std.specs.Option.{option_and_then}
 use Rattle.rc_edges.specs.EdgeMap.{Counted, HasWidth, Rows, present, written}
 use Rattle.rc_spec.specs.declared.items.EdgeKind.{EdgeKind}
 use Rattle.rc_spec.specs.declared.items.EdgeKind.TheVariants as kind
+use Rattle.rc_maps.specs.OrderedEdge.{has_one_column}
 use Rattle.rc_fragment.specs.Container.{Form, form_in, kept_in, now_in, takes, takes_one}
 use Rattle.rc_fragment.specs.declared.container.Container.TheVariants as container
 use Rattle.rc_fragment.specs.SourceTable.{IsSet, containers_of, width_for, width_of}
@@ -221,7 +222,7 @@ table_width v of one b key (inr e) is w = subst (λ z. HasWidth z key) (sym is) 
 
 pub takes_alone : (v : Container) (of : EdgeKind) (one : Bool) (key : Values) → IsOfForm v of one → HasWidth one key → (of ≡ kind.Singleton → (k : Values) → IsSome (fin.get (now_in v) k) → k ≡ key) → takes v key
 takes_alone (container.Hash map) of one key e w h = table_width (container.Hash map) of one map.value.one_column key (inl (ap (λ (f : Form). f.0) e)) (ap (λ (f : Form). f.1) e) w
-takes_alone (container.Ordered map) of one key e w h = table_width (container.Ordered map) of one map.one_column key (inr (ap (λ (f : Form). f.0) e)) (ap (λ (f : Form). f.1) e) w
+takes_alone (container.Ordered map) of one key e w h = table_width (container.Ordered map) of one (has_one_column map) key (inr (ap (λ (f : Form). f.0) e)) (ap (λ (f : Form). f.1) e) w
 takes_alone (container.List map) of one key e w h = tt
 takes_alone (container.Singleton map) of one key e w h = λ k there. h (sym (ap (λ (f : Form). f.0) e)) k (subst IsSome (sym (get-current map k)) there)
 

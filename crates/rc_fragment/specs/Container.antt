@@ -2,6 +2,7 @@
 use Rattle.std.specs.Prelude.{Bool, false}
 use Rattle.rc_edges.specs.Values.{Values}
 use Rattle.rc_edges.specs.EdgeMap.{Rows, HasNoOther, HasWidth, current}
+use Rattle.rc_maps.specs.OrderedEdge.{has_one_column, rows_of}
 use Rattle.rc_spec.specs.declared.items.EdgeKind.{EdgeKind}
 use Rattle.rc_spec.specs.declared.items.EdgeKind.TheVariants as kind
 use Rattle.rc_fragment.specs.declared.container.Container.{Container}
@@ -10,7 +11,7 @@ use Rattle.rc_fragment.specs.declared.container.Container.TheVariants as contain
 -- the rows that are kept, by their keys, with the tombstones
 abbrev pub kept_in : Container → Rows
 kept_in (container.Hash map) = map.value.rows
-kept_in (container.Ordered map) = map.rows
+kept_in (container.Ordered map) = rows_of map
 kept_in (container.List map) = map
 kept_in (container.Singleton map) = map
 
@@ -24,7 +25,7 @@ Form = EdgeKind × Bool
 
 abbrev pub form_in : Container → Form
 form_in (container.Hash map) = (kind.Hash, map.value.one_column)
-form_in (container.Ordered map) = (kind.Ordered, map.one_column)
+form_in (container.Ordered map) = (kind.Ordered, has_one_column map)
 form_in (container.List map) = (kind.List, false)
 form_in (container.Singleton map) = (kind.Singleton, false)
 
@@ -38,6 +39,6 @@ takes_one kind.Singleton one = false
 -- whether it takes a row at the key: one of its width, and a singleton only where no other key is there
 abbrev pub takes : Container → Values → Type 0
 takes (container.Hash map) key = HasWidth map.value.one_column key
-takes (container.Ordered map) key = HasWidth map.one_column key
+takes (container.Ordered map) key = HasWidth (has_one_column map) key
 takes (container.List map) key = Unit {0}
 takes (container.Singleton map) key = HasNoOther map key

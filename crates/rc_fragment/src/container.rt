@@ -24,8 +24,15 @@ pub enum Container {
 
 impl Container {
     /// The container of the kind with no row; only a hash container takes memory. Where a table is to
-    /// have keys of one column alone, they are plain numbers in it.
-    pub fn new(alloc: Global, seed: Seed, kind: EdgeKind, one_column: bool) -> Result<Self, Memory>
+    /// have keys of one column alone, they are plain numbers in it. An ordered container is made for
+    /// rows with so many extra values, and takes any.
+    pub fn new(
+        alloc: Global,
+        seed: Seed,
+        kind: EdgeKind,
+        one_column: bool,
+        extra: usize,
+    ) -> Result<Self, Memory>
         ensures empty { IfOk result (λ container. kept_in container ≡ fin.empty) }
         ensures form { IfOk result (λ container. form_in container ≡ (kind, takes_one kind one_column)) }
     {
@@ -34,7 +41,10 @@ impl Container {
                 let map = HashEdge::new(alloc, seed, one_column);
                 Ok(Container::Hash(Box::new(alloc, map)?))
             }
-            EdgeKind::Ordered => Ok(Container::Ordered(OrderedEdge::new(alloc, one_column))),
+            EdgeKind::Ordered => {
+                let map = OrderedEdge::new(alloc, one_column, extra);
+                Ok(Container::Ordered(map))
+            }
             EdgeKind::List => Ok(Container::List(ListMap::new(alloc))),
             EdgeKind::Singleton => Ok(Container::Singleton(OneMap::new(alloc))),
         }

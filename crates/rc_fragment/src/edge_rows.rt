@@ -59,7 +59,13 @@ impl EdgeRows {
         if let Some(container) = self.sources.get_mut(source) {
             return container.add(key, extra);
         }
-        let mut container = Container::new(self.alloc, self.seed, self.shape.kind, key.len() == 1)?;
+        let mut container = Container::new(
+            self.alloc,
+            self.seed,
+            self.shape.kind,
+            key.len() == 1,
+            extra.len(),
+        )?;
         let before = container.add(key, extra)?;
         self.sources.insert(source, container)?;
         Ok(before)
@@ -77,7 +83,13 @@ impl EdgeRows {
         if let Some(container) = self.sources.get_mut(source) {
             return container.add_new(key, extra);
         }
-        let mut container = Container::new(self.alloc, self.seed, self.shape.kind, key.len() == 1)?;
+        let mut container = Container::new(
+            self.alloc,
+            self.seed,
+            self.shape.kind,
+            key.len() == 1,
+            extra.len(),
+        )?;
         container.add(key, extra)?;
         self.sources.insert(source, container)?;
         Ok(true)

@@ -1,7 +1,10 @@
+pub mod Block
+pub mod BlockLaws
 pub mod HashLaws
 pub mod HashTable
 pub mod KeyLengths
 pub mod Keyed
+pub mod OrderedEdge
 pub mod OrderedLaws
 pub mod OrderedTable
 pub mod OtherKeys

@@ -2,6 +2,7 @@
 
 ghost use Rattle.std.specs.Prelude.{◌≡◌, IfOk};
 ghost use Rattle.rc_edges.specs.EdgeMap.{HasWidth};
+ghost use Rattle.rc_maps.specs.OrderedTable.{entries_of, has_one_column};
 ghost use Rattle.rc_maps.specs.TableEdge.{none_of};
 
 use crate::{EntryTable, HashTable, OrderedTable, Seed};
@@ -25,10 +26,9 @@ pub struct TableEdge<T: EntryTable> {
 /// sorts references to the rows by their keys, in O(n log n) for n entries.
 pub type HashEdge = TableEdge<HashTable<Entry>>;
 
-/// A container over a search tree, in the order of keys. It suits an edge with many keys at a row of
-/// its source whose rows are often listed: `scan` walks the tree, and takes no memory but the list's.
-/// `copy` costs O(n log n) for n entries.
-pub type OrderedEdge = TableEdge<OrderedTable<Entry>>;
+/// A container over a search tree, in the order of keys: `scan` walks the tree, and takes no memory
+/// but the list's. `copy` costs O(n log n) for n entries.
+pub type TreeEdge = TableEdge<OrderedTable<Entry>>;
 
 impl<T: EntryTable> Model for TableEdge<T> {
     ghost use Rattle.rc_maps.specs.TableEdge.{TableRows, table_rows_code};
@@ -70,6 +70,14 @@ impl TableEdge<OrderedTable<Entry>> {
             table: OrderedTable::new(alloc, one_column),
             alloc,
         }
+    }
+
+    /// The container of the table's entries.
+    pub(crate) fn over(alloc: Global, table: OrderedTable<Entry>) -> Self
+        ensures rows { result.rows ≡ entries_of table }
+        ensures width { result.one_column ≡ has_one_column table }
+    {
+        TableEdge { table, alloc }
     }
 }
 
