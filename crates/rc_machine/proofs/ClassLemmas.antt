@@ -1,17 +1,15 @@
 -- A tuple's rows class by class: changed on the stripes on which the tuple falls, they are changed in all edges of the classes.
-use Rattle.std.specs.Prelude.{◌≡◌, ℕ, zero, suc, ◌+◌, ◌<◌, ◌≤◌, ◌==◌, ◌||◌, ◌++◌, ◌⊎◌, Bool, true, false, List, [], ◌∷◌, cond, filter, length, map, not}
+use Rattle.std.specs.Prelude.{◌≡◌, ℕ, zero, suc, ◌+◌, ◌<◌, ◌≤◌, ◌==◌, ◌||◌, ◌++◌, ◌⊎◌, Bool, true, false, List, [], ◌∷◌, cond, filter, get_or, length, map, not, take}
 use Rattle.std.specs.List.{fold, list_any, range_with_len}
 use Rattle.std.specs.Option.{option_map_or}
 use Rattle.std.specs.Ordering.{nat_cmp}
 use Rattle.std.proofs.Common.{inl, inr, refl, sym, ap, subst, ◌∙◌, arith, zero-add}
 use Rattle.std.proofs.lemmas.Bool.{eq-eqb, eqb-true, false≢true, ne_eqb, not-true, not_from_false}
-use Rattle.std.proofs.lemmas.List.{length-append, map-append}
+use Rattle.std.proofs.lemmas.List.{append-nil, map-append, take_more}
 use Rattle.std.proofs.lemmas.List.Elements.{filter-append}
-use Rattle.std.proofs.lemmas.List.FromFn.{length-range_with_len}
-use Rattle.std.proofs.lemmas.List.Sums.{count_by-le-length, fold-append, length-filter}
 use Rattle.rc_tuple.specs.RisingSet.{AreDistinct, In}
-use Rattle.rc_tuple.specs.RisingSetLaws.{append_in_left, append_in_right, filter-filter, filter_in, has_in, in_append, in_filter, in_has, in_map, nat_order, rising_filter, same_rising}
-use Rattle.rc_tuple.specs.ColSet.{has}
+use Rattle.rc_tuple.specs.RisingSetLaws.{append_in_left, append_in_right, filter-filter, filter_in, get_or_in, has_in, in_append, in_filter, in_has, in_map, nat_order, rising_filter, same_rising}
+use Rattle.rc_tuple.specs.ColSet.{Within, has}
 use Rattle.rc_tuple.specs.ColSetLaws.{in_range_below, range_with_len_more}
 use Rattle.rc_tuple.specs.Tuple.{Pairs, cols_of, project}
 use Rattle.rc_spec.specs.declared.spec.Spec.{Spec}
@@ -19,7 +17,7 @@ use Rattle.rc_spec.specs.Acceptance.{IsSealed}
 use Rattle.rc_spec.specs.Calls.{all_columns}
 use Rattle.rc_spec.specs.CountedRows.{lowered, raised, row_in}
 use Rattle.rc_spec.specs.Fragments.{EdgeRow, edge_numbers}
-use Rattle.rc_spec.specs.Placement.{class_of}
+use Rattle.rc_spec.specs.Placement.{class_at, class_of}
 use Rattle.rc_spec.specs.Stripes.{physical_stripe}
 use Rattle.rc_spec.specs.StripesLaws.{one_class_law}
 use Rattle.rc_fragment.specs.Fragment.{IsThere, edge_row, edge_table, shape_of}
@@ -30,36 +28,15 @@ use Rattle.rc_fragment.specs.ImpliedTables.{class_rows, is_of_class, numbered_ro
 use Rattle.rc_fragment.specs.Tuples.{CanAddRow, CanAddTuple, HasTuple}
 use Rattle.rc_fragment.specs.declared.shape.EdgeShape.{EdgeShape}
 use Rattle.rc_machine.specs.Applied.{CanInsert, CanRemove}
-use Rattle.rc_machine.specs.Apply.{AreAllCounted, ArePlaces, CanChange, IsAddable, all_changed, all_placed, class_edges, classes_of, edges_with, has_column, place_in, stripe_in, with_class, with_place}
+use Rattle.rc_machine.specs.Apply.{AreAllCounted, ArePlaces, CanChange, IsAddable, all_changed, all_placed, edges_with, has_column, place_in, stripe_in, with_place}
+use Rattle.rc_plan.specs.EdgeClassLaws.{classes_more, others}
+use Rattle.rc_plan.specs.EdgeClasses.{class_edges, classes_of, with_class}
 use Rattle.rc_machine.specs.declared.stripe.ClassStripe.{ClassStripe}
 use Rattle.rc_machine.proofs.ApplyLemmas.{CanAdd, Change, cols_of-row_in, small_count}
 use Rattle.rc_machine.proofs.ChangeLemmas.{IsLocal, lowered_local, raised_local}
 use Rattle.rc_machine.proofs.ReadLemmas.{class_known}
 use Rattle.rc_machine.proofs.SharedLemmas.{CanSwap, all_counted, changed_rows, edges_rise, known_edge, lowered_lowered, off_it, on_it, parted, raised_raised}
-use Rattle.rc_machine.proofs.StripeLemmas.{tuple_falls_with_row}
-
--- ---- edges one after another
-
-pub fewer : {A : Type 0} (p : A → Bool) (xs : List A) → length (filter p xs) ≤ length xs
-fewer p xs = subst (λ n. n ≤ length xs) (sym (length-filter p xs)) (count_by-le-length p xs)
-
-pub edges_next : (n : ℕ) → range_with_len 0 (n + 1) ≡ range_with_len 0 n ++ n ∷ []
-edges_next n = range_with_len_more 0 n ∙ ap (λ k. range_with_len 0 n ++ k ∷ []) (zero-add n)
-
-pub filter_next : (keep : ℕ → Bool) (n : ℕ) (b : Bool) → keep n ≡ b → filter keep (range_with_len 0 (n + 1)) ≡ filter keep (range_with_len 0 n) ++ cond b (n ∷ []) []
-filter_next keep n b is = ap (filter keep) (edges_next n) ∙ filter-append keep (range_with_len 0 n) (n ∷ []) ∙ ap (λ b. filter keep (range_with_len 0 n) ++ cond b (n ∷ []) []) is
-
-pub count_next : (keep : ℕ → Bool) (n : ℕ) (b : Bool) → keep n ≡ b → length (filter keep (range_with_len 0 (n + 1))) ≡ length (filter keep (range_with_len 0 n)) + cond b 1 0
-count_next keep n b is = ap length (filter_next keep n b is) ∙ length-append (filter keep (range_with_len 0 n)) (cond b (n ∷ []) []) ∙ ap (λ k. length (filter keep (range_with_len 0 n)) + k) (one b)
-  where
-    one : (b : Bool) → ◌≡◌ {A = ℕ} (length (cond b (n ∷ []) [])) (cond b 1 0)
-    one true = refl
-    one false = refl
-
-pub few_kept : (keep : ℕ → Bool) (n : ℕ) → length (filter keep (range_with_len 0 n)) ≤ n
-few_kept keep n =
-    let l : length (filter keep (range_with_len 0 n)) ≤ length (range_with_len 0 n) = fewer keep (range_with_len 0 n) in
-    let m : length (range_with_len 0 n) ≡ n = length-range_with_len 0 n in omega (arith, l, m)
+use Rattle.rc_machine.proofs.StripeLemmas.{class_within, tuple_falls_with_row}
 
 -- ---- the classes of edges
 
@@ -155,7 +132,7 @@ module _ (spec : Spec) where
       let c : ℕ = class_of spec e in
       let classes : List ℕ = classes_of spec edges in
       is ∙ ap (λ ps. with_place spec t ps c) are ∙ ap (λ b. cond b (map (place_in spec t) classes) (map (place_in spec t) classes ++ place_in spec t c ∷ [])) (has_placed t classes c) ∙ go c classes (has classes c)
-      ∙ ap (map (place_in spec t)) (sym (fold-append (λ classes e. with_class classes (class_of spec e)) [] edges (e ∷ [])))
+      ∙ ap (map (place_in spec t)) (sym (classes_more spec edges e))
     where
       go : (c : ℕ) (classes : List ℕ) (b : Bool) → cond b (map (place_in spec t) classes) (map (place_in spec t) classes ++ place_in spec t c ∷ []) ≡ map (place_in spec t) (cond b classes (classes ++ c ∷ []))
       go c classes true = refl
@@ -284,14 +261,49 @@ no_column spec cols e l out = go (has_column spec cols e) refl
         (class_in spec (edges_with spec cols) e (filter_in (has_column spec cols) e (edge_numbers spec) (in_range_below (length spec.edges) e l) q))))
     go false q = refl
 
--- all edges are of the classes of all edges
-pub all_among : (spec : Spec) → filter (λ e. has (classes_of spec (edge_numbers spec)) (class_of spec e)) (edge_numbers spec) ≡ edge_numbers spec
-all_among spec =
-    same_rising nat_cmp nat_order (filter (λ e. has (classes_of spec (edge_numbers spec)) (class_of spec e)) (edge_numbers spec)) (edge_numbers spec)
-    (rising_filter nat_cmp (λ e. has (classes_of spec (edge_numbers spec)) (class_of spec e)) (edge_numbers spec) (edges_rise spec)) (edges_rise spec)
-    (λ e m. (in_filter (λ e. has (classes_of spec (edge_numbers spec)) (class_of spec e)) e (edge_numbers spec) m).0)
-    (λ e m. filter_in (λ e. has (classes_of spec (edge_numbers spec)) (class_of spec e)) e (edge_numbers spec) m
-    (has_in (classes_of spec (edge_numbers spec)) (class_of spec e) (class_in spec (edge_numbers spec) e m)))
+-- all edges are of the classes of edges among which all are
+pub all_among : (spec : Spec) (edges : List ℕ) → ((e : ℕ) → In e (edge_numbers spec) → In e edges)
+    → filter (λ e. has (classes_of spec edges) (class_of spec e)) (edge_numbers spec) ≡ edge_numbers spec
+all_among spec edges all =
+    same_rising nat_cmp nat_order (filter (λ e. has (classes_of spec edges) (class_of spec e)) (edge_numbers spec)) (edge_numbers spec)
+    (rising_filter nat_cmp (λ e. has (classes_of spec edges) (class_of spec e)) (edge_numbers spec) (edges_rise spec)) (edges_rise spec)
+    (λ e m. (in_filter (λ e. has (classes_of spec edges) (class_of spec e)) e (edge_numbers spec) m).0)
+    (λ e m. filter_in (λ e. has (classes_of spec edges) (class_of spec e)) e (edge_numbers spec) m
+    (has_in (classes_of spec edges) (class_of spec e) (class_in spec edges e (all e m))))
+
+-- what stands in the list of the classes of all edges is one of them
+pub class_listed : (spec : Spec) (classes : List ℕ) (i : ℕ) → classes ≡ classes_of spec (edge_numbers spec) → i < length classes
+    → In (get_or classes i 0) (classes_of spec (edge_numbers spec))
+class_listed spec classes i are l = subst (In (get_or classes i 0)) are (get_or_in classes i 0 l)
+
+-- the classes beside one, of which one more comes to the places, or is that one
+module _ (spec : Spec) (t : Pairs) (first : ℕ) (all classes : List ℕ) (i : ℕ) (are : classes ≡ all) (l : i < length classes) where
+  next : take (i + 1) all ≡ take i all ++ get_or classes i 0 ∷ []
+  next = subst (λ z. take (i + 1) z ≡ take i z ++ get_or classes i 0 ∷ []) are (take_more classes i 0 l)
+
+  beside : (b : Bool) → not (get_or classes i 0 == first) ≡ b → others first (take (i + 1) all) ≡ others first (take i all) ++ cond b (get_or classes i 0 ∷ []) []
+  beside b is =
+      ap (others first) next ∙ filter-append (λ k. not (k == first)) (take i all) (get_or classes i 0 ∷ [])
+      ∙ ap (λ b. others first (take i all) ++ cond b (get_or classes i 0 ∷ []) []) is
+
+  pub other_more : (get_or classes i 0 ≡ first → ⊥) → (places : List ClassStripe) → places ≡ map (place_in spec t) (first ∷ others first (take i all))
+      → places ++ place_in spec t (get_or classes i 0) ∷ [] ≡ map (place_in spec t) (first ∷ others first (take (i + 1) all))
+  other_more other places is =
+      ap (λ (ps : List ClassStripe). ps ++ place_in spec t (get_or classes i 0) ∷ []) is
+      ∙ sym (map-append (place_in spec t) (first ∷ others first (take i all)) (get_or classes i 0 ∷ []))
+      ∙ ap (λ rest. map (place_in spec t) (first ∷ rest)) (sym (beside true (not_from_false (get_or classes i 0 == first) (ne_eqb (get_or classes i 0) first other))))
+
+  pub same_more : get_or classes i 0 ≡ first → (places : List ClassStripe) → places ≡ map (place_in spec t) (first ∷ others first (take i all))
+      → places ≡ map (place_in spec t) (first ∷ others first (take (i + 1) all))
+  same_more same places is =
+      is ∙ ap (λ rest. map (place_in spec t) (first ∷ rest)) (sym (beside false (ap not (eq-eqb (get_or classes i 0) first same)) ∙ append-nil (others first (take i all))))
+
+-- a class that has edges is the specification's
+pub used_known : (spec : Spec) → IsSealed spec → (c : ℕ) → 0 < length (class_edges spec c) → c < length spec.classes
+used_known spec sealed c some =
+    let q = in_filter (λ e. class_of spec e == c) (get_or (class_edges spec c) 0 0) (edge_numbers spec) (get_or_in (class_edges spec c) 0 0 some) in
+    subst (λ d. d < length spec.classes) (eqb-true (class_of spec (get_or (class_edges spec c) 0 0)) c q.1)
+    (class_known spec sealed (get_or (class_edges spec c) 0 0) (known_edge spec (get_or (class_edges spec c) 0 0) q.0))
 
 -- ---- the places of a tuple
 
@@ -300,10 +312,15 @@ some_length x [] m = absurd m
 some_length x (y ∷ xs) m = omega arith
 
 module _ (spec : Spec) (sealed : IsSealed spec) (t : Pairs) (edges : List ℕ) (known : (e : ℕ) → In e edges → In e (edge_numbers spec)) where
-  class_is_known : (c : ℕ) → In c (classes_of spec edges) → c < length spec.classes
+  pub class_is_known : (c : ℕ) → In c (classes_of spec edges) → c < length spec.classes
   class_is_known c m =
       let q : IsClassAmong spec edges c = class_among spec edges c m in
       subst (λ d. d < length spec.classes) q.2 (class_known spec sealed q.0 (known_edge spec q.0 (known q.0 q.1)))
+
+  pub class_is_within : cols_of t ≡ all_columns spec → (c : ℕ) → In c (classes_of spec edges) → Within (class_at spec c).cols (cols_of t)
+  class_is_within whole c m =
+      let q : IsClassAmong spec edges c = class_among spec edges c m in
+      subst (λ d. Within (class_at spec d).cols (cols_of t)) q.2 (class_within spec sealed t whole q.0 (known_edge spec q.0 (known q.0 q.1)))
 
   stripes_distinct : (classes : List ℕ) → ((c : ℕ) → In c classes → c < length spec.classes) → AreDistinct classes → AreDistinct (map (λ (p : ClassStripe). p.stripe) (map (place_in spec t) classes))
   stripes_distinct [] below distinct = tt

@@ -31,7 +31,9 @@ use Rattle.rc_plan.specs.PlanRules.{IsQuery}
 use Rattle.rc_plan.specs.declared.access.AccessPath.{AccessPath}
 use Rattle.rc_machine.specs.Access.{HasLockedPath, IsRowFound}
 use Rattle.rc_machine.specs.Applied.{AreTakenAlike, CanInsert}
-use Rattle.rc_machine.specs.Apply.{ArePlaces, CanChange, HaveRoom, IsSameButLent, all_changed, all_placed, class_edges, classes_of, place_in, with_class}
+use Rattle.rc_machine.specs.Apply.{ArePlaces, CanChange, HaveRoom, IsSameButLent, all_changed, all_placed, place_in}
+use Rattle.rc_plan.specs.EdgeClassLaws.{classes_from, others}
+use Rattle.rc_plan.specs.EdgeClasses.{class_edges, classes_of, with_class}
 use Rattle.rc_machine.specs.declared.stripe.ClassStripe.{ClassStripe}
 use Rattle.rc_machine.proofs.ApplyLemmas.{cols_of-row_in}
 use Rattle.rc_machine.proofs.CheckStepLemmas.{whole_tuple}
@@ -42,27 +44,6 @@ use Rattle.rc_machine.proofs.LentLemmas.{lent_again, lent_new, lent_table}
 use Rattle.rc_machine.proofs.PlaceLemmas.{other_can}
 use Rattle.rc_machine.proofs.ReadLemmas.{is_held}
 use Rattle.rc_machine.proofs.RevertLemmas.{taken_alike}
-
--- ---- the first of the classes
-
--- a class that is first stays so
-head_stays : (spec : Spec) (es : List ℕ) (c : ℕ) (cs : List ℕ) → (rest : List ℕ) × (fold (λ classes e. with_class classes (class_of spec e)) (c ∷ cs) es ≡ c ∷ rest)
-head_stays spec [] c cs = (cs, refl)
-head_stays spec (e ∷ es) c cs = either (has (c ∷ cs) (class_of spec e)) (head_stays spec es c cs) (head_stays spec es c (cs ++ class_of spec e ∷ []))
-  where
-    Stays : List ℕ → Type 0
-    Stays classes = (rest : List ℕ) × (fold (λ classes e. with_class classes (class_of spec e)) classes es ≡ c ∷ rest)
-
-    either : (b : Bool) → Stays (c ∷ cs) → Stays (c ∷ cs ++ class_of spec e ∷ []) → Stays (cond b (c ∷ cs) (c ∷ cs ++ class_of spec e ∷ []))
-    either true x y = x
-    either false x y = y
-
-classes_first : (spec : Spec) → 0 < length spec.edges → (rest : List ℕ) × (classes_of spec (edge_numbers spec) ≡ class_of spec 0 ∷ rest)
-classes_first spec some = go (length spec.edges) some
-  where
-    go : (n : ℕ) → 0 < n → (rest : List ℕ) × (classes_of spec (range_with_len 0 n) ≡ class_of spec 0 ∷ rest)
-    go zero l = absurd (omega (arith, l))
-    go (suc n) l = head_stays spec (range_with_len 1 n) (class_of spec 0) []
 
 pub table_known : (spec : Spec) (e : ℕ) → e < length spec.edges → e < length (edge_table spec)
 table_known spec e l = let n : length (edge_table spec) ≡ length spec.edges = length-map (edge_numbers spec) (shape_of spec) ∙ length-range_with_len 0 (length spec.edges) in omega (arith, l, n)
@@ -91,25 +72,31 @@ module _ (compiled : SpecWithPlans) (call : Call) (p : AccessPath) (stripe : ℕ
       let lock : HeldStripe → StripeLock = λ h. (h.stripe, h.mode) in
       (q.0, q.1, sym q.2, locked.run.modes (λ i. subst IsQuery kind i) (q.0.stripe, q.0.mode) (map_in lock q.0 (held_of s) q.1))
 
-  module _ (places : List ClassStripe) (are : places ≡ map (place_in spec t) (classes_of spec (edge_numbers spec))) (first : class_of spec 0 ≡ class)
+  -- the path's edge, and then all
+  abbrev edges : List ℕ
+  edges = p.edge ∷ edge_numbers spec
+
+  pub edges_known : (e : ℕ) → In e edges → In e (edge_numbers spec)
+  edges_known e (inl is) = in_range_below (length spec.edges) e (subst (λ n. n < length spec.edges) (sym is) known)
+  edges_known e (inr m) = m
+
+  module _ (places : List ClassStripe) (are : places ≡ map (place_in spec t) (classes_of spec edges))
     where
       abbrev here : ClassStripe
       here = place_in spec t class
 
-      some : 0 < length spec.edges
-      some = let l : p.edge < length spec.edges = known in omega (arith, l)
-
       parts_of : (rest : List ClassStripe) × (places ≡ here ∷ rest)
-      parts_of =
-          let q : (rest : List ℕ) × (classes_of spec (edge_numbers spec) ≡ class_of spec 0 ∷ rest) = classes_first spec some in
-          (map (place_in spec t) q.0, are ∙ ap (map (place_in spec t)) q.1 ∙ ap (λ k. place_in spec t k ∷ map (place_in spec t) q.0) first)
+      parts_of = (
+        map (place_in spec t) (others class (classes_of spec (edge_numbers spec))),
+        are ∙ ap (map (place_in spec t)) (classes_from spec p.edge (edge_numbers spec)),
+      )
 
       -- there is a first place
       pub not_none : length places ≡ 0 → ⊥
       not_none e = let n : length places ≡ suc (length parts_of.0) = ap length parts_of.1 in omega (arith, e, n)
 
       all_places : ArePlaces spec places
-      all_places = are_places spec locked.sealed t (edge_numbers spec) (λ e m. m) places are
+      all_places = are_places spec locked.sealed t edges edges_known places are
 
       module _ (head : ClassStripe) (rest : List ClassStripe) (parts : places ≡ head ∷ rest) where
         is_here : head ≡ here
@@ -209,12 +196,12 @@ module _ (compiled : SpecWithPlans) (call : Call) (p : AccessPath) (stripe : ℕ
                 subst (λ z. CanChange CanAddTuple z (held_of half) t q) (sym half_table)
                 (subst (λ z. CanChange CanAddTuple (edge_table spec) z t q) (sym half_held)
                 (other_can here.stripe q.stripe (apart q m) (raised_all (class_rows (edge_table spec) class t)) CanAddTuple (edge_table spec) t (held_of s) q refl
-                (each_place spec locked.sealed t (edge_numbers spec) (λ e n. n) places are (CanChange CanAddTuple (edge_table spec) (held_of s) t)
+                (each_place spec locked.sealed t edges edges_known places are (CanChange CanAddTuple (edge_table spec) (held_of s) t)
                 (λ k n among. can_insert_place spec locked.sealed t whole (held_of s) k (inserts (nowhere none)) among) q (in_all q m))))
 
             pub all_added : (new : List HeldStripe) → new ≡ all_placed raised_all half.table t rest (held_of half) → new ≡ all_changed raised spec t (edge_numbers spec) (held_of s)
             all_added new is =
-                changed_by_class raised raised_all each_raised spec t locked.sealed whole (edge_numbers spec) (edge_table spec) places (held_of s) new
+                changed_by_class raised raised_all each_raised spec t locked.sealed whole edges (edge_table spec) places (held_of s) new
                 (is ∙ (λ i. all_placed raised_all (half_table i) t rest (half_held i)) ∙ ap (λ ps. all_placed raised_all (edge_table spec) t ps (held_of s)) (sym split))
                 refl are (inserts (nowhere none)).counted
-                ∙ ap (λ edges. all_changed raised spec t edges (held_of s)) (all_among spec)
+                ∙ ap (λ edges. all_changed raised spec t edges (held_of s)) (all_among spec edges (λ e m. inr m))

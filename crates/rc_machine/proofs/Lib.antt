@@ -3,6 +3,7 @@ mod CheckLemmas
 mod DifferLemmas
 pub mod LentLemmas
 mod LockLemmas
+mod PickLemmas
 mod PlaceLemmas
 mod ClassLemmas
 mod ReadLemmas

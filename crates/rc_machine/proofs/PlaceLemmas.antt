@@ -17,9 +17,10 @@ use Rattle.rc_fragment.specs.ImpliedTables.{class_rows, is_kept, is_kept_of_clas
 use Rattle.rc_fragment.specs.Tuples.{changes_of_class}
 use Rattle.rc_fragment.specs.declared.shape.EdgeShape.{EdgeShape}
 use Rattle.rc_machine.specs.Applied.{AreTakenAlike}
-use Rattle.rc_machine.specs.Apply.{CanChange, HaveRoom, IsSameButLent, all_placed, class_edges}
+use Rattle.rc_machine.specs.Apply.{CanChange, HaveRoom, IsSameButLent, all_placed}
+use Rattle.rc_plan.specs.EdgeClasses.{class_edges}
 use Rattle.rc_machine.specs.declared.stripe.ClassStripe.{ClassStripe}
-use Rattle.rc_machine.proofs.ClassLemmas.{fewer}
+use Rattle.rc_plan.specs.EdgeClassLaws.{fewer}
 use Rattle.rc_machine.proofs.LentLemmas.{lent_again, lent_new, lent_table}
 use Rattle.rc_machine.proofs.ReadLemmas.{in_next}
 use Rattle.rc_machine.proofs.RevertLemmas.{partly_alike, partly_lent, taken_alike}

@@ -30,7 +30,7 @@ use Rattle.rc_machine.specs.Apply.{AreAddable, all_changed}
 use Rattle.rc_machine.specs.Machine.{HasEvaluated, HasServed, locks_of, stripes_held}
 use Rattle.rc_machine.proofs.ApplyLemmas.{Change, IsSameAt, lowered_leaves, raised_leaves, stripes_stay}
 use Rattle.rc_machine.proofs.ChangeLemmas.{IsLocal, all_done, locks_kept, lowered_done, lowered_local, part_of, parts_changed, raised_local, stripes_kept}
-use Rattle.rc_machine.proofs.ClassLemmas.{fewer}
+use Rattle.rc_plan.specs.EdgeClassLaws.{fewer}
 use Rattle.rc_machine.proofs.ConditionLemmas.{addable_at, counted_at, exclusive_from, there_at}
 use Rattle.rc_machine.proofs.RunLemmas.{has_evaluated, has_served, serves, stripes_named}
 

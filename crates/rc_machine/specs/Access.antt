@@ -103,7 +103,3 @@ pub record HasRunByPath (compiled : SpecWithPlans) (call : Call) (old new : Hold
   pub refused : (h : Held) → result ≡ Err (stop.Held h) → HasRefusedCall compiled call old new h
   pub counted : CountsOnlyHeld result old new
   pub goes_on : GoesOn old new
-
--- the edge is the first of its class whose rows are kept, and its class is that of the first edge
-abbrev pub IsFirstEdge : Spec → ℕ → Type 0
-IsFirstEdge spec e = (class_of spec 0 ≡ class_of spec e) × IsFirstKept (edge_table spec) (class_of spec e) e

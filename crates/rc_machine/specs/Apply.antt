@@ -16,6 +16,7 @@ use Rattle.rc_fragment.specs.Fragment.{HasAlone, HasSingle, IsThere, edge_table}
 use Rattle.rc_fragment.specs.Holder.{HasRoomFor, HeldStripe, Holding, IsHeldExclusive, changed_at}
 use Rattle.rc_fragment.specs.Implied.{NumberedRow}
 use Rattle.rc_fragment.specs.ImpliedTables.{class_rows}
+use Rattle.rc_plan.specs.EdgeClasses.{class_edges}
 use Rattle.rc_machine.specs.declared.stripe.ClassStripe.{ClassStripe}
 
 -- the stripe on which a tuple's row of the edge falls
@@ -50,18 +51,6 @@ abbrev pub AreAllCounted : List HeldStripe → Type 0
 AreAllCounted held = (h : HeldStripe) → In h held → AreCountedRows h.now
 
 -- ---- classes, each with the stripe on which a tuple falls
-
--- the edges of the class
-abbrev pub class_edges : Spec → ℕ → List ℕ
-class_edges spec c = filter (λ e. class_of spec e == c) (edge_numbers spec)
-
--- the classes, with one more, which may stand among them already
-abbrev pub with_class : List ℕ → ℕ → List ℕ
-with_class classes c = cond (has classes c) classes (classes ++ c ∷ [])
-
--- the classes of the edges, each once, in the order in which the edges come to them
-abbrev pub classes_of : Spec → List ℕ → List ℕ
-classes_of spec edges = fold (λ classes e. with_class classes (class_of spec e)) [] edges
 
 -- the class, and the stripe of it on which the tuple falls
 abbrev pub place_in : Spec → Pairs → ℕ → ClassStripe

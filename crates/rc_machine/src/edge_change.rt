@@ -1,15 +1,14 @@
 //! Inserts, removes and updates that are answered from the rows of one edge.
 
-ghost use Rattle.std.specs.Prelude.{◌≡◌, ◌<◌, IfErr, length, true};
+ghost use Rattle.std.specs.Prelude.{◌≡◌, IfErr};
 ghost use Rattle.rc_spec.specs.Locks.{StripeLock};
 ghost use Rattle.rc_spec.specs.Placement.{op_at};
 ghost use Rattle.rc_spec.specs.declared.items.OpKind.TheVariants as kind;
 ghost use Rattle.rc_spec.specs.declared.spec.Spec.{Spec};
-ghost use Rattle.rc_fragment.specs.Fragment.{edge_table};
 ghost use Rattle.rc_fragment.specs.Holder.{MayTake};
 ghost use Rattle.rc_plan.specs.Compiled.{plan_at};
 ghost use Rattle.rc_plan.specs.NamedStripes.{IsNamedBy};
-ghost use Rattle.rc_machine.specs.Access.{HasAnsweredByPath, HasLockedPath, HasRunByPath, IsFirstEdge};
+ghost use Rattle.rc_machine.specs.Access.{HasAnsweredByPath, HasLockedPath, HasRunByPath};
 ghost use Rattle.rc_machine.specs.Stripes.{AreStripesOf};
 ghost use Rattle.rc_machine.specs.declared.stop.Stop.TheVariants as stop;
 
@@ -18,16 +17,16 @@ use crate::apply::{add_placed, add_rows, replace, sub_rows};
 use crate::edge_read::EdgeRead;
 use crate::edge_row::{find_row, find_tuple};
 use crate::late::lock_found;
-use crate::places::{make_room, place_classes};
+use crate::places::{make_room, place_classes_from};
 use crate::workspace::Workspace;
-use rc_fragment::{AddStop, Fragment, Holder};
+use rc_fragment::{AddStop, Holder};
 use rc_plan::{AccessPath, Compiled};
 use rc_spec::{Call, Reply};
 use std::slice;
 
 /// Adds the call's tuple, where the path's edge has no row with its values at the pattern. Where memory is wanted some rows
-/// may be changed; as taken they are what they were. Where the edge is the first whose row is added, the search for that
-/// row's place tells whether one has the values.
+/// may be changed; as taken they are what they were. Where the edge is the first of its class whose rows are kept, its class
+/// comes first, and the search for that row's place tells whether one has the values.
 pub(crate) fn insert_by_edge<H: Holder>(
     holder: &mut H,
     compiled: &Compiled,
@@ -45,13 +44,13 @@ pub(crate) fn insert_by_edge<H: Holder>(
     ensures sound { (spec : Spec) → H.is_sound holder.old spec → H.is_sound holder.new spec }
 {
     let fragment = holder.fragment(stripe);
-    if !is_first(fragment, compiled, path.edge) {
+    let class = compiled.edge(path.edge).class;
+    if !fragment.is_first_kept(class, path.edge) {
         return insert_looked_up(holder, compiled, call, path, stripe, space);
     }
-    let class = compiled.edge(path.edge).class;
     let tuple = &call.args;
     let stripes = &mut space.class_stripes;
-    place_classes(compiled, tuple, stripes, &mut space.places)?;
+    place_classes_from(compiled, path.edge, tuple, stripes, &mut space.places)?;
     let Some((first, others)) = space.places.split_first() else {
         unreachable!();
     };
@@ -63,19 +62,6 @@ pub(crate) fn insert_by_edge<H: Holder>(
     }
     add_placed(holder, compiled, others, tuple)?;
     Ok(Reply::Inserted)
-}
-
-/// Whether the edge is the first of its class whose rows are kept, and its class that of the first edge.
-fn is_first(fragment: &Fragment, compiled: &Compiled, edge: u8) -> bool
-    requires known { edge < length compiled.now.spec.edges }
-    requires table { fragment.now.table ≡ edge_table compiled.now.spec }
-    ensures { result ≡ true → IsFirstEdge compiled.now.spec edge }
-{
-    let class = compiled.edge(edge).class;
-    if compiled.edge(0).class != class {
-        return false;
-    }
-    fragment.is_first_kept(class, edge)
 }
 
 /// The same by a look-up beforehand.

@@ -1,6 +1,6 @@
 //! Queries that are answered from the rows of one edge.
 
-ghost use Rattle.std.specs.Prelude.{◌≡◌, ℕ, List, ◌∷◌, ◌++◌, [], length, IfErr, IfOk};
+ghost use Rattle.std.specs.Prelude.{◌≡◌, ℕ, List, ◌∷◌, ◌++◌, [], length, true, IfErr, IfOk};
 ghost use Rattle.std.specs.List.{zip};
 ghost use Rattle.rc_tuple.specs.RisingSet.{In};
 ghost use Rattle.rc_tuple.specs.Tuple.{Pairs, cols_of, pick};
@@ -50,12 +50,16 @@ pub(crate) fn answer_by_edge<H: Holder>(
     let read = EdgeRead::of(compiled, path.edge, path.mode);
     let fragment = holder.fragment(stripe);
     match path.mode {
-        ReadMode::Lookup => look_up(alloc, fragment, &read, &call.args, outs, finder),
+        ReadMode::Lookup => {
+            let alone = path.extra_alone;
+            look_up(alloc, fragment, &read, &call.args, outs, alone, finder)
+        }
         ReadMode::Scan => list(alloc, fragment, &read, &call.args, outs, finder),
     }
 }
 
-/// The row that has the arguments' values of source and key, if there is one.
+/// The row that has the arguments' values of source and key, if there is one. Where the outputs are the extra columns alone,
+/// they are the row that was found.
 // A call hands its reply on by moving it. In its caller's place this one, which answers most queries, moves it once less.
 #[inline(always)]
 fn look_up(
@@ -64,15 +68,18 @@ fn look_up(
     read: &EdgeRead,
     args: &Tuple,
     outs: &Cols,
+    alone: bool,
     finder: &mut Finder,
 ) -> Result<Reply, Stop>
     requires read { IsReadOver fragment.now.table read.now }
     requires columns { (w : EdgeRow) → In w fragment.now.now → cols_of w.1 ≡ bound read.now.spec.now (edge_at read.now.spec.now w.0).to }
+    requires alone { alone ≡ true → outs.now ≡ extra_of read.now.spec.now (edge_at read.now.spec.now read.now.edge) }
     ensures rows { IfOk result (HasLookedUp (shape_of read.now.spec.now read.now.edge) fragment.now.now read.now.edge args.now outs.now) }
     ensures memory { IfErr result (λ s. s ≡ stop.Memory) }
 {
     match find_row(fragment, read, args, finder)? {
         None => Ok(Reply::Rows(RowList::new(alloc))),
+        Some(values) if alone => Ok(Reply::Rows(RowList::of_row(alloc, values)?)),
         Some(values) => {
             let extra = read.resolved.extra;
             let rows = picked(alloc, outs, args, extra, values, &mut finder.rows)?;

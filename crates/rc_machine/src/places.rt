@@ -1,18 +1,20 @@
 //! The classes of the edges in which a tuple's rows change, each with the stripe on which the tuple falls, and room for the
 //! changes.
 
-ghost use Rattle.std.specs.Prelude.{◌≡◌, ◌==◌, ◌<◌, length, map, OnOk};
+ghost use Rattle.std.specs.Prelude.{◌≡◌, ◌==◌, ◌<◌, ◌++◌, ◌∷◌, [], length, map, OnOk};
 ghost use Rattle.std.specs.List.{list_any};
 ghost use Rattle.rc_tuple.specs.RisingSet.{In};
+ghost use Rattle.rc_tuple.specs.ColSet.{Within};
 ghost use Rattle.rc_tuple.specs.Tuple.{cols_of};
 ghost use Rattle.rc_spec.specs.Acceptance.{IsSealed};
 ghost use Rattle.rc_spec.specs.Calls.{all_columns};
 ghost use Rattle.rc_spec.specs.Fragments.{edge_numbers};
-ghost use Rattle.rc_spec.specs.Placement.{class_of};
+ghost use Rattle.rc_spec.specs.Placement.{class_at, class_of};
 ghost use Rattle.rc_spec.specs.declared.spec.Spec.{Spec};
 ghost use Rattle.rc_fragment.specs.Fragment.{edge_table};
 ghost use Rattle.rc_fragment.specs.Holder.{IsHeldExclusive, held_of};
-ghost use Rattle.rc_machine.specs.Apply.{HaveRoom, IsSameButLent, class_edges, classes_of, edges_with, place_in, with_place};
+ghost use Rattle.rc_machine.specs.Apply.{HaveRoom, IsSameButLent, edges_with, place_in, with_place};
+ghost use Rattle.rc_plan.specs.EdgeClasses.{class_edges, classes_of};
 ghost use Rattle.rc_machine.specs.Stripes.{AreStripesOf};
 ghost use Rattle.rc_machine.specs.declared.stripe.ClassStripe.{ClassStripe};
 
@@ -36,9 +38,33 @@ pub(crate) fn place_classes(
     ensures { OnOk result (places.new.items ≡ map (place_in compiled.now.spec tuple.now) (classes_of compiled.now.spec (edge_numbers compiled.now.spec))) }
 {
     places.clear();
-    let edges = compiled.accepted().spec().edges.list().len();
-    for edge in 0..edges as u8 {
-        place_class(compiled, edge, tuple, stripes, places)?;
+    for class in compiled.edge_classes() {
+        push_place(compiled, *class, tuple, stripes, places)?;
+    }
+    Ok(())
+}
+
+/// Makes the places those classes, with that of the edge first.
+pub(crate) fn place_classes_from(
+    compiled: &Compiled,
+    edge: u8,
+    tuple: &Tuple,
+    stripes: &mut Vec<ClassStripe>,
+    places: &mut Vec<ClassStripe>,
+) -> Result<(), Memory>
+    requires sealed { IsSealed compiled.now.spec }
+    requires known { edge < length compiled.now.spec.edges }
+    requires whole { cols_of tuple.now ≡ all_columns compiled.now.spec }
+    requires stripes { AreStripesOf compiled.now.spec tuple.now stripes.old.items }
+    ensures { OnOk result (places.new.items ≡ map (place_in compiled.now.spec tuple.now) (classes_of compiled.now.spec (edge ∷ edge_numbers compiled.now.spec))) }
+{
+    places.clear();
+    let first = compiled.edge(edge).class;
+    push_place(compiled, first, tuple, stripes, places)?;
+    for class in compiled.edge_classes() {
+        if *class != first {
+            push_place(compiled, *class, tuple, stripes, places)?;
+        }
     }
     Ok(())
 }
@@ -87,6 +113,24 @@ fn place_class(
     if has_class(places, class) {
         return Ok(());
     }
+    push_place(compiled, class, tuple, stripes, places)
+}
+
+/// Adds the class to the places, with the stripe on which the tuple falls.
+fn push_place(
+    compiled: &Compiled,
+    class: u8,
+    tuple: &Tuple,
+    stripes: &mut Vec<ClassStripe>,
+    places: &mut Vec<ClassStripe>,
+) -> Result<(), Memory>
+    requires sealed { IsSealed compiled.now.spec }
+    requires known { class < length compiled.now.spec.classes }
+    requires within { Within (class_at compiled.now.spec class).cols (cols_of tuple.now) }
+    requires stripes { AreStripesOf compiled.now.spec tuple.now stripes.old.items }
+    ensures places { OnOk result (places.new.items ≡ places.old.items ++ place_in compiled.now.spec tuple.now class ∷ []) }
+    ensures stripes { AreStripesOf compiled.now.spec tuple.now stripes.new.items }
+{
     let stripe = find_stripe(compiled, class, tuple, stripes)?;
     places.push(ClassStripe { class, stripe })?;
     Ok(())
@@ -115,21 +159,7 @@ pub(crate) fn make_room<H: Holder>(
     ensures sound { (spec : Spec) → H.is_sound holder.old spec → H.is_sound holder.new spec }
 {
     for place in places {
-        holder.own(place.stripe, count_edges(compiled, place.class))?;
+        holder.own(place.stripe, compiled.edge_count(place.class))?;
     }
     Ok(())
-}
-
-/// How many edges the class has.
-fn count_edges(compiled: &Compiled, class: u8) -> u16
-    requires { IsSealed compiled.now.spec }
-    ensures { result ≡ length (class_edges compiled.now.spec class) }
-{
-    let mut count = 0;
-    for edge in 0..compiled.accepted().spec().edges.list().len() as u8 {
-        if compiled.edge(edge).class == class {
-            count += 1;
-        }
-    }
-    count
 }

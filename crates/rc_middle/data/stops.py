@@ -8,7 +8,8 @@ the stripes on which its bindings fall, or all. An insert and an update bind all
 of the tuples that it has read so far give: below, each class that an operation locks stands with the columns that are read
 before. A class is locked for each tuple with the call's values in them; where none was to be read, for the call itself. What is
 added or taken out makes room before any row changes: once for each class, on the stripe on which the tuple falls. An insert
-whose pattern stands in rows of the first class makes room there before it looks for the tuple, also where it then finds one. An
+whose pattern stands in the first rows that are kept of a class makes room there before it looks for the tuple, also where it
+then finds one. An
 update takes out the old tuple's rows, and then adds the new one's, in each class with an edge of which they have other rows, and
 makes no room in the others.
 
@@ -262,10 +263,12 @@ class Striped:
         return len({name for _, name, _ in self.changed_edges()}) * len(self.model.changed)
 
     def is_searched_first(self, name):
-        """Whether the first class has the first edge whose rows have the pattern of this insert."""
+        """Whether no rows of its class are kept before those of the first edge that has the pattern of this insert. Rows that
+        stand before it have some of its columns: they are those of its source, which it tells."""
         _, pattern, _ = self.model.operations[name]
         edges = EDGES[self.subject]
-        return next(class_ for _, class_, columns in edges if set(pattern) <= set(columns)) == edges[0][1]
+        place, (_, name, target) = next((at, edge) for at, edge in enumerate(edges) if set(pattern) <= set(edge[2]))
+        return all(set(columns) < set(target) for _, other, columns in edges[:place] if other == name)
 
     def changed_edges(self):
         """The edges of which rows went or came: all, but for those in which the two tuples of an update have one row."""

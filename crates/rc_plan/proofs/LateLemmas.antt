@@ -1,5 +1,5 @@
 -- Statements between the first Locks of a plan and its other statements.
-use Rattle.std.specs.Prelude.{◌≡◌, ℕ, ◌+◌, ◌<◌, ◌≤◌, true, false, List, [], ◌∷◌, drop, get_or, length, take}
+use Rattle.std.specs.Prelude.{◌≡◌, ℕ, ◌+◌, ◌<◌, ◌≤◌, Bool, true, false, List, [], ◌∷◌, drop, get_or, length, take}
 use Rattle.std.specs.List.{list_all, list_any}
 use Rattle.std.proofs.Common.{zero, suc, inl, inr, refl, sym, subst, ◌∙◌, arith}
 use Rattle.std.proofs.lemmas.Bool.{cases_lt, false≢true, or_parts}
@@ -103,8 +103,8 @@ module _ (spec : Spec) (op : Op) (plan : List Statement) (p : AccessPath) (path 
       late_least : m ≤ p.late
       late_least = least p.late (subst (λ k. list_any is_lock (drop p.late (drop k plan)) ≡ false) locks_are path.others)
 
-      pub path_is_found : (e : ℕ) (mode : ReadMode) → p.edge ≡ e → IsLockedFirst spec op plan (record { edge = e; mode = mode; locks = n; late = m })
-      path_is_found e mode same =
+      pub path_is_found : (e : ℕ) (mode : ReadMode) (extra : Bool) → p.edge ≡ e → IsLockedFirst spec op plan (record { edge = e; mode = mode; locks = n; late = m; extra_alone = extra })
+      path_is_found e mode extra same =
           let long : length (drop n plan) ≡ _ = length-drop n plan in
           record {
             edge = subst (λ k. k < length spec.edges) same path.edge;

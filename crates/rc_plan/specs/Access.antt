@@ -1,5 +1,5 @@
 -- How the calls of an operation are answered where its plan's statements need not be run in turn: from the rows of one edge, on the arguments' stripe. (Access paths: Selinger et al., SIGMOD 1979.)
-use Rattle.std.specs.Prelude.{◌≡◌, ℕ, ◌+◌, ◌<◌, ◌≤◌, ◌==◌, ◌++◌, Bool, true, false, List, [], Option, None, IfSome, drop, get_or, length, take}
+use Rattle.std.specs.Prelude.{◌≡◌, ℕ, ◌+◌, ◌<◌, ◌≤◌, ◌==◌, ◌↔◌, ◌++◌, Bool, IsTrue, true, false, List, [], Option, None, IfSome, drop, get_or, length, take}
 use Rattle.std.specs.List.{list_all, list_any}
 use Rattle.rc_tuple.specs.ColSet.{Within, is_within, minus}
 use Rattle.rc_tuple.specs.RisingSet.{In}
@@ -12,6 +12,7 @@ use Rattle.rc_spec.specs.Calls.{all_columns}
 use Rattle.rc_spec.specs.Decomposition.{bound, edge_at, source_and_key}
 use Rattle.rc_spec.specs.Placement.{class_at, class_of, op_at}
 use Rattle.rc_plan.specs.declared.access.AccessPath.{AccessPath}
+use Rattle.rc_plan.specs.declared.edge_classes.EdgeClasses.{EdgeClasses}
 use Rattle.rc_plan.specs.declared.resolved.ResolvedEdge.{ResolvedEdge}
 use Rattle.rc_plan.specs.declared.statement.ReadMode.{ReadMode}
 use Rattle.rc_plan.specs.declared.statement.ReadMode.TheVariants.{Lookup, Scan}
@@ -20,6 +21,7 @@ use Rattle.rc_plan.specs.declared.statement.Statement.TheVariants.{Lock, Read, C
 use Rattle.rc_plan.specs.declared.statement.Which.TheVariants as which
 use Rattle.rc_plan.specs.Compiled.{IsCompiled, plan_at}
 use Rattle.rc_plan.specs.PlanRules.{given_columns, pattern_columns}
+use Rattle.rc_plan.specs.EdgeClasses.{AreEdgeClasses}
 use Rattle.rc_plan.specs.Resolved.{AllBelow, AreBandStarts, AreResolvedEdges}
 
 -- ---- Locks
@@ -130,10 +132,18 @@ Asks Remove Scan spec op plan e = ⊥
 Asks Update Lookup spec op plan e = UpdatesRow spec op plan e
 Asks Update Scan spec op plan e = ⊥
 
+-- the outputs of a query are these columns, in their order
+abbrev pub AsksFor : OpKind → List ℕ → Type 0
+AsksFor (Query outs ranges) cols = outs ≡ cols
+AsksFor Insert cols = ⊥
+AsksFor Remove cols = ⊥
+AsksFor Update cols = ⊥
+
 -- the operation's calls are answered by the edge's rows, which lie on the arguments' stripe, which the plan locks first; what it locks late, the row that is found tells
 pub record IsAccessPath (spec : Spec) (op : Op) (plan : List Statement) (p : AccessPath) : Type 0 where
   pub locks : IsLockedFirst spec op plan p
   pub asks : Asks op.kind p.mode spec op plan (edge_at spec p.edge)
+  pub extra : IsTrue p.extra_alone ↔ AsksFor op.kind (extra_of spec (edge_at spec p.edge))
 
 -- no edge that the plan reads has a path
 abbrev pub HasNoPath : Spec → Op → List Statement → Type 0
@@ -149,8 +159,9 @@ abbrev pub AreAccessPaths : Spec → List (List Statement) → List (Option Acce
 AreAccessPaths spec plans paths = AllBelow (λ op path. IsPathOf spec (op_at spec op) (plan_at plans op) path) (length spec.ops) paths
 
 -- an accepted specification with accepted plans, what they ask of its edges and classes, and how calls are answered
-pub record IsCompiledWith (spec : Spec) (plans : List (List Statement)) (edges : List ResolvedEdge) (starts : List ℕ) (paths : List (Option AccessPath)) : Type 0 where
+pub record IsCompiledWith (spec : Spec) (plans : List (List Statement)) (edges : List ResolvedEdge) (starts : List ℕ) (classes : EdgeClasses) (paths : List (Option AccessPath)) : Type 0 where
   pub compiled : IsCompiled spec plans
   pub resolved : AreResolvedEdges spec edges
   pub begun : AreBandStarts spec starts
+  pub classes_of : AreEdgeClasses spec classes
   pub answered : AreAccessPaths spec plans paths

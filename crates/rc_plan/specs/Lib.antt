@@ -3,6 +3,8 @@ pub mod AccessLaws
 pub mod Compiled
 pub mod CompiledLaws
 pub mod ConflictLaws
+pub mod EdgeClassLaws
+pub mod EdgeClasses
 pub mod Evaluation
 pub mod Example
 pub mod InsertLaws

@@ -8,7 +8,7 @@ ghost use Rattle.rc_spec.specs.Decomposition.{edge_at};
 ghost use Rattle.rc_spec.specs.InRange.{AreBelow};
 ghost use Rattle.rc_spec.specs.Placement.{class_at};
 ghost use Rattle.rc_spec.specs.declared.items.OpKind.TheVariants.{Query};
-ghost use Rattle.rc_plan.specs.Access.{AreAccessPaths, AreLate, Asks, AsksQuery, InsertsRow, IsAccessPath, IsLate, IsLockedFirst, IsPathOf, MayBeLate, RemovesRow, UpdatesRow, is_dep_check, is_given_lock, is_lock, is_lock_of, is_read_of};
+ghost use Rattle.rc_plan.specs.Access.{AreAccessPaths, AreLate, Asks, AsksFor, AsksQuery, InsertsRow, IsAccessPath, IsLate, IsLockedFirst, IsPathOf, MayBeLate, RemovesRow, UpdatesRow, is_dep_check, is_given_lock, is_lock, is_lock_of, is_read_of};
 ghost use Rattle.rc_plan.specs.Compiled.{ArePlansOf};
 ghost use Rattle.rc_plan.specs.PlanRules.{AreKnown, IsKnown, given_columns, pattern_columns};
 ghost use Rattle.rc_plan.specs.Resolved.{AreResolvedEdges};
@@ -35,6 +35,9 @@ pub struct AccessPath {
     /// edge is read. There they are Reads and Locks, each of which takes the stripe on which the row found falls, where one
     /// is.
     pub late: usize,
+    /// Whether it is a query's that asks for just the edge's extra columns, in column order: then they are the row that a
+    /// look-up answers.
+    pub extra_alone: bool,
 }
 
 /// The path of each operation that has one, by the number of the operation. What stands behind the last is of no matter.
@@ -105,11 +108,22 @@ fn path_by(
         mode,
         locks,
         late,
+        extra_alone: asks_for(op, edges[edge as usize].extra),
     };
     if is_locked_first(spec, op, plan, path) {
         Some(path)
     } else {
         None
+    }
+}
+
+/// Whether it is a query, whose outputs are the set's columns, in column order.
+fn asks_for(op: &Op, cols: ColSet) -> bool
+    ensures { IsTrue result ↔ AsksFor op.now.kind cols }
+{
+    match &op.kind {
+        OpKind::Query { outs, .. } => lists(cols, outs.list()),
+        OpKind::Insert | OpKind::Remove | OpKind::Update => false,
     }
 }
 

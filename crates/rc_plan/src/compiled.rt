@@ -1,13 +1,16 @@
 ghost use Rattle.std.specs.Prelude.{◌≡◌, ◌<◌, IfSome, None, length};
 ghost use Rattle.rc_spec.specs.Acceptance.{IsSealed};
+ghost use Rattle.rc_spec.specs.Fragments.{edge_numbers};
 ghost use Rattle.rc_spec.specs.InRange.{IsSetBelow};
 ghost use Rattle.rc_spec.specs.Placement.{class_at, op_at};
 ghost use Rattle.rc_spec.specs.Stripes.{band_start};
 ghost use Rattle.rc_plan.specs.Access.{HasNoPath, IsAccessPath};
 ghost use Rattle.rc_plan.specs.Compiled.{ArePlansOf, IsPlanOf, plan_at};
+ghost use Rattle.rc_plan.specs.EdgeClasses.{class_edges, classes_of};
 ghost use Rattle.rc_plan.specs.Resolved.{IsResolvedEdge};
 
 use crate::access::{MAX_OPS, access_paths};
+use crate::edge_classes::{EdgeClasses, edge_classes};
 use crate::resolved::{band_starts, resolve_edges};
 use crate::{AccessPath, Plan, ResolvedEdge};
 use rc_spec::{Accepted, Class, MAX_CLASSES, MAX_EDGES};
@@ -23,6 +26,8 @@ pub struct Compiled {
     edges: [ResolvedEdge; MAX_EDGES],
     /// The number, among all stripes, of the first of each class.
     starts: [u32; MAX_CLASSES],
+    /// The classes of the edges.
+    classes: EdgeClasses,
     /// The path of each operation that has one, by its number.
     paths: [Option<AccessPath>; MAX_OPS],
 }
@@ -35,12 +40,12 @@ impl Model for Compiled {
 
     ghost view = { λ c. record { spec = c.accepted; plans = c.plans.items } };
 
-    ghost invariant = { λ c. IsCompiledWith c.accepted c.plans.items c.edges c.starts c.paths };
+    ghost invariant = { λ c. IsCompiledWith c.accepted c.plans.items c.edges c.starts c.classes c.paths };
 }
 
 impl Compiled {
     /// Keeps an accepted specification with as many plans as operations, each for its own. Takes no memory, and costs, for
-    /// each edge, a walk over the placements and the classes, for each class one over the classes, and for each operation one
+    /// each edge, a walk over the placements and the classes, for each class one over the classes and the edges, and for each operation one
     /// over its plan for each edge that the plan reads.
     pub fn seal(accepted: Accepted, plans: Vec<Plan>) -> Compiled
         requires { ArePlansOf accepted plans.items }
@@ -48,12 +53,14 @@ impl Compiled {
     {
         let edges = resolve_edges(&accepted);
         let starts = band_starts(&accepted);
+        let classes = edge_classes(&accepted);
         let paths = access_paths(&accepted, &plans, &edges);
         Compiled {
             accepted,
             plans,
             edges,
             starts,
+            classes,
             paths,
         }
     }
@@ -92,6 +99,21 @@ impl Compiled {
         ensures { IsResolvedEdge self.now.spec number result.now }
     {
         &self.edges[number as usize]
+    }
+
+    /// The classes of all edges, each once, in the order in which the edges come to them.
+    pub fn edge_classes(&self) -> &[u8]
+        ensures { result.now ≡ classes_of self.now.spec (edge_numbers self.now.spec) }
+    {
+        self.classes.classes()
+    }
+
+    /// How many edges a class has, by its number.
+    pub fn edge_count(&self, class: u8) -> u16
+        requires { class < length self.now.spec.classes }
+        ensures { result ≡ length (class_edges self.now.spec class) }
+    {
+        self.classes.counts[class as usize]
     }
 
     /// A lock class, by its number.

@@ -3,6 +3,7 @@
 
 mod access;
 mod compiled;
+mod edge_classes;
 mod evaluation;
 mod laws;
 mod printing;

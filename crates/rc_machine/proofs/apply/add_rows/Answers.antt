@@ -4,7 +4,8 @@ use Rattle.rc_spec.specs.Fragments.{edge_numbers}
 use Rattle.rc_fragment.specs.Holder.{Holding, held_of}
 use Rattle.rc_fragment.specs.Implied.{raised_all}
 use Rattle.rc_fragment.specs.Tuples.{CanAddTuple}
-use Rattle.rc_machine.specs.Apply.{CanChange, all_changed, classes_of, place_in}
+use Rattle.rc_machine.specs.Apply.{CanChange, all_changed, place_in}
+use Rattle.rc_plan.specs.EdgeClasses.{classes_of}
 use Rattle.rc_machine.proofs.ClassLemmas.{all_among, are_places, can_insert_place, changed_by_class, each_place, each_raised}
 use Rattle.rc_machine.proofs.ReadLemmas.{on_ok}
 use Rattle.rc_machine.proofs.apply.add_rows.Given.{Over}
@@ -35,4 +36,4 @@ returns-clause-ok g c =
     on_ok c.add_placed.result (λ is.
     changed_by_class raised raised_all each_raised spec t c.requires.sealed c.requires.can.whole (edge_numbers spec) s.table c.deref.result.now (held_of s) (held_of (g.H.Holder.seen c.add_placed.new.holder)) is
     c.requires.table (placed g (goal.at.returns-clause-ok g c).After-deref) c.requires.can.counted
-    ∙ ap (λ edges. all_changed raised spec t edges (held_of s)) (all_among spec)) c.add_placed.ensures.ok
+    ∙ ap (λ edges. all_changed raised spec t edges (held_of s)) (all_among spec (edge_numbers spec) (λ e m. m))) c.add_placed.ensures.ok

@@ -11,7 +11,8 @@ use Rattle.rc_fragment.specs.Holder.{HeldStripe, Holding, held_of}
 use Rattle.rc_fragment.specs.Implied.{lowered_all, raised_all}
 use Rattle.rc_fragment.specs.Tuples.{CanAddTuple, HasTuple}
 use Rattle.rc_machine.specs.Applied.{AreTakenAlike}
-use Rattle.rc_machine.specs.Apply.{AreAllCounted, CanChange, all_changed, classes_of, edges_with, has_column, place_in}
+use Rattle.rc_machine.specs.Apply.{AreAllCounted, CanChange, all_changed, edges_with, has_column, place_in}
+use Rattle.rc_plan.specs.EdgeClasses.{classes_of}
 use Rattle.rc_machine.proofs.ApplyLemmas.{CanAdd}
 use Rattle.rc_machine.proofs.ChangeLemmas.{lowered_local}
 use Rattle.rc_machine.proofs.ClassLemmas.{are_places, can_add_place, can_remove_place, changed_by_class, each_lowered, each_place, each_raised, no_column}

@@ -4,7 +4,8 @@ use Rattle.rc_spec.specs.Fragments.{edge_numbers}
 use Rattle.rc_fragment.specs.Holder.{Holding, held_of}
 use Rattle.rc_fragment.specs.Implied.{lowered_all}
 use Rattle.rc_fragment.specs.Tuples.{HasTuple}
-use Rattle.rc_machine.specs.Apply.{CanChange, all_changed, classes_of, place_in}
+use Rattle.rc_machine.specs.Apply.{CanChange, all_changed, place_in}
+use Rattle.rc_plan.specs.EdgeClasses.{classes_of}
 use Rattle.rc_machine.proofs.ClassLemmas.{all_among, are_places, can_remove_place, changed_by_class, each_place, each_lowered}
 use Rattle.rc_machine.proofs.ReadLemmas.{on_ok}
 use Rattle.rc_machine.proofs.apply.sub_rows.Given.{Over}
@@ -35,4 +36,4 @@ returns-clause-ok g c =
     on_ok c.sub_placed.result (λ is.
     changed_by_class lowered lowered_all each_lowered spec t c.requires.sealed c.requires.can.whole (edge_numbers spec) s.table c.deref.result.now (held_of s) (held_of (g.H.Holder.seen c.sub_placed.new.holder)) is
     c.requires.table (placed g (goal.at.returns-clause-ok g c).After-deref) c.requires.can.counted
-    ∙ ap (λ edges. all_changed lowered spec t edges (held_of s)) (all_among spec)) c.sub_placed.ensures.ok
+    ∙ ap (λ edges. all_changed lowered spec t edges (held_of s)) (all_among spec (edge_numbers spec) (λ e m. m))) c.sub_placed.ensures.ok

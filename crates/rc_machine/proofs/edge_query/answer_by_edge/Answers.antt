@@ -2,6 +2,7 @@ use Rattle.std.proofs.Common.{◌≡◌, sym, ap, subst, ◌∙◌}
 use Rattle.rc_tuple.specs.RisingSet.{In}
 use Rattle.rc_tuple.specs.Tuple.{cols_of}
 use Rattle.rc_spec.specs.declared.items.Op.{Op}
+use Rattle.rc_spec.specs.declared.items.OpKind.{OpKind}
 use Rattle.rc_spec.specs.declared.items.OpKind.TheVariants.{Query}
 use Rattle.rc_spec.specs.declared.spec.Spec.{Spec}
 use Rattle.rc_spec.specs.Decomposition.{bound, edge_at}
@@ -9,6 +10,7 @@ use Rattle.rc_spec.specs.Fragments.{EdgeRow}
 use Rattle.rc_spec.specs.Placement.{op_at}
 use Rattle.rc_fragment.specs.Fragment.{shape_of}
 use Rattle.rc_fragment.specs.Holder.{held_of}
+use Rattle.rc_plan.specs.Access.{AsksFor, extra_of}
 use Rattle.rc_plan.specs.Compiled.{plan_at}
 use Rattle.rc_machine.specs.Access.{HasListed, HasLookedUp}
 use Rattle.rc_machine.proofs.AccessRunLemmas.{lent_over, lent_rows, row_served, rows_served}
@@ -33,6 +35,17 @@ fragment-fragment-requires g c = is_held (held_of (g.H.Holder.seen c.args.holder
 
 pub look_up-requires-clause-columns : goal.look_up-requires-clause-columns
 look_up-requires-clause-columns g c = columns g (goal.at.look_up-requires-clause-columns g c).After-fragment-fragment
+
+pub look_up-requires-clause-alone : goal.look_up-requires-clause-alone
+look_up-requires-clause-alone g c alone =
+    let at = (goal.at.look_up-requires-clause-alone g c).After-of-read in
+    let spec = c.args.compiled.now.spec in
+    let edge = c.args.path.edge in
+    let read = c.of-read.result in
+    let outs : c.in-Query.outs ≡ extra_of spec (edge_at spec edge) =
+    subst (λ (kind : OpKind). AsksFor kind (extra_of spec (edge_at spec edge))) (kind_is g at) (c.requires.locked.path.extra.0 alone) in
+    outs ∙ ap (λ (s : Spec). extra_of s (edge_at s edge)) (sym c.of-read.ensures.spec)
+    ∙ ap (λ e. extra_of read.spec.now (edge_at read.spec.now e)) (sym c.of-read.ensures.edge)
 
 pub list-requires-clause-columns : goal.list-requires-clause-columns
 list-requires-clause-columns g c = columns g (goal.at.list-requires-clause-columns g c).After-fragment-fragment

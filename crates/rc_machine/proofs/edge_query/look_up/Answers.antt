@@ -1,25 +1,37 @@
-use Rattle.std.proofs.Common.{◌++◌, ◌∷◌, [], List, None, Some, ℕ, length, subst, sym, ap, ◌∙◌}
+use Rattle.std.proofs.Common.{◌≡◌, ◌++◌, ◌∷◌, [], List, None, Some, ℕ, length, subst, sym, ap, ◌∙◌}
 use Rattle.std.specs.List.{zip}
 use Rattle.std.specs.Option.{option_copied}
 use Rattle.rc_tuple.specs.Tuple.{pick}
 use Rattle.rc_spec.specs.declared.call.Reply.TheVariants.{Rows}
 use Rattle.rc_fragment.specs.Fragment.{shape_of}
+use Rattle.rc_fragment.specs.FragmentLaws.{parted_edge}
+use Rattle.rc_fragment.specs.RowValues.{extra_columns}
 use Rattle.rc_machine.specs.Access.{IsRowFound}
+use Rattle.rc_fragment.specs.RowValuesLaws.{extra_set}
+use Rattle.rc_machine.proofs.PickLemmas.{pick_zip}
 use Rattle.rc_machine.proofs.SeekLemmas.{length_extra}
-use Rattle.rc_machine.proofs.edge_query.look_up.Goals.{In-Some}
+use Rattle.rc_machine.proofs.edge_query.look_up.Goals.{In-Some, In-Some-2, In_ok-find_row}
 use Rattle.rc_machine.proofs.edge_query.look_up.Goals as goal
 
--- what was looked up, by its extra values
-some : (c : In-Some) → IsRowFound (shape_of c.args.read.now.spec.now c.args.read.now.edge) c.args.fragment.now.now c.args.read.now.edge c.args.args.now (Some c.in-Some.values.now)
-some c =
+-- what was looked up, told by its extra values
+looked : (c : In_ok-find_row) (values : List ℕ) → option_copied c.in_ok-find_row.field-0 ≡ Some values
+    → IsRowFound (shape_of c.args.read.now.spec.now c.args.read.now.edge) c.args.fragment.now.now c.args.read.now.edge c.args.args.now (Some values)
+looked c values is =
     let read = c.args.read.now in
-    subst (λ o. IsRowFound (shape_of read.spec.now read.edge) c.args.fragment.now.now read.edge c.args.args.now (option_copied o)) c.in-Some.is c.in_ok-find_row.ensures
+    subst (IsRowFound (shape_of read.spec.now read.edge) c.args.fragment.now.now read.edge c.args.args.now) is c.in_ok-find_row.ensures
+
+-- it has as many as there are extra columns
+as_many : (c : In_ok-find_row) (values : List ℕ) → option_copied c.in_ok-find_row.field-0 ≡ Some values
+    → length values ≡ length (extra_columns (shape_of c.args.read.now.spec.now c.args.read.now.edge))
+as_many c values is =
+    let read = c.args.read.now in
+    let row = looked c values is in
+    let there = row.1.there in
+    sym (ap length row.2) ∙ length_extra read.spec.now c.requires.read.sealed read.edge c.requires.read.known row.0 (c.requires.columns (read.edge, row.0, there.0) there.1)
 
 pub picked-requires : goal.picked-requires
 picked-requires c =
-    let row = some (goal.at.picked-requires c).In-Some in
-    let there = row.1.there in
-    sym (ap length row.2) ∙ length_extra c.args.read.now.spec.now c.requires.read.sealed c.args.read.now.edge c.requires.read.known row.0 (c.requires.columns (c.args.read.now.edge, row.0, there.0) there.1)
+    as_many (goal.at.picked-requires c).In_ok-find_row c.in-Some.values.now (ap option_copied c.in-Some.is)
     ∙ ap length (sym c.requires.read.resolved.edge.extra)
 
 pub returns-in-None-clause-rows : goal.returns-in-None-clause-rows
@@ -30,11 +42,28 @@ returns-in-None-clause-rows c =
       ap Rows c.new.ensures,
     )
 
-pub returns-in_ok-rows-in-Some-clause-rows : goal.returns-in_ok-rows-in-Some-clause-rows
-returns-in_ok-rows-in-Some-clause-rows c =
+pub returns-in_ok-of_row-in-Some-clause-rows : goal.returns-in_ok-of_row-in-Some-clause-rows
+returns-in_ok-of_row-in-Some-clause-rows c =
+    let read = c.args.read.now in
+    let spec = read.spec.now in
+    let values : List ℕ = c.in-Some.values.now in
+    let extra = extra_columns (shape_of spec read.edge) in
+    let at = (goal.at.returns-in_ok-of_row-in-Some-clause-rows c).In_ok-find_row in
+    let is = ap option_copied c.in-Some.is in
+    let alone : c.args.outs.now ≡ extra = c.requires.alone c.if-alone.true in
+    let rising = (extra_set (shape_of spec read.edge) (parted_edge spec c.requires.read.sealed read.edge c.requires.read.known)).rising in
+    let row : pick c.args.outs.now (zip extra values ++ c.args.args.now) ≡ values =
+    ap (λ outs. pick outs (zip extra values ++ c.args.args.now)) alone ∙ pick_zip extra values c.args.args.now rising (as_many at values is) in (
+      Some values,
+      looked at values is,
+      ap Rows (c.in_ok-of_row-in-Some.ensures ∙ ap (λ row. row ∷ []) (sym row)),
+    )
+
+pub returns-in_ok-rows-in-Some-2-clause-rows : goal.returns-in_ok-rows-in-Some-2-clause-rows
+returns-in_ok-rows-in-Some-2-clause-rows c =
     let values : List ℕ = c.in-Some.values.now in
     let outs : List ℕ = c.args.outs.now in (
       Some values,
-      some (goal.at.returns-in_ok-rows-in-Some-clause-rows c).In-Some,
-      ap Rows (c.in_ok-rows-in-Some.ensures ∙ ap (λ extra. pick outs (zip extra values ++ c.args.args.now) ∷ []) c.requires.read.resolved.edge.extra),
+      looked (goal.at.returns-in_ok-rows-in-Some-2-clause-rows c).In_ok-find_row values (ap option_copied c.in-Some.is),
+      ap Rows (c.in_ok-rows-in-Some-2.ensures ∙ ap (λ extra. pick outs (zip extra values ++ c.args.args.now) ∷ []) c.requires.read.resolved.edge.extra),
     )

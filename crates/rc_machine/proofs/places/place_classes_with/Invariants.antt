@@ -1,6 +1,7 @@
 use Rattle.std.proofs.Common.{◌≡◌, filter, map}
 use Rattle.std.specs.List.{range_with_len}
-use Rattle.rc_machine.specs.Apply.{classes_of, has_column, place_in}
+use Rattle.rc_machine.specs.Apply.{has_column, place_in}
+use Rattle.rc_plan.specs.EdgeClasses.{classes_of}
 use Rattle.rc_machine.specs.Stripes.{AreStripesOf}
 use Rattle.rc_machine.proofs.places.place_classes_with.Given as goal
 

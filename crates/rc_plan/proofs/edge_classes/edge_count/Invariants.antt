@@ -1,7 +1,7 @@
 use Rattle.std.proofs.Common.{◌≡◌, ◌==◌, filter, length}
 use Rattle.std.specs.List.{range_with_len}
 use Rattle.rc_spec.specs.Placement.{class_of}
-use Rattle.rc_machine.proofs.places.count_edges.Given as goal
+use Rattle.rc_plan.proofs.edge_classes.edge_count.Given as goal
 
 abbrev pub invariant-loop-edge : goal.invariant-loop-edge
-invariant-loop-edge l = l.count ≡ length (filter (λ e. class_of l.compiled.spec e == l.class) (range_with_len 0 l.edge))
+invariant-loop-edge l = l.count ≡ length (filter (λ e. class_of l.spec e == l.class) (range_with_len 0 l.edge))
