@@ -14,3 +14,5 @@ pub mod AgreeLaws
 pub mod DetermineLaws
 pub mod SizeLaws
 pub mod Commits
+pub mod Resumed
+pub mod ResumedLaws

@@ -1,6 +1,7 @@
 //! What is proved of all lists of events. The proofs stand in `specs/`, where the row of locks cites them.
 
 ghost use Rattle.rc_core.specs.Laws.{StartsAreGood, EventsKeepGoodness, FewAreCounted, HistoriesAreShort, NoCircleOfWaits, OwnAreOfHistory, PassesDetermineState, ReplaysAreSmall, RunsAreSound, SharesAreHome};
+ghost use Rattle.rc_core.specs.Resumed.{EventsAddToHistory, GoesOnWithMore, ResumedAreGood, ResumedRunsAreSound, StartsAreResumed};
 
 /// At the start nobody holds anything, and the state is good.
 pub fn starts_are_good()
@@ -45,4 +46,15 @@ pub fn states_are_small()
     ensures short { HistoriesAreShort }
     ensures small { ReplaysAreSmall }
     ensures few { FewAreCounted }
+{}
+
+/// A state that goes on from a good history is good, and the start is one that goes on from none. After every list of
+/// allowed events from it all is sound, as after `runs_are_sound`, and the history begins with that history. What may go
+/// on may do so over a specification with further operations.
+pub fn histories_go_on()
+    ensures good { ResumedAreGood }
+    ensures start { StartsAreResumed }
+    ensures sound { ResumedRunsAreSound }
+    ensures begins { EventsAddToHistory }
+    ensures more { GoesOnWithMore }
 {}

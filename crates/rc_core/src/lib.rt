@@ -23,8 +23,8 @@ mod waiting;
 
 pub use event::Event;
 pub use laws::{
-    events_keep_goodness, no_circle_of_waits, own_are_of_history, passes_determine_state,
-    runs_are_sound, shares_are_home, starts_are_good, states_are_small,
+    events_keep_goodness, histories_go_on, no_circle_of_waits, own_are_of_history,
+    passes_determine_state, runs_are_sound, shares_are_home, starts_are_good, states_are_small,
 };
 pub use running::{run_events, step};
 pub use state::{CoreState, Hold, Keeper, PassState, Rows, StripeState};

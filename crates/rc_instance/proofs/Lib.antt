@@ -9,3 +9,4 @@ mod RevertLemmas
 mod StripeLemmas
 mod StripesOfLemmas
 mod NumberLemmas
+mod KeptLemmas

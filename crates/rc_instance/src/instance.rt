@@ -1,18 +1,19 @@
 //! An instance: one fragment for each physical stripe.
 
-ghost use Rattle.std.specs.Prelude.{◌≡◌, ◌<◌, ◌≤◌, List, [], IfOk, IsOk, OnOk, length, map};
+ghost use Rattle.std.specs.Prelude.{◌≡◌, ◌<◌, ◌≤◌, List, [], IfOk, IsOk, OnOk, length, map, vec_capacity};
 ghost use Rattle.rc_tuple.specs.Tuple.{Pairs};
 ghost use Rattle.rc_spec.specs.Fragments.{represented_by};
 ghost use Rattle.rc_spec.specs.Stripes.{stripe_total};
 ghost use Rattle.rc_spec.specs.declared.spec.Spec.{Spec};
 ghost use Rattle.rc_fragment.specs.Fragment.{edge_table};
 ghost use Rattle.rc_fragment.specs.Holder.{HasTaken, IsAbove, held_of};
+ghost use Rattle.rc_fragment.specs.Keep.{KeptRows, kept_rows};
 ghost use Rattle.rc_instance.specs.Instance.{AreReleased, HaveOneTable, IsEmpty, IsOfOneRelation, IsOfRelation, held_from, held_mode, holding, kept_stripe, rows_of, table_of};
 
 use crate::fragments::{empty_fragments, free_held, revert_held, settle_held};
 use crate::held_numbers::HeldNumbers;
 use crate::represent::joined_rows;
-use crate::room::{InstanceRoom, with_kept};
+use crate::room::{InstanceRoom, kept_in, with_kept};
 use rc_fragment::{CowFragment, Fragment, Holder, Keep, Reverts, TakeStop};
 use rc_maps::Seed;
 use rc_spec::{Accepted, MAX_STRIPES, Mode};
@@ -77,6 +78,23 @@ impl Instance {
             numbers: HeldNumbers::none(),
             alloc,
         }
+    }
+
+    /// The fragments as slots keep them, the first that of stripe 0, in room for them. No stripe is held. Takes no memory.
+    /// Costs the stripes. It undoes `from_kept`.
+    pub fn into_kept(self, room: Vec<Keep>) -> Vec<Keep>
+        requires free { held_from 0 self ≡ [] }
+        requires room { (room.items ≡ []) × (length self ≤ vec_capacity room) }
+        ensures kept { result.items ≡ map (λ s. kept_rows s.fragment) self }
+        ensures inverse { (kept : List KeptRows) → self ≡ map kept_stripe kept → result.items ≡ kept }
+    {
+        let Instance {
+            fragments,
+            held: _,
+            numbers: _,
+            alloc: _,
+        } = self;
+        kept_in(fragments, room)
     }
 
     /// Frees all stripes and makes their rows now count as taken. Takes no memory. Costs the held

@@ -1,7 +1,8 @@
 //! The memory of an instance.
 
 ghost use Rattle.std.specs.Prelude.{◌≡◌, ◌≤◌, [], IfOk, length, map, vec_capacity};
-ghost use Rattle.rc_fragment.specs.Keep.{at_rest};
+ghost use Rattle.std.specs.List.{AllByRecursion};
+ghost use Rattle.rc_fragment.specs.Keep.{IsAtRest, at_rest, kept_rows};
 
 use rc_fragment::{CowFragment, Keep};
 use rc_tuple::Memory;
@@ -53,4 +54,16 @@ pub(crate) fn with_kept(mut fragments: Vec<CowFragment>, kept: Vec<Keep>) -> Vec
         fragments.push_reserved(CowFragment::alone_or_kept(keep));
     }
     fragments
+}
+
+/// Puts fragments of which no change is pending into room for them, as slots keep them.
+pub(crate) fn kept_in(fragments: Vec<CowFragment>, mut room: Vec<Keep>) -> Vec<Keep>
+    requires rest { AllByRecursion IsAtRest fragments.items }
+    requires room { (room.items ≡ []) × (length fragments.items ≤ vec_capacity room) }
+    ensures { result.items ≡ map kept_rows fragments.items }
+{
+    for fragment in fragments {
+        room.push_reserved(fragment.into_keep());
+    }
+    room
 }

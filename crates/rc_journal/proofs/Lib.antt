@@ -1,1 +1,2 @@
 pub mod MovesLemmas
+mod PartingLemmas

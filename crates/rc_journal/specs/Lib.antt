@@ -4,3 +4,6 @@ pub mod OwnPlaces
 pub mod PlacesLaws
 pub mod MergeLaws
 pub mod ByPassLaws
+pub mod HistoryWith
+pub mod HistoryWithLaws
+pub mod Parting

@@ -63,6 +63,14 @@ impl Model for Journal {
 }
 
 impl Journal {
+    /// The entries, moved out.
+    pub(crate) fn into_entries(self) -> Vec<Entry>
+        ensures { result.items ≡ self }
+    {
+        let Journal { entries } = self;
+        entries
+    }
+
     /// The entries, each at its place.
     pub fn entries(&self) -> &[Entry]
         ensures { result.now ≡ self.now }

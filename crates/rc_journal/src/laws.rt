@@ -1,3 +1,4 @@
+ghost use Rattle.rc_journal.specs.HistoryWith.{OwnMakeTheHistory};
 ghost use Rattle.rc_journal.specs.OwnPlaces.{MergedPartsAreOwn, OwnPartsAreOfHistory, OwnPlacesAreNumbers};
 
 /// The places of the own entries of all passes of a history are the numbers below its length, each once.
@@ -13,4 +14,9 @@ pub fn merged_parts_are_own()
 /// Parts that each have the own entries of the pass with their number are those of the history, where it has no other pass.
 pub fn own_parts_are_of_history()
     ensures { OwnPartsAreOfHistory }
+{}
+
+/// The own entries of a history's passes, with their places, make the history.
+pub fn own_entries_make_the_history()
+    ensures { OwnMakeTheHistory }
 {}

@@ -1,4 +1,4 @@
-ghost use Rattle.std.specs.Prelude.{◌≡◌, ◌<◌, ◌≤◌, ◌-◌, [], ◌∷◌, ◌++◌, OnErr, OnOk};
+ghost use Rattle.std.specs.Prelude.{◌≡◌, ◌<◌, ◌≤◌, ◌-◌, [], ◌∷◌, ◌++◌, IfOk, OnErr, OnOk};
 
 use rc_rel::Placed;
 use rc_tuple::Memory;
@@ -29,6 +29,15 @@ impl Part {
         Part {
             placed: Vec::new(alloc),
         }
+    }
+
+    /// The part without entries and with room for so many.
+    pub fn with_room(alloc: Global, entries: u64) -> Result<Part, Memory>
+        ensures { IfOk result (λ part. (part.list ≡ []) × (entries ≤ part.spare)) }
+    {
+        Ok(Part {
+            placed: Vec::with_capacity(alloc, entries as usize)?,
+        })
     }
 
     /// Makes room for one more entry where there is none. The entries stay, and where memory is

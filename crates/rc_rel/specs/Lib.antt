@@ -6,3 +6,5 @@ pub mod HistoryLaws
 pub mod OwnLaws
 pub mod SharesLaws
 pub mod PlaceLaws
+pub mod Further
+pub mod FurtherLaws

@@ -1,3 +1,4 @@
+ghost use Rattle.rc_rel.specs.Further.{HistoriesStay};
 ghost use Rattle.rc_rel.specs.HistoryLaws.{StatesSatisfy, StatesAreRelations};
 ghost use Rattle.rc_rel.specs.OwnLaws.{NumberedGoesOn, OwnAreFew, OwnEntriesAreTheHistory, OwnEntriesStand, PlacedAreOwn, ReplaysAreFew};
 ghost use Rattle.rc_rel.specs.PlaceLaws.{PlainAtEachPlace};
@@ -48,4 +49,10 @@ pub fn histories_are_few()
 /// The own entries of some passes are together as many as those of a history that has no other pass.
 pub fn shares_add_up()
     ensures { SharesAddUp }
+{}
+
+/// Where a specification gets further operations behind its own, each history of calls that fit stays so: it is legal where it
+/// was, and leaves the same relation, with the same fragments on the same stripes.
+pub fn histories_stay()
+    ensures { HistoriesStay }
 {}

@@ -12,8 +12,8 @@ mod scan;
 
 pub use entry::{Entry, MAX_ENTRIES, Placed, Step, Steps};
 pub use laws::{
-    histories_are_few, numbered_goes_on, own_entries_are_the_history, own_entries_stand,
-    placed_are_own, shares_add_up, states_are_relations, states_satisfy,
+    histories_are_few, histories_stay, numbered_goes_on, own_entries_are_the_history,
+    own_entries_stand, placed_are_own, shares_add_up, states_are_relations, states_satisfy,
 };
 pub use plain_rel::PlainRel;
 pub use replaying::replay;

@@ -17,13 +17,16 @@ use Rattle.rc_spec.specs.Stripes.{stripe_total}
 use Rattle.rc_spec.specs.declared.spec.Spec.{Spec}
 use Rattle.rc_fragment.specs.Keep.{KeptRows}
 use Rattle.rc_rel.specs.declared.entry.Entry.{Entry}
-use Rattle.rc_rel.specs.History.{own_placed, replay}
+use Rattle.rc_rel.specs.declared.entry.Placed.{Placed}
+use Rattle.rc_rel.specs.History.{IsPrefix, own_placed, replay}
+use Rattle.rc_journal.specs.HistoryWithLaws.{own_make_the_history}
 use Rattle.rc_core.specs.declared.state.Hold.{Hold}
 use Rattle.rc_core.specs.declared.state.Keeper.{Keeper}
 use Rattle.rc_core.specs.declared.state.Keeper.TheVariants.{Home, Writer}
 use Rattle.rc_core.specs.declared.state.PassState.{PassState}
 use Rattle.rc_core.specs.State.{stripe_at, is_at, is_writer, stripes_in, held_in}
 use Rattle.rc_core.specs.Good.{IsGoodHistory, IsGoodKeeper}
+use Rattle.rc_core.specs.Resumed.{MayGoOn}
 use Rattle.rc_core.specs.SizeLaws.{few_tuples, history_law}
 use Rattle.atomic_table.specs.Table.{State, Final, Seen}
 use Rattle.rc_row.specs.declared.close.EndedPass.{EndedPass}
@@ -33,8 +36,9 @@ use Rattle.rc_row.specs.declared.law.Standing.{Standing}
 use Rattle.rc_row.specs.declared.law.View.{View}
 use Rattle.rc_row.specs.declared.row.Row.TheInside.{Inside}
 use Rattle.rc_row.specs.Ended.{IsEndedPass, HasHistory, AreEnded}
-use Rattle.rc_row.specs.Law.{Slot, kept_in, kept_of, lodged, slot_place, spec_by, stripes_by, numbers_in, passes_view, AreKnown, AreSeatedAt, AreTold, IsKept}
-use Rattle.rc_row.specs.RunLaws.{good_of, refusals_of}
+use Rattle.rc_row.specs.Law.{Slot, kept_in, kept_of, history_by, lodged, slot_place, spec_by, stripes_by, numbers_in, passes_view, AreKnown, AreSeatedAt, AreTold, IsKept}
+use Rattle.rc_row.specs.RunLaws.{begins_with, good_of, refusals_of}
+use Rattle.rc_row.specs.HistoryMade.{made_by}
 use Rattle.rc_row.specs.Passes.{PassSeen, RowSeen, core_of, spec_of, stripes_of}
 use Rattle.rc_row.specs.RowInside.{row_seen}
 use Rattle.rc_row.proofs.AloneLemmas.{same_kept}
@@ -110,9 +114,11 @@ ended_more passes ended pass e are is = (
 -- ---- the end
 
 -- the slots of a closed row
-pub record AreClosed (spec : Spec) (passes : List PassSeen) (slots : List Slot) : Type 0 where
+pub record AreClosed (spec : Spec) (first : List Entry) (passes : List PassSeen) (slots : List Slot) : Type 0 where
   pub history : List Entry
+  pub begins : IsPrefix first history
   pub good : IsGoodHistory spec (length passes) history
+  pub may : MayGoOn spec (length passes) history
   pub own : (k : ℕ) (pass : PassSeen) → slice_get passes k ≡ Some pass → (core_of pass).own ≡ own_placed history k
   pub known : (k : ℕ) (pass : PassSeen) → slice_get passes k ≡ Some pass → AreKnown history pass.standing.known
   pub short : length history ≤ 255 * 2 ^ 48
@@ -189,10 +195,21 @@ module _ (key : Key) (id : ℕ) (passes : List PassSeen) (s : State Slot View) (
   pub closed_home : (p : ℕ) → p < stripes_by key → get_elem? s.homes (slot_place p) ≡ some (some (lodged (spec_by key) (get_or kept.handed p false) (fragment_of (spec_by key) (replay (spec_by key) kept.core.history) p)))
   closed_home p lt = slot_home key s kept p (fragment_of (spec_by key) (replay (spec_by key) kept.core.history) p) lt (unwritten p lt) (no_latch key s kept p (uncounted p lt))
 
-  pub closed : (slots : List Slot) → length s.homes ≡ length slots → ((k : ℕ) (y : Slot) → get_elem? s.homes k ≡ some (some y) → get_elem? slots k ≡ some y) → AreClosed (spec_by key) passes slots
+  -- so many passes may go on from the history
+  may_go_on : MayGoOn (spec_by key) (length passes) kept.core.history
+  may_go_on = subst (λ n. MayGoOn (spec_by key) n kept.core.history) same_many (record {
+    some_pass = (good_of key s kept).some_pass;
+    few_passes = (good_of key s kept).few_passes;
+    good = (good_of key s kept).history;
+    few = λ k lt. (let u = idle_core k lt in let g = (good_of key s kept).passes k u.0 u.1 in subst (λ (l : List Placed). length l ≤ 2 ^ 48) g.own g.few);
+  })
+
+  pub closed : (slots : List Slot) → length s.homes ≡ length slots → ((k : ℕ) (y : Slot) → get_elem? s.homes k ≡ some (some y) → get_elem? slots k ≡ some y) → AreClosed (spec_by key) (history_by key) passes slots
   closed slots wide homes = record {
     history = kept.core.history;
+    begins = begins_with key s kept;
     good = subst (λ n. IsGoodHistory (spec_by key) n kept.core.history) same_many (good_of key s kept).history;
+    may = may_go_on;
     own = λ k pass e. ((good_of key s kept).passes k (core_of pass) (is_core k pass e)).own;
     known = λ k pass e. known_at kept.core.history (refusals_of key s kept) passes k pass (kept.views id (passes_view (standings_of passes)) at).histories e;
     short = history_law (spec_by key) kept.core (good_of key s kept);
@@ -204,10 +221,10 @@ module _ (key : Key) (id : ℕ) (passes : List PassSeen) (s : State Slot View) (
 -- the row's table at the end
 module _ (a : Inside) (row : RowSeen) (is : row_seen a ≡ row) (passes : List PassSeen) (id : ℕ) (v : View) (words : List ℕ) (slots : List Slot)
     (all : v ≡ passes_view (standings_of passes)) (final : Final (Seen (IsKept a.table.shared.key) id v) words slots) (numbers : numbers_of passes ≡ range_with_len 0 row.key.passes) (idle : All IsIdle passes) where
-  closed_slots : AreClosed (spec_of (row_seen a)) passes slots
+  closed_slots : AreClosed (spec_of (row_seen a)) (history_by (row_seen a).key) passes slots
   closed_slots = go final
     where
-      go : Final (Seen (IsKept a.table.shared.key) id v) words slots → AreClosed (spec_by a.table.shared.key) passes slots
+      go : Final (Seen (IsKept a.table.shared.key) id v) words slots → AreClosed (spec_by a.table.shared.key) (history_by a.table.shared.key) passes slots
       go (s, (kept, at), same, wide, homes) =
           closed a.table.shared.key id passes s kept (at ∙ ap some all) (numbers ∙ ap (λ (r : RowSeen). range_with_len 0 r.key.passes) (sym is)) (λ k pass e. all_at IsIdle passes k pass idle e) slots wide homes
 
@@ -220,20 +237,37 @@ module _ (a : Inside) (row : RowSeen) (is : row_seen a ≡ row) (passes : List P
 
   -- and the fragments that were taken out of them are those of one history
   pub has_history : (n : ℕ) (fragments : List KeptRows) → n ≡ stripes_of row → length fragments ≡ n
-      → ((p : ℕ) (handed : Bool) (keep : KeptRows) → p < n → get_elem? slots (slot_place p) ≡ some (kept_in handed keep) → slice_get fragments p ≡ Some keep) → HasHistory (spec_of row) passes fragments
+      → ((p : ℕ) (handed : Bool) (keep : KeptRows) → p < n → get_elem? slots (slot_place p) ≡ some (kept_in handed keep) → slice_get fragments p ≡ Some keep) → (h : HasHistory (spec_of row) passes fragments) × IsPrefix (history_by row.key) h.history
   has_history n fragments count wide items =
       let spec : Spec = spec_by a.table.shared.key in
       let same = ap stripes_of is in
-      subst (λ (r : RowSeen). HasHistory (spec_of r) passes fragments) is (record {
-        history = closed_slots.history;
-        good = closed_slots.good;
-        own = closed_slots.own;
-        known = closed_slots.known;
-        short = closed_slots.short;
-        small = closed_slots.small;
-        count = omega arith;
-        rows = λ p lt. items p (get_or closed_slots.handed p false) (kept_of spec (fragment_of spec (replay spec closed_slots.history) p)) (omega arith) (closed_slots.rows p (omega arith));
-      })
+      subst (λ (r : RowSeen). (h : HasHistory (spec_of r) passes fragments) × IsPrefix (history_by r.key) h.history) is (
+        record {
+          history = closed_slots.history;
+          good = closed_slots.good;
+          may = closed_slots.may;
+          own = closed_slots.own;
+          known = closed_slots.known;
+          short = closed_slots.short;
+          small = closed_slots.small;
+          count = omega arith;
+          rows = λ p lt. items p (get_or closed_slots.handed p false) (kept_of spec (fragment_of spec (replay spec closed_slots.history) p)) (omega arith) (closed_slots.rows p (omega arith));
+        },
+        closed_slots.begins,
+      )
+
+-- the history of their entries is the one that the passes made
+pub made_is_history : (spec : Spec) (passes : List PassSeen) (fragments : List KeptRows) (h : HasHistory spec passes fragments) → made_by (standings_of passes) ≡ h.history
+made_is_history spec passes fragments h =
+    own_make_the_history h.history (map (λ (s : Standing). s.core.own) (standings_of passes))
+    (λ k own e. let p = own_at passes k own e in sym p.2 ∙ h.own k p.0 p.1)
+    (λ e m. subst (λ n. e.pass < n) (sym (length-map (standings_of passes) (λ (s : Standing). s.core.own) ∙ length-map passes (λ (pass : PassSeen). pass.standing))) (h.good.entries e m).pass)
+  where
+    own_at : (all : List PassSeen) (k : ℕ) (own : List Placed) → slice_get (map (λ (s : Standing). s.core.own) (standings_of all)) k ≡ Some own
+        → (pass : PassSeen) × (slice_get all k ≡ Some pass) × ((core_of pass).own ≡ own)
+    own_at [] k own e = cc
+    own_at (pass ∷ all) zero own e = let is : (core_of pass).own ≡ own = cc in (pass, refl, is)
+    own_at (pass ∷ all) (suc k) own e = own_at all k own e
 
 -- the fragments that were taken, and one more
 pub taken_more : (slots : List Slot) (taken : List KeptRows) (handed : Bool) (keep : KeptRows) → get_elem? slots (slot_place (length taken)) ≡ some (kept_in handed keep)

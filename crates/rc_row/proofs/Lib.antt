@@ -25,3 +25,4 @@ pub mod SettleLemmas
 pub mod ShareLemmas
 pub mod GiveAllLemmas
 pub mod BackLemmas
+mod ResumingLemmas

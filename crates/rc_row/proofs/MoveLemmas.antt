@@ -157,6 +157,7 @@ module _ (key : Key) (s : State Slot View) (kept : IsKept key s) (id : ℕ) (a :
     compiled = kept.compiled;
     some_pass = kept.some_pass;
     few_passes = kept.few_passes;
+    before = kept.before;
     run = kept.run ++ x ∷ [];
     steps = can_go_on key s kept x can;
     core = with_pass kept.core history stripes a.core.number b.core;

@@ -1,12 +1,12 @@
 -- A new table keeps the rule.
-use Rattle.std.proofs.Common.{◌≡◌, ℕ, zero, suc, ◌+◌, ◌*◌, ◌<◌, ◌≤◌, ◌==◌, Bool, false, List, [], ◌∷◌, ◌++◌, length, map, get_or, Some, None, sym, refl, ap, ◌∙◌, subst, inl, inr, arith}
-use Rattle.std.specs.Prelude.{slice_index, replicate}
-use Rattle.std.specs.List.{slice_get, range_with_len}
+use Rattle.std.proofs.Common.{◌≡◌, ◌≢◌, ◌-◌, length-append, length-set, ℕ, zero, suc, ◌+◌, ◌*◌, ◌<◌, ◌≤◌, ◌==◌, Bool, false, List, [], ◌∷◌, ◌++◌, length, map, get_or, Some, None, sym, refl, ap, ◌∙◌, subst, inl, inr, arith}
+use Rattle.std.specs.Prelude.{slice_index, slice_set, replicate}
+use Rattle.std.specs.List.{filter_map, flat_map, slice_get, range_with_len}
 use Rattle.std.specs.Ordering.{nat_cmp}
 use Rattle.std.specs.Cmp.{nat_cmp_is}
 use Rattle.std.specs.declared.cmp.Ordering.TheVariants.{Less}
-use Rattle.std.proofs.lemmas.Bool.{cases_eq, false≢true, eq-eqb, ne_eqb}
-use Rattle.std.proofs.lemmas.List.{length-map, length-replicate}
+use Rattle.std.proofs.lemmas.Bool.{false≢true, eq-eqb, ne_eqb}
+use Rattle.std.proofs.lemmas.List.{get_or-set_other, get_or-set_same, length-map, length-replicate}
 use Rattle.std.proofs.lemmas.Option.{get_or_from_slice_get}
 use Rattle.std.proofs.lemmas.List.FromFn.{length-map-range_with_len}
 use mathlib.Core.Option.{some, some-injective, some-ne-none}
@@ -17,25 +17,32 @@ use Rattle.rc_tuple.specs.RisingSetLaws.{map_in}
 use Rattle.rc_tuple.specs.RelationLaws.{list_any_in}
 use Rattle.rc_tuple.specs.ColSetLaws.{in_range_below, in_range_bounds}
 use Rattle.rc_spec.specs.Acceptance.{IsSealed}
+use Rattle.rc_spec.specs.Fragments.{fragment_of}
+use Rattle.rc_fragment.specs.Keep.{KeptRows}
+use Rattle.rc_rel.specs.declared.entry.Entry.{Entry}
+use Rattle.rc_rel.specs.History.{replay}
+use Rattle.rc_rel.specs.PlaceLaws.{prefix_same}
 use Rattle.rc_spec.specs.PlacementLaws.{placed_total}
 use Rattle.rc_spec.specs.Stripes.{stripe_total}
 use Rattle.rc_spec.specs.declared.spec.Spec.{Spec}
 use Rattle.rc_plan.specs.Compiled.{SpecWithPlans, ArePlansOf, IsCompiled}
 use Rattle.rc_core.specs.declared.state.PassState.{PassState}
 use Rattle.rc_core.specs.declared.state.StripeState.{StripeState}
-use Rattle.rc_core.specs.State.{fresh, no_pass, no_stripe, pass_at, shares_of, stripe_at}
-use Rattle.rc_core.specs.Events as events
+use Rattle.rc_core.specs.Resumed.{MayGoOn, free_stripe, rested, resumed}
+use Rattle.rc_core.specs.ResumedLaws.{made_there, stripe_of_range}
+use Rattle.rc_core.specs.State.{no_pass, pass_at, shares_of, stripe_at}
 use Rattle.atomic_table.specs.Table.{opening}
-use Rattle.atomic_table.proofs.Lists.{at_last, at_longer, at_map}
+use Rattle.atomic_table.proofs.Lists.{at_map}
 use Rattle.rc_row.specs.declared.law.Key.{Key}
 use Rattle.rc_row.specs.declared.law.Standing.{Standing}
 use Rattle.rc_row.specs.declared.law.View.{View}
 use Rattle.rc_row.specs.declared.row.Row.TheInside.{Inside}
 use Rattle.rc_row.specs.declared.slot.Slot.TheVariants.{Apart, Empty}
-use Rattle.rc_row.specs.Rooms.{AreEmptySlots}
+use Rattle.rc_row.specs.Rooms.{AreFirstSlots, spaced}
+use Rattle.rc_row.specs.Slots.{kept_at}
 use Rattle.rc_row.specs.RowInside.{IsWholeRow}
-use Rattle.rc_row.specs.Standings.{start}
-use Rattle.rc_row.specs.Law.{Slot, kept_of, compiled_by, spec_by, stripes_by, own_place, slot_place, stripe_word, latch_word, word_of, starts, opener, numbers_in, at_first_by, AreSeatedAt, AreTold, HaveHanded, HaveLatch, IsOwnHome, IsTrueView, OwnsAre, home_of, HomesAre, IsKept}
+use Rattle.rc_row.specs.Standings.{resumed_standing, told_of}
+use Rattle.rc_row.specs.Law.{Slot, kept_of, compiled_by, history_by, spec_by, stripes_by, own_place, slot_place, stripe_word, latch_word, word_of, starts, opener, numbers_in, at_first_by, AreKnown, AreSeatedAt, AreTold, HaveHanded, HaveLatch, IsOwnHome, IsTrueView, OwnsAre, home_of, HomesAre, IsKept}
 
 -- each place of a list of equal elements, and each beyond it
 same_there : {A : Type 0} → (n p : ℕ) (a : A) → get_or (replicate n a) p a ≡ a
@@ -43,23 +50,19 @@ same_there zero p a = refl
 same_there (suc n) zero a = refl
 same_there (suc n) (suc p) a = same_there n p a
 
-fresh_at : (a n i : ℕ) → i < n → slice_get (map fresh (range_with_len a n)) i ≡ Some (fresh (a + i))
-fresh_at a zero i lt = absurd (omega arith)
-fresh_at a (suc n) zero lt = ap (λ k. Some (fresh k)) (omega arith)
-fresh_at a (suc n) (suc i) lt = fresh_at (a + 1) n i (omega arith) ∙ ap (λ k. Some (fresh k)) (omega arith)
-
-numbers_of_starts : (numbers : List ℕ) → numbers_in (map start numbers) ≡ numbers
-numbers_of_starts [] = refl
-numbers_of_starts (k ∷ numbers) = ap (λ l. k ∷ l) (numbers_of_starts numbers)
+numbers_of_starts : (history : List Entry) (numbers : List ℕ) → numbers_in (map (resumed_standing history) numbers) ≡ numbers
+numbers_of_starts history [] = refl
+numbers_of_starts history (k ∷ numbers) = ap (λ l. k ∷ l) (numbers_of_starts history numbers)
 
 range_rises : (a n : ℕ) → IsRising nat_cmp (range_with_len a n)
 range_rises a zero = tt
 range_rises a (suc n) = ((λ y m. sym (nat_cmp_is a y Less (let b = in_range_bounds (a + 1) n y m in let l = b.0 in omega arith))), range_rises (a + 1) n)
 
 -- all sit at the opener's seat
-starts_seated : (all : List PassState) (numbers : List ℕ) → ((k : ℕ) → In k numbers → slice_get all k ≡ Some (fresh k)) → AreSeatedAt all (λ k. 0) 0 (map start numbers)
-starts_seated all [] f = tt
-starts_seated all (k ∷ numbers) f = ((f k (inl refl), refl), starts_seated all numbers (λ j m. f j (inr m)))
+starts_seated : (history : List Entry) (all : List PassState) (numbers : List ℕ) → ((k : ℕ) → In k numbers → slice_get all k ≡ Some (rested history k))
+    → AreSeatedAt all (λ k. 0) 0 (map (resumed_standing history) numbers)
+starts_seated history all [] f = tt
+starts_seated history all (k ∷ numbers) f = ((f k (inl refl), refl), starts_seated history all numbers (λ j m. f j (inr m)))
 
 starts_unlatched : (n : ℕ) (more : List Standing) → HaveLatch (replicate n 0) None more
 starts_unlatched n [] = tt
@@ -72,44 +75,90 @@ starts_unlatched n (s ∷ more) = (
   starts_unlatched n more,
 )
 
-starts_told : (numbers : List ℕ) → AreTold [] (λ k. []) (map start numbers)
-starts_told [] = tt
-starts_told (k ∷ numbers) = (record { count = refl; last = refl; known = λ j d lt. absurd (omega arith) }, starts_told numbers)
+-- what they were told is the history
+told_known : (history : List Entry) → AreKnown history (told_of history)
+told_known [] = λ j d lt. absurd (omega arith)
+told_known (e ∷ history) = only
+  where
+    only : AreKnown (e ∷ history) ((e ∷ history) ∷ [])
+    only zero d lt = prefix_same (e ∷ history)
+    only (suc j) d lt = absurd (omega arith)
 
-starts_handed : (handed : List Bool) (numbers : List ℕ) → HaveHanded handed None (map start numbers)
-starts_handed handed [] = tt
-starts_handed handed (k ∷ numbers) = ((λ q m apart. absurd m), starts_handed handed numbers)
+starts_told : (history : List Entry) (numbers : List ℕ) → AreTold history (λ k. []) (map (resumed_standing history) numbers)
+starts_told history [] = tt
+starts_told history (k ∷ numbers) = (record { count = refl; last = refl; known = told_known history }, starts_told history numbers)
 
--- one slot more
-pub slots_more : (slots more : List Slot) (x y : Slot) (i place : ℕ) → more ≡ slots ++ x ∷ [] → length slots ≡ i → (place ≡ i → x ≡ y) → (place < i → get_elem? slots place ≡ some y)
-    → place < i + 1 → get_elem? more place ≡ some y
-slots_more slots more x y i place is count last before lt = ap (λ (l : List Slot). get_elem? l place) is ∙ elim (cases_eq place i) [
-  | inl e ↦ ap (get_elem? (slots ++ x ∷ [])) e ∙ at_last slots x i count ∙ ap some (last e)
-  | inr apart ↦ at_longer slots (x ∷ []) place y (before (omega (arith, lt, apart)))
-]
+starts_handed : (history : List Entry) (handed : List Bool) (numbers : List ℕ) → HaveHanded handed None (map (resumed_standing history) numbers)
+starts_handed history handed [] = tt
+starts_handed history handed (k ∷ numbers) = ((λ q m apart. absurd m), starts_handed history handed numbers)
 
-pub opens : (key : Key) (words : List ℕ) (slots : List Slot) → 1 ≤ key.passes → key.passes ≤ 255 → IsCompiled (spec_by key) (compiled_by key).plans
-    → AreEmptySlots (spec_by key) (stripes_by key) key.passes slots → words ≡ replicate (8 * suc (stripes_by key + stripes_by key)) 0 → IsKept key (opening words slots (opener key))
-opens key words slots some_pass few compiled empty zeros = record {
+-- ---- slots
+
+pub spaced_count : (fragments : List KeptRows) → length (flat_map spaced fragments) ≡ 4 * length fragments
+spaced_count [] = refl
+spaced_count (k ∷ fragments) = let n = spaced_count fragments in omega (arith, n)
+
+-- the slot of each stripe
+slot_of_stripe : (fragments : List KeptRows) (more : List Slot) (p : ℕ) (keep : KeptRows) → slice_get fragments p ≡ Some keep → get_elem? (flat_map spaced fragments ++ more) (slot_place p) ≡ some (Apart keep)
+slot_of_stripe [] more p keep e = cc
+slot_of_stripe (k ∷ fragments) more zero keep e = let is : k ≡ keep = cc in ap (λ x. some (Apart x)) is
+slot_of_stripe (k ∷ fragments) more (suc p) keep e =
+    ap (get_elem? (flat_map spaced (k ∷ fragments) ++ more)) (let z : slot_place (suc p) ≡ suc (suc (suc (suc (slot_place p)))) = omega arith in z) ∙ slot_of_stripe fragments more p keep e
+
+-- and those behind all of them
+slot_behind : (fragments : List KeptRows) (n i : ℕ) → 4 * length fragments ≤ i → i < 4 * length fragments + n → get_elem? (flat_map spaced fragments ++ replicate n Empty) i ≡ some Empty
+slot_behind [] zero i low high = absurd (omega (arith, low, high))
+slot_behind [] (suc n) zero low high = refl
+slot_behind [] (suc n) (suc i) low high = slot_behind [] n i (omega arith) (omega (arith, high))
+slot_behind (k ∷ fragments) n zero low high = absurd (omega (arith, low))
+slot_behind (k ∷ fragments) n (suc zero) low high = absurd (omega (arith, low))
+slot_behind (k ∷ fragments) n (suc (suc zero)) low high = absurd (omega (arith, low))
+slot_behind (k ∷ fragments) n (suc (suc (suc zero))) low high = absurd (omega (arith, low))
+slot_behind (k ∷ fragments) n (suc (suc (suc (suc i)))) low high = slot_behind fragments n i (omega (arith, low)) (omega (arith, high))
+
+pub first_slots : (spec : Spec) (history : List Entry) (passes : ℕ) (fragments : List KeptRows) → stripe_total spec ≤ 256 → length fragments ≡ stripe_total spec
+    → ((p : ℕ) → p < length fragments → slice_get fragments p ≡ Some (kept_of spec (fragment_of spec (replay spec history) p)))
+    → AreFirstSlots spec history (stripe_total spec) passes (flat_map spaced fragments ++ replicate (1024 + 260 * passes - 4 * length fragments) Empty)
+first_slots spec history passes fragments few count rows = record {
+  count = length-append (flat_map spaced fragments) (replicate (1024 + 260 * passes - 4 * length fragments) Empty)
+      ∙ (let a = spaced_count fragments in let b = length-replicate (1024 + 260 * passes - 4 * length fragments) Empty in omega (arith, a, b, few, count));
+  rows = λ p lt. slot_of_stripe fragments (replicate (1024 + 260 * passes - 4 * length fragments) Empty) p (kept_of spec (fragment_of spec (replay spec history) p)) (rows p (omega (arith, lt, count)));
+  empty = λ k p known lt. slot_behind fragments (1024 + 260 * passes - 4 * length fragments) (own_place k p) (omega (arith, few, count)) (omega (arith, few, count, known, lt));
+}
+
+-- what lies in them are the fragments
+none_kept_in : (n : ℕ) → filter_map kept_at (replicate n Empty) ≡ []
+none_kept_in zero = refl
+none_kept_in (suc n) = none_kept_in n
+
+pub fragments_in : (fragments : List KeptRows) (n : ℕ) → filter_map kept_at (flat_map spaced fragments ++ replicate n Empty) ≡ fragments
+fragments_in [] n = none_kept_in n
+fragments_in (k ∷ fragments) n = ap (λ l. k ∷ l) (fragments_in fragments n)
+
+pub opens : (key : Key) (words : List ℕ) (slots : List Slot) → IsCompiled (spec_by key) (compiled_by key).plans → MayGoOn (spec_by key) key.passes (history_by key)
+    → AreFirstSlots (spec_by key) (history_by key) (stripes_by key) key.passes slots → words ≡ slice_set (replicate (8 * suc (stripes_by key + stripes_by key)) 0) 0 (length (history_by key))
+    → IsKept key (opening words slots (opener key))
+opens key words slots compiled may first is_words = record {
   compiled = compiled;
-  some_pass = some_pass;
-  few_passes = few;
+  some_pass = may.some_pass;
+  few_passes = may.few_passes;
+  before = may;
   run = [];
   steps = tt;
-  core = events.start (compiled_by key) key.passes;
+  core = resumed (compiled_by key) key.passes (history_by key);
   latches = replicate (stripes_by key) 0;
   reached = refl;
   seat = λ k. 0;
   handed = replicate (stripes_by key) false;
   readers = readers;
   shows = record {
-    wide = ap length zeros ∙ length-replicate (8 * suc (stripes_by key + stripes_by key)) 0;
-    commit = word_there 0;
-    words = λ p lt. word_there (stripe_word p) ∙ ap word_of (sym (unlocked p));
-    latch_words = λ p lt. word_there (latch_word (stripes_by key) p) ∙ sym (same_there (stripes_by key) p 0);
+    wide = wide;
+    commit = ap (λ (l : List ℕ). slice_index l 0) is_words ∙ get_or-set_same zeros 0 (length (history_by key)) 0 (let n : length {A = ℕ} (replicate (8 * suc (stripes_by key + stripes_by key)) 0) ≡ 8 * suc (stripes_by key + stripes_by key) = length-replicate (8 * suc (stripes_by key + stripes_by key)) 0 in omega (arith, n));
+    words = λ p lt. word_there (stripe_word p) (λ e. omega (arith, e)) ∙ ap word_of (sym (unlocked p lt));
+    latch_words = λ p lt. word_there (latch_word (stripes_by key) p) (λ e. omega (arith, e)) ∙ sym (same_there (stripes_by key) p 0);
     latch_count = length-replicate (stripes_by key) 0;
-    slots = length-map slots some ∙ empty.count;
-    passes = length-map-range_with_len fresh 0 key.passes;
+    slots = length-map slots some ∙ first.count;
+    passes = length-map-range_with_len (rested (history_by key)) 0 key.passes;
     homes = homes;
     handed_count = length-replicate (stripes_by key) false;
     owns = owns;
@@ -118,46 +167,60 @@ opens key words slots some_pass few compiled empty zeros = record {
   seated = λ k lt. record {
     view = opener key;
     at = refl;
-    has = list_any_in (λ (s : Standing). s.core.number == k) (starts 0 key.passes) (start k) (map_in start k (range_with_len 0 key.passes) (in_range_below key.passes k (let n = length-map-range_with_len fresh 0 key.passes in omega arith))) (eq-eqb k k refl);
+    has = list_any_in (λ (s : Standing). s.core.number == k) (starts (history_by key) 0 key.passes) (resumed_standing (history_by key) k)
+        (map_in (resumed_standing (history_by key)) k (range_with_len 0 key.passes) (in_range_below key.passes k (let n = length-map-range_with_len (rested (history_by key)) 0 key.passes in omega arith))) (eq-eqb k k refl);
   };
   views = views;
 }
   where
-    word_there : (i : ℕ) → slice_index words i ≡ 0
-    word_there i = ap (λ (l : List ℕ). slice_index l i) zeros ∙ same_there (8 * suc (stripes_by key + stripes_by key)) i 0
+    zeros : List ℕ
+    zeros = replicate (8 * suc (stripes_by key + stripes_by key)) 0
 
-    unlocked : (p : ℕ) → stripe_at (replicate (stripes_by key) no_stripe) p ≡ no_stripe
-    unlocked p = same_there (stripes_by key) p no_stripe
+    wide : length words ≡ 8 * suc (stripes_by key + stripes_by key)
+    wide = ap length is_words ∙ length-set zeros 0 (length (history_by key)) ∙ length-replicate (8 * suc (stripes_by key + stripes_by key)) 0
 
-    inside : (p : ℕ) → p < length (replicate (stripes_by key) no_stripe) → p < stripes_by key
-    inside p lt = let n = length-replicate (stripes_by key) no_stripe in omega arith
+    word_there : (i : ℕ) → i ≢ 0 → slice_index words i ≡ 0
+    word_there i apart = ap (λ (l : List ℕ). slice_index l i) is_words ∙ get_or-set_other zeros 0 i (length (history_by key)) 0 apart ∙ same_there (8 * suc (stripes_by key + stripes_by key)) i 0
 
-    homes : HomesAre (spec_by key) (replicate (stripes_by key) no_stripe) (replicate (stripes_by key) 0) (replicate (stripes_by key) false) (map some slots)
+    is_free : ℕ → StripeState
+    is_free = free_stripe (spec_by key) (history_by key)
+
+    stripes : List StripeState
+    stripes = map is_free (range_with_len 0 (stripes_by key))
+
+    unlocked : (p : ℕ) → p < stripes_by key → stripe_at (map is_free (range_with_len 0 (stripes_by key))) p ≡ is_free p
+    unlocked p lt = stripe_of_range is_free 0 (stripes_by key) p lt ∙ ap is_free (omega arith)
+
+    inside : (p : ℕ) → p < length (map is_free (range_with_len 0 (stripes_by key))) → p < stripes_by key
+    inside p lt = let n = length-map-range_with_len is_free 0 (stripes_by key) in omega arith
+
+    homes : HomesAre (spec_by key) (map is_free (range_with_len 0 (stripes_by key))) (replicate (stripes_by key) 0) (replicate (stripes_by key) false) (map some slots)
     homes p lt =
-        at_map some slots (slot_place p) (Apart (kept_of (spec_by key) [])) (empty.fresh p (inside p lt))
-        ∙ sym (λ i. some (home_of (spec_by key) (unlocked p i).keeper (same_there (stripes_by key) p false i) (eq-eqb (slice_index (replicate (stripes_by key) 0) p) 0 (same_there (stripes_by key) p 0) i)))
+        at_map some slots (slot_place p) (Apart (kept_of (spec_by key) (fragment_of (spec_by key) (replay (spec_by key) (history_by key)) p))) (first.rows p (inside p lt))
+        ∙ sym (λ i. some (home_of (spec_by key) (unlocked p (inside p lt) i).keeper (same_there (stripes_by key) p false i) (eq-eqb (slice_index (replicate (stripes_by key) 0) p) 0 (same_there (stripes_by key) p 0) i)))
 
-    unshared : (k : ℕ) → k < key.passes → pass_at (map fresh (range_with_len 0 key.passes)) k ≡ fresh (0 + k)
-    unshared k lt = get_or_from_slice_get (map fresh (range_with_len 0 key.passes)) k (fresh (0 + k)) no_pass (fresh_at 0 key.passes k lt)
+    unshared : (k : ℕ) → k < key.passes → pass_at (map (rested (history_by key)) (range_with_len 0 key.passes)) k ≡ rested (history_by key) (0 + k)
+    unshared k lt = get_or_from_slice_get (map (rested (history_by key)) (range_with_len 0 key.passes)) k (rested (history_by key) (0 + k)) no_pass (made_there (rested (history_by key)) 0 key.passes k lt)
 
-    owns : OwnsAre (spec_by key) (events.start (compiled_by key) key.passes) (replicate (stripes_by key) false) (map some slots)
+    owns : OwnsAre (spec_by key) (resumed (compiled_by key) key.passes (history_by key)) (replicate (stripes_by key) false) (map some slots)
     owns k p known lt =
-        let few : k < key.passes = (let n = length-map-range_with_len fresh 0 key.passes in omega arith) in
+        let few : k < key.passes = (let n = length-map-range_with_len (rested (history_by key)) 0 key.passes in omega arith) in
         subst (λ (z : StripeState × Bool × PassState). IsOwnHome (spec_by key) z.0.keeper z.1 (has (shares_of z.2) p) (get_elem? (map some slots) (own_place k p)))
-        (λ i. (sym (unlocked p) i, sym (same_there (stripes_by key) p false) i, sym (unshared k few) i))
-        (Empty, tt, at_map some slots (own_place k p) Empty (empty.empty k p few (inside p lt)))
+        (λ i. (sym (unlocked p (inside p lt)) i, sym (same_there (stripes_by key) p false) i, sym (unshared k few) i))
+        (Empty, tt, at_map some slots (own_place k p) Empty (first.empty k p few (inside p lt)))
 
     readers : (id : ℕ) (v : View) → get_elem? (opener key ∷ []) id ≡ some v → HaveHanded (replicate (stripes_by key) false) v.entering v.passes
-    readers zero v e = subst (λ (w : View). HaveHanded (replicate (stripes_by key) false) w.entering w.passes) (some-injective (opener key) v e) (starts_handed (replicate (stripes_by key) false) (range_with_len 0 key.passes))
+    readers zero v e = subst (λ (w : View). HaveHanded (replicate (stripes_by key) false) w.entering w.passes) (some-injective (opener key) v e) (starts_handed (history_by key) (replicate (stripes_by key) false) (range_with_len 0 key.passes))
     readers (suc id) v e = absurd (some-ne-none v (sym e))
 
     views : (id : ℕ) (v : View) → get_elem? (opener key ∷ []) id ≡ some v → IsTrueView (at_first_by key) (λ k. []) (λ k. 0) id v
     views zero v e = subst (IsTrueView (at_first_by key) (λ k. []) (λ k. 0) 0) (some-injective (opener key) v e)
         (record {
-          passes = starts_seated (map fresh (range_with_len 0 key.passes)) (range_with_len 0 key.passes) (λ k m. fresh_at 0 key.passes k (let b = in_range_bounds 0 key.passes k m in let l = b.1 in omega arith) ∙ ap (λ j. Some (fresh j)) (omega arith));
-          rising = subst (IsRising nat_cmp) (sym (numbers_of_starts (range_with_len 0 key.passes))) (range_rises 0 key.passes);
-          latch = starts_unlatched (stripes_by key) (starts 0 key.passes);
-          histories = starts_told (range_with_len 0 key.passes);
+          passes = starts_seated (history_by key) (map (rested (history_by key)) (range_with_len 0 key.passes)) (range_with_len 0 key.passes)
+              (λ k m. made_there (rested (history_by key)) 0 key.passes k (let b = in_range_bounds 0 key.passes k m in let l = b.1 in omega arith) ∙ ap (λ j. Some (rested (history_by key) j)) (omega arith));
+          rising = subst (IsRising nat_cmp) (sym (numbers_of_starts (history_by key) (range_with_len 0 key.passes))) (range_rises 0 key.passes);
+          latch = starts_unlatched (stripes_by key) (starts (history_by key) 0 key.passes);
+          histories = starts_told (history_by key) (range_with_len 0 key.passes);
           told = omega arith;
           known = λ k d lt. absurd (omega arith);
         })
@@ -175,13 +238,13 @@ stripes_of_key key s accepted spec n told first read count = count ∙ ap stripe
 pub words_of_key : (key : Key) (n : ℕ) → n ≡ stripes_by key → 8 * (2 * n + 1) ≡ 8 * suc (stripes_by key + stripes_by key)
 words_of_key key n is = omega (arith, is)
 
-pub is_whole : (a : Inside) (key : Key) → a.table.shared.key ≡ key → IsCompiled (spec_by key) (compiled_by key).plans → a.table.shared.table_id.slots ≡ 1024 + 260 * key.passes
-    → a.table.shared.table_id.words ≡ 8 * suc (stripes_by key + stripes_by key) → 1 ≤ key.passes → key.passes ≤ 255 → IsWholeRow a
-is_whole a key told compiled slots words some_pass few = record {
-  compiled = subst (λ (k : Key). IsCompiled (spec_by k) (compiled_by k).plans) (sym told) compiled;
-  slots = slots ∙ ap (λ (k : Key). 1024 + 260 * k.passes) (sym told);
-  words = words ∙ ap (λ (k : Key). 8 * suc (stripes_by k + stripes_by k)) (sym told);
-  stripes = subst (λ (k : Key). stripes_by k ≤ 256) (sym told) (placed_total (spec_by key) compiled.sealed.accepted.placed);
-  some_pass = subst (λ (k : Key). 1 ≤ k.passes) (sym told) some_pass;
-  passes = subst (λ (k : Key). k.passes ≤ 255) (sym told) few;
+pub is_whole : (a : Inside) (key : Key) (words : List ℕ) (slots : List Slot) → a.table.shared.key ≡ key → IsKept key (opening words slots (opener key))
+    → a.table.shared.table_id.slots ≡ length slots → a.table.shared.table_id.words ≡ length words → IsWholeRow a
+is_whole a key words slots told kept are many = record {
+  compiled = subst (λ (k : Key). IsCompiled (spec_by k) (compiled_by k).plans) (sym told) kept.compiled;
+  slots = are ∙ sym (length-map slots some) ∙ kept.shows.slots ∙ ap (λ (k : Key). 1024 + 260 * k.passes) (sym told);
+  words = many ∙ kept.shows.wide ∙ ap (λ (k : Key). 8 * suc (stripes_by k + stripes_by k)) (sym told);
+  stripes = subst (λ (k : Key). stripes_by k ≤ 256) (sym told) (placed_total (spec_by key) kept.compiled.sealed.accepted.placed);
+  some_pass = subst (λ (k : Key). 1 ≤ k.passes) (sym told) kept.some_pass;
+  passes = subst (λ (k : Key). k.passes ≤ 255) (sym told) kept.few_passes;
 }

@@ -56,6 +56,7 @@ reseated key s kept seat views still true_views readers = record {
   compiled = kept.compiled;
   some_pass = kept.some_pass;
   few_passes = kept.few_passes;
+  before = kept.before;
   run = kept.run;
   steps = kept.steps;
   core = kept.core;

@@ -19,6 +19,7 @@ use Rattle.rc_core.specs.declared.state.Keeper.{Keeper}
 use Rattle.rc_core.specs.declared.state.Keeper.TheVariants.{Home, Writer}
 use Rattle.rc_core.specs.declared.state.PassState.{PassState}
 use Rattle.rc_core.specs.declared.state.StripeState.{StripeState}
+use Rattle.rc_core.specs.Resumed.{MayGoOn}
 use Rattle.rc_core.specs.State.{stripe_at, pass_at, shares_of, is_at}
 use Rattle.atomic_table.specs.Table.{State}
 use Rattle.rc_row.specs.declared.law.Key.{Key}
@@ -28,7 +29,7 @@ use Rattle.rc_row.specs.declared.law.View.{View}
 use Rattle.rc_row.specs.declared.slot.Slot.{Slot as SlotDeclared}
 use Rattle.rc_row.specs.declared.slot.Slot.TheVariants.{Empty, Apart, Handed}
 use Rattle.rc_row.specs.Run.{RowState, RowStep, CanRun, after_run, at_first, last_of, refusals_in, row_state}
-use Rattle.rc_row.specs.Standings.{start}
+use Rattle.rc_row.specs.Standings.{resumed_standing, start}
 
 -- ---- the key
 
@@ -37,6 +38,10 @@ compiled_by key = key.compiled.value
 
 abbrev pub spec_by : Key → Spec
 spec_by key = key.compiled.value.spec
+
+-- the history from which the row goes on
+abbrev pub history_by : Key → List Entry
+history_by key = key.history.value
 
 -- how many stripes there are
 abbrev pub stripes_by : Key → ℕ
@@ -117,13 +122,13 @@ first_of (s ∷ passes) = s
 abbrev pub standing_of : View → Standing
 standing_of v = first_of v.passes
 
--- n passes from the number k on, as at the start
-abbrev pub starts : ℕ → ℕ → List Standing
-starts k n = map start (range_with_len k n)
+-- n passes from the number k on, as they go on from a history
+abbrev pub starts : List Entry → ℕ → ℕ → List Standing
+starts history k n = map (resumed_standing history) (range_with_len k n)
 
 -- the view of the seat that makes all others
 abbrev pub opener : Key → View
-opener key = passes_view (starts 0 key.passes)
+opener key = passes_view (starts (history_by key) 0 key.passes)
 
 abbrev pub numbers_in : List Standing → List ℕ
 numbers_in passes = map (λ s. s.core.number) passes
@@ -223,16 +228,17 @@ pub record Shows (key : Key) (core : CoreState) (latches : List ℕ) (handed : L
   pub handed_count : length handed ≡ stripes_by key
   pub owns : OwnsAre (spec_by key) core handed s.homes
 
--- nothing has happened in the row
+-- nothing has happened in the row but the history from which it goes on
 abbrev pub at_first_by : Key → RowState
-at_first_by key = at_first (compiled_by key) key.passes
+at_first_by key = at_first (compiled_by key) key.passes (history_by key)
 
--- The rule: there is a run of the row that leads to a state which words, homes and views show, and whose refused steps are those that
+-- The rule: there is a run of the row, from the history from which it goes on, that leads to a state which words, homes and views show, and whose refused steps are those that
 -- the views count.
 pub record IsKept (key : Key) (s : State Slot View) : Type 0 where
   pub compiled : IsCompiled (spec_by key) (compiled_by key).plans
   pub some_pass : 1 ≤ key.passes
   pub few_passes : key.passes ≤ 255
+  pub before : MayGoOn (spec_by key) key.passes (history_by key)
   pub run : List RowStep
   pub steps : CanRun (compiled_by key) (at_first_by key) run
   pub core : CoreState

@@ -4,15 +4,16 @@ use mathlib.Core.Option.{some}
 use lib.ListN.{get_elem?}
 use Rattle.rc_tuple.specs.RisingSet.{In}
 use Rattle.rc_spec.specs.Fragments.{fragment_of}
-use Rattle.rc_rel.specs.History.{replay}
-use Rattle.rc_core.specs.Events.{AreAllowed, after_all, start}
+use Rattle.rc_rel.specs.History.{IsPrefix, replay}
+use Rattle.rc_core.specs.Events.{AreAllowed, after_all}
+use Rattle.rc_core.specs.Resumed.{resumed}
 use Rattle.rc_core.specs.Waits.{IsCircleOfWaits}
 use Rattle.atomic_table.specs.Table.{Me, State}
 use Rattle.rc_row.specs.declared.law.Key.{Key}
 use Rattle.rc_row.specs.declared.law.Refusal.{Refusal}
 use Rattle.rc_row.specs.declared.law.View.{View}
 use Rattle.rc_row.specs.HeldRows.{HeldRows}
-use Rattle.rc_row.specs.Law.{Slot, compiled_by, spec_by, at_first_by, IsKept}
+use Rattle.rc_row.specs.Law.{Slot, compiled_by, history_by, spec_by, at_first_by, IsKept}
 use Rattle.rc_row.specs.PassInside.{Agrees}
 use Rattle.rc_row.specs.Run.{HasMoment, events_of, refusals_in}
 
@@ -20,11 +21,13 @@ use Rattle.rc_row.specs.Run.{HasMoment, events_of, refusals_in}
 abbrev pub OneStateIsShown : Type 0
 OneStateIsShown = (key : Key) (s : State Slot View) (a b : IsKept key s) → (a.core ≡ b.core) × (a.latches ≡ b.latches)
 
--- at every moment the row is a run of the core: the events so far were each allowed in its turn, and lead to the state that is shown
+-- At every moment the row is a run of the core: the events so far were each allowed in its turn, from the history from which the row goes on,
+-- and lead to the state that is shown, whose history begins with it.
 abbrev pub RowsAreRuns : Type 0
 RowsAreRuns = (key : Key) (s : State Slot View) (kept : IsKept key s)
-    → AreAllowed (compiled_by key) (start (compiled_by key) key.passes) (events_of kept.run)
-    × (kept.core ≡ after_all (compiled_by key) (start (compiled_by key) key.passes) (events_of kept.run))
+    → AreAllowed (compiled_by key) (resumed (compiled_by key) key.passes (history_by key)) (events_of kept.run)
+    × (kept.core ≡ after_all (compiled_by key) (resumed (compiled_by key) key.passes (history_by key)) (events_of kept.run))
+    × IsPrefix (history_by key) kept.core.history
 
 -- Each refused step that a pass counts is a step of that run, which could be made at its moment, and whose state had in the way what it found.
 abbrev pub RefusalsHaveMoments : Type 0

@@ -18,3 +18,6 @@ pub mod Ended
 pub mod Laws
 pub mod ShownLaws
 pub mod EventLaws
+pub mod HistoryMade
+pub mod HistoryInside
+pub mod Slots

@@ -27,9 +27,9 @@ use Rattle.rc_row.specs.declared.law.Standing.{Standing}
 use Rattle.rc_row.specs.declared.keeping.Keeping.{Keeping}
 use Rattle.rc_row.specs.declared.keeping.Keeping.TheVariants.{Entries, Counts}
 use Rattle.rc_row.specs.HeldRows.{HeldRows, just_held}
-use Rattle.rc_row.specs.Law.{compiled_by, spec_by, stripes_by, kept_of}
+use Rattle.rc_row.specs.Law.{compiled_by, history_by, spec_by, stripes_by, kept_of}
 use Rattle.rc_spec.specs.declared.lock.Found.{Found}
-use Rattle.rc_row.specs.Standings.{HaveOneRelation, IsAtHistory, KeepsOut, after_entry, after_learn, after_look, start, wish_after, with_core}
+use Rattle.rc_row.specs.Standings.{HaveOneRelation, IsAtHistory, KeepsOut, after_entry, after_learn, after_look, resumed_standing, start, wish_after, with_core}
 
 -- ---- what is seen
 
@@ -280,6 +280,10 @@ new_pass row k = record { table = row.table; standing = start k; held = []; kept
 -- the passes of a new row, by number
 abbrev pub new_passes : RowSeen → List PassSeen
 new_passes row = map (new_pass row) (range_with_len 0 row.key.passes)
+
+-- the pass k of a row that goes on from a history, with what it keeps of its entries
+abbrev pub resumed_pass : RowSeen → ℕ → Option PartEntries → PassSeen
+resumed_pass row k kept = record { table = row.table; standing = resumed_standing (history_by row.key) k; held = []; kept = kept }
 
 -- all passes of a row, by number, holding nothing
 pub record AreIdlePasses (row : RowSeen) (passes : List PassSeen) : Type 0 where

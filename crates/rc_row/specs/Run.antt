@@ -7,6 +7,7 @@ use Rattle.rc_spec.specs.declared.lock.Found.TheVariants.{Pass, Readers, Latch}
 use Rattle.rc_spec.specs.declared.lock.Mode.{Mode}
 use Rattle.rc_spec.specs.declared.lock.Mode.TheVariants.{Shared, Exclusive}
 use Rattle.rc_plan.specs.Compiled.{SpecWithPlans}
+use Rattle.rc_rel.specs.declared.entry.Entry.{Entry}
 use Rattle.rc_core.specs.declared.state.CoreState.{CoreState}
 use Rattle.rc_core.specs.declared.state.Hold.{Hold}
 use Rattle.rc_core.specs.declared.state.Keeper.{Keeper}
@@ -16,7 +17,8 @@ use Rattle.rc_core.specs.declared.event.Event.{Event}
 use Rattle.rc_core.specs.declared.event.Event.TheVariants as event
 use Rattle.rc_core.specs.State.{pass_at, stripe_at}
 use Rattle.rc_core.specs.Passes.{other_holds}
-use Rattle.rc_core.specs.Events.{CanLeave, IsAllowed, after, start}
+use Rattle.rc_core.specs.Events.{CanLeave, IsAllowed, after}
+use Rattle.rc_core.specs.Resumed.{resumed}
 use Rattle.rc_row.specs.declared.law.Refusal.{Refusal}
 
 -- the core's state, and of each stripe who has its latch: 0, or the number of the pass and one more
@@ -58,9 +60,9 @@ abbrev pub after_run : SpecWithPlans → RowState → List RowStep → RowState
 after_run compiled s [] = s
 after_run compiled s (x ∷ steps) = after_run compiled (after_step compiled s x) steps
 
--- nothing has happened, and all latches are free
-abbrev pub at_first : SpecWithPlans → ℕ → RowState
-at_first compiled passes = row_state (start compiled passes) (replicate (stripe_total compiled.spec) 0)
+-- this history has happened and nobody holds anything, and all latches are free
+abbrev pub at_first : SpecWithPlans → ℕ → List Entry → RowState
+at_first compiled passes history = row_state (resumed compiled passes history) (replicate (stripe_total compiled.spec) 0)
 
 -- the events of the core among the steps
 abbrev pub events_of : List RowStep → List Event

@@ -5,15 +5,18 @@ use Rattle.std.proofs.lemmas.Bool.{eq-eqb, eqb-true, ne_eqb}
 use Rattle.rc_tuple.specs.RisingSet.{In}
 use Rattle.rc_tuple.specs.RisingSetLaws.{in_append}
 use Rattle.rc_plan.specs.Compiled.{SpecWithPlans, IsCompiled}
-use Rattle.rc_core.specs.Events.{AreAllowed, after_all, start}
+use Rattle.rc_rel.specs.History.{IsPrefix}
+use Rattle.rc_core.specs.Events.{AreAllowed, after_all}
+use Rattle.rc_core.specs.declared.state.CoreState.{CoreState}
+use Rattle.rc_core.specs.Resumed.{resumed}
+use Rattle.rc_core.specs.ResumedLaws.{events_add, resumed_good}
 use Rattle.rc_core.specs.Good.{IsGood}
 use Rattle.rc_core.specs.RunLaws.{events_keep}
-use Rattle.rc_core.specs.StartLaws.{start_is_good}
 use Rattle.atomic_table.specs.Table.{State}
 use Rattle.rc_row.specs.declared.law.Key.{Key}
 use Rattle.rc_row.specs.declared.law.Refusal.{Refusal}
 use Rattle.rc_row.specs.declared.law.View.{View}
-use Rattle.rc_row.specs.Law.{Slot, compiled_by, spec_by, at_first_by, IsKept}
+use Rattle.rc_row.specs.Law.{Slot, compiled_by, history_by, spec_by, at_first_by, IsKept}
 use Rattle.rc_row.specs.Run.{RowState, RowStep, OfCore, TakeLatch, MissLatch, FreeLatch, CanStep, CanRun, HasMoment, after_step, after_run, events_of, last_of, pass_of, refusal_of, refusal_where, refusals_in, row_state}
 
 -- ---- one step more
@@ -100,17 +103,22 @@ module _ (key : Key) (s : State Slot View) (kept : IsKept key s) where
   -- the state is good
   pub good_of : IsGood (spec_by key) kept.core
   good_of = subst (λ (t : RowState). IsGood (spec_by key) t.core) kept.reached
-      (run_keeps (compiled_by key) kept.compiled (at_first_by key) (start_is_good (compiled_by key) key.passes kept.some_pass kept.few_passes) kept.run kept.steps)
+      (run_keeps (compiled_by key) kept.compiled (at_first_by key) (resumed_good (compiled_by key) key.passes (history_by key) kept.before) kept.run kept.steps)
 
   -- each refused step of a pass has its moment in the run
   pub refusals_have_moments : (k : ℕ) (r : Refusal) → In r (refusals_of k) → HasMoment (compiled_by key) (at_first_by key) kept.run k r
   refusals_have_moments k r m = moments (compiled_by key) (at_first_by key) kept.run k r kept.steps m
 
-  pub run_allowed : AreAllowed (compiled_by key) (start (compiled_by key) key.passes) (events_of kept.run)
+  pub run_allowed : AreAllowed (compiled_by key) (resumed (compiled_by key) key.passes (history_by key)) (events_of kept.run)
   run_allowed = events_allowed (compiled_by key) (at_first_by key) kept.run kept.steps
 
-  pub run_leads : kept.core ≡ after_all (compiled_by key) (start (compiled_by key) key.passes) (events_of kept.run)
+  pub run_leads : kept.core ≡ after_all (compiled_by key) (resumed (compiled_by key) key.passes (history_by key)) (events_of kept.run)
   run_leads = sym (events_lead (compiled_by key) (at_first_by key) kept.run ∙ ap (λ (t : RowState). t.core) kept.reached)
+
+  -- the history begins with that from which the row goes on
+  pub begins_with : IsPrefix (history_by key) kept.core.history
+  begins_with = subst (λ (c : CoreState). IsPrefix (history_by key) c.history) (sym run_leads)
+      (events_add (compiled_by key) (resumed (compiled_by key) key.passes (history_by key)) (events_of kept.run))
 
   module _ (x : RowStep) where
     pub can_go_on : CanStep (compiled_by key) state_of x → CanRun (compiled_by key) (at_first_by key) (kept.run ++ x ∷ [])

@@ -16,7 +16,7 @@ use Rattle.rc_row.specs.declared.law.Key.{Key}
 use Rattle.rc_row.specs.declared.law.Standing.{Standing}
 use Rattle.rc_row.specs.declared.law.View.{View}
 use Rattle.rc_row.specs.Law.{Slot, spec_by, pass_view, standing_of, AreSeatedAt, has_pass, IsKept}
-use Rattle.rc_row.specs.RunLaws.{good_of, refusals_have_moments, run_allowed, run_leads}
+use Rattle.rc_row.specs.RunLaws.{begins_with, good_of, refusals_have_moments, run_allowed, run_leads}
 use Rattle.rc_row.specs.HeldRows.{HeldRows}
 use Rattle.rc_row.specs.Laws.{HeldAreOfTheState, NoCircleIsShown, OneStateIsShown, RefusalsHaveMoments, RowsAreRuns}
 use Rattle.rc_row.specs.Passes.{holds_taken}
@@ -47,7 +47,7 @@ one_state key s a b = (
 )
 
 pub rows_are_runs : RowsAreRuns
-rows_are_runs key s kept = (run_allowed key s kept, run_leads key s kept)
+rows_are_runs key s kept = (run_allowed key s kept, run_leads key s kept, begins_with key s kept)
 
 pub refusals_have_their_moments : RefusalsHaveMoments
 refusals_have_their_moments key s kept k r m = refusals_have_moments key s kept k r m

@@ -17,12 +17,22 @@ use Rattle.rc_core.specs.declared.state.Hold.{Hold}
 use Rattle.rc_core.specs.declared.state.PassState.{PassState}
 use Rattle.rc_core.specs.State.{fresh}
 use Rattle.rc_core.specs.Good.{IsOfHistory}
+use Rattle.rc_core.specs.Resumed.{rested}
 use Rattle.rc_core.specs.Passes.{committed, learned, other_holds, turned}
 use Rattle.rc_row.specs.declared.law.Standing.{Standing}
 
 -- the pass k at the start
 abbrev pub start : ℕ → Standing
 start k = record { core = fresh k; refusals = 0; last_refusal = None; known = [] }
+
+-- what a pass is told that goes on from a history: that history, where something has happened
+abbrev pub told_of : List Entry → List (List Entry)
+told_of [] = []
+told_of (e ∷ history) = (e ∷ history) ∷ []
+
+-- the pass k that goes on from a history
+abbrev pub resumed_standing : List Entry → ℕ → Standing
+resumed_standing history k = record { core = rested history k; refusals = 0; last_refusal = None; known = told_of history }
 
 abbrev pub with_core : Standing → PassState → Standing
 with_core s u = record s { core = u }

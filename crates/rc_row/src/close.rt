@@ -7,9 +7,11 @@ ghost use Rattle.std.specs.List.{slice_get};
 ghost use Rattle.std.specs.Slots.{IsFull, slots_items, slots_len};
 ghost use Rattle.rc_fragment.specs.Keep.{KeptRows};
 ghost use Rattle.rc_row.specs.Ended.{AreEnded, HasHistory, IsEndedPass};
-ghost use Rattle.rc_row.specs.Law.{kept_in, pass_view, passes_view, slot_place};
+ghost use Rattle.rc_rel.specs.History.{IsPrefix};
+ghost use Rattle.rc_row.specs.Law.{history_by, kept_in, pass_view, passes_view, slot_place};
 ghost use Rattle.rc_row.specs.Passes.{AreIdlePasses, core_of, spec_of};
 
+use crate::history::History;
 use crate::law::View;
 use crate::pass::Pass;
 use crate::row::{Row, is_of_stripe};
@@ -38,21 +40,25 @@ pub struct EndedPass {
 }
 
 /// What a row leaves.
-#[derive(Drop, Debug)]
+#[derive(Drop)]
 pub struct EndedRow {
     /// The fragments of its stripes, by number.
     pub fragments: Vec<Keep>,
     /// What its passes leave, by number.
     pub passes: Vec<EndedPass>,
+    /// The one history of all entries.
+    pub history: History,
 }
 
 impl Row {
-    /// Ends the row. The entries of its passes are those of one legal history, and its fragments have the rows that the history
-    /// leaves. All passes come with it, by number, and hold nothing. Where memory is wanted for the lists, all comes back. Costs
+    /// Ends the row. The entries of its passes are those of one legal history, which begins with that from which the row went
+    /// on, and its fragments have the rows that the history leaves. All passes come with it, by number, and hold nothing. Where memory is wanted for the lists, all comes back. Costs
     /// the stripes and the passes.
     pub fn close(self, passes: Vec<Pass>) -> Result<EndedRow, RowBack>
         requires { AreIdlePasses self passes.items }
         ensures history { IfOk result (λ ended. HasHistory (spec_of self) passes.items ended.fragments.items) }
+        ensures begins { IfOk result (λ ended. IsPrefix (history_by self.key) ended.history) }
+        ensures named { IfOk result (λ ended. (h : HasHistory (spec_of self) passes.items ended.fragments.items) → ended.history ≡ h.history) }
         ensures passes { IfOk result (λ ended. AreEnded passes.items ended.passes.items) }
         ensures err { IfErr result (λ back. (back.row ≡ self) × (back.passes.items ≡ passes.items)) }
     {
@@ -64,6 +70,7 @@ impl Row {
             return Err(RowBack { row: self, passes });
         };
         let seat = self.gather(passes, &mut ended);
+        let history = History::of(&seat);
         let Row {
             table,
             waiting: _,
@@ -74,6 +81,7 @@ impl Row {
         Ok(EndedRow {
             fragments,
             passes: ended,
+            history,
         })
     }
 

@@ -1,5 +1,6 @@
 //! The rule of the table that a row is: at every moment words, slots and views show a run of the core.
 
+use crate::history::History;
 use crate::slot::Slot;
 use atomic_table::TableRule;
 use rc_core::{Hold, PassState};
@@ -19,6 +20,8 @@ pub struct Key {
     pub passes: u32,
     /// The seed of its hash tables.
     pub seed: Seed,
+    /// The history from which the row goes on: none, or that of a row that was closed.
+    pub history: Snapshot<History>,
 }
 
 /// A step at which a pass found a stripe taken. Contracts alone have it.
@@ -62,7 +65,7 @@ pub struct View {
     pub known: SmallList<SmallList<Entry>>,
 }
 
-/// The rule: there is a run of the core, of the key's specification, after which words, slots and views show its state, and
+/// The rule: there is a run of the core, of the key's specification and from its history, after which words, slots and views show its state, and
 /// whose refused steps are those that the views count.
 pub struct Law;
 

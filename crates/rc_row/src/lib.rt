@@ -9,6 +9,7 @@ mod commit;
 mod fragments;
 mod hands;
 mod held;
+mod history;
 mod keeping;
 mod law;
 mod laws;
@@ -23,6 +24,7 @@ mod steps;
 mod waiting;
 
 pub use close::{EndedPass, EndedRow, RowBack};
+pub use history::History;
 pub use keeping::Keeping;
 pub use law::{Key, Law, Refusal, Standing, View};
 pub use laws::{

@@ -3,6 +3,7 @@
 ghost use Rattle.std.specs.Prelude.{◌≡◌, Bool};
 ghost use Rattle.rc_fragment.specs.Keep.{KeptRows};
 ghost use Rattle.rc_row.specs.Law.{kept_in};
+ghost use Rattle.rc_row.specs.Slots.{kept_at};
 
 use rc_fragment::Keep;
 
@@ -19,6 +20,16 @@ pub enum Slot {
 }
 
 impl Slot {
+    /// The fragment that it has, where it has one.
+    pub(crate) fn kept(self) -> Option<Keep>
+        ensures { result ≡ kept_at self }
+    {
+        match self {
+            Slot::Apart(keep) | Slot::Handed(keep) => Some(keep),
+            Slot::Empty => None,
+        }
+    }
+
     /// The fragment that it has.
     pub(crate) fn into_keep(self) -> Keep
         requires { (handed : Bool) × (keep : KeptRows) × (self ≡ kept_in handed keep) }

@@ -3,38 +3,50 @@ use Rattle.std.specs.Prelude.{◌≡◌, ℕ, ◌<◌, List, [], Option, Some, N
 use Rattle.std.specs.List.{range_with_len, slice_get}
 use Rattle.rc_tuple.specs.RisingSet.{In}
 use Rattle.rc_spec.specs.declared.spec.Spec.{Spec}
+use Rattle.rc_spec.specs.Fragments.{fragment_of}
+use Rattle.rc_spec.specs.Stripes.{stripe_total}
+use Rattle.rc_fragment.specs.Keep.{KeptRows}
 use Rattle.rc_plan.specs.Compiled.{SpecWithPlans}
 use Rattle.rc_rel.specs.declared.entry.Entry.{Entry}
-use Rattle.rc_rel.specs.History.{own, own_placed, replay}
+use Rattle.rc_rel.specs.History.{IsPrefix, own, own_placed, replay}
 use Rattle.rc_core.specs.Good.{IsGoodHistory}
+use Rattle.rc_core.specs.Resumed.{MayGoOn}
 use Rattle.rc_journal.specs.PartEntries.{PartEntries}
-use Rattle.rc_instance.specs.Instance.{IsOfRelation, Stripe, held_from}
+use Rattle.rc_instance.specs.Instance.{IsOfRelation, Stripe, held_from, kept_stripe}
 use Rattle.rc_row.specs.declared.close.EndedPass.{EndedPass}
 use Rattle.rc_row.specs.declared.keeping.Keeping.{Keeping}
 use Rattle.rc_row.specs.declared.keeping.Keeping.TheVariants.{Counts, Entries}
-use Rattle.rc_row.specs.Law.{AreKnown}
+use Rattle.rc_row.specs.Law.{AreKnown, history_by, kept_of}
 use Rattle.rc_row.specs.Passes.{PassSeen, compiled_of, core_of, spec_of}
 use Rattle.rc_store.specs.Store.{StoreSeen}
 
--- the specification with its plans, the fragments of all stripes, the entries by place where they were kept, and how many
--- each pass committed
+-- the specification with its plans, the fragments of all stripes, the entries by place where they were kept, how many each
+-- pass committed, and the history, which no code reads
 pub record ClosedSeen : Type 0 where
   pub compiled : SpecWithPlans
   pub instance : List Stripe
   pub journal : Option (List Entry)
   pub made : List ℕ
+  pub history : List Entry
+
+-- the fragments that a history leaves, by stripe
+abbrev pub left_by : Spec → List Entry → List KeptRows
+left_by spec history = map (λ p. kept_of spec (fragment_of spec (replay spec history) p)) (range_with_len 0 (stripe_total spec))
 
 -- A good history of so many passes leaves these fragments: they are those of its relation, and none is held.
 pub record Leaves (spec : Spec) (passes : ℕ) (history : List Entry) (instance : List Stripe) : Type 0 where
   pub good : IsGoodHistory spec passes history
   pub relation : IsOfRelation spec instance (replay spec history)
   pub free : held_from 0 instance ≡ []
+  pub stripes : instance ≡ map kept_stripe (left_by spec history)
 
--- There is one good history of so many passes, which leaves the fragments. The journal, where there is one, is this
--- history.
+-- There is one good history of so many passes, which leaves the fragments, and from which they may go on. The journal, where
+-- there is one, is this history.
 pub record HasOneHistory (closed : ClosedSeen) : Type 0 where
   pub history : List Entry
+  pub is : closed.history ≡ history
   pub leaves : Leaves closed.compiled.spec (length closed.made) history closed.instance
+  pub may : MayGoOn closed.compiled.spec (length closed.made) history
   pub journal : IfSome closed.journal (λ journal. journal ≡ history)
   pub made : closed.made ≡ map (λ pass. length (own history pass)) (range_with_len 0 (length closed.made))
 
@@ -47,12 +59,15 @@ where_kept Counts x = None
 abbrev pub made_by : List PassSeen → List ℕ
 made_by passes = map (λ pass. length (core_of pass).own) passes
 
--- what is left of a store and its passes: each pass's entries are its own of the one history, which goes on from all that it
--- was told of
+-- what is left of a store and its passes: each pass's entries are its own of the one history, which begins with that from
+-- which the store went on, and goes on from all that each pass was told of
 pub record HasClosed (store : StoreSeen) (passes : List PassSeen) (closed : ClosedSeen) : Type 0 where
   pub compiled : closed.compiled ≡ compiled_of store.row
   pub history : List Entry
+  pub is : closed.history ≡ history
+  pub begins : IsPrefix (history_by store.row.key) history
   pub leaves : Leaves (spec_of store.row) (length passes) history closed.instance
+  pub may : MayGoOn (spec_of store.row) (length passes) history
   pub own : (k : ℕ) (pass : PassSeen) → slice_get passes k ≡ Some pass → (core_of pass).own ≡ own_placed history k
   pub known : (k : ℕ) (pass : PassSeen) → slice_get passes k ≡ Some pass → AreKnown history pass.standing.known
   pub journal : closed.journal ≡ where_kept store.row.keeping history

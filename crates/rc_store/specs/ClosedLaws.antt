@@ -10,13 +10,17 @@ use Rattle.rc_tuple.specs.RisingSetLaws.{in_slice_get}
 use Rattle.rc_spec.specs.Acceptance.{IsSealed}
 use Rattle.rc_spec.specs.Calls.{all_columns}
 use Rattle.rc_spec.specs.Fragments.{fragment_of}
+use Rattle.rc_spec.specs.Stripes.{stripe_total}
+use Rattle.std.proofs.lemmas.List.FromFn.{length-map-range_with_len}
 use Rattle.rc_spec.specs.declared.spec.Spec.{Spec}
 use Rattle.rc_fragment.specs.Keep.{KeptRows}
 use Rattle.rc_rel.specs.declared.entry.Entry.{Entry}
 use Rattle.rc_rel.specs.declared.entry.Placed.{Placed}
-use Rattle.rc_rel.specs.History.{own, own_placed, replay}
+use Rattle.rc_rel.specs.History.{IsPrefix, own, own_placed, replay}
 use Rattle.rc_rel.specs.HistoryLaws.{replay_in_states, states_are_relations, states_satisfy}
-use Rattle.rc_rel.specs.OwnLaws.{placed_own}
+use Rattle.rc_rel.specs.OwnLaws.{placed_own, same_places}
+use Rattle.rc_core.specs.Resumed.{MayGoOn}
+use Rattle.rc_core.specs.ResumedLaws.{made_at, made_there}
 use Rattle.rc_rel.specs.SharesLaws.{shares_add_up}
 use Rattle.rc_journal.specs.ByPassLaws.{own_parts}
 use Rattle.rc_journal.specs.Merge.{AreNumbersBelow, ArePartsOf, places_of}
@@ -28,10 +32,10 @@ use Rattle.rc_row.specs.declared.close.EndedPass.{EndedPass}
 use Rattle.rc_row.specs.declared.keeping.Keeping.{Keeping}
 use Rattle.rc_row.specs.declared.keeping.Keeping.TheVariants.{Counts, Entries}
 use Rattle.rc_row.specs.Ended.{AreEnded, HasHistory, IsEndedPass}
-use Rattle.rc_row.specs.Law.{kept_of}
+use Rattle.rc_row.specs.Law.{history_by, kept_of}
 use Rattle.rc_row.specs.PassInside.{AreOwnKept}
 use Rattle.rc_row.specs.Passes.{IsPassOf, KeepsAs, PassSeen, RowSeen, compiled_of, core_of, spec_of}
-use Rattle.rc_store.specs.Closed.{AreKeptOf, ClosedSeen, HasClosed, HasOneHistory, Leaves, made_by, where_kept}
+use Rattle.rc_store.specs.Closed.{AreKeptOf, ClosedSeen, HasClosed, HasOneHistory, Leaves, left_by, made_by, where_kept}
 use Rattle.rc_store.specs.Store.{StoreSeen}
 
 -- ---- how long the history is
@@ -139,6 +143,11 @@ parts_are_placed history n ended kept long = subst (λ m. AreNumbersBelow m (pla
 pub history_of : (row other : RowSeen) (passes : List PassSeen) (fragments : List KeptRows) → row ≡ other → HasHistory (spec_of row) passes fragments → HasHistory (spec_of other) passes fragments
 history_of row other passes fragments same h = subst (λ (r : RowSeen). HasHistory (spec_of r) passes fragments) same h
 
+-- the history that is named, of one row and the same row
+pub named_in : (row other : RowSeen) (passes : List PassSeen) (fragments : List KeptRows) (history : List Entry) → row ≡ other
+    → ((h : HasHistory (spec_of row) passes fragments) → history ≡ h.history) → (h : HasHistory (spec_of other) passes fragments) → history ≡ h.history
+named_in row other passes fragments history same named = subst (λ (r : RowSeen). (h : HasHistory (spec_of r) passes fragments) → history ≡ h.history) same named
+
 pub room_of : (keeping : Keeping) (passes others : List PassSeen) (room : Option ℕ) → passes ≡ others
     → room ≡ where_kept keeping (min (sum (made_by passes)) (2 ^ 64 - 1)) → room ≡ where_kept keeping (min (sum (made_by others)) (2 ^ 64 - 1))
 room_of keeping passes others room same is = is ∙ ap (λ (ps : List PassSeen). where_kept keeping (min (sum (made_by ps)) (2 ^ 64 - 1))) same
@@ -166,19 +175,35 @@ module _ (row : RowSeen) (passes : List PassSeen) (fragments : List KeptRows) (h
           (kept_of_history row passes fragments h ended are e all) ∙ ap (λ k. where_kept k h.history) (sym e)
       go Counts e = none (is ∙ ap (λ k. where_kept k (min (sum (made_by passes)) (2 ^ 64 - 1))) e) ∙ ap (λ k. where_kept k h.history) (sym e)
 
+-- the fragments are those that the history leaves
+fragments_are : (spec : Spec) (passes : List PassSeen) (fragments : List KeptRows) (h : HasHistory spec passes fragments) → fragments ≡ left_by spec h.history
+fragments_are spec passes fragments h = same_places fragments (left_by spec h.history)
+    (λ i x e. (let lt = slice_get_within fragments i x e in
+    made_there rows 0 (stripe_total spec) i (subst (λ n. i < n) h.count lt) ∙ ap (λ n. Some (rows n)) (omega arith) ∙ sym (h.rows i lt) ∙ e))
+    (λ i x e. (let lt : i < length (left_by spec h.history) = slice_get_within (left_by spec h.history) i x e in
+    let inside : i < length fragments = (let n = length-map-range_with_len rows 0 (stripe_total spec) in let m = h.count in omega arith) in
+    h.rows i inside ∙ ap Some (ap rows (let z : i ≡ 0 + i = omega arith in z) ∙ sym (made_at rows 0 (stripe_total spec) i x e))))
+  where
+    rows : ℕ → KeptRows
+    rows p = kept_of spec (fragment_of spec (replay spec h.history) p)
+
 -- ---- the closed store
 
 module _ (store : StoreSeen) (passes : List PassSeen) (fragments : List KeptRows) (sealed : IsSealed (spec_of store.row)) (h : HasHistory (spec_of store.row) passes fragments) where
-  pub has_closed : (closed : ClosedSeen) → closed.compiled ≡ compiled_of store.row → closed.instance ≡ map kept_stripe fragments
+  pub has_closed : (closed : ClosedSeen) → closed.history ≡ h.history → IsPrefix (history_by store.row.key) h.history → closed.compiled ≡ compiled_of store.row → closed.instance ≡ map kept_stripe fragments
       → closed.journal ≡ where_kept store.row.keeping h.history → closed.made ≡ made_by passes → HasClosed store passes closed
-  has_closed closed compiled instance journal made = record {
+  has_closed closed is begins compiled instance journal made = record {
     compiled = compiled;
     history = h.history;
+    is = is;
+    begins = begins;
+    may = h.may;
     leaves = record {
       good = h.good;
       relation = subst (λ (ss : List Stripe). IsOfRelation (spec_of store.row) ss (replay (spec_of store.row) h.history)) (sym instance)
           (kept_relation (spec_of store.row) passes fragments sealed h);
       free = ap (held_from 0) instance ∙ none_held 0 fragments;
+      stripes = instance ∙ ap (map kept_stripe) (fragments_are (spec_of store.row) passes fragments h);
     };
     own = h.own;
     known = h.known;
@@ -198,7 +223,7 @@ made_by_number g (pass ∷ passes) a same =
     let rest = made_by_number g passes (a + 1) (λ k p e. same (suc k) p e ∙ ap g (let z : a + suc k ≡ a + 1 + k = omega arith in z)) in
     λ i. first i ∷ rest i
 
-own_length : (history : List Entry) (k : ℕ) → length (own_placed history k) ≡ length (own history k)
+pub own_length : (history : List Entry) (k : ℕ) → length (own_placed history k) ≡ length (own history k)
 own_length history k = sym (length-map (own_placed history k) (λ (w : Placed). w.entry)) ∙ ap (λ (l : List Entry). length l) (placed_own 0 history k)
 
 -- what a store leaves has one history
@@ -207,6 +232,8 @@ one_history store passes closed h =
     let many : length closed.made ≡ length passes = ap (λ (l : List ℕ). length l) h.made ∙ length-map passes (λ (pass : PassSeen). length (core_of pass).own) in
     let same : spec_of store.row ≡ closed.compiled.spec = ap (λ c. c.spec) (sym h.compiled) in record {
       history = h.history;
+      is = h.is;
+      may = subst (λ (x : Spec × ℕ). MayGoOn x.0 x.1 h.history) (λ i. (same i, sym many i)) h.may;
       leaves = subst (λ (x : Spec × ℕ). Leaves x.0 x.1 h.history closed.instance) (λ i. (same i, sym many i)) h.leaves;
       journal = subst (λ (o : Option (List Entry)). IfSome o (λ journal. journal ≡ h.history)) (sym h.journal) (kept_is store.row.keeping h.history);
       made = h.made

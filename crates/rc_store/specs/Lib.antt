@@ -31,3 +31,5 @@ pub mod OpenInside
 pub mod OpenBacks
 pub mod OpenGroupLaws
 pub mod ReleaseLaws
+pub mod Resumed
+pub mod ResumedLaws

@@ -63,6 +63,7 @@ impl<W: Wakes> Store<W> {
                 instance: Instance::from_kept(room.instance, ended.fragments),
                 journal: journal_of(room.journal, room.parts, ended.passes),
                 made: room.made,
+                history: ended.history,
             }),
             Err(RowBack { row, passes }) => Err(StoreBack {
                 store: Store {
@@ -136,7 +137,11 @@ fn total(counts: &[u64]) -> u64
 }
 
 /// The history whose entries the passes kept, where there is room for one.
-fn journal_of(room: Option<Room>, parts: Vec<Part>, ended: Vec<EndedPass>) -> Option<Journal>
+pub(crate) fn journal_of(
+    room: Option<Room>,
+    parts: Vec<Part>,
+    ended: Vec<EndedPass>,
+) -> Option<Journal>
     requires parts { (parts.items ≡ []) × (length ended.items ≤ vec_capacity parts) }
     requires room { IfSome room (λ room. (history : List Entry) × AreKeptOf history ended.items × (length history ≡ room)) }
     ensures none { room ≡ None → result ≡ None }

@@ -9,6 +9,7 @@ use rc_instance::Instance;
 use rc_journal::Journal;
 use rc_maps::Seed;
 use rc_plan::Compiled;
+use rc_row::History;
 use rc_tuple::{Memory, Tuples};
 use std::alloc::Global;
 use std::marker::Model;
@@ -23,6 +24,7 @@ pub struct Closed {
     pub(crate) instance: Instance,
     pub(crate) journal: Option<Journal>,
     pub(crate) made: Vec<u64>,
+    pub(crate) history: History,
 }
 
 impl Model for Closed {

@@ -1,6 +1,7 @@
 //! What receipts mean, as laws. The proofs stand in `specs/`.
 
 ghost use Rattle.rc_store.specs.Headline.{ReceiptsMeanOneHistory};
+ghost use Rattle.rc_store.specs.Resumed.{ResumedHistoriesAreOne};
 ghost use Rattle.rc_store.specs.Receipts.{ReceiptsAreOfTheClosed, ReceiptsArePlain, ReceiptsGoOn, TellingGoesOn};
 
 /// THE HEADLINE OF A STORE: behind each receipt stands one good history, whose next call is the receipt's, with the plain
@@ -29,4 +30,10 @@ pub fn telling_goes_on()
 /// Where a store is closed, each receipt that a pass of it was told of stands in the one history, at its place.
 pub fn receipts_are_of_the_closed()
     ensures { ReceiptsAreOfTheClosed }
+{}
+
+/// The one history goes on where a closed store does: it begins with each receipt of the closed store that a pass was told
+/// of, each later receipt stands behind it, and what the later store leaves begins with it.
+pub fn resumed_histories_are_one()
+    ensures { ResumedHistoriesAreOne }
 {}

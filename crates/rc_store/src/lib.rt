@@ -18,6 +18,7 @@ mod open_run;
 mod opening;
 mod prepared_group;
 mod receipt;
+mod resume;
 mod run;
 mod running;
 mod running_group;
@@ -31,10 +32,11 @@ pub use closed::Closed;
 pub use gate::{Gate, OpenGate, Point};
 pub use laws::{
     receipts_are_of_the_closed, receipts_are_plain, receipts_go_on, receipts_mean_one_history,
-    telling_goes_on,
+    resumed_histories_are_one, telling_goes_on,
 };
 pub use open_group::{OpenBack, OpenGroup};
 pub use receipt::{BeginBack, CallFault, GroupReceipt, Receipt, TryFault};
+pub use resume::ResumeBack;
 pub use running::Running;
 pub use running_group::RunningGroup;
 pub use store::Store;

@@ -1,7 +1,13 @@
-use Rattle.std.proofs.Common.{arith, ◌≤◌, subst}
+use Rattle.std.proofs.Common.{arith, ◌≡◌, ◌≤◌, List, sym, ap, ◌∙◌, subst}
 use Rattle.std.specs.Slots.{slots_items}
-use Rattle.rc_row.specs.Passes.{RowSeen}
-use Rattle.rc_row.proofs.ClosingLemmas.{closed_slot, count_of, has_history}
+use Rattle.rc_rel.specs.declared.entry.Entry.{Entry}
+use Rattle.rc_rel.specs.History.{IsPrefix}
+use Rattle.rc_row.specs.declared.law.View.{View}
+use Rattle.rc_row.specs.Ended.{HasHistory}
+use Rattle.rc_row.specs.HistoryMade.{made_by}
+use Rattle.rc_row.specs.Law.{history_by}
+use Rattle.rc_row.specs.Passes.{RowSeen, spec_of}
+use Rattle.rc_row.proofs.ClosingLemmas.{closed_slot, count_of, has_history, made_is_history}
 use Rattle.rc_row.proofs.row.Row.close.Goals as goal
 
 pub gather-seat-requires-clause-passes : goal.gather-seat-requires-clause-passes
@@ -22,8 +28,21 @@ take_all-requires-clause-some c = λ p lt.
     closed_slot c.self.inside c.args.self c.self.view_is c.args.passes.items c.gather-seat.result.id c.gather-seat.result.me.0 _ (slots_items c.close_with.result.slots)
     c.gather-seat.ensures.seat c.close_with.ensures.values.2 c.requires.numbers c.gather-seat.ensures.idle c.stripe_count-stripes.result p c.stripe_count-stripes.ensures.count lt
 
-pub returns-clause-history : goal.returns-clause-history
-returns-clause-history c =
+-- the one history
+one : (c : goal.After-drop-self-inside) → (h : HasHistory (spec_of c.args.self) c.args.passes.items c.take_all.new.fragments.items) × IsPrefix (history_by c.args.self.key) h.history
+one c =
     has_history c.self.inside c.args.self c.self.view_is c.args.passes.items c.gather-seat.result.id c.gather-seat.result.me.0 _ (slots_items c.close_with.result.slots)
     c.gather-seat.ensures.seat c.close_with.ensures.values.2 c.requires.numbers c.gather-seat.ensures.idle c.stripe_count-stripes.result
     c.take_all.new.fragments.items c.stripe_count-stripes.ensures.count c.take_all.ensures.count c.take_all.ensures.items
+
+made : (c : goal.After-drop-self-inside) (h : HasHistory (spec_of c.args.self) c.args.passes.items c.take_all.new.fragments.items) → c.of-history.result ≡ h.history
+made c h = c.of-history.ensures ∙ ap (λ (v : View). made_by v.passes) c.gather-seat.ensures.seat ∙ made_is_history (spec_of c.args.self) c.args.passes.items c.take_all.new.fragments.items h
+
+pub returns-clause-history : goal.returns-clause-history
+returns-clause-history c = (one c).0
+
+pub returns-clause-begins : goal.returns-clause-begins
+returns-clause-begins c = subst (λ (l : List Entry). IsPrefix (history_by c.args.self.key) l) (sym (made c (one c).0)) (one c).1
+
+pub returns-clause-named : goal.returns-clause-named
+returns-clause-named c = made c

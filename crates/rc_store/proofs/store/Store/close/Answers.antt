@@ -1,8 +1,11 @@
-use Rattle.std.proofs.Common.{ap, sym, ◌∙◌}
-use Rattle.rc_row.specs.Passes.{compiled_of, spec_of}
+use Rattle.std.proofs.Common.{◌≡◌, List, ap, sym, subst, ◌∙◌}
+use Rattle.rc_rel.specs.declared.entry.Entry.{Entry}
+use Rattle.rc_rel.specs.History.{IsPrefix}
+use Rattle.rc_row.specs.Law.{history_by}
+use Rattle.rc_row.specs.Passes.{RowSeen, compiled_of, spec_of}
 use Rattle.rc_store.specs.Closed.{HasClosed, made_by}
 use Rattle.rc_store.specs.ClosedInside.{closed_seen}
-use Rattle.rc_store.specs.ClosedLaws.{has_closed, history_of, journal_of_history, one_history, one_table, room_of, room_of_history}
+use Rattle.rc_store.specs.ClosedLaws.{has_closed, history_of, named_in, journal_of_history, one_history, one_table, room_of, room_of_history}
 use Rattle.rc_store.specs.Store.{StoreSeen}
 use Rattle.rc_store.proofs.store.Store.close.Given as given
 use Rattle.rc_store.proofs.store.Store.close.Goals as goal
@@ -17,11 +20,14 @@ journal_of-requires-clause-room g c =
     room_of_history c.args.self.row c.args.passes.items c.in-Ok-close.ended.fragments.items h c.in-Ok-close.ended.passes.items c.in-Ok-close.ensures.passes c.requires.idle c.in-Ok.room.journal room
 
 has : (g : given.Over) (c : goal.After-journal_of g)
-    → HasClosed c.args.self c.args.passes.items (closed_seen (record { compiled = c.self.inside.compiled; instance = c.from_kept.result; journal = c.journal_of.result; made = c.in-Ok.room.made }))
+    → HasClosed c.args.self c.args.passes.items (closed_seen (record { compiled = c.self.inside.compiled; instance = c.from_kept.result; journal = c.journal_of.result; made = c.in-Ok.room.made; history = c.in-Ok-close.ended.history }))
 has g c =
     let h = history_of c.self.inside.row c.args.self.row c.args.passes.items c.in-Ok-close.ended.fragments.items (ap (λ (store : StoreSeen). store.row) c.self.view_is) c.in-Ok-close.ensures.history in
     let room = room_of c.args.self.row.keeping c.deref.result.now c.args.passes.items c.in-Ok.room.journal c.deref.ensures.value c.in-Ok.ensures.journal in
-    has_closed c.args.self c.args.passes.items c.in-Ok-close.ended.fragments.items c.in-Ok.ensures.sealed h _
+    let same : c.self.inside.row ≡ c.args.self.row = ap (λ (store : StoreSeen). store.row) c.self.view_is in
+    let is : c.in-Ok-close.ended.history ≡ h.history = named_in c.self.inside.row c.args.self.row c.args.passes.items c.in-Ok-close.ended.fragments.items c.in-Ok-close.ended.history same c.in-Ok-close.ensures.named h in
+    has_closed c.args.self c.args.passes.items c.in-Ok-close.ended.fragments.items c.in-Ok.ensures.sealed h _ is
+    (subst (λ (x : RowSeen × List Entry). IsPrefix (history_by x.0.key) x.1) (λ i. (same i, is i)) c.in-Ok-close.ensures.begins)
     (sym c.self.invariant.compiled ∙ ap (λ (store : StoreSeen). compiled_of store.row) c.self.view_is)
     c.from_kept.ensures
     (journal_of_history c.args.self.row c.args.passes.items c.in-Ok-close.ended.fragments.items h c.in-Ok-close.ended.passes.items c.in-Ok-close.ensures.passes c.requires.idle

@@ -1,0 +1,7 @@
+use Rattle.std.proofs.Common.{◌≡◌, []}
+use Rattle.std.specs.Prelude.{replicate}
+use Rattle.rc_row.specs.Law.{kept_of}
+use Rattle.rc_row.proofs.build.empty_fragments.Given as goal
+
+abbrev pub invariant-loop : goal.invariant-loop
+invariant-loop l = l.fragments.items ≡ replicate l.counter (kept_of l.accepted [])

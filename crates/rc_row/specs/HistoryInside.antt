@@ -1,0 +1,10 @@
+-- What contracts see of a history.
+use Rattle.std.specs.Prelude.{List, []}
+use Rattle.std.specs.Option.{option_map_or}
+use Rattle.rc_rel.specs.declared.entry.Entry.{Entry}
+use Rattle.rc_row.specs.declared.history.History.TheInside.{Inside}
+use Rattle.rc_row.specs.HistoryMade.{made_by}
+
+-- that of the passes of the seat, where there is one
+abbrev pub history_seen : Inside → List Entry
+history_seen a = option_map_or (λ seat. made_by seat.value.me.0.passes) a.seat []

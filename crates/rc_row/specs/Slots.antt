@@ -1,0 +1,11 @@
+-- What lies in slots.
+use Rattle.std.specs.Prelude.{Option, Some, None}
+use Rattle.rc_fragment.specs.Keep.{KeptRows}
+use Rattle.rc_row.specs.declared.slot.Slot.TheVariants.{Empty, Apart, Handed}
+use Rattle.rc_row.specs.Law.{Slot}
+
+-- the fragment, where there is one
+abbrev pub kept_at : Slot → Option KeptRows
+kept_at Empty = None
+kept_at (Apart keep) = Some keep
+kept_at (Handed keep) = Some keep
