@@ -1,9 +1,8 @@
 -- Laws of the plans of a specification's own operations and of further ones.
-use Rattle.std.specs.Prelude.{◌≡◌, ℕ, ◌+◌, ◌<◌, ◌≤◌, ◌⊎◌, ◌++◌, List, [], ◌∷◌, All, Some, length, get_or}
-use Rattle.std.specs.List.{AllByRecursion, slice_get}
+use Rattle.std.specs.Prelude.{◌≡◌, ℕ, ◌+◌, ◌<◌, ◌≤◌, ◌⊎◌, ◌++◌, List, [], ◌∷◌, Some, length, get_or}
+use Rattle.std.specs.List.{slice_get}
 use Rattle.std.proofs.Common.{refl, sym, ap, subst, ◌∙◌, inl, inr, arith}
 use Rattle.std.proofs.lemmas.Bool.{cases_lt}
-use Rattle.std.proofs.lemmas.List.Elements.{All-from_recursion, All-weaker}
 use Rattle.std.proofs.lemmas.List.{get_or_append_left, get_or-append-add, get_or_push, length-append}
 use Rattle.std.proofs.lemmas.Option.{get_or_from_slice_get, slice_get_read}
 use Rattle.rc_spec.specs.declared.items.Op.{Op}
@@ -12,8 +11,7 @@ use Rattle.rc_spec.specs.Placement.{no_op, op_at}
 use Rattle.rc_plan.specs.declared.statement.Statement.{Statement}
 use Rattle.rc_plan.specs.Compiled.{ArePlansOf, IsPlanOf, plan_at}
 use Rattle.rc_query.specs.Planned.{IsPlanned}
-use Rattle.rc_query.specs.Ops.{MayBePlanned}
-use Rattle.rc_work.specs.Shapes.{IsShapeOf, with_operations}
+use Rattle.rc_work.specs.Shapes.{with_operations}
 use Rattle.rc_cache.specs.Apart.{IsPlannedFor}
 use Rattle.rc_cache.specs.ApartLaws.{plans_are_apart}
 use Rattle.rc_cache.specs.Extended.{HaveAllPlans, HavePlans}
@@ -84,8 +82,3 @@ plans_are_accepted spec ops plans have = record {
 pub plans_are_planned : (spec : Spec) (ops : List Op) (plans : List (List Statement)) → HaveAllPlans spec ops plans
     → (n : ℕ) → n < length (spec.ops ++ ops) → IsPlanned (with_operations spec ops) (op_at (with_operations spec ops) n) (plan_at plans n)
 plans_are_planned spec ops plans have n l = ((all_plans spec ops plans have).each n l).planned
-
--- shapes may be planned
-pub shapes_may_be_planned : (spec : Spec) (ops : List Op) → AllByRecursion (IsShapeOf spec) ops → All (MayBePlanned spec) ops
-shapes_may_be_planned spec ops shapes =
-    All-weaker (IsShapeOf spec) (MayBePlanned spec) (λ op k. record { among = k.among; keeps = k.keeps }) ops (All-from_recursion (IsShapeOf spec) ops shapes)

@@ -1,5 +1,5 @@
 -- Plans that stand alone.
-use Rattle.std.proofs.Common.{◌≡◌, ℕ, true, false, cond, List, [], ◌∷◌, Result, Ok, Err, refl, ap, subst}
+use Rattle.std.proofs.Common.{◌≡◌, ℕ, true, false, cond, List, [], ◌∷◌, Result, Ok, Err, refl, ap}
 use Rattle.rc_text.specs.Language.{broken_at}
 use Rattle.rc_text.specs.Lines.{ContentLine, start_of}
 use Rattle.rc_spec.specs.declared.spec.Spec.{Spec}
@@ -9,8 +9,6 @@ use Rattle.rc_handplan.specs.declared.hand.Hand.{Hand}
 use Rattle.rc_handplan.specs.declared.refusal.HandRule.TheVariants.{H2, S8}
 use Rattle.rc_handplan.specs.declared.starts.Closing.TheVariants as closings
 use Rattle.rc_handplan.specs.HandGrammar.{HandReading, Broken, says_end, closed_by, alone_by, plans_of, hands_reading_to}
-use Rattle.rc_handplan.specs.Hands.{AreHands, AllHaveSets}
-use Rattle.rc_handplan.specs.HandsLaws.{read_hands, read_sets}
 
 abbrev ok_of : {A E : Type 0} → A → Result A E
 ok_of x = Ok x
@@ -45,16 +43,6 @@ alone_by_are spec text (Ok reading) hands read e =
 
 pub stood_alone : (spec : Spec) (text : List ℕ) (hands : List Hand) → plans_of spec text ≡ Ok hands → StoodAlone spec text hands
 stood_alone spec text hands e = alone_by_are spec text (hands_reading_to closings.End spec (start_of text)) hands refl e
-
-pub hands_alone : (spec : Spec) (text : List ℕ) (hands : List Hand) → plans_of spec text ≡ Ok hands → AreHands spec hands
-hands_alone spec text hands e =
-    let stood = stood_alone spec text hands e in
-    subst (AreHands spec) stood.hands_are (read_hands spec closings.End (start_of text) stood.reading stood.read)
-
-pub sets_alone : (spec : Spec) (text : List ℕ) (hands : List Hand) → plans_of spec text ≡ Ok hands → AllHaveSets hands
-sets_alone spec text hands e =
-    let stood = stood_alone spec text hands e in
-    subst AllHaveSets stood.hands_are (read_sets spec closings.End (start_of text) stood.reading stood.read)
 
 -- a text without a line has none
 pub no_text_no_plans : NoTextNoPlans

@@ -1,3 +1,4 @@
+pub mod ApartLaws
 pub mod Contraction
 pub mod Inlining
 pub mod InliningLaws

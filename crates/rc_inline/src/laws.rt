@@ -1,5 +1,6 @@
 //! What inlining and placing together leave of a specification: which calls there are, and what they do.
 
+ghost use Rattle.rc_inline.specs.ApartLaws.{EmbeddingLeavesOperations};
 ghost use Rattle.rc_inline.specs.InliningLaws.{InliningKeepsCalls, InliningKeepsFitting};
 ghost use Rattle.rc_inline.specs.InliningLaws.{InliningKeepsNames, InliningKeepsSchemas};
 ghost use Rattle.rc_inline.specs.PlacingLaws.{ClassesAreShared, ClassesAreWidest, EmbeddingKeepsCalls, EmbeddingKeepsFitting};
@@ -53,4 +54,9 @@ pub fn embedding_keeps_schemas()
 pub fn embedding_keeps_calls()
     ensures calls { EmbeddingKeepsCalls }
     ensures fitting { EmbeddingKeepsFitting }
+{}
+
+/// What an embedded store makes of a specification doesn't depend on its operations, and leaves them.
+pub fn embedding_leaves_operations()
+    ensures { EmbeddingLeavesOperations }
 {}

@@ -9,7 +9,7 @@ mod placing;
 
 pub use inlining::inline;
 pub use laws::{
-    embedding_keeps_calls, embedding_keeps_schemas, inlining_keeps_calls, inlining_keeps_schemas,
-    placing_shares_classes, schemas_decide_calls,
+    embedding_keeps_calls, embedding_keeps_schemas, embedding_leaves_operations,
+    inlining_keeps_calls, inlining_keeps_schemas, placing_shares_classes, schemas_decide_calls,
 };
 pub use placing::{embed, place_together};

@@ -14,6 +14,9 @@ use Rattle.rc_spec.specs.Decomposition.{IsWalk, IsCircle, LiesOnCircle}
 use Rattle.rc_spec.specs.InRange.{IsInRange}
 use Rattle.rc_spec.specs.Order.{IsNext, IsTopologicalOrder}
 use Rattle.rc_spec.specs.Placement.{IsPlaced, KeepsO, no_op, op_at}
+use Rattle.rc_plan.specs.PlanRules.{AreKnown, IsKnown}
+use Rattle.rc_plan.specs.declared.statement.Statement.{Statement}
+use Rattle.rc_plan.specs.declared.statement.Statement.TheVariants.{Lock, Probe, Read, CheckAbsent, CheckFound, CheckDep, Apply, Emit, Commit, Release}
 use Rattle.rc_work.specs.Shapes.{with_operations, IsShapeOf}
 
 -- a specification that is equal, with these operations behind those that it has
@@ -129,3 +132,21 @@ module _ (spec : Spec) (shapes : List Op) where
   -- and so does the order of its nodes
   pub order_over : (order : List ℕ) → IsTopologicalOrder spec order → IsTopologicalOrder extended order
   order_over order is = record { all = is.all; next = λ k below. next _ _ (is.next k below) }
+
+  -- ---- plans
+
+  known : (x : Statement) → IsKnown spec x → IsKnown extended x
+  known (Lock c choice mode) k = k
+  known (Probe cols) k = k
+  known (Read e mode) k = k
+  known CheckAbsent k = k
+  known CheckFound k = k
+  known (CheckDep dep) k = k
+  known Apply k = k
+  known Emit k = k
+  known Commit k = k
+  known (Release c) k = k
+
+  -- what a plan names there is
+  pub known_over : (plan : List Statement) → AreKnown spec plan → AreKnown extended plan
+  known_over plan are x m = known x (are x m)

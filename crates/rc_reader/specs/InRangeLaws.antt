@@ -33,7 +33,7 @@ use Rattle.rc_reader.specs.NamesLaws.{number_among-below, numbers_of-below, leng
 use Rattle.rc_reader.specs.RulesLaws.{Keeps}
 
 -- the columns that a list names are columns of the specification
-columns_below : (spec : Spec) (words : List (List ℕ)) → AreBelow (length spec.columns) (columns_named spec words)
+pub columns_below : (spec : Spec) (words : List (List ℕ)) → AreBelow (length spec.columns) (columns_named spec words)
 columns_below spec words c m =
     let below = numbers_of-below (column_names spec.columns) words c m in
     omega (arith, length-map spec.columns (λ (column : Column). column.name))

@@ -35,10 +35,10 @@ well_named-operation spec name pattern kind named new distinct =
       patterns = each_push (λ (x : Op). AreDistinct (x.pattern ++ range_columns x.kind)) spec.ops more named.patterns distinct;
     }
 
-pattern_distinct : (spec : Spec) (pattern : List (List ℕ)) → repeats spec pattern ≡ false → AreDistinct (columns_named spec pattern ++ [])
+pub pattern_distinct : (spec : Spec) (pattern : List (List ℕ)) → repeats spec pattern ≡ false → AreDistinct (columns_named spec pattern ++ [])
 pattern_distinct spec pattern e = subst AreDistinct (sym (append-nil (columns_named spec pattern))) (distinct_from_test (columns_named spec pattern) e)
 
-together_distinct : (spec : Spec) (pattern ranges : List (List ℕ)) → repeat_together spec pattern ranges ≡ false → AreDistinct (columns_named spec pattern ++ columns_named spec ranges)
+pub together_distinct : (spec : Spec) (pattern ranges : List (List ℕ)) → repeat_together spec pattern ranges ≡ false → AreDistinct (columns_named spec pattern ++ columns_named spec ranges)
 together_distinct spec pattern ranges e =
     let parts = or_parts (repeats spec pattern || repeats spec ranges) (share spec pattern ranges) e in
     let each = or_parts (repeats spec pattern) (repeats spec ranges) parts.0 in

@@ -4,3 +4,4 @@ pub mod WordLemmas
 pub mod ReadingLemmas
 pub mod PartLemmas
 mod OpenReadingLemmas
+mod ShapesReadingLemmas

@@ -108,14 +108,14 @@ written_few spec pattern Remove few below ranges_below distinct =
     omega (arith, few_by (length spec.columns) pattern [] few below ranges_below distinct)
 written_few spec pattern Update few below ranges_below distinct = omega (arith, few, length-range_with_len 0 (length spec.columns))
 
-written_few_at : (spec : Spec) (n : ℕ) (found : Option Op) → IsWellNamed spec → IsInRange spec → slice_get spec.ops n ≡ found
+written_few_at : (spec : Spec) (n : ℕ) (found : Option Op) → HasKnownColumns spec → slice_get spec.ops n ≡ found
     → length (columns_by spec found) + 2 * length (option_map_or (λ (op : Op). range_columns op.kind) found []) ≤ 64
-written_few_at spec n None named range is = omega arith
-written_few_at spec n (Some op) named range is =
+written_few_at spec n None known is = omega arith
+written_few_at spec n (Some op) known is =
     let m = slice_get_in spec.ops n op is in
-    written_few spec op.pattern op.kind range.columns (range.known_ops op m).pattern (range.known_ops op m).ranges (named.patterns op m)
+    written_few spec op.pattern op.kind known.few (known.among op m).pattern (known.among op m).ranges (known.distinct op m)
 
 -- at most 64 values, since at most 32 columns are a query's pattern and ranges
-pub written_columns_at-few : (spec : Spec) (n : ℕ) → IsWellNamed spec → IsInRange spec → length (written_columns_at spec n) ≤ 64
-written_columns_at-few spec n named range =
-    omega (arith, length-written_columns_at spec n, written_few_at spec n (slice_get spec.ops n) named range refl)
+pub written_columns_at-few : (spec : Spec) (n : ℕ) → HasKnownColumns spec → length (written_columns_at spec n) ≤ 64
+written_columns_at-few spec n known =
+    omega (arith, length-written_columns_at spec n, written_few_at spec n (slice_get spec.ops n) known refl)

@@ -85,11 +85,6 @@ Fits-call_over spec op values known distinct count words =
       },
     )
 
--- so over a text's specification
-pub Fits-call_of : (spec : Spec) (op : ℕ) (values : List ℕ) → op < length spec.ops → IsWellNamed spec
-    → length values ≡ length (written_columns_at spec op) → IsOfWords (call_of spec op values) → Fits spec (call_of spec op values)
-Fits-call_of spec op values known named count words = Fits-call_over spec op values known named.patterns count words
-
 in_parts : (n : ℕ) (values : List ℕ) (v : ℕ) → In v (take n values ++ drop n values) → In v values
 in_parts n values v m = subst (λ (l : List ℕ). In v l) (take-append-drop n values) m
 

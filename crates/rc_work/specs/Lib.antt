@@ -50,3 +50,6 @@ pub mod OpenGrammar
 pub mod OpenAnswers
 pub mod OpenLaws
 pub mod OpenRunLaws
+pub mod ShapesGrammar
+pub mod ShapesAnswers
+pub mod ShapesGrammarLaws

@@ -167,7 +167,7 @@ shape_distinct spec shape e =
     (distinct_append (columns_named spec pattern) (columns_named spec ranges) (distinct_from_test (columns_named spec pattern) each.0)
     (distinct_from_test (columns_named spec ranges) each.1) (apart_from_test (columns_named spec pattern) (columns_named spec ranges) parts.1))
 
-IsShapeOf-called : (spec : Spec) (op : Op) (name : List ℕ) → IsShapeOf spec op → IsShapeOf spec (record op { name = name })
+pub IsShapeOf-called : (spec : Spec) (op : Op) (name : List ℕ) → IsShapeOf spec op → IsShapeOf spec (record op { name = name })
 IsShapeOf-called spec op name is = record {
   among = record { pattern = is.among.pattern; outs = is.among.outs; ranges = is.among.ranges };
   distinct = is.distinct;
@@ -311,7 +311,7 @@ shape_taken spec read op thread values next e =
       value = same_read (with_op spec read op thread values) next keeps.1;
     }
 
-all_push : {A : Type 0} (P : A → Type 0) (xs : List A) (x : A) → AllByRecursion P xs → P x → AllByRecursion P (xs ++ x ∷ [])
+pub all_push : {A : Type 0} (P : A → Type 0) (xs : List A) (x : A) → AllByRecursion P xs → P x → AllByRecursion P (xs ++ x ∷ [])
 all_push P [] x all here = (here, tt)
 all_push P (y ∷ xs) x all here = (all.0, all_push P xs x all.1 here)
 

@@ -108,9 +108,13 @@ found_shape spec shape = record {
 abbrev pub breaks_range : OpenDraft → List ℕ → List WordText → Bool
 breaks_range read thread values = is_none (thread_of read.draft.threads thread) || list_any is_too_large values
 
+-- an operation with this place among the shapes is one more than the 32 that there may be
+abbrev pub is_one_shape_more : List Op → Option ℕ → Bool
+is_one_shape_more shapes place = is_none place && nat_le 32 (length shapes)
+
 -- S6: the call is one more than 20,000, or the shape one more than 32
 abbrev pub breaks_limit : OpenDraft → Op → Bool
-breaks_limit read op = nat_le 20000 (count_in read.draft) || (is_none (shape_place read.shapes op) && nat_le 32 (length read.shapes))
+breaks_limit read op = nat_le 20000 (count_in read.draft) || is_one_shape_more read.shapes (shape_place read.shapes op)
 
 -- the call of a line: its operation's number stands behind those of the specification
 abbrev pub shape_call : Spec → List Op → Op → List WordText → RawCall

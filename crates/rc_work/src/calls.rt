@@ -1,8 +1,6 @@
 //! The call that an operation's number and values make.
 
 ghost use Rattle.std.specs.Prelude.{◌≡◌, ◌<◌, ◌*◌, length, OnOk};
-ghost use Rattle.rc_spec.specs.InRange.{IsInRange};
-ghost use Rattle.rc_spec.specs.Names.{IsWellNamed};
 ghost use Rattle.rc_spec.specs.Ranges.{AreBounded};
 ghost use Rattle.rc_spec.specs.Placement.{op_at};
 ghost use Rattle.rc_work.specs.CallColumns.{HasKnownColumns, call_of, ranges_of, written_columns_at};
@@ -79,8 +77,7 @@ pub fn refill_call(
     cols: &[u8],
     values: &[u64],
 ) -> Result<(), Memory>
-    requires range { IsInRange spec.now }
-    requires named { IsWellNamed spec.now }
+    requires columns { HasKnownColumns spec.now }
     requires known { op < length spec.now.ops }
     requires cols { cols.now ≡ written_columns_at spec.now op }
     requires count { length values.now ≡ length cols.now }

@@ -19,6 +19,7 @@ mod report;
 mod rules;
 mod shape_forms;
 mod shapes;
+mod shapes_text;
 mod words;
 mod work;
 
@@ -35,6 +36,8 @@ pub use part::read_work_part;
 pub use prefix_laws::{cut_texts_are_refused, last_letter_is_there};
 pub use printing::{print_step, print_tuple, push_count_line, push_step_line};
 pub use reading::read_work;
-pub use reading_laws::{first_broken_part_line, first_broken_work_line};
+pub use reading_laws::{first_broken_part_line, first_broken_shape_line, first_broken_work_line};
 pub use report::{Report, print_final_line};
+pub use shapes::shape_place;
+pub use shapes_text::read_shapes;
 pub use work::{Calls, Round, Rounds, Turn, Work};

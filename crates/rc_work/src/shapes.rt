@@ -10,7 +10,7 @@ ghost use Rattle.rc_work.specs.LineForms.{word_texts};
 ghost use Rattle.rc_work.specs.OpenAnswers.{TakesOpenLine};
 ghost use Rattle.rc_work.specs.OpenGrammar.{open_of};
 ghost use Rattle.rc_work.specs.ShapeForms.{kind_text, plain_words, shape_text};
-ghost use Rattle.rc_work.specs.ShapeRules.{after_op, after_shape, breaks_limit, found_shape, is_same_kind, is_same_shape, kind_with, out_words, range_words, shape_name, shape_place, with_shape};
+ghost use Rattle.rc_work.specs.ShapeRules.{after_op, after_shape, breaks_limit, found_shape, is_one_shape_more, is_same_kind, is_same_shape, kind_with, out_words, range_words, shape_name, shape_place, with_shape};
 
 use crate::columns::written_columns;
 use crate::draft::Draft;
@@ -24,7 +24,7 @@ use rc_text::{Word, push_u64};
 use rc_tuple::{Cols, Memory};
 use std::alloc::Global;
 
-/// The most shapes of a workload.
+/// The most shapes of a workload, and of a text of shapes.
 const MAX_SHAPES: usize = 32;
 
 /// A workload of which some lines are read, with the shapes of the operations that they brought.
@@ -46,25 +46,12 @@ impl OpenDraft {
         }
     }
 
-    /// The place of an operation's shape among those that were brought before.
-    fn shape_place(&self, op: &Op) -> Option<usize>
-        ensures place { result ≡ shape_place self.now.shapes op.now }
-        ensures within { IfSome result (λ place. place < length self.now.shapes) }
-    {
-        for (place, shape) in self.shapes.list().iter().enumerate() {
-            if is_same_shape(op, shape) {
-                return Some(place);
-            }
-        }
-        None
-    }
-
     /// Whether a call with this operation is one more than a workload may have, or brings one shape more.
     fn is_full(&self, op: &Op) -> bool
         ensures { result ≡ breaks_limit self.now op.now }
     {
         self.draft.is_full()
-            || (self.shape_place(op).is_none() && self.shapes.list().len() >= MAX_SHAPES)
+            || is_one_shape_more(self.shapes.list(), shape_place(self.shapes.list(), op))
     }
 }
 
@@ -179,6 +166,26 @@ fn is_same_shape(op: &Op, other: &Op) -> bool
     op.pattern.list() == other.pattern.list() && is_same_kind(&op.kind, &other.kind)
 }
 
+/// The place of an operation's shape among those of others.
+pub fn shape_place(shapes: &[Op], op: &Op) -> Option<usize>
+    ensures place { result ≡ shape_place shapes.now op.now }
+    ensures within { IfSome result (λ place. place < length shapes.now) }
+{
+    for (place, shape) in shapes.iter().enumerate() {
+        if is_same_shape(op, shape) {
+            return Some(place);
+        }
+    }
+    None
+}
+
+/// Whether a shape with this place among the others is one more than there may be.
+pub(crate) fn is_one_shape_more(shapes: &[Op], place: Option<usize>) -> bool
+    ensures { result ≡ is_one_shape_more shapes.now place }
+{
+    place.is_none() && shapes.len() >= MAX_SHAPES
+}
+
 /// The name of the shape at a place.
 fn shape_name(alloc: Global, place: usize) -> Result<Name, Memory>
     requires { place < 32 }
@@ -191,7 +198,7 @@ fn shape_name(alloc: Global, place: usize) -> Result<Name, Memory>
 }
 
 /// Keeps the shape of an operation that no line before brought.
-fn keep_shape(
+pub(crate) fn keep_shape(
     alloc: Global,
     shapes: &mut Ops,
     mut op: Op,
@@ -208,7 +215,7 @@ fn keep_shape(
 }
 
 /// Whether the operation keeps its rules, O1 to O3.
-fn keeps_rules(spec: &Spec, op: &Op) -> bool
+pub(crate) fn keeps_rules(spec: &Spec, op: &Op) -> bool
     requires range { IsInRange spec.now }
     requires known { IsOpAmong (length spec.now.columns) op.now }
     ensures { result ≡ keeps_rules spec.now op.now }
@@ -256,7 +263,7 @@ fn add_op(
     if !keeps_rules(spec, &op) {
         return Err(LineFault::Broken(LineRule::W4));
     }
-    let place = read.shape_place(&op);
+    let place = shape_place(read.shapes.list(), &op);
     let number = spec.ops.list().len() + place.unwrap_or(read.shapes.list().len());
     let op_number = number as u8;
     keep_shape(alloc, &mut read.shapes, op, place)?;
