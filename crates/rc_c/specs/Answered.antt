@@ -8,12 +8,14 @@ use Rattle.rc_row.specs.Passes.{PassSeen, spec_of}
 use Rattle.rc_embed.specs.declared.frame.Frame.{Frame}
 use Rattle.rc_embed.specs.declared.frame.Page.{Page}
 use Rattle.rc_embed.specs.declared.open_frame.OperationFrame.{OperationFrame}
+use Rattle.rc_embed.specs.declared.shape_frame.ShapeFrame.{ShapeFrame}
 use Rattle.rc_embed.specs.declared.text_page.TextPage.{TextPage}
 use Rattle.rc_embed.specs.Codes as codes
 use Rattle.rc_embed.specs.Frames.{AnswersCancel, AnswersPick, AnswersRow, AnswersRows}
 use Rattle.rc_embed.specs.OpenFrames.{AnswersOperation}
 use Rattle.rc_embed.specs.Opened.{OpenSeen}
 use Rattle.rc_embed.specs.Session.{SessionSeen}
+use Rattle.rc_embed.specs.ShapeFrames.{AnswersShape}
 use Rattle.rc_embed.specs.TextPages.{AnswersPlans}
 
 -- a value of the type lies at the pointer again, and this is so of it
@@ -50,6 +52,11 @@ pub record AnswersSameOperation (old : OpenSeen) (before : OperationFrame)
     (new : OpenSeen) (after : OperationFrame) (code : ℕ) : Type 0 where
   pub same : new ≡ old
   pub told : AnswersOperation (spec_of old.store.row) before after code
+
+-- the store is the same, and the frame tells of the operation that asks as its line does
+pub record AnswersSameShape (old : OpenSeen) (before : ShapeFrame) (new : OpenSeen) (after : ShapeFrame) (code : ℕ) : Type 0 where
+  pub same : new ≡ old
+  pub told : AnswersShape (spec_of old.store.row) before after code
 
 -- the store is the same, and the page tells of its plans
 pub record AnswersSamePlans (old : OpenSeen) (before : TextPage) (new : OpenSeen) (after : TextPage) (code : ℕ) : Type 0 where

@@ -3,9 +3,10 @@
 //! what each function wants.)
 #![tactic(auto)]
 
-ghost use Rattle.std.specs.Prelude.{◌≡◌};
+ghost use Rattle.std.specs.Prelude.{◌≡◌, [], IsSome, Option, Some};
 ghost use Rattle.std.specs.Borrow.{full_share, sem};
 ghost use Rattle.std.specs.Ptr.{lies_at, room_at};
+ghost use Rattle.rc_store.specs.Closed.{ClosedSeen};
 ghost use Rattle.rc_embed.specs.Codes as codes;
 ghost use Rattle.rc_embed.specs.Frames.{AnswersBegin, AnswersBeginGroup, AnswersCall, AnswersCommit};
 ghost use Rattle.rc_embed.specs.Frames.{AnswersGroup, AnswersLearn};
@@ -15,15 +16,18 @@ ghost use Rattle.rc_embed.specs.OpenGroupFrames.{AnswersCallOpen, AnswersOpenGro
 ghost use Rattle.rc_embed.specs.Opened.{OpenSeen};
 ghost use Rattle.rc_embed.specs.Session.{IsIdle, SessionSeen};
 ghost use Rattle.rc_embed.specs.contracts.opening.OpenStore as stores;
+ghost use Rattle.rc_embed.specs.contracts.resume_frame.ClosedPlace as places;
 ghost use Rattle.rc_embed.specs.contracts.session.Session as sessions;
 ghost use Rattle.rc_c.specs.Answered.{AnswersSameFrame, AnswersSameOperation, AnswersSamePick};
 ghost use Rattle.rc_c.specs.Answered.{AnswersSamePlans};
-ghost use Rattle.rc_c.specs.Answered.{AnswersSameRow, AnswersSameRows, AnswersSession, lies_again};
+ghost use Rattle.rc_c.specs.Answered.{AnswersSameRow, AnswersSameRows, AnswersSameShape};
+ghost use Rattle.rc_c.specs.Answered.{AnswersSession, lies_again};
+ghost use Rattle.rc_c.specs.Closing.{AnswersClosed, AnswersResumed, IsClosing, left_at};
 ghost use Rattle.rc_c.specs.GivenBack.{AnswersGivenBack, Handles, HasSettled};
 
 use rc_embed::{
-    DONE, Frame, MEMORY, NotPrepared, OpenFrame, OpenStore, OperationFrame, Page, Session,
-    TextPage, open_by, open_with_plans_by, session_code,
+    ClosedPlace, DONE, Frame, MEMORY, NotClosed, NotPrepared, OpenFrame, OpenStore, OperationFrame,
+    Page, Session, ShapeFrame, TextPage, open_by, open_with_by, open_with_plans_by, session_code,
 };
 use std::alloc::Global;
 
@@ -64,12 +68,43 @@ pub extern "C" fn relc_open_planned(
     out: &mut *mut u8,
 ) -> u32
     ensures opened { result ≡ codes.done
-        → HasOpenedWith text.now plans.now frame.old frame.new }
+        → HasOpenedWith text.now [] plans.now frame.old frame.new }
     ensures refused { (result ≡ codes.done → ⊥)
-        → IsRefusedWithBy text.now plans.now frame.old frame.new result }
+        → IsRefusedWithBy text.now [] plans.now frame.old frame.new result }
     ensures asked { KeepsAsked frame.old frame.new }
 {
     let store = match open_with_plans_by(alloc, text, plans, frame) {
+        Ok(store) => store,
+        Err(code) => return code,
+    };
+    match Box::new(alloc, store) {
+        Ok(held) => {
+            *out = Box::into_raw(held) as *mut u8;
+            DONE
+        }
+        Err(_) => MEMORY,
+    }
+}
+
+/// Opens a store so, with the further operations of a text of shapes, and the plans of operations that
+/// are written in the third text. (What callers in C are given takes no shapes, or no plans, also where
+/// there is no such text: `relc_open_with`.)
+#[unsafe(no_mangle)]
+pub extern "C" fn relc_open_shaped(
+    alloc: Global,
+    text: &[u8],
+    shapes: &[u8],
+    plans: &[u8],
+    frame: &mut OpenFrame,
+    out: &mut *mut u8,
+) -> u32
+    ensures opened { result ≡ codes.done
+        → HasOpenedWith text.now shapes.now plans.now frame.old frame.new }
+    ensures refused { (result ≡ codes.done → ⊥)
+        → IsRefusedWithBy text.now shapes.now plans.now frame.old frame.new result }
+    ensures asked { KeepsAsked frame.old frame.new }
+{
+    let store = match open_with_by(alloc, text, shapes, plans, frame) {
         Ok(store) => store,
         Err(code) => return code,
     };
@@ -117,6 +152,25 @@ pub unsafe extern "C" fn relc_operation(store: *mut u8, frame: &mut OperationFra
         (λ after. AnswersSameOperation held frame.old after frame.new result)) }
 {
     operation_on(&mut *(store as *mut OpenStore), frame)
+}
+
+/// Looks the first operation up that asks as the frame's line does.
+fn shape_on(store: &mut OpenStore, frame: &mut ShapeFrame) -> u32
+    ensures { AnswersSameShape store.old frame.old store.new frame.new result }
+{
+    store.shape_by(frame)
+}
+
+/// Looks the first operation up that asks as the frame's line does, in the store at the pointer. (What
+/// callers in C are given takes a line by pointer and length: `relc_shape`.)
+#[unsafe(no_mangle)]
+pub unsafe extern "C" fn relc_shape_of(store: *mut u8, frame: &mut ShapeFrame) -> u32
+    ghost held: { OpenSeen }
+    requires* { sem 𝓛 (lies_at stores.the_row full_share store held) }
+    ensures* { sem 𝓛 (lies_again stores.the_row store
+        (λ after. AnswersSameShape held frame.old after frame.new result)) }
+{
+    shape_on(&mut *(store as *mut OpenStore), frame)
 }
 
 /// Begins a session of the store, and hands out a pointer to it.
@@ -445,4 +499,102 @@ pub unsafe extern "C" fn relc_take_back(store: *mut u8, session: *mut u8) -> u32
         &mut *(store as *mut OpenStore),
         std::ptr::read(session as *const Session),
     )
+}
+
+/// Closes the store, and hands out a pointer to the place of what is left of it; else the store comes back. (No pointer is
+/// written then.)
+fn close_on(store: OpenStore, out: &mut *mut u8) -> Option<NotClosed>
+    ensures { IsClosing store result }
+{
+    match store.close_by() {
+        Ok(place) => {
+            *out = Box::into_raw(place) as *mut u8;
+            None
+        }
+        Err(back) => Some(back),
+    }
+}
+
+/// Closes the store at the pointer, all of whose sessions have been given back, and hands out a pointer to the place of the
+/// closed store. The memory behind the store's pointer is the caller's again then, to be freed. Else the store lies there as it
+/// did, and no pointer is written.
+#[unsafe(no_mangle)]
+pub unsafe extern "C" fn relc_shut_store(store: *mut u8, out: &mut *mut u8) -> u32
+    ghost held: { OpenSeen }
+    requires* { sem 𝓛 (lies_at stores.the_row full_share store held) }
+    ensures* { sem 𝓛 (left_at stores.the_row store (λ after. AnswersClosed held after result)) }
+{
+    match close_on(std::ptr::read(store as *const OpenStore), out) {
+        None => DONE,
+        Some(back) => {
+            let NotClosed { store: again, code } = back;
+            std::ptr::write(store as *mut OpenStore, again);
+            code
+        }
+    }
+}
+
+/// Opens the closed store at its place again by the texts, as the frame asks, and hands out a pointer to the store; else the
+/// frame tells why not. (No pointer is written then.)
+fn resume_on(
+    place: &mut ClosedPlace,
+    text: &[u8],
+    shapes: &[u8],
+    plans: &[u8],
+    frame: &mut OpenFrame,
+    out: &mut *mut u8,
+) -> u32
+    requires { IsSome place.old }
+    ensures { (closed : ClosedSeen) → place.old ≡ Some closed
+        → AnswersResumed closed text.now shapes.now plans.now frame.old place.new frame.new result }
+{
+    match place.resume_by(text, shapes, plans, frame) {
+        Ok(mut stores) => {
+            *out = stores.as_mut_ptr() as *mut u8;
+            let _ = stores.leak();
+            DONE
+        }
+        Err(code) => code,
+    }
+}
+
+/// Opens the closed store at the pointer again by the texts, as the frame asks, and hands out a pointer to the store; what lies
+/// at the closed store's pointer is empty then, and `relc_end_closed` ends it. Else the frame tells why not, and the closed
+/// store lies there as it did. (What callers in C are given takes no shapes, or no plans, also where there is no such text.)
+#[unsafe(no_mangle)]
+pub unsafe extern "C" fn relc_resume_closed(
+    closed: *mut u8,
+    text: &[u8],
+    shapes: &[u8],
+    plans: &[u8],
+    frame: &mut OpenFrame,
+    out: &mut *mut u8,
+) -> u32
+    ghost held: { ClosedSeen }
+    requires* { sem 𝓛 (lies_at places.the_row full_share closed (Some held)) }
+    ensures* { sem 𝓛 (lies_again places.the_row closed
+        (λ after. AnswersResumed held text.now shapes.now plans.now frame.old after frame.new result)) }
+{
+    resume_on(
+        &mut *(closed as *mut ClosedPlace),
+        text,
+        shapes,
+        plans,
+        frame,
+        out,
+    )
+}
+
+/// Drops the place, with the closed store where there is one.
+fn let_closed_go(_place: ClosedPlace) {}
+
+/// Ends what lies at the pointer of a closed store: the closed store, or nothing where a store went on from it. The memory
+/// behind the pointer is the caller's again, to be freed.
+#[unsafe(no_mangle)]
+pub unsafe extern "C" fn relc_end_closed(closed: *mut u8)
+    ghost held: { Option ClosedSeen }
+    requires* { sem 𝓛 (lies_at places.the_row full_share closed held) }
+    ensures* { sem 𝓛 (room_at places.the_row closed) }
+{
+    let_closed_go(std::ptr::read(closed as *const ClosedPlace))
 }

@@ -12,8 +12,6 @@ use Rattle.rc_tuple.specs.RisingSet.{gather}
 use Rattle.rc_spec.specs.declared.call.Call.{Call}
 use Rattle.rc_spec.specs.declared.spec.Spec.{Spec}
 use Rattle.rc_spec.specs.Calls.{Fits}
-use Rattle.rc_spec.specs.InRange.{IsInRange}
-use Rattle.rc_spec.specs.Names.{IsWellNamed}
 use Rattle.rc_spec.specs.Placement.{no_op, op_at}
 use Rattle.rc_spec.specs.Ranges.{range_columns}
 use Rattle.rc_plan.specs.Compiled.{IsCompiled}
@@ -22,7 +20,7 @@ use Rattle.rc_multi.specs.GroupLocks.{HasOperation}
 use Rattle.rc_row.specs.Passes.{compiled_of, core_of, spec_of}
 use Rattle.rc_store.specs.OpenGroups.{OpenGroupSeen}
 use Rattle.rc_store.specs.Store.{StoreSeen}
-use Rattle.rc_work.specs.CallColumns.{written_columns_at}
+use Rattle.rc_work.specs.CallColumns.{HasKnownColumns, written_columns_at}
 use Rattle.rc_work.specs.DistinctLaws.{length-distinct-le}
 use Rattle.rc_embed.specs.declared.fault.CallFault.{CallFault}
 use Rattle.rc_embed.specs.declared.fault.CallFault.TheVariants.{Busy, Count, Memory, Prepared, Spent, UnknownOperation, Values}
@@ -40,17 +38,17 @@ use Rattle.rc_embed.proofs.FaultLemmas.{IsOwn, IsOwnIf, none_both, own_group, ow
 
 -- ---- the pattern of an operation
 
-module _ (spec : Spec) (named : IsWellNamed spec) (range : IsInRange spec) (op : ℕ) (known : op < length spec.ops) where
+module _ (spec : Spec) (columns : HasKnownColumns spec) (op : ℕ) (known : op < length spec.ops) where
   there : In (op_at spec op) spec.ops
   there = get_or_in spec.ops op no_op known
 
   pub pattern_distinct : AreDistinct (pattern_at spec op)
-  pattern_distinct = distinct_left (pattern_at spec op) (range_columns (op_at spec op).kind) (named.patterns (op_at spec op) there)
+  pattern_distinct = distinct_left (pattern_at spec op) (range_columns (op_at spec op).kind) (columns.distinct (op_at spec op) there)
 
   pub pattern_below : (c : ℕ) → In c (pattern_at spec op) → c < 32
   pattern_below c m =
-      let below : c < length spec.columns = (range.known_ops (op_at spec op) there).pattern c m in
-      let few = range.columns in
+      let below : c < length spec.columns = (columns.among (op_at spec op) there).pattern c m in
+      let few = columns.few in
       omega (arith, below, few)
 
   pub pattern_few : length (pattern_at spec op) ≤ 32

@@ -3,7 +3,7 @@
 use Rattle.std.specs.Prelude.{◌≡◌, ℕ, ◌<◌, ◌≤◌, List, ◌++◌, ◌∷◌, length, map, take, drop}
 use Rattle.std.specs.Prelude.{All, IfSome}
 use Rattle.std.specs.List.{range_with_len, slice_get}
-use Rattle.rc_row.specs.Passes.{AreIdlePasses, PassSeen, core_of}
+use Rattle.rc_row.specs.Passes.{PassSeen, core_of}
 use Rattle.rc_embed.specs.declared.closing.CloseBack.{CloseBack}
 use Rattle.rc_embed.specs.declared.closing.CloseBack.TheVariants.{Outside, Shared, Memory}
 use Rattle.rc_embed.specs.declared.session.State.TheVariants.{Idle}
@@ -38,11 +38,8 @@ abbrev pub HasAllPasses : OpenSeen → Type 0
 HasAllPasses opened = map number_of opened.passes ≡ range_with_len 0 (pass_count opened)
 
 -- What comes back of a store that isn't closed, and why it isn't. Some pass isn't its own, and the store is as it was. Or all
--- are; then what it shares with sessions is held by somebody yet, and the store is as it was, or memory was wanted, and what it
--- was made of comes back, so that it may be closed.
+-- are; then what it shares with sessions is held by somebody yet, or memory was wanted, and the store is as it was too.
 abbrev pub IsBackOf : OpenSeen → CloseBack → Type 0
 IsBackOf opened (Outside back) = (back ≡ opened) × (HasAllPasses opened → ⊥)
 IsBackOf opened (Shared back) = (back ≡ opened) × HasAllPasses opened
-IsBackOf opened (Memory back) =
-    (back.store ≡ opened.store) × (back.passes.items ≡ opened.passes)
-    × HasAllPasses opened × AreIdlePasses opened.store.row opened.passes
+IsBackOf opened (Memory back) = (back ≡ opened) × HasAllPasses opened

@@ -41,7 +41,7 @@ no_row = 8
 abbrev pub options : ℕ
 options = 9
 
--- the text, or that of the plans, is longer than 2^24 bytes
+-- one of the texts is longer than 2^24 bytes
 abbrev pub too_long : ℕ
 too_long = 10
 
@@ -84,3 +84,23 @@ plan_line = 19
 -- a plan that is written breaks a rule of plans
 abbrev pub plan : ℕ
 plan = 20
+
+-- the text of the shapes breaks a line rule
+abbrev pub shape_line : ℕ
+shape_line = 21
+
+-- fewer sessions are asked for than the closed store had
+abbrev pub sessions : ℕ
+sessions = 22
+
+-- a session of the closed store had made more calls than the limit
+abbrev pub limit : ℕ
+limit = 23
+
+-- the texts don't give the closed store's specification, nor that with further operations behind its own
+abbrev pub other : ℕ
+other = 24
+
+-- some session of the store isn't given back
+abbrev pub outside : ℕ
+outside = 25

@@ -7,6 +7,7 @@ pub mod DeclaringLaws
 pub mod Entries
 pub mod EntriesLaws
 pub mod Frames
+pub mod Holding
 pub mod OfText
 pub mod OpenFrames
 pub mod OpenGroupFrames
@@ -17,11 +18,18 @@ pub mod OpenedInside
 pub mod OpenedLaws
 pub mod Outside
 pub mod OutsideLaws
+pub mod PlaceInside
 pub mod ReceiptsOfText
 pub mod Refused
 pub mod Replies
+pub mod ResumedFrames
+pub mod ResumedLaws
+pub mod Resuming
+pub mod SameSpec
 pub mod Session
 pub mod SessionInside
+pub mod ShapeFrames
+pub mod Shaped
 pub mod SharedInside
 pub mod TextPages
 pub mod ToldLaws

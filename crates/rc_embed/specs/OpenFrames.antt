@@ -17,7 +17,7 @@ use Rattle.rc_handplan.specs.RuleText.{hand_rule_text, plan_refusal_text}
 use Rattle.rc_work.specs.CallColumns.{written_columns_at}
 use Rattle.rc_embed.specs.declared.fault.OpenFault.{OpenFault}
 use Rattle.rc_embed.specs.declared.fault.OpenFault.TheVariants.{Memory, Options, TooLong, Line}
-use Rattle.rc_embed.specs.declared.fault.OpenFault.TheVariants.{Plan, PlanLine, Rule}
+use Rattle.rc_embed.specs.declared.fault.OpenFault.TheVariants.{Plan, PlanLine, Rule, ShapeLine}
 use Rattle.rc_embed.specs.declared.fault.SessionFault.{SessionFault}
 use Rattle.rc_embed.specs.declared.fault.SessionFault.TheVariants as sessions
 use Rattle.rc_embed.specs.declared.open_frame.OpenFrame.{OpenFrame}
@@ -44,6 +44,7 @@ open_code Options = codes.options
 open_code TooLong = codes.too_long
 open_code (Line rule line) = codes.line
 open_code (Rule spec refusal) = codes.rule
+open_code (ShapeLine rule line) = codes.shape_line
 open_code (PlanLine rule line) = codes.plan_line
 open_code (Plan spec op refusal) = codes.plan
 
@@ -69,6 +70,7 @@ fault_text Options = []
 fault_text TooLong = []
 fault_text (Line rule line) = line_text rule line
 fault_text (Rule spec refusal) = refusal_text spec refusal
+fault_text (ShapeLine rule line) = line_text rule line
 fault_text (PlanLine rule line) = plan_line_text rule line
 fault_text (Plan spec op refusal) = plan_refusal_text spec op refusal
 
@@ -79,6 +81,7 @@ HasItem Options = Unit {0}
 HasItem TooLong = Unit {0}
 HasItem (Line rule line) = Unit {0}
 HasItem (Rule spec refusal) = IsItemOf spec refusal.item
+HasItem (ShapeLine rule line) = Unit {0}
 HasItem (PlanLine rule line) = Unit {0}
 HasItem (Plan spec op refusal) = op < length spec.ops
 
@@ -89,6 +92,7 @@ BreaksRule Options = ⊥
 BreaksRule TooLong = ⊥
 BreaksRule (Line rule line) = Unit {0}
 BreaksRule (Rule spec refusal) = Unit {0}
+BreaksRule (ShapeLine rule line) = Unit {0}
 BreaksRule (PlanLine rule line) = Unit {0}
 BreaksRule (Plan spec op refusal) = Unit {0}
 
@@ -105,23 +109,23 @@ pub record KeepsAsked (before after : OpenFrame) : Type 0 where
   pub rows : after.rows ≡ before.rows
   pub seed : after.seed ≡ before.seed
 
--- the text gives a specification that keeps all rules, the other text gives plans that do, and this is a new store of both,
--- as the frame asks
-abbrev pub IsOpenedWithBy : List ℕ → List ℕ → OpenFrame → OpenSeen → Type 0
-IsOpenedWithBy text plans frame store = (seed : Seed) × IsOpenedWith text plans (options_asked frame seed) store
+-- the text gives a specification that keeps all rules, the other texts give shapes and plans that do, and this is a new store
+-- of all three, as the frame asks
+abbrev pub IsOpenedWithBy : List ℕ → List ℕ → List ℕ → OpenFrame → OpenSeen → Type 0
+IsOpenedWithBy text shapes plans frame store = (seed : Seed) × IsOpenedWith text shapes plans (options_asked frame seed) store
 
--- so it is with no plan written
+-- so it is with no further operation, and no plan written
 abbrev pub IsOpenedBy : List ℕ → OpenFrame → OpenSeen → Type 0
-IsOpenedBy text frame store = IsOpenedWithBy text [] frame store
+IsOpenedBy text frame store = IsOpenedWithBy text [] [] frame store
 
 -- a store was opened by the texts, as the frame asks, and the frame tells no refusal
-pub record HasOpenedWith (text plans : List ℕ) (before after : OpenFrame) : Type 0 where
+pub record HasOpenedWith (text shapes plans : List ℕ) (before after : OpenFrame) : Type 0 where
   pub store : OpenSeen
-  pub opened : IsOpenedWithBy text plans before store
+  pub opened : IsOpenedWithBy text shapes plans before store
   pub none : after.length ≡ 0
 
 abbrev pub HasOpened : List ℕ → OpenFrame → OpenFrame → Type 0
-HasOpened text before after = HasOpenedWith text [] before after
+HasOpened text before after = HasOpenedWith text [] [] before after
 
 -- no store was opened, for a cause, which the code and the frame tell
 pub record IsRefusedAs (IsCause : asked.Options → OpenFault → Type 0) (before after : OpenFrame) (code : ℕ) : Type 0 where
@@ -131,8 +135,8 @@ pub record IsRefusedAs (IsCause : asked.Options → OpenFault → Type 0) (befor
   pub code_is : code ≡ open_code fault
   pub told : HasRefusal (fault_text fault) after
 
-abbrev pub IsRefusedWithBy : List ℕ → List ℕ → OpenFrame → OpenFrame → ℕ → Type 0
-IsRefusedWithBy text plans before after code = IsRefusedAs (IsRefusedWith text plans) before after code
+abbrev pub IsRefusedWithBy : List ℕ → List ℕ → List ℕ → OpenFrame → OpenFrame → ℕ → Type 0
+IsRefusedWithBy text shapes plans before after code = IsRefusedAs (IsRefusedWith text shapes plans) before after code
 
 abbrev pub IsRefusedBy : List ℕ → OpenFrame → OpenFrame → ℕ → Type 0
 IsRefusedBy text before after code = IsRefusedAs (IsRefusedFor text) before after code

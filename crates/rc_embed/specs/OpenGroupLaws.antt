@@ -25,7 +25,7 @@ use Rattle.rc_embed.specs.Entries.{HaveEntriesOf, KeepsPass, entries_of, number_
 use Rattle.rc_embed.specs.EntriesLaws.{commits_stand}
 use Rattle.rc_embed.specs.OfText.{AreAnsweredAt, IsHistoryOfText}
 use Rattle.rc_embed.specs.OpenGroups.{HasCalledOpen, HasOpenCause, HasOpenedGroup, IsUncoveredIn, call_in}
-use Rattle.rc_embed.specs.Opened.{IsOpenedWith, OpenSeen}
+use Rattle.rc_embed.specs.Opened.{IsStoreOfTexts, OpenSeen}
 use Rattle.rc_embed.specs.Session.{HasCommitted, SessionSeen, calls_in, replies_of, uncommitted_in}
 use Rattle.rc_embed.specs.ToldLaws.{answered, calls_or, same_calls}
 
@@ -144,8 +144,8 @@ no_declared_call_is_uncovered old begun ready new declared asked next began open
 -- to the store that is closed, are in turn the plain relation's, by the specification that the text gives, at the place of
 -- the one history.
 abbrev pub OpenRepliesArePlain : Type 0
-OpenRepliesArePlain = (text plans : List ℕ) (options : opening.Options) (opened : OpenSeen)
-    (is : IsOpenedWith text plans options opened) (passes : List PassSeen) (closed : ClosedSeen) (history : List Entry)
+OpenRepliesArePlain = (text shapes plans : List ℕ) (options : opening.Options) (opened : OpenSeen)
+    (is : IsStoreOfTexts text shapes plans options opened) (passes : List PassSeen) (closed : ClosedSeen) (history : List Entry)
     → IsHistoryOfText is.spec opened.store passes closed history
     → (old begun ready new : SessionSeen) (declared asked : List AskedCall) (at : Position)
     → old.store ≡ opened.store → begun.store ≡ old.store → HasOpenedGroup old declared begun → HaveCalledInTurn begun asked ready
@@ -188,13 +188,13 @@ none_made old new declared h =
     ap (λ (state : State). calls_or [] (uncommitted_in state)) h.is ∙ ap calls_of h.opened.none
 
 pub open_replies_are_plain : OpenRepliesArePlain
-open_replies_are_plain text plans options opened is passes closed history of old begun ready new declared asked at same began opens on committed have =
+open_replies_are_plain text shapes plans options opened is passes closed history of old begun ready new declared asked at same began opens on committed have =
     let calls : calls_of committed.running.steps ≡ calls_by is.spec asked =
     sym (ap (calls_or []) committed.was)
     ∙ all_made begun ready asked on
     ∙ ap (λ (calls : List Call). calls ++ calls_in begun asked) (none_made old begun declared opens)
     ∙ ap (λ (store : StoreSeen). calls_by (spec_of store.row) asked) (began ∙ same)
-    ∙ same_calls text plans options opened is asked in
+    ∙ same_calls text shapes plans options opened is asked in
     subst (λ (cs : List Call). AreAnsweredAt is.spec history at.place cs (replies_of new)) calls
     (answered is.spec opened.store passes closed history of (entries_of new.state) have at.place
     (calls_of committed.running.steps) (replies_of new) (commits_stand ready new at committed))

@@ -1,5 +1,5 @@
 -- What an open store has to do with the specification that its text gives, with the most rows of a reply that were asked for.
-use Rattle.std.proofs.Common.{◌≡◌, ◌↔◌, ℕ, List, [], ◌∷◌, length, take, drop, Option, ◌<◌, ◌++◌, Some, None, Result, Ok, Err, inl, inr, ap, ◌∙◌, refl, subst, sym, arith}
+use Rattle.std.proofs.Common.{◌≡◌, ◌↔◌, ℕ, List, [], ◌∷◌, length, take, drop, Option, ◌++◌, Some, None, Result, Ok, Err, inl, inr, ap, ◌∙◌, refl, subst, sym, arith}
 use Rattle.std.specs.List.{slice_get}
 use Rattle.std.specs.Option.{option_map_or}
 use Rattle.rc_tuple.specs.Tuple.{Pairs, tuple_of}
@@ -7,10 +7,11 @@ use Rattle.rc_spec.specs.declared.call.Call.{Call}
 use Rattle.rc_spec.specs.declared.items.Op.{Op}
 use Rattle.rc_spec.specs.declared.spec.Spec.{Spec}
 use Rattle.rc_spec.specs.Calls.{Fits, value_columns}
+use Rattle.rc_spec.specs.Names.{IsWellNamed}
 use Rattle.rc_spec.specs.Plain.{plain}
 use Rattle.rc_spec.specs.Ranges.{range_columns}
 use Rattle.rc_inline.specs.Inlining.{HasItsSchema}
-use Rattle.rc_inline.specs.PlacingLaws.{embedded_schema}
+use Rattle.rc_inline.specs.PlacingLaws.{embedded_named, embedded_schema}
 use Rattle.rc_inline.specs.SchemaLaws.{fits_same, fitting_of_one_schema, plain_same, value_columns_same}
 use Rattle.rc_inline.specs.Placing.{embedded}
 use Rattle.rc_handplan.specs.declared.hand.Hand.{Hand}
@@ -19,16 +20,22 @@ use Rattle.rc_handplan.specs.Chosen.{IsChosenBy, IsFirstRefused, plan_for}
 use Rattle.rc_handplan.specs.HandGrammar.{Broken, plans_of}
 use Rattle.rc_plan.specs.Compiled.{plan_at}
 use Rattle.rc_plan.specs.declared.refusal.PlanRefusal.{PlanRefusal}
+use Rattle.rc_reader.specs.Grammar as lines
+use Rattle.rc_reader.specs.Grammar.{text_version}
 use Rattle.rc_rel.specs.declared.entry.Entry.{Entry}
 use Rattle.rc_rel.specs.declared.entry.Step.{Step}
 use Rattle.rc_rel.specs.History.{AllFit, AreLegalFrom, StepsFit, after_steps, replay, steps_of}
 use Rattle.rc_core.specs.Good.{IsGoodHistory}
 use Rattle.rc_row.specs.Passes.{compiled_of, spec_of}
 use Rattle.rc_work.specs.CallColumns.{call_of, columns_at, ranges_at, ranges_of}
+use Rattle.rc_work.specs.Shapes.{with_operations}
+use Rattle.rc_work.specs.ShapesGrammar.{shapes_of}
+use Rattle.rc_work.specs.ShapesGrammarLaws.{no_shapes}
+use Rattle.rc_work.specs.ShapesLaws.{with_none}
 use Rattle.rc_embed.specs.declared.opening.Options as asked
 use Rattle.rc_embed.specs.declared.fault.OpenFault.{OpenFault}
-use Rattle.rc_embed.specs.declared.fault.OpenFault.TheVariants.{Line, Memory, Options, Plan, PlanLine, Rule, TooLong}
-use Rattle.rc_embed.specs.Opened.{ArePlannedOf, IsOpened, IsOpenedWith, IsRefusedFor, IsRefusedWith, OpenSeen, most_rows_asked}
+use Rattle.rc_embed.specs.declared.fault.OpenFault.TheVariants.{Line, Memory, Options, Plan, PlanLine, Rule, ShapeLine, TooLong}
+use Rattle.rc_embed.specs.Opened.{ArePlannedOf, IsOfTexts, IsRefusedFor, IsRefusedWith, IsStoreOfTexts, OpenSeen, most_rows_asked}
 
 abbrev ok_of : {A E : Type 0} → A → Result A E
 ok_of x = Ok x
@@ -103,7 +110,7 @@ module _ (spec other : Spec) (same : HasItsSchema spec other) where
         ranges = ranges_of (ranges i) (drop (length (columns i)) values);
       }
 
--- ---- the specification of an open store
+-- ---- the specification of a store of texts, whether it is opened, or goes on from a closed one
 
 -- that of its text with its singletons inlined and its edges placed together
 abbrev pub store_spec : OpenSeen → Spec
@@ -111,66 +118,99 @@ store_spec opened = spec_of opened.store.row
 
 -- a query answers as many rows one by one as was asked
 abbrev pub OpenedRows : Type 0
-OpenedRows = (text plans : List ℕ) (options : asked.Options) (opened : OpenSeen) → IsOpenedWith text plans options opened
+OpenedRows = (text shapes plans : List ℕ) (options : asked.Options) (opened : OpenSeen) → IsStoreOfTexts text shapes plans options opened
     → (store_spec opened).most_rows ≡ most_rows_asked options
 
 pub opened_rows : OpenedRows
-opened_rows text plans options opened is = is.store.most_rows ∙ ap (λ (s : Spec). s.most_rows) is.from.is
+opened_rows text shapes plans options opened is = is.store.most_rows ∙ ap (λ (s : Spec). s.most_rows) (is.of.is ∙ ap (λ (s : Spec). with_operations s is.of.further) is.of.from.is)
 
 -- it has the schema of the text's
 abbrev pub OpenedSchema : Type 0
-OpenedSchema = (text plans : List ℕ) (options : asked.Options) (opened : OpenSeen) (is : IsOpenedWith text plans options opened)
+OpenedSchema = (text shapes plans : List ℕ) (options : asked.Options) (opened : OpenSeen) (is : IsStoreOfTexts text shapes plans options opened)
     → HasItsSchema is.spec (store_spec opened)
 
 pub opened_schema : OpenedSchema
-opened_schema text plans options opened is = subst (HasItsSchema is.spec) (sym is.store.of_spec) (embedded_schema is.spec)
+opened_schema text shapes plans options opened is = subst (HasItsSchema is.spec) (sym is.store.of_spec) (embedded_schema is.spec)
 
 -- an operation's number and values make one call by both
 abbrev pub OpenedCalls : Type 0
-OpenedCalls = (text plans : List ℕ) (options : asked.Options) (opened : OpenSeen) (is : IsOpenedWith text plans options opened)
+OpenedCalls = (text shapes plans : List ℕ) (options : asked.Options) (opened : OpenSeen) (is : IsStoreOfTexts text shapes plans options opened)
     → (op : ℕ) (values : List ℕ) → call_of (store_spec opened) op values ≡ call_of is.spec op values
 
 pub opened_calls : OpenedCalls
-opened_calls text plans options opened is =
-    call_same is.spec (store_spec opened) (opened_schema text plans options opened is)
+opened_calls text shapes plans options opened is =
+    call_same is.spec (store_spec opened) (opened_schema text shapes plans options opened is)
 
 -- a call fits one exactly where it fits the other
 abbrev pub OpenedFits : Type 0
-OpenedFits = (text plans : List ℕ) (options : asked.Options) (opened : OpenSeen) (is : IsOpenedWith text plans options opened)
+OpenedFits = (text shapes plans : List ℕ) (options : asked.Options) (opened : OpenSeen) (is : IsStoreOfTexts text shapes plans options opened)
     → (call : Call) → Fits (store_spec opened) call ↔ Fits is.spec call
 
 pub opened_fits : OpenedFits
-opened_fits text plans options opened is =
-    fitting_of_one_schema is.spec (store_spec opened) (opened_schema text plans options opened is)
+opened_fits text shapes plans options opened is =
+    fitting_of_one_schema is.spec (store_spec opened) (opened_schema text shapes plans options opened is)
 
 -- and does the same by both
 abbrev pub OpenedPlain : Type 0
-OpenedPlain = (text plans : List ℕ) (options : asked.Options) (opened : OpenSeen) (is : IsOpenedWith text plans options opened)
+OpenedPlain = (text shapes plans : List ℕ) (options : asked.Options) (opened : OpenSeen) (is : IsStoreOfTexts text shapes plans options opened)
     → (r : List Pairs) (call : Call) → plain (store_spec opened) r call ≡ plain is.spec r call
 
 pub opened_plain : OpenedPlain
-opened_plain text plans options opened is =
-    plain_same is.spec (store_spec opened) (opened_schema text plans options opened is)
+opened_plain text shapes plans options opened is =
+    plain_same is.spec (store_spec opened) (opened_schema text shapes plans options opened is)
 
 -- a good history of the store is one of the text's specification, and leaves the same relation
 abbrev pub HistoriesAreOfTheText : Type 0
-HistoriesAreOfTheText = (text plans : List ℕ) (options : asked.Options) (opened : OpenSeen)
-    (is : IsOpenedWith text plans options opened)
+HistoriesAreOfTheText = (text shapes plans : List ℕ) (options : asked.Options) (opened : OpenSeen)
+    (is : IsStoreOfTexts text shapes plans options opened)
     → (passes : ℕ) (history : List Entry) → IsGoodHistory (store_spec opened) passes history
     → IsGoodHistory is.spec passes history × (replay (store_spec opened) history ≡ replay is.spec history)
 
 pub histories_are_of_the_text : HistoriesAreOfTheText
-histories_are_of_the_text text plans options opened is passes history good =
-    let same = opened_schema text plans options opened is in (
+histories_are_of_the_text text shapes plans options opened is passes history good =
+    let same = opened_schema text shapes plans options opened is in (
       good_same is.spec (store_spec opened) same passes history good,
       after_same is.spec (store_spec opened) same [] (steps_of history),
+    )
+
+-- ---- operations that the text doesn't declare
+
+-- they stand behind those that it declares, whose numbers don't change
+abbrev pub OpenedOperations : Type 0
+OpenedOperations = (text shapes plans : List ℕ) (options : asked.Options) (opened : OpenSeen) (is : IsStoreOfTexts text shapes plans options opened)
+    → (store_spec opened).ops ≡ is.of.declared.ops ++ is.of.further
+
+pub opened_operations : OpenedOperations
+opened_operations text shapes plans options opened is =
+    (opened_schema text shapes plans options opened is).ops ∙ ap (λ (s : Spec). s.ops) is.of.is
+
+-- what an empty text of shapes gives
+none_further : (text : List ℕ) (spec : Spec) (further : List Op) → shapes_of (text_version text) spec [] ≡ Ok further → further ≡ []
+none_further text spec further e =
+    let same : ok_of {E = lines.Broken} [] ≡ Ok further = sym (no_shapes (text_version text) spec) ∙ e in sym (same_Ok [] further same)
+
+-- without it the specification is that of the text
+pub only_declared : (text : List ℕ) (options : asked.Options) (spec : Spec) (of : IsOfTexts text [] options spec) → spec ≡ of.declared
+only_declared text options spec of =
+    of.is ∙ ap (with_operations of.declared) (none_further text of.declared of.further of.read) ∙ with_none of.declared
+
+-- and names in the store's are kept apart
+abbrev pub OpenedDeclared : Type 0
+OpenedDeclared = (text plans : List ℕ) (options : asked.Options) (opened : OpenSeen) (is : IsStoreOfTexts text [] plans options opened)
+    → (is.spec ≡ is.of.declared) × IsWellNamed (store_spec opened)
+
+pub opened_declared : OpenedDeclared
+opened_declared text plans options opened is =
+    let same = only_declared text options is.spec is.of in (
+      same,
+      subst IsWellNamed (sym (is.store.of_spec ∙ ap embedded same)) (embedded_named is.of.declared is.of.named),
     )
 
 -- ---- a store for which no plan is written
 
 -- each operation has its planned plan
 abbrev pub OpenedPlans : Type 0
-OpenedPlans = (text : List ℕ) (options : asked.Options) (opened : OpenSeen) → IsOpened text options opened
+OpenedPlans = (text : List ℕ) (options : asked.Options) (opened : OpenSeen) → IsStoreOfTexts text [] [] options opened
     → ArePlannedOf (compiled_of opened.store.row)
 
 -- what an empty text gives
@@ -180,23 +220,27 @@ none_given spec hands e = let same : ok_of {E = Broken} [] ≡ Ok hands = sym (n
 pub opened_plans : OpenedPlans
 opened_plans text options opened is op below =
     subst (λ (hands : List Hand). IsChosenBy (store_spec opened) op (plan_for hands op) (plan_at (compiled_of opened.store.row).plans op))
-    (none_given (embedded is.spec) is.hands is.written.read) (is.store.chosen.each op below)
+    (none_given (embedded is.of.declared) is.hands is.written.read) (is.store.chosen.each op below)
 
--- and none of the faults of plans
-pub refused_without_plans : (text : List ℕ) (options : asked.Options) (fault : OpenFault) → IsRefusedWith text [] options fault
+-- and none of the faults of plans, nor of shapes where no further operation is asked for
+pub refused_without_plans : (text : List ℕ) (options : asked.Options) (fault : OpenFault) → IsRefusedWith text [] [] options fault
     → IsRefusedFor text options fault
 refused_without_plans text options Memory cause = (cause.0, cause.1.of_text)
 refused_without_plans text options Options cause = cause
 refused_without_plans text options TooLong (bounds, inl long) = (bounds, long)
-refused_without_plans text options TooLong (bounds, inr long) = absurd (omega (arith, long))
+refused_without_plans text options TooLong (bounds, inr (inl long)) = absurd (omega (arith, long))
+refused_without_plans text options TooLong (bounds, inr (inr long)) = absurd (omega (arith, long))
 refused_without_plans text options (Line rule line) (bounds, short, broken) = (bounds, short.of_text, broken)
 refused_without_plans text options (Rule spec refusal) (bounds, short, broken) = (bounds, short.of_text, broken)
+refused_without_plans text options (ShapeLine rule line) (bounds, short, broken) =
+    let same : ok_of {E = lines.Broken} [] ≡ Err (record { rule = rule; line = line }) = sym (no_shapes (text_version text) broken.spec) ∙ broken.broken in
+    absurd cc
 refused_without_plans text options (PlanLine rule line) (bounds, short, broken) =
-    let same : ok_of {E = Broken} [] ≡ Err (record { rule = rule; line = line }) = sym (no_text_no_plans (embedded broken.spec)) ∙ broken.broken in
+    let same : ok_of {E = Broken} [] ≡ Err (record { rule = rule; line = line }) = sym (no_text_no_plans (embedded broken.of.declared)) ∙ broken.broken in
     absurd cc
 refused_without_plans text options (Plan spec op refusal) (bounds, short, broken) =
-    absurd (none_broken spec op refusal broken.refused.hands (none_given spec broken.refused.hands broken.refused.read)
-    broken.refused.first)
+    absurd (none_broken spec op refusal broken.refused.hands
+    (none_given (embedded broken.of.declared) broken.refused.hands broken.refused.read) broken.refused.first)
   where
     none_broken : (spec : Spec) (op : ℕ) (refusal : PlanRefusal) (hands : List Hand) → hands ≡ []
         → IsFirstRefused spec hands op refusal → ⊥

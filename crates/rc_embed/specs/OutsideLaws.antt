@@ -13,14 +13,14 @@ use Rattle.rc_tuple.specs.ColSetLaws.{in_range_below, in_range_bounds, rising_ra
 use Rattle.rc_tuple.specs.RisingSet.{AreDistinct, In, IsRising}
 use Rattle.rc_tuple.specs.RisingSetLaws.{append_in_right, nat_order, not_below_itself, same_rising}
 use Rattle.rc_row.specs.Passes.{PassSeen, RowSeen, new_pass}
+use Rattle.rc_store.specs.Closed.{ClosedSeen}
 use Rattle.rc_store.specs.Store.{StoreSeen}
 use Rattle.rc_embed.specs.declared.opening.Options as asked
-use Rattle.rc_embed.specs.declared.session.State.{State}
-use Rattle.rc_embed.specs.declared.session.State.TheVariants.{Idle}
 use Rattle.rc_embed.specs.Closing.{HasAllPasses, HasTakenBack, number_of, pass_count}
 use Rattle.rc_embed.specs.Entries.{number_in}
 use Rattle.rc_embed.specs.Opened.{HasDealt, IsOpenedWith, OpenSeen}
 use Rattle.rc_embed.specs.Outside.{AreOutside}
+use Rattle.rc_embed.specs.Resuming.{IsResumedWith}
 use Rattle.rc_embed.specs.Session.{SessionSeen}
 
 -- ---- numbers
@@ -34,23 +34,16 @@ less_nat a b h = grind (arith, nat_tests)
 apart_above : (k n : ℕ) → k ≤ n → (k ≡ n → ⊥) → k < n
 apart_above k n h apart = omega (arith, h, apart)
 
--- ---- a new store
+-- ---- a new store, and one that goes on
 
 numbers_of_new : (row : RowSeen) (ks : List ℕ) → map number_of (map (new_pass row) ks) ≡ ks
 numbers_of_new row [] = refl
 numbers_of_new row (k ∷ ks) = ap (λ (l : List ℕ). k ∷ l) (numbers_of_new row ks)
 
--- A new store has all of its passes.
-abbrev pub NoneOutsideAtFirst : Type 0
-NoneOutsideAtFirst = (text plans : List ℕ) (options : asked.Options) (opened : OpenSeen) → IsOpenedWith text plans options opened
-    → AreOutside opened []
-
-pub none_at_first : NoneOutsideAtFirst
-none_at_first text plans options opened is =
-    let row = opened.store.row in
-    let n : ℕ = row.key.passes in
-    let same : map number_of opened.passes ≡ range_with_len 0 n =
-    ap (map number_of) is.store.passes ∙ numbers_of_new row (range_with_len 0 n) in
+-- A store that has all of its passes has none outside.
+none_outside : (opened : OpenSeen) → HasAllPasses opened → AreOutside opened []
+none_outside opened same =
+    let n : ℕ = pass_count opened in
     let many : length (map number_of opened.passes) ≡ length opened.passes = length-map opened.passes number_of in
     let long : length (map number_of opened.passes) ≡ n =
     ap (λ (l : List ℕ). length l) same ∙ length-range_with_len 0 n in
@@ -64,6 +57,24 @@ none_at_first text plans options opened is =
       );
       count = omega (arith, many, long);
     }
+
+-- So has a new store,
+abbrev pub NoneOutsideAtFirst : Type 0
+NoneOutsideAtFirst = (text shapes plans : List ℕ) (options : asked.Options) (opened : OpenSeen) → IsOpenedWith text shapes plans options opened
+    → AreOutside opened []
+
+pub none_at_first : NoneOutsideAtFirst
+none_at_first text shapes plans options opened is =
+    let row = opened.store.row in
+    none_outside opened (ap (map number_of) is.passes ∙ numbers_of_new row (range_with_len 0 row.key.passes))
+
+-- and one that goes on from a closed one.
+abbrev pub NoneOutsideAgain : Type 0
+NoneOutsideAgain = (closed : ClosedSeen) (text shapes plans : List ℕ) (options : asked.Options) (opened : OpenSeen)
+    → IsResumedWith closed text shapes plans options opened → AreOutside opened []
+
+pub none_again : NoneOutsideAgain
+none_again closed text shapes plans options opened is = none_outside opened is.all
 
 -- ---- a session that begins
 

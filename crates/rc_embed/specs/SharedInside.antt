@@ -1,16 +1,16 @@
 -- What a store shares with its sessions.
 use Rattle.std.specs.Prelude.{◌≡◌}
 use Rattle.rc_spec.specs.InRange.{IsInRange}
-use Rattle.rc_spec.specs.Names.{IsWellNamed}
 use Rattle.rc_row.specs.declared.keeping.Keeping.TheVariants.{Counts}
 use Rattle.rc_row.specs.Passes.{spec_of}
+use Rattle.rc_work.specs.CallColumns.{HasKnownColumns}
 use Rattle.rc_embed.specs.Asked.{columns_of_all}
 use Rattle.rc_embed.specs.declared.shared.Shared.TheInside.{Inside}
 
 -- the columns of each operation's values stand by its number, and passes keep no entries
 pub record IsWholeShared (a : Inside) : Type 0 where
   pub range : IsInRange (spec_of a.store.row)
-  pub named : IsWellNamed (spec_of a.store.row)
+  pub known : HasKnownColumns (spec_of a.store.row)
   pub columns : a.columns.items ≡ columns_of_all (spec_of a.store.row)
   pub limit : a.limit ≡ a.store.limit
   pub counts : a.store.row.keeping ≡ Counts

@@ -30,7 +30,7 @@ use Rattle.rc_embed.specs.Asked.{AskedCall, calls_by}
 use Rattle.rc_embed.specs.Entries.{HasEntry, HaveEntriesOf, StandsAt, entries_of}
 use Rattle.rc_embed.specs.EntriesLaws.{calls_stand, commits_stand, prepared_uncommitted}
 use Rattle.rc_embed.specs.OfText.{AreAnsweredAt, IsHistoryOfText}
-use Rattle.rc_embed.specs.Opened.{IsOpenedWith, OpenSeen}
+use Rattle.rc_embed.specs.Opened.{IsStoreOfTexts, OpenSeen}
 use Rattle.rc_embed.specs.OpenedLaws.{histories_are_of_the_text, opened_calls, store_spec}
 use Rattle.rc_embed.specs.Session.{HasCalled, HasCommitted, HasPrepared, SessionSeen, calls_in, replies_of, uncommitted_in}
 
@@ -39,13 +39,13 @@ use Rattle.rc_embed.specs.Session.{HasCalled, HasCommitted, HasPrepared, Session
 -- It is one history of the text's specification, in which each pass's entries are its own, and what is left are the
 -- rows of its relation.
 abbrev pub ClosedIsOfTheText : Type 0
-ClosedIsOfTheText = (text plans : List ℕ) (options : opening.Options) (opened : OpenSeen) (is : IsOpenedWith text plans options opened)
+ClosedIsOfTheText = (text shapes plans : List ℕ) (options : opening.Options) (opened : OpenSeen) (is : IsStoreOfTexts text shapes plans options opened)
     → (passes : List PassSeen) (closed : ClosedSeen) (has : HasClosed opened.store passes closed)
     → IsHistoryOfText is.spec opened.store passes closed has.history
 
 pub closed_is_of_the_text : ClosedIsOfTheText
-closed_is_of_the_text text plans options opened is passes closed has =
-    let both = histories_are_of_the_text text plans options opened is (length passes) has.history has.leaves.good in
+closed_is_of_the_text text shapes plans options opened is passes closed has =
+    let both = histories_are_of_the_text text shapes plans options opened is (length passes) has.history has.leaves.good in
     record {
       good = both.0;
       keeps = ap (λ (compiled : SpecWithPlans). compiled.spec) has.compiled ∙ is.store.of_spec;
@@ -161,35 +161,35 @@ answered spec store passes closed history is entries have place calls replies at
     }
 
 -- what is asked for are the same calls by the specification of a store as by that of the text which opened it
-pub same_calls : (text plans : List ℕ) (options : opening.Options) (opened : OpenSeen) (is : IsOpenedWith text plans options opened)
+pub same_calls : (text shapes plans : List ℕ) (options : opening.Options) (opened : OpenSeen) (is : IsStoreOfTexts text shapes plans options opened)
     → (asked : List AskedCall) → calls_by (store_spec opened) asked ≡ calls_by is.spec asked
-same_calls text plans options opened is [] = refl
-same_calls text plans options opened is (call ∷ asked) = λ i.
-    opened_calls text plans options opened is call.op call.values i ∷ same_calls text plans options opened is asked i
+same_calls text shapes plans options opened is [] = refl
+same_calls text shapes plans options opened is (call ∷ asked) = λ i.
+    opened_calls text shapes plans options opened is call.op call.values i ∷ same_calls text shapes plans options opened is asked i
 
 -- The replies that a session was told, of calls whose entry has come back to the store that is closed, are in turn the
 -- plain relation's, by the specification that the text gives, at the place of the one history.
 abbrev pub ToldRepliesArePlain : Type 0
-ToldRepliesArePlain = (text plans : List ℕ) (options : opening.Options) (opened : OpenSeen)
-    (is : IsOpenedWith text plans options opened) (passes : List PassSeen) (closed : ClosedSeen) (history : List Entry)
+ToldRepliesArePlain = (text shapes plans : List ℕ) (options : opening.Options) (opened : OpenSeen)
+    (is : IsStoreOfTexts text shapes plans options opened) (passes : List PassSeen) (closed : ClosedSeen) (history : List Entry)
     → IsHistoryOfText is.spec opened.store passes closed history
     → (old new : SessionSeen) (asked : List AskedCall) (at : Position)
     → old.store ≡ opened.store → HasCalled old asked new at → HaveEntriesOf passes new
     → AreAnsweredAt is.spec history at.place (calls_by is.spec asked) (replies_of new)
 
 pub told_replies_are_plain : ToldRepliesArePlain
-told_replies_are_plain text plans options opened is passes closed history of old new asked at same called have =
+told_replies_are_plain text shapes plans options opened is passes closed history of old new asked at same called have =
     let calls : calls_in old asked ≡ calls_by is.spec asked =
     ap (λ (store : StoreSeen). calls_by (spec_of store.row) asked) same
-    ∙ same_calls text plans options opened is asked in
+    ∙ same_calls text shapes plans options opened is asked in
     subst (λ (cs : List Call). AreAnsweredAt is.spec history at.place cs (replies_of new)) calls
     (answered is.spec opened.store passes closed history of (entries_of new.state) have at.place (calls_in old asked)
     (replies_of new) (calls_stand old new asked at called))
 
 -- And so are those of calls that were prepared, once they are committed.
 abbrev pub CommittedRepliesArePlain : Type 0
-CommittedRepliesArePlain = (text plans : List ℕ) (options : opening.Options) (opened : OpenSeen)
-    (is : IsOpenedWith text plans options opened) (passes : List PassSeen) (closed : ClosedSeen) (history : List Entry)
+CommittedRepliesArePlain = (text shapes plans : List ℕ) (options : opening.Options) (opened : OpenSeen)
+    (is : IsStoreOfTexts text shapes plans options opened) (passes : List PassSeen) (closed : ClosedSeen) (history : List Entry)
     → IsHistoryOfText is.spec opened.store passes closed history
     → (old begun ready new : SessionSeen) (asked : List AskedCall) (at : Position)
     → old.store ≡ opened.store → HasPrepared old asked begun → ready.state ≡ begun.state
@@ -202,14 +202,14 @@ calls_or d None = d
 calls_or d (Some running) = calls_of running.steps
 
 pub committed_replies_are_plain : CommittedRepliesArePlain
-committed_replies_are_plain text plans options opened is passes closed history of old begun ready new asked at same prepared still committed have =
+committed_replies_are_plain text shapes plans options opened is passes closed history of old begun ready new asked at same prepared still committed have =
     let these : calls_of committed.running.steps ≡ calls_of prepared.running.steps =
     ap (calls_or (calls_of prepared.running.steps))
     (sym committed.was ∙ ap uncommitted_in still ∙ prepared_uncommitted begun.state prepared.running prepared.is) in
     let calls : calls_of committed.running.steps ≡ calls_by is.spec asked =
     these ∙ prepared.begun.asked
     ∙ ap (λ (store : StoreSeen). calls_by (spec_of store.row) asked) same
-    ∙ same_calls text plans options opened is asked in
+    ∙ same_calls text shapes plans options opened is asked in
     subst (λ (cs : List Call). AreAnsweredAt is.spec history at.place cs (replies_of new)) calls
     (answered is.spec opened.store passes closed history of (entries_of new.state) have at.place
     (calls_of committed.running.steps) (replies_of new) (commits_stand ready new at committed))

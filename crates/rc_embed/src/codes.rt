@@ -9,7 +9,7 @@ pub const MEMORY: u32 = 1;
 pub const BUSY: u32 = 2;
 /// The session has made as many calls as its store lets it.
 pub const SPENT: u32 = 3;
-/// No operation has the number, or the name.
+/// No operation has the number, or the name, or asks as the line does.
 pub const OPERATION: u32 = 4;
 /// The operation takes another number of values.
 pub const VALUE_COUNT: u32 = 5;
@@ -21,7 +21,7 @@ pub const NOT_PREPARED: u32 = 7;
 pub const NO_ROW: u32 = 8;
 /// The options are out of their ranges.
 pub const OPTIONS: u32 = 9;
-/// The text, or that of the plans, is longer than 2^24 bytes.
+/// One of the texts is longer than 2^24 bytes.
 pub const TOO_LONG: u32 = 10;
 /// The text breaks a line rule.
 pub const LINE: u32 = 11;
@@ -43,3 +43,13 @@ pub const NO_CALL: u32 = 18;
 pub const PLAN_LINE: u32 = 19;
 /// A plan that is written breaks a rule of plans.
 pub const PLAN: u32 = 20;
+/// The text of the shapes breaks a line rule.
+pub const SHAPE_LINE: u32 = 21;
+/// Fewer sessions are asked for than the closed store had.
+pub const SESSIONS: u32 = 22;
+/// A session of the closed store had made more calls than the limit.
+pub const LIMIT: u32 = 23;
+/// The texts don't give the closed store's specification, nor that with further operations behind its own.
+pub const OTHER: u32 = 24;
+/// Some session of the store isn't given back.
+pub const OUTSIDE: u32 = 25;

@@ -4,6 +4,7 @@ ghost use Rattle.std.specs.Prelude.{◌≡◌};
 ghost use Rattle.rc_embed.specs.Refused.{call_fault};
 ghost use Rattle.rc_embed.specs.declared.fault.CallFault.TheVariants as call_faults;
 ghost use Rattle.rc_embed.specs.declared.fault.OpenFault.TheVariants as open_faults;
+ghost use Rattle.rc_embed.specs.declared.fault.ResumeFault.TheVariants as resume_faults;
 
 use rc_handplan::HandRule;
 use rc_plan::PlanRefusal;
@@ -20,7 +21,7 @@ pub enum OpenFault {
     /// There are not 1 to 255 passes, not 1 to 2^48 calls, or not 1 to 2^32 - 1 rows where these
     /// are limited.
     Options,
-    /// The text, or that of the plans, is longer than 2^24 bytes.
+    /// One of the texts is longer than 2^24 bytes.
     TooLong,
     /// The text breaks a line rule: the first, and its line, counted from 1.
     Line {
@@ -30,6 +31,11 @@ pub enum OpenFault {
     /// The specification breaks a rule of acceptance: the specification, its first broken rule and
     /// the first item that breaks it.
     Rule(Spec, Refusal),
+    /// The text of the shapes breaks a line rule: the first, and its line in that text, counted from 1.
+    ShapeLine {
+        rule: LineRule,
+        line: u32,
+    },
     /// The text of the plans breaks a rule of their lines: the first, and its line in that text, counted
     /// from 1.
     PlanLine {
@@ -52,6 +58,28 @@ impl From<Memory> for OpenFault {
 
     fn from(_: Memory) -> Self {
         OpenFault::Memory
+    }
+}
+
+/// Why a closed store doesn't go on. It is as before.
+#[derive(Debug, Drop)]
+pub enum ResumeFault {
+    /// The options are out of their ranges, a text is refused, or memory is wanted, as where a store is opened by them.
+    Refused(OpenFault),
+    /// The closed store had more passes than sessions are asked for.
+    Sessions,
+    /// Some pass of the closed store had made more calls than the limit.
+    Limit,
+    /// The specification of the texts, as a store has it, isn't the closed store's, nor that with further operations behind
+    /// its own. So it is too where another most rows of a reply is asked for.
+    Other,
+}
+
+impl From<OpenFault> for ResumeFault {
+    ghost from_gives = { λ fault gives. gives ≡ resume_faults.Refused fault };
+
+    fn from(fault: OpenFault) -> Self {
+        ResumeFault::Refused(fault)
     }
 }
 

@@ -10,11 +10,14 @@ ghost use Rattle.rc_embed.specs.EntriesLaws.{PreparingKeepsPasses, TakingBackKee
 ghost use Rattle.rc_embed.specs.OpenGroupLaws.{NoDeclaredCallIsUncovered, OpenCallsKeepPasses};
 ghost use Rattle.rc_embed.specs.OpenGroupLaws.{OpenGroupsKeepTheirLocks, OpenRepliesArePlain};
 ghost use Rattle.rc_embed.specs.OpenGroupLaws.{OpeningKeepsPasses};
-ghost use Rattle.rc_embed.specs.OpenedLaws.{HistoriesAreOfTheText, OpenedCalls, OpenedFits};
-ghost use Rattle.rc_embed.specs.OpenedLaws.{OpenedPlain, OpenedPlans, OpenedRows, OpenedSchema};
-ghost use Rattle.rc_embed.specs.OutsideLaws.{AllAreInside, DealtGoOutside, NoneOutsideAtFirst};
+ghost use Rattle.rc_embed.specs.OpenedLaws.{HistoriesAreOfTheText, OpenedCalls, OpenedDeclared};
+ghost use Rattle.rc_embed.specs.OpenedLaws.{OpenedFits, OpenedOperations, OpenedPlain};
+ghost use Rattle.rc_embed.specs.OpenedLaws.{OpenedPlans, OpenedRows, OpenedSchema};
+ghost use Rattle.rc_embed.specs.OutsideLaws.{AllAreInside, DealtGoOutside, NoneOutsideAgain};
+ghost use Rattle.rc_embed.specs.OutsideLaws.{NoneOutsideAtFirst};
 ghost use Rattle.rc_embed.specs.OutsideLaws.{SomeOutsideLeaveRoom, TakenBackComeInside};
 ghost use Rattle.rc_embed.specs.ReceiptsOfText.{ReceiptsAreOfTheText};
+ghost use Rattle.rc_embed.specs.ResumedLaws.{ClosedHistoriesGoOn, ReceiptsGoOnFromClosed};
 ghost use Rattle.rc_embed.specs.ToldLaws.{ClosedIsOfTheText, CommittedRepliesArePlain};
 ghost use Rattle.rc_embed.specs.ToldLaws.{EntriesArePlain, HistoriesOfTextAreOne};
 ghost use Rattle.rc_embed.specs.ToldLaws.{ToldRepliesArePlain};
@@ -22,11 +25,14 @@ ghost use Rattle.rc_embed.specs.ToldLaws.{ToldRepliesArePlain};
 use crate::opening::OpenStore;
 use crate::session::Session;
 
-/// An open store has the calls and the histories of the specification that its text gives, with the
+/// A store of texts, whether it was opened by them or goes on from a closed one (`IsStoreOfTexts`, which is all that these laws,
+/// and those below of texts, want of it), has the calls and the histories of the specification that its text gives, with the
 /// most rows of a reply that were asked for: an operation's number and values make one call by
 /// both, it fits both alike, has the same reply and leaves the same relation on each relation; so a
 /// good history of the store is one of the text's specification. So it is whichever plans are written;
-/// where none is, each operation has its planned plan. (PLDI 2011, a decomposition represents a relation.)
+/// where none is, each operation has its planned plan. Where a text of shapes gives further operations,
+/// the specification is that of the text with them behind its own, whose numbers don't change; without
+/// one it is that of the text, and names are kept apart. (PLDI 2011, a decomposition represents a relation.)
 pub fn opened_stores_are_of_the_text()
     ensures rows { OpenedRows }
     ensures schema { OpenedSchema }
@@ -35,6 +41,8 @@ pub fn opened_stores_are_of_the_text()
     ensures plain { OpenedPlain }
     ensures histories { HistoriesAreOfTheText }
     ensures plans { OpenedPlans }
+    ensures operations { OpenedOperations }
+    ensures declared { OpenedDeclared }
 {}
 
 /// A receipt means one history, of a call or of a group, whether the store is ever closed or not:
@@ -46,12 +54,22 @@ pub fn receipts_are_of_the_text()
     ensures { ReceiptsAreOfTheText }
 {}
 
-/// A store that was opened by a text, and is closed, leaves one history of the text's
+/// A store that was opened by a text, or goes on by one, and is closed, leaves one history of the text's
 /// specification, in which the entries of each pass are its own, and the rows of the relation that
 /// this history leaves; there is no other such history. (PLDI 2012, serializable transactions.)
 pub fn closed_stores_are_of_the_text()
     ensures history { ClosedIsOfTheText }
     ensures one { HistoriesOfTextAreOne }
+{}
+
+/// The one history goes on where a closed store does, by the specification that the later texts give: behind the calls of each
+/// receipt stands a history that begins with that which was closed, and is good for that specification, where the receipt's pass
+/// knows what one of the passes knew that the store began with (as it does from its first call on: `telling_goes_on` of
+/// `rc_store`); and where the store is closed again, the one history that it leaves begins with that which was closed before.
+/// (PLDI 2012, serializable transactions.)
+pub fn resumed_stores_go_on()
+    ensures receipts { ReceiptsGoOnFromClosed }
+    ensures closed { ClosedHistoriesGoOn }
 {}
 
 /// Calls that a session has made as one, and those that it has prepared, or made of an open group, and
@@ -80,11 +98,12 @@ pub fn entries_stay()
     ensures dealing { DealingKeepsEntries }
 {}
 
-/// A new store has all of its passes; one goes outside with each session that begins, and comes
-/// back with that session. So a store has all of its passes exactly where each session that began
+/// A new store has all of its passes, and so has one that goes on; one goes outside with each session that
+/// begins, and comes back with that session. So a store has all of its passes exactly where each session that began
 /// has been taken back, and where one hasn't, the store has room for it.
 pub fn passes_come_back()
     ensures first { NoneOutsideAtFirst }
+    ensures again { NoneOutsideAgain }
     ensures dealt { DealtGoOutside }
     ensures taken_back { TakenBackComeInside }
     ensures all { AllAreInside }

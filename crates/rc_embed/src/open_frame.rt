@@ -1,19 +1,21 @@
 //! Frames by which stores are opened and operations looked up.
 
-ghost use Rattle.std.specs.Prelude.{◌≡◌, IfErr, IfOk};
+ghost use Rattle.std.specs.Prelude.{◌≡◌, ◌<◌, [], length, IfErr, IfOk};
 ghost use Rattle.rc_row.specs.Passes.{spec_of};
 ghost use Rattle.rc_embed.specs.OpenFrames.{AnswersOperation, BreaksRule, HasItem, HasRefusal};
+ghost use Rattle.rc_embed.specs.OpenFrames.{TellsOperation};
 ghost use Rattle.rc_embed.specs.OpenFrames.{IsOpenedBy, IsOpenedWithBy, IsRefusedBy, IsRefusedWithBy};
-ghost use Rattle.rc_embed.specs.OpenFrames.{KeepsAsked, fault_text, line_text, plan_line_text};
-ghost use Rattle.rc_embed.specs.OpenFrames.{op_kind_code, open_code, row_width, rows_asked};
+ghost use Rattle.rc_embed.specs.OpenFrames.{KeepsAsked, KeepsName, fault_text, line_text};
+ghost use Rattle.rc_embed.specs.OpenFrames.{plan_line_text};
+ghost use Rattle.rc_embed.specs.OpenFrames.{op_kind_code, open_code, options_asked, row_width, rows_asked};
 ghost use Rattle.rc_embed.specs.OpenFrames.{session_code};
 
 use crate::codes::{
-    DONE, LINE, MEMORY, NONE_LEFT, OPERATION, OPTIONS, PLAN, PLAN_LINE, RULE, TOO_LONG,
+    DONE, LINE, MEMORY, NONE_LEFT, OPERATION, OPTIONS, PLAN, PLAN_LINE, RULE, SHAPE_LINE, TOO_LONG,
 };
 use crate::fault::{OpenFault, SessionFault};
 use crate::frame::{MAX_CELLS, MAX_VALUES};
-use crate::opening::{OpenStore, Options, open_with_plans};
+use crate::opening::{OpenStore, Options, open_with};
 use crate::replies::copy_over;
 use rc_handplan::{HandRule, print_plan_refusal};
 use rc_maps::Seed;
@@ -55,6 +57,7 @@ fn open_code(fault: &OpenFault) -> u32
         OpenFault::TooLong => TOO_LONG,
         OpenFault::Line { rule: _, line: _ } => LINE,
         OpenFault::Rule(_, _) => RULE,
+        OpenFault::ShapeLine { rule: _, line: _ } => SHAPE_LINE,
         OpenFault::PlanLine { rule: _, line: _ } => PLAN_LINE,
         OpenFault::Plan {
             spec: _,
@@ -82,7 +85,9 @@ fn fault_text(alloc: Global, fault: &OpenFault) -> Result<Vec<u8>, Memory>
     ensures memory { IfErr result (λ _. BreaksRule fault.now) }
 {
     match fault {
-        OpenFault::Line { rule, line } => line_text(alloc, *rule, *line),
+        OpenFault::Line { rule, line } | OpenFault::ShapeLine { rule, line } => {
+            line_text(alloc, *rule, *line)
+        }
         OpenFault::Rule(spec, refusal) => print_refusal(alloc, spec, refusal),
         OpenFault::PlanLine { rule, line } => plan_line_text(alloc, *rule, *line),
         OpenFault::Plan { spec, op, refusal } => print_plan_refusal(alloc, spec, *op, refusal),
@@ -107,8 +112,20 @@ fn plan_line_text(alloc: Global, rule: HandRule, line: u32) -> Result<Vec<u8>, M
 }
 
 impl OpenFrame {
+    /// What it asks for.
+    pub(crate) fn options(&self) -> Options
+        ensures { result ≡ options_asked self.now result.seed }
+    {
+        Options {
+            passes: self.passes,
+            limit: self.limit,
+            rows: rows_asked(self.rows),
+            seed: Seed::new(self.seed[0], self.seed[1]),
+        }
+    }
+
     /// Tells why no store was opened, and answers the code. Memory is wanted for a refusal alone.
-    fn tell_fault(&mut self, alloc: Global, fault: &OpenFault) -> Result<u32, Memory>
+    pub(crate) fn tell_fault(&mut self, alloc: Global, fault: &OpenFault) -> Result<u32, Memory>
         requires { HasItem fault.now }
         ensures code { IfOk result (λ code. code ≡ open_code fault.now) }
         ensures told { IfOk result (λ _. HasRefusal (fault_text fault.now) self.new) }
@@ -139,7 +156,7 @@ pub fn open_by(alloc: Global, text: &[u8], frame: &mut OpenFrame) -> Result<Open
     ensures refused { IfErr result (IsRefusedBy text.now frame.old frame.new) }
     ensures asked { KeepsAsked frame.old frame.new }
 {
-    open_with_plans_by(alloc, text, b"".as_slice(), frame)
+    open_with_by(alloc, text, b"".as_slice(), b"".as_slice(), frame)
 }
 
 /// Opens a store by the text so, and by the plans that are written in the second text.
@@ -149,19 +166,31 @@ pub fn open_with_plans_by(
     plans: &[u8],
     frame: &mut OpenFrame,
 ) -> Result<OpenStore, u32>
-    ensures opened { IfOk result (IsOpenedWithBy text.now plans.now frame.old) }
+    ensures opened { IfOk result (IsOpenedWithBy text.now [] plans.now frame.old) }
     ensures none { IfOk result (λ _. frame.new.length ≡ 0) }
-    ensures refused { IfErr result (IsRefusedWithBy text.now plans.now frame.old frame.new) }
+    ensures refused { IfErr result (IsRefusedWithBy text.now [] plans.now frame.old frame.new) }
+    ensures asked { KeepsAsked frame.old frame.new }
+{
+    open_with_by(alloc, text, b"".as_slice(), plans, frame)
+}
+
+/// Opens a store by the text so, with the further operations of a text of shapes, and by the plans that
+/// are written in the third text.
+pub fn open_with_by(
+    alloc: Global,
+    text: &[u8],
+    shapes: &[u8],
+    plans: &[u8],
+    frame: &mut OpenFrame,
+) -> Result<OpenStore, u32>
+    ensures opened { IfOk result (IsOpenedWithBy text.now shapes.now plans.now frame.old) }
+    ensures none { IfOk result (λ _. frame.new.length ≡ 0) }
+    ensures refused { IfErr result
+        (IsRefusedWithBy text.now shapes.now plans.now frame.old frame.new) }
     ensures asked { KeepsAsked frame.old frame.new }
 {
     frame.length = 0;
-    let options = Options {
-        passes: frame.passes,
-        limit: frame.limit,
-        rows: rows_asked(frame.rows),
-        seed: Seed::new(frame.seed[0], frame.seed[1]),
-    };
-    match open_with_plans(alloc, text, plans, options) {
+    match open_with(alloc, text, shapes, plans, frame.options()) {
         Ok(store) => Ok(store),
         Err(fault) => match frame.tell_fault(alloc, &fault) {
             Ok(code) => Err(code),
@@ -234,19 +263,28 @@ impl OpenStore {
         let Some(number) = self.operation(&frame.name[..length]) else {
             return OPERATION;
         };
+        self.tell_operation(number, frame);
+        DONE
+    }
+
+    /// Tells the frame of an operation.
+    pub(crate) fn tell_operation(&self, number: u32, frame: &mut OperationFrame)
+        requires { number < length (spec_of self.now.store.row).ops }
+        ensures told { TellsOperation (spec_of self.now.store.row) number frame.new }
+        ensures name { KeepsName frame.old frame.new }
+    {
         let spec = self.spec();
         let op = spec.op(number as u8);
         frame.op = number;
         frame.kind = kind_of(op);
         frame.width = width_of(spec, op) as u64;
-        let Some(count) = copy_over(self.shared.columns(number), &mut frame.columns) else {
+        let Some(count) = copy_over(self.shared().columns(number), &mut frame.columns) else {
             unreachable!()
         };
         frame.count = count as u32;
-        let Some(count) = copy_over(self.shared.pattern(number), &mut frame.pattern) else {
+        let Some(count) = copy_over(self.shared().pattern(number), &mut frame.pattern) else {
             unreachable!()
         };
         frame.pattern_count = count as u64;
-        DONE
     }
 }

@@ -1,37 +1,46 @@
 //! How a store is opened, and what it hands out.
 
-ghost use Rattle.std.specs.Prelude.{◌≡◌, ◌<◌, ◌≤◌, ◌^◌, ◌↔◌, [], Err, IfErr, IfOk, IfSome, IsOk, IsTrue};
+ghost use Rattle.std.specs.Prelude.{◌≡◌, ◌<◌, ◌≤◌, ◌^◌, ◌↔◌, [], Err, IfErr, IfOk, IfSome, IsOk, IsTrue, Ok};
 ghost use Rattle.std.specs.Prelude.{length, option_copied};
 ghost use Rattle.std.specs.Arc.{arc_value};
+ghost use Rattle.std.specs.List.{AllByRecursion};
 ghost use Rattle.rc_spec.specs.InRange.{IsInRange};
 ghost use Rattle.rc_spec.specs.Names.{IsWellNamed, op_names};
+ghost use Rattle.rc_reader.specs.Grammar.{text_version};
 ghost use Rattle.rc_reader.specs.Names.{number_among};
+ghost use Rattle.rc_work.specs.CallColumns.{HasKnownColumns};
+ghost use Rattle.rc_work.specs.Shapes.{IsShapeOf};
+ghost use Rattle.rc_work.specs.ShapesGrammar.{shapes_of};
 ghost use Rattle.rc_handplan.specs.PlansText.{OpsHaveSets, plans_text};
 ghost use Rattle.rc_row.specs.Passes.{compiled_of, spec_of};
 ghost use Rattle.rc_store.specs.Store.{IsFree};
 ghost use Rattle.rc_embed.specs.Asked.{columns_of_all, known_columns};
 ghost use Rattle.rc_embed.specs.Declaring.{known_pattern};
-ghost use Rattle.rc_embed.specs.Opened.{AreInBounds, ArePlannedOf, AreRowsInBounds, HasDealt};
-ghost use Rattle.rc_embed.specs.Opened.{IsAskedBy, IsBuiltOf, IsOpened, IsOpenedWith, IsRefusedFor};
+ghost use Rattle.rc_embed.specs.Opened.{AreInBounds, ArePlannedOf, AreRowsInBounds};
+ghost use Rattle.rc_embed.specs.Opened.{AreShapesUnreadFor, HasDealt};
+ghost use Rattle.rc_embed.specs.Opened.{IsAskedBy, IsBuiltOf, IsCompiledWith, IsOpened, IsOpenedWith, IsRefusedFor};
 ghost use Rattle.rc_embed.specs.Opened.{IsRefusedWith, IsUnreadFor, ReadsAccepted};
 ghost use Rattle.rc_embed.specs.Opened.{most_rows_asked, new_session};
+ghost use Rattle.rc_embed.specs.Shaped.{shape_number};
 ghost use Rattle.rc_embed.specs.declared.fault.OpenFault.TheVariants as faults;
 ghost use Rattle.rc_embed.specs.declared.fault.SessionFault.TheVariants as session_faults;
 
 use crate::fault::{OpenFault, SessionFault};
+use crate::hold::Hold;
 use crate::planning::plan_embedded;
 use crate::session::{Last, Session, State};
+use crate::shaped::shape_number;
 use crate::shared::{Shared, blank_call};
 use rc_handplan::print_plans;
 use rc_maps::Seed;
 use rc_place::{AcceptFault, accept};
 use rc_plan::Compiled;
-use rc_reader::{ReadRefusal, number_among, read_spec_only};
+use rc_reader::{ReadRefusal, number_among, read_spec_only, text_version};
 use rc_row::{Keeping, Pass};
-use rc_spec::{Accepted, Spec, WellFormed};
+use rc_spec::{Accepted, Ops, Spec, WellFormed};
 use rc_store::{Quiet, Store};
 use rc_tuple::{Cols, Memory};
-use rc_work::written_columns_at;
+use rc_work::{read_shapes, written_columns_at};
 use std::alloc::{AllocFailed, Global};
 use std::marker::Model;
 use std::sync::Arc;
@@ -56,7 +65,7 @@ pub struct Options {
 
 impl Options {
     /// Whether the passes, the limit and the rows are in their ranges.
-    fn are_in_bounds(self) -> bool
+    pub(crate) fn are_in_bounds(self) -> bool
         ensures { IsTrue result ↔ AreInBounds self }
     {
         1 <= self.passes
@@ -91,7 +100,7 @@ fn are_rows_in_bounds(rows: Option<u64>) -> bool
 /// dropped.
 #[derive(Drop)]
 pub struct OpenStore {
-    pub(crate) shared: Arc<Shared, Global>,
+    pub(crate) hold: Hold,
     pub(crate) alloc: Global,
     pub(crate) passes: Vec<Pass>,
     /// How many passes the store has, its sessions' too.
@@ -119,7 +128,7 @@ pub fn open(alloc: Global, text: &[u8], options: Options) -> Result<OpenStore, O
     ensures planned { IfOk result (λ opened. ArePlannedOf (compiled_of opened.store.row)) }
     ensures refused { IfErr result (IsRefusedFor text.now options) }
 {
-    open_with_plans(alloc, text, b"".as_slice(), options)
+    open_with(alloc, text, b"".as_slice(), b"".as_slice(), options)
 }
 
 /// Opens a store so, with plans of operations that are written in a second text: in the form in which
@@ -136,18 +145,54 @@ pub fn open_with_plans(
     plans: &[u8],
     options: Options,
 ) -> Result<OpenStore, OpenFault>
-    ensures opened { IfOk result (IsOpenedWith text.now plans.now options) }
-    ensures refused { IfErr result (IsRefusedWith text.now plans.now options) }
+    ensures opened { IfOk result (IsOpenedWith text.now [] plans.now options) }
+    ensures refused { IfErr result (IsRefusedWith text.now [] plans.now options) }
+{
+    open_with(alloc, text, b"".as_slice(), plans, options)
+}
+
+/// Opens a store so, with further operations that a text of shapes gives: a line for each, in the form of
+/// an `op` line behind its name, as `query src -> dst`. They stand behind the operations that the
+/// specification declares, in the order of their first lines, as `?1`, `?2` and so on; `OpenStore::shape`
+/// finds them by what they ask. The text of plans has plans of declared operations alone.
+///
+/// `ShapeLine` is for the first broken rule of the lines of shapes, one of S2, S3, S4, S6 and W4, with its
+/// line. It comes behind the faults of the specification, and before those of plans.
+pub fn open_with(
+    alloc: Global,
+    text: &[u8],
+    shapes: &[u8],
+    plans: &[u8],
+    options: Options,
+) -> Result<OpenStore, OpenFault>
+    ensures opened { IfOk result (IsOpenedWith text.now shapes.now plans.now options) }
+    ensures refused { IfErr result (IsRefusedWith text.now shapes.now plans.now options) }
 {
     if !options.are_in_bounds() {
         return Err(OpenFault::Options);
     }
-    if text.len() > MAX_TEXT || plans.len() > MAX_TEXT {
+    let compiled = compile_texts(alloc, text, shapes, plans, options)?;
+    open_compiled(alloc, compiled, options)
+}
+
+/// Reads the texts, accepts what they give, and plans it as a store has it.
+pub(crate) fn compile_texts(
+    alloc: Global,
+    text: &[u8],
+    shapes: &[u8],
+    plans: &[u8],
+    options: Options,
+) -> Result<Compiled, OpenFault>
+    requires { AreInBounds options }
+    ensures compiled { IfOk result (IsCompiledWith text.now shapes.now plans.now options) }
+    ensures refused { IfErr result (IsRefusedWith text.now shapes.now plans.now options) }
+{
+    if text.len() > MAX_TEXT || shapes.len() > MAX_TEXT || plans.len() > MAX_TEXT {
         return Err(OpenFault::TooLong);
     }
     let accepted = read_accepted(alloc, text, options)?;
-    let compiled = plan_embedded(alloc, accepted, plans)?;
-    open_compiled(alloc, compiled, options)
+    let further = read_further(alloc, text, shapes, &accepted)?;
+    plan_embedded(alloc, accepted, further, plans)
 }
 
 /// Reads a specification that stands alone, which has then the most rows of a reply that are asked
@@ -156,6 +201,7 @@ fn read_asked(alloc: Global, text: &[u8], options: Options) -> Result<WellFormed
     requires { length text.now ≤ 2 ^ 24 }
     ensures read { IfOk result (IsAskedBy text.now options) }
     ensures named { IfOk result IsWellNamed }
+    ensures few { IfOk result (λ spec. length spec.ops ≤ 32) }
     ensures unread { IfErr result (IsUnreadFor text.now) }
 {
     match read_spec_only(alloc, text) {
@@ -173,6 +219,7 @@ fn read_accepted(alloc: Global, text: &[u8], options: Options) -> Result<Accepte
     requires { length text.now ≤ 2 ^ 24 }
     ensures reads { ReadsAccepted text.now options result }
     ensures named { IfOk result IsWellNamed }
+    ensures few { IfOk result (λ accepted. length accepted.ops ≤ 32) }
 {
     let spec = read_asked(alloc, text, options)?;
     match accept(alloc, spec) {
@@ -182,13 +229,36 @@ fn read_accepted(alloc: Global, text: &[u8], options: Options) -> Result<Accepte
     }
 }
 
+/// Reads the operations that a text of shapes gives for the specification of a text.
+fn read_further(
+    alloc: Global,
+    text: &[u8],
+    shapes: &[u8],
+    accepted: &Accepted,
+) -> Result<Ops, OpenFault>
+    requires text { length text.now ≤ 2 ^ 24 }
+    requires shapes { length shapes.now ≤ 2 ^ 24 }
+    ensures read { IfOk result (λ further.
+        shapes_of (text_version text.now) accepted.now shapes.now ≡ Ok further) }
+    ensures few { IfOk result (λ further. length further ≤ 32) }
+    ensures shapes { IfOk result (λ further. AllByRecursion (IsShapeOf accepted.now) further) }
+    ensures unread { IfErr result (AreShapesUnreadFor text.now shapes.now accepted.now) }
+{
+    let version = text_version(alloc, text)?;
+    match read_shapes(alloc, shapes, version, accepted.spec()) {
+        Ok(further) => Ok(further),
+        Err(ReadRefusal::Memory) => Err(OpenFault::Memory),
+        Err(ReadRefusal::Line { rule, line }) => Err(OpenFault::ShapeLine { rule, line }),
+    }
+}
+
 /// Opens a store of a specification whose operations are planned.
 fn open_compiled(
     alloc: Global,
     compiled: Compiled,
     options: Options,
 ) -> Result<OpenStore, OpenFault>
-    requires named { IsWellNamed compiled.spec }
+    requires columns { HasKnownColumns compiled.spec }
     requires options { AreInBounds options }
     ensures store { IfOk result (IsBuiltOf compiled options) }
     ensures memory { IfErr result (λ fault. fault ≡ faults.Memory) }
@@ -209,24 +279,20 @@ fn open_compiled(
         Keeping::Counts,
         Quiet,
     )?;
-    let shared = Shared {
-        store,
-        columns,
-        limit,
-    };
-    match Arc::new(alloc, shared) {
-        Ok(shared) => Ok(OpenStore {
-            shared,
-            alloc,
-            passes: dealt,
-            count: passes,
+    Ok(OpenStore {
+        hold: Hold::Alone(Shared {
+            store,
+            columns,
+            limit,
         }),
-        Err(_) => Err(OpenFault::Memory),
-    }
+        alloc,
+        passes: dealt,
+        count: passes,
+    })
 }
 
 /// The columns of each operation's values, by its number, a range column twice.
-fn all_columns(alloc: Global, spec: &Spec) -> Result<Vec<Cols>, Memory>
+pub(crate) fn all_columns(alloc: Global, spec: &Spec) -> Result<Vec<Cols>, Memory>
     requires { length spec.now.columns ≤ 32 }
     ensures { IfOk result (λ columns. columns.items ≡ columns_of_all spec.now) }
 {
@@ -238,27 +304,37 @@ fn all_columns(alloc: Global, spec: &Spec) -> Result<Vec<Cols>, Memory>
 }
 
 impl OpenStore {
+    /// What the store shares with its sessions.
+    pub(crate) fn shared(&self) -> &Shared
+        ensures { result.now ≡ self.now.store }
+    {
+        // A read of a field tells the check what holds of every open store.
+        let _ = &self.count;
+        self.hold.shared()
+    }
+
     /// The store's specification: that of its text with its singletons inlined and its edges placed
     /// together, some of whose nodes and edges have other numbers.
     pub fn spec(&self) -> &Spec
         ensures value { result.now ≡ spec_of self.now.store.row }
         ensures range { IsInRange (spec_of self.now.store.row) }
-        ensures named { IsWellNamed (spec_of self.now.store.row) }
+        ensures columns { HasKnownColumns (spec_of self.now.store.row) }
     {
-        self.shared.spec()
+        self.shared().spec()
     }
 
     /// The plans by which the operations are answered, in the order of the operations: of each a line
     /// `plan` with its name, and a line for each statement. With the line `end` behind it is what
     /// `open_with_plans` reads, where none has more than 256 statements (`opened_plans_are_given_back` of
-    /// `rc_text_laws`). It also tells that the columns of their Probes are sets.
+    /// `rc_text_laws`) and the text declares all operations: those of others stand under `plan ?1` and so
+    /// on, and no text of plans may have them. It also tells that the columns of their Probes are sets.
     pub fn plans(&self) -> Result<Vec<u8>, Memory>
         ensures text { IfOk result (λ text. text.items
             ≡ plans_text (spec_of self.now.store.row) (compiled_of self.now.store.row).plans) }
         ensures sets { IsOk result
             → OpsHaveSets (spec_of self.now.store.row) (compiled_of self.now.store.row).plans }
     {
-        print_plans(self.alloc, self.shared.store.compiled())
+        print_plans(self.alloc, self.shared().store.compiled())
     }
 
     /// The number of the operation with this name; `None` exactly where no operation has it.
@@ -273,6 +349,19 @@ impl OpenStore {
         }
     }
 
+    /// The number of the first operation, declared or not, that asks as this one line does: it is of its
+    /// kind, and has its lists of columns in written order. The line has the form of an `op` line behind
+    /// its name, as those of `open_with`. `None` exactly where no operation asks so, as where the line has
+    /// no such form, a list other than that of outputs names a column twice, or a word names no column.
+    pub fn shape(&self, line: &[u8]) -> Result<Option<u32>, Memory>
+        ensures known { IfOk result (λ found.
+            IfSome found (λ op. op < length (spec_of self.now.store.row).ops)) }
+        ensures number { IfOk result (λ found.
+            found ≡ shape_number (spec_of self.now.store.row) line.now) }
+    {
+        shape_number(self.alloc, self.spec(), line)
+    }
+
     /// The columns of the values of an operation, in the order in which a call gives them; a range
     /// column stands twice, for its lower and its upper bound. `None` exactly where no operation
     /// has the number.
@@ -282,7 +371,7 @@ impl OpenStore {
         if op as usize >= self.spec().ops.list().len() {
             return None;
         }
-        Some(self.shared.columns(op))
+        Some(self.shared().columns(op))
     }
 
     /// The columns of an operation's pattern, in the order in which it is written: who declares the
@@ -294,7 +383,7 @@ impl OpenStore {
         if op as usize >= self.spec().ops.list().len() {
             return None;
         }
-        Some(self.shared.pattern(op))
+        Some(self.shared().pattern(op))
     }
 
     /// Begins a session, on the heap, with the first pass that no session has: passes of a new
@@ -308,8 +397,11 @@ impl OpenStore {
         if self.passes.is_empty() {
             return Err(SessionFault::NoneLeft);
         }
+        let Ok(shared) = self.hold.share(self.alloc) else {
+            return Err(SessionFault::Memory);
+        };
         let pass = self.passes.remove(0);
-        match session_of(self.alloc, &self.shared, pass) {
+        match session_of(self.alloc, shared, pass) {
             Ok(session) => Ok(session),
             Err(pass) => {
                 let Ok(()) = self.passes.insert(0, pass) else {
@@ -324,16 +416,13 @@ impl OpenStore {
 /// A session with the pass, which comes back where memory is wanted.
 fn session_of(
     alloc: Global,
-    shared: &Arc<Shared, Global>,
+    shared: Arc<Shared, Global>,
     pass: Pass,
 ) -> Result<Box<Session, Global>, Pass>
-    requires { IsFree (arc_value shared.now) pass }
-    ensures session { IfOk result (λ held. held.value ≡ new_session (arc_value shared.now) pass) }
+    requires { IsFree (arc_value shared) pass }
+    ensures session { IfOk result (λ held. held.value ≡ new_session (arc_value shared) pass) }
     ensures back { IfErr result (λ back. back ≡ pass) }
 {
-    let Ok(shared) = Arc::try_clone(shared) else {
-        return Err(pass);
-    };
     let session = Session {
         shared,
         state: State::Idle(pass),

@@ -3,7 +3,7 @@
 ghost use Rattle.std.specs.Prelude.{◌≡◌, ℕ, ◌<◌, ◌≤◌, IsFalse, IsTrue, List, [], ◌∷◌, None, length, map, option_copied};
 ghost use Rattle.std.specs.List.{slice_get};
 ghost use Rattle.rc_spec.specs.InRange.{IsInRange};
-ghost use Rattle.rc_spec.specs.Names.{IsWellNamed};
+ghost use Rattle.rc_work.specs.CallColumns.{HasKnownColumns};
 ghost use Rattle.rc_row.specs.Passes.{spec_of};
 ghost use Rattle.rc_embed.specs.Refused.{fault_of};
 ghost use Rattle.rc_embed.specs.Session.{IsIdle, IsStateOf, replies_given, replies_of, reply_of, seen_of};
@@ -125,7 +125,7 @@ impl Session {
     pub fn spec(&self) -> &Spec
         ensures value { result.now ≡ spec_of self.now.store.row }
         ensures range { IsInRange (spec_of self.now.store.row) }
-        ensures named { IsWellNamed (spec_of self.now.store.row) }
+        ensures columns { HasKnownColumns (spec_of self.now.store.row) }
     {
         self.shared.spec()
     }

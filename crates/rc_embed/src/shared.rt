@@ -5,10 +5,9 @@ ghost use Rattle.std.specs.List.{AllByRecursion};
 ghost use Rattle.rc_multi.specs.GroupLocks.{HasOperation};
 ghost use Rattle.rc_spec.specs.Calls.{Fits};
 ghost use Rattle.rc_spec.specs.InRange.{IsInRange};
-ghost use Rattle.rc_spec.specs.Names.{IsWellNamed};
 ghost use Rattle.rc_plan.specs.Compiled.{IsCompiled};
 ghost use Rattle.rc_row.specs.Passes.{compiled_of, spec_of};
-ghost use Rattle.rc_work.specs.CallColumns.{call_of, written_columns_at};
+ghost use Rattle.rc_work.specs.CallColumns.{HasKnownColumns, call_of, written_columns_at};
 ghost use Rattle.rc_embed.specs.Asked.{TakesValues, calls_by};
 ghost use Rattle.rc_embed.specs.Declaring.{declared_by, declared_call, declared_fault_at};
 ghost use Rattle.rc_embed.specs.Declaring.{first_declared_fault, pattern_at};
@@ -49,7 +48,7 @@ impl Shared {
     pub(crate) fn spec(&self) -> &Spec
         ensures value { result.now ≡ spec_of self.now.row }
         ensures range { IsInRange (spec_of self.now.row) }
-        ensures named { IsWellNamed (spec_of self.now.row) }
+        ensures known { HasKnownColumns (spec_of self.now.row) }
     {
         // A read of a field tells the check what holds of every shared store.
         let _ = &self.limit;

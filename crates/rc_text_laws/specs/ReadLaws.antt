@@ -13,7 +13,7 @@ use Rattle.rc_spec.specs.declared.spec.Spec.{Spec}
 use Rattle.rc_values.specs.Ranks.{text_cmp, texts_of}
 use Rattle.rc_work.specs.declared.also.Also.{Also}
 use Rattle.rc_work.specs.declared.work.Work.{Work}
-use Rattle.rc_work.specs.CallColumnsLaws.{written_columns_at-few}
+use Rattle.rc_work.specs.CallColumnsLaws.{HasKnownColumns-named, written_columns_at-few}
 use Rattle.rc_work.specs.CallLaws.{IsOfWords-call_of}
 use Rattle.rc_work.specs.Drafts.{IsRawCall, IsRawTurn}
 use Rattle.rc_work.specs.Fitting.{AreOfWords, IsOfWords, RoundsFit}
@@ -47,7 +47,7 @@ module _ (spec : Spec) (named : IsWellNamed spec) (ranged : IsInRange spec) wher
         arith,
         length-values call.values (recursion_from_All IsReadValue call.values read),
         is.count,
-        written_columns_at-few spec call.op named ranged,
+        written_columns_at-few spec call.op (HasKnownColumns-named spec ranged named),
       )
 
   length-calls : (calls : List WorkCall) → AllByRecursion (IsRawCall spec) calls

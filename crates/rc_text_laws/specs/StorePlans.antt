@@ -1,12 +1,12 @@
 -- What a store prints of its plans, given back.
-use Rattle.std.specs.Prelude.{◌≡◌, ℕ, ◌<◌, List, length}
+use Rattle.std.specs.Prelude.{◌≡◌, ℕ, ◌<◌, List, [], length}
 use Rattle.rc_plan.specs.Compiled.{plan_at}
 use Rattle.rc_handplan.specs.PlansText.{OpsHaveSets, plans_alone}
 use Rattle.rc_row.specs.Passes.{compiled_of, spec_of}
 use Rattle.rc_embed.specs.declared.fault.OpenFault.{OpenFault}
-use Rattle.rc_embed.specs.declared.fault.OpenFault.TheVariants.{Line, Memory, Options, Plan, PlanLine, Rule, TooLong}
+use Rattle.rc_embed.specs.declared.fault.OpenFault.TheVariants.{Line, Memory, Options, Plan, PlanLine, Rule, ShapeLine, TooLong}
 use Rattle.rc_embed.specs.declared.opening.Options as asked
-use Rattle.rc_embed.specs.Opened.{IsOpenedWith, IsRefusedWith, OpenSeen}
+use Rattle.rc_embed.specs.Opened.{IsRefusedWith, IsStoreOfTexts, OpenSeen}
 use Rattle.rc_text_laws.specs.PlansRead.{OpsAreShort}
 
 -- the plans of a store, as they are printed, with the line `end` behind them
@@ -25,20 +25,21 @@ IsNotOfPlans Options = Unit {0}
 IsNotOfPlans TooLong = Unit {0}
 IsNotOfPlans (Line rule line) = Unit {0}
 IsNotOfPlans (Rule spec refusal) = Unit {0}
+IsNotOfPlans (ShapeLine rule line) = Unit {0}
 IsNotOfPlans (PlanLine rule line) = ⊥
 IsNotOfPlans (Plan spec op refusal) = ⊥
 
--- The plans that a store prints, whichever it was opened with, are not refused where a store of the same text and options
+-- The plans that a store prints all of whose operations are declared, whichever it was opened with, are not refused where a store of the same text and options
 -- is opened with them.
 abbrev pub PrintedPlansAreNotRefused : Type 0
 PrintedPlansAreNotRefused = (text plans : List ℕ) (options : asked.Options) (opened : OpenSeen)
-    → IsOpenedWith text plans options opened → CanBeGivenBack opened
-    → (fault : OpenFault) → IsRefusedWith text (plans_printed opened) options fault → IsNotOfPlans fault
+    → IsStoreOfTexts text [] plans options opened → CanBeGivenBack opened
+    → (fault : OpenFault) → IsRefusedWith text [] (plans_printed opened) options fault → IsNotOfPlans fault
 
 -- And the store that is opened has the same plans.
 abbrev pub PrintedPlansAreTheStores : Type 0
 PrintedPlansAreTheStores = (text plans : List ℕ) (options : asked.Options) (opened : OpenSeen)
-    → IsOpenedWith text plans options opened → CanBeGivenBack opened
-    → (again : OpenSeen) → IsOpenedWith text (plans_printed opened) options again
+    → IsStoreOfTexts text [] plans options opened → CanBeGivenBack opened
+    → (again : OpenSeen) → IsStoreOfTexts text [] (plans_printed opened) options again
     → (op : ℕ) → op < length (spec_of opened.store.row).ops
     → plan_at (compiled_of again.store.row).plans op ≡ plan_at (compiled_of opened.store.row).plans op

@@ -24,8 +24,8 @@ pub fn printed_plans_are_taken()
     ensures chosen { PrintedPlansAreChosen }
 {}
 
-/// What a store that a program has opened prints of its plans, with the line `end` behind it, opens a
-/// store of the same text and options with the same plans, and none of them is refused. So it is whichever
+/// What a store of whose operations all are declared prints of its plans, with the line `end` behind it,
+/// opens a store of the same text and options with the same plans, and none of them is refused. So it is whichever
 /// plans the first was opened with, where none has more than 256 statements.
 pub fn opened_plans_are_given_back()
     ensures taken { PrintedPlansAreNotRefused }

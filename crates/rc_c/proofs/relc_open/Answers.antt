@@ -10,7 +10,7 @@ returns-clause-refused c other =
     record {
       fault = Memory;
       seed = seed;
-      cause = (is.allowed, is.short);
+      cause = (is.texts.allowed, is.texts.short.of_text);
       code_is = refl;
       told = record {
         told = λ short. (none, ap (λ (n : ℕ). take n c.open_by.new.frame.refusal) none);

@@ -10,7 +10,7 @@ returns-clause-refused c other =
     record {
       fault = Memory;
       seed = seed;
-      cause = (is.allowed, record { of_text = is.short; of_plans = is.short_plans });
+      cause = (is.texts.allowed, is.texts.short);
       code_is = refl;
       told = record {
         told = λ short. (none, ap (λ (n : ℕ). take n c.open_with_plans_by.new.frame.refusal) none);

@@ -21,3 +21,9 @@ returns-clause-histories c = laws.histories_are_of_the_text
 
 pub returns-clause-plans : goal.returns-clause-plans
 returns-clause-plans c = laws.opened_plans
+
+pub returns-clause-operations : goal.returns-clause-operations
+returns-clause-operations c = laws.opened_operations
+
+pub returns-clause-declared : goal.returns-clause-declared
+returns-clause-declared c = laws.opened_declared

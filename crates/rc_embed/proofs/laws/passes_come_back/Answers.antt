@@ -4,6 +4,9 @@ use Rattle.rc_embed.proofs.laws.passes_come_back.Goals as goal
 pub returns-clause-first : goal.returns-clause-first
 returns-clause-first c = laws.none_at_first
 
+pub returns-clause-again : goal.returns-clause-again
+returns-clause-again c = laws.none_again
+
 pub returns-clause-dealt : goal.returns-clause-dealt
 returns-clause-dealt c = laws.dealt_go_outside
 

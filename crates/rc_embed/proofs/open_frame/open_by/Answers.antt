@@ -1,7 +1,16 @@
-use Rattle.rc_embed.proofs.PlanningLemmas.{refused_by}
+use Rattle.rc_embed.proofs.PlanningLemmas.{opened_alone, opened_unshaped, refused_by, unshaped_by}
 use Rattle.rc_embed.proofs.open_frame.open_by.Goals as goal
+
+pub returns-clause-opened : goal.returns-clause-opened
+returns-clause-opened c =
+    opened_alone c.args.text.now c.args.frame.now c.open_with_by.new.frame c.as_slice-2.result.now c.open_with_by.result
+    c.as_slice-2.ensures
+    (opened_unshaped c.args.text.now c.args.frame.now c.open_with_by.new.frame c.as_slice.result.now c.as_slice-2.result.now
+    c.open_with_by.result c.as_slice.ensures c.open_with_by.ensures.opened)
 
 pub returns-clause-refused : goal.returns-clause-refused
 returns-clause-refused c =
-    refused_by c.args.text.now c.as_slice.result.now c.args.frame.now c.open_with_plans_by.new.frame
-    c.open_with_plans_by.result c.as_slice.ensures c.open_with_plans_by.ensures.refused
+    refused_by c.args.text.now c.args.frame.now c.open_with_by.new.frame c.as_slice-2.result.now c.open_with_by.result
+    c.as_slice-2.ensures
+    (unshaped_by c.args.text.now c.args.frame.now c.open_with_by.new.frame c.as_slice.result.now c.as_slice-2.result.now
+    c.open_with_by.result c.as_slice.ensures c.open_with_by.ensures.refused)

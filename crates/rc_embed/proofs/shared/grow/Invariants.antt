@@ -1,4 +1,4 @@
-use Rattle.std.proofs.Common.{ℕ, ◌-◌, length}
+use Rattle.std.proofs.Common.{◌-◌, length}
 use Rattle.rc_embed.proofs.shared.grow.Given as goal
 
 abbrev pub decreases-loop-alloc : goal.decreases-loop-alloc

@@ -4,7 +4,6 @@ use Rattle.rc_spec.specs.declared.spec.Spec.{Spec}
 use Rattle.rc_row.specs.Passes.{spec_of}
 use Rattle.rc_store.specs.Store.{StoreSeen}
 use Rattle.rc_work.specs.CallColumns.{written_columns_at}
-use Rattle.rc_embed.specs.Opened.{OpenSeen}
 use Rattle.rc_embed.proofs.AskedLemmas.{columns_past, columns_there}
 use Rattle.rc_embed.proofs.opening.OpenStore.columns.Goals as goal
 
@@ -19,5 +18,5 @@ returns c =
     let spec = spec_of c.args.self.now.store.row in
     let count : length c.list.result.now ≡ length spec.ops =
     ap (λ (ops : List Op). length ops) c.list.ensures ∙ ap (λ (spec : Spec). length spec.ops) c.spec.ensures.value in
-    ap (λ (cols : List ℕ). Some cols) (c.columns.ensures.value ∙ ap (λ (store : StoreSeen). written_columns_at (spec_of store.row) c.args.op) c.deref.ensures ∙ ap (λ (store : OpenSeen). written_columns_at (spec_of store.store.row) c.args.op) (c.self.view_is))
+    ap (λ (cols : List ℕ). Some cols) (c.columns.ensures.value ∙ ap (λ (store : StoreSeen). written_columns_at (spec_of store.row) c.args.op) c.shared.ensures)
     ∙ sym (columns_there spec c.args.op (let known = c.if-op-list.false in omega arith))

@@ -6,7 +6,6 @@ use Rattle.rc_spec.specs.Placement.{no_op}
 use Rattle.rc_row.specs.Passes.{spec_of}
 use Rattle.rc_store.specs.Store.{StoreSeen}
 use Rattle.rc_embed.specs.Declaring.{pattern_at}
-use Rattle.rc_embed.specs.Opened.{OpenSeen}
 use Rattle.rc_embed.proofs.opening.OpenStore.pattern.Goals as goal
 
 pub returns-then-op-list : goal.returns-then-op-list
@@ -21,5 +20,5 @@ returns c =
     let spec = spec_of c.args.self.now.store.row in
     let count : length c.list.result.now ≡ length spec.ops =
     ap (λ (ops : List Op). length ops) c.list.ensures ∙ ap (λ (spec : Spec). length spec.ops) c.spec.ensures.value in
-    ap (λ (cols : List ℕ). Some cols) (c.pattern.ensures.value ∙ ap (λ (store : StoreSeen). pattern_at (spec_of store.row) c.args.op) c.deref.ensures ∙ ap (λ (store : OpenSeen). pattern_at (spec_of store.store.row) c.args.op) (c.self.view_is))
+    ap (λ (cols : List ℕ). Some cols) (c.pattern.ensures.value ∙ ap (λ (store : StoreSeen). pattern_at (spec_of store.row) c.args.op) c.shared.ensures)
     ∙ sym (ap (option_map (λ (op : Op). op.pattern)) (slice_get-get_or spec.ops c.args.op no_op (let known = c.if-op-list.false in omega arith)))

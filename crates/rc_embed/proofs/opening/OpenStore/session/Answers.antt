@@ -1,13 +1,13 @@
-use Rattle.std.proofs.Common.{ℕ, ◌+◌, List, All, sym, subst, ◌∙◌, arith}
-use Rattle.std.specs.Arc.{arc_value}
+use Rattle.std.proofs.Common.{◌≡◌, ◌+◌, List, All, sym, subst, arith}
 use Rattle.rc_row.specs.Passes.{PassSeen}
-use Rattle.rc_store.specs.Store.{IsFree}
+use Rattle.rc_store.specs.Store.{IsFree, StoreSeen}
+use Rattle.rc_embed.specs.Holding.{held}
 use Rattle.rc_embed.proofs.NumberLemmas.{all_with}
 use Rattle.rc_embed.proofs.opening.OpenStore.session.Goals as goal
 
 pub invariant_of-self-in-Err : goal.invariant_of-self-in-Err
 invariant_of-self-in-Err c =
-    let is_free = IsFree (arc_value c.self.inside.shared) in
+    let is_free = IsFree (held c.self.inside.hold) in
     let all = c.self.invariant.free in
     let fewer = c.remove-pass.ensures.len in
     let rest : All is_free c.remove-pass.new.self.items =
@@ -18,11 +18,14 @@ invariant_of-self-in-Err c =
     let room = c.self.invariant.room in
     let same = c.remove-pass.ensures.capacity in
     let more = c.insert.ensures.capacity in
+    let again = c.share.ensures.held in
     record {
+      is_held = again.0;
       free =
-          subst (λ (passes : List PassSeen). All is_free passes) (sym c.in-Ok-insert.ensures.items)
+          subst (λ (store : StoreSeen). All (IsFree store) c.insert.new.self.items) (sym again.1)
+          (subst (λ (passes : List PassSeen). All is_free passes) (sym c.in-Ok-insert.ensures.items)
           (all_with is_free 0 c.remove-pass.new.self.items c.in-Err.pass rest
-          (subst is_free (sym c.in-Err.ensures.back) first));
-      count = c.self.invariant.count;
+          (subst is_free (sym c.in-Err.ensures.back) first)));
+      count = subst (λ (store : StoreSeen). c.self.inside.count ≡ store.row.key.passes) (sym again.1) c.self.invariant.count;
       room = omega (arith, room, same, more);
     }

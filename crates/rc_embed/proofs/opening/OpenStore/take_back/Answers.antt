@@ -5,6 +5,7 @@ use Rattle.rc_store.specs.Store.{IsFree, StoreSeen}
 use Rattle.rc_embed.specs.declared.session.State.{State}
 use Rattle.rc_embed.specs.declared.session.State.TheVariants.{Idle}
 use Rattle.rc_embed.specs.Closing.{IsPlaceOf, number_of}
+use Rattle.rc_embed.specs.Holding.{held}
 use Rattle.rc_embed.specs.Opened.{OpenSeen}
 use Rattle.rc_embed.specs.Session.{IsStateOf, SessionSeen}
 use Rattle.rc_embed.proofs.NumberLemmas.{all_with}
@@ -17,17 +18,18 @@ invariant_of-self c =
     let free : IsFree (arc_value c.session.inside.shared) c.into_pass.result =
     subst (λ (state : State). IsStateOf (arc_value c.session.inside.shared) state) idle
     c.session.invariant in
-    let same : arc_value c.session.inside.shared ≡ arc_value c.self.inside.shared =
+    let same : arc_value c.session.inside.shared ≡ held c.self.inside.hold =
     ap (λ (session : SessionSeen). session.store) c.session.view_is
     ∙ c.requires
     ∙ sym (ap (λ (opened : OpenSeen). opened.store) c.self.view_is) in
     let was = c.self.invariant.room in
     let more = c.in-Ok.ensures.capacity in
     record {
+      is_held = c.self.invariant.is_held;
       free =
-          subst (λ (passes : List PassSeen). All (IsFree (arc_value c.self.inside.shared)) passes)
+          subst (λ (passes : List PassSeen). All (IsFree (held c.self.inside.hold)) passes)
           (sym c.in-Ok.ensures.items)
-          (all_with (IsFree (arc_value c.self.inside.shared)) c.place_of-at.result
+          (all_with (IsFree (held c.self.inside.hold)) c.place_of-at.result
           c.self.inside.passes.items c.into_pass.result c.self.invariant.free
           (subst (λ (store : StoreSeen). IsFree store c.into_pass.result) same free));
       count = c.self.invariant.count;

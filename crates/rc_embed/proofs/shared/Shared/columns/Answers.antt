@@ -39,4 +39,4 @@ returns-clause-few c =
     let known = subst (λ (s : StoreSeen). c.args.op < length (spec_of s.row).ops) (sym c.self.view_is) c.requires in
     subst (λ (cols : List ℕ). length cols ≤ 64)
     (sym (c.list.ensures ∙ found spec c.self.inside.columns.items c.args.op c.index.result.now c.self.invariant.columns known c.index.ensures))
-    (written_columns_at-few spec c.args.op c.self.invariant.named c.self.invariant.range)
+    (written_columns_at-few spec c.args.op c.self.invariant.known)

@@ -15,7 +15,7 @@ values-requires g c =
     let one = asked c.index-declared-at.result in
     let here = declared_here asked spec c.args.declared.now c.loop-at.at c.index-declared-at.result
     c.loop-at-test.true c.index-declared-at.is c.requires in
-    let few = pattern_few spec c.spec.ensures.named c.spec.ensures.range one.op here.0 in
+    let few = pattern_few spec c.spec.ensures.known one.op here.0 in
     let count = here.1 in
     omega (arith, few, count)
 

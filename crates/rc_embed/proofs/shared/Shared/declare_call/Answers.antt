@@ -19,7 +19,7 @@ refill-requires-clause-below c =
     c.list-pattern.ensures ∙ ap (λ (op : Op). op.pattern) c.op.ensures.value
     ∙ ap (λ (s : Spec). pattern_at s c.args.op) c.spec-spec.ensures.value in
     subst (λ (cols : List ℕ). (col : ℕ) → In col (take (length c.args.values.now) cols) → col < 32) (sym pattern)
-    (λ col m. some_below spec c.spec-spec.ensures.named c.spec-spec.ensures.range c.args.op c.requires.known
+    (λ col m. some_below spec c.spec-spec.ensures.known c.args.op c.requires.known
     (length c.args.values.now) col m)
 
 pub refill-requires-clause-distinct : goal.refill-requires-clause-distinct
@@ -29,7 +29,7 @@ refill-requires-clause-distinct c =
     c.list-pattern.ensures ∙ ap (λ (op : Op). op.pattern) c.op.ensures.value
     ∙ ap (λ (s : Spec). pattern_at s c.args.op) c.spec-spec.ensures.value in
     subst (λ (cols : List ℕ). AreDistinct (take (length c.args.values.now) cols)) (sym pattern)
-    (some_distinct spec c.spec-spec.ensures.named c.spec-spec.ensures.range c.args.op c.requires.known
+    (some_distinct spec c.spec-spec.ensures.known c.args.op c.requires.known
     (length c.args.values.now))
 
 pub returns : goal.returns

@@ -19,4 +19,4 @@ returns-clause-few c =
     let spec = spec_of c.args.self.now.row in
     subst (λ (cols : List ℕ). length cols ≤ 32)
     (sym (c.list.ensures ∙ ap (λ (op : Op). op.pattern) c.op.ensures.value ∙ ap (λ (s : Spec). pattern_at s c.args.op) c.spec.ensures.value))
-    (pattern_few spec c.spec.ensures.named c.spec.ensures.range c.args.op c.requires)
+    (pattern_few spec c.spec.ensures.known c.args.op c.requires)

@@ -1,4 +1,4 @@
-use Rattle.std.proofs.Common.{◌≡◌, ◌<◌, ◌≤◌, ◌++◌, ◌∷◌, [], ℕ, List, length, map, take, length-set, sym, ap, ◌∙◌, subst, arith}
+use Rattle.std.proofs.Common.{◌≡◌, ◌<◌, ℕ, List, length, map, take, length-set, sym, ap, ◌∙◌, subst, arith}
 use Rattle.std.specs.List.{AllByRecursion}
 use Rattle.std.proofs.lemmas.List.{length-map, take_more_set}
 use Rattle.rc_spec.specs.declared.call.Call.{Call}
@@ -17,7 +17,7 @@ values-requires g c =
     let call = asked c.index-asked-at.result in
     let taken = taken_here asked spec c.args.asked.now c.loop-at.at c.index-asked-at.result
     c.loop-at-test.true c.index-asked-at.is c.requires (length-map c.args.asked.now asked) in
-    let few = written_columns_at-few spec call.op c.spec.ensures.named c.spec.ensures.range in
+    let few = written_columns_at-few spec call.op c.spec.ensures.known in
     let count = taken.1 in
     omega (arith, few, count)
 

@@ -1,23 +1,18 @@
-use Rattle.std.proofs.Common.{◌≡◌, ℕ, ◌<◌, List, length, sym, subst, ap, ◌∙◌, arith}
+use Rattle.std.proofs.Common.{ℕ, ◌<◌, List, length, sym, subst, ap, ◌∙◌, arith}
 use Rattle.rc_spec.specs.declared.call.Call.{Call}
 use Rattle.rc_spec.specs.declared.spec.Spec.{Spec}
 use Rattle.rc_spec.specs.Calls.{Fits}
-use Rattle.rc_spec.specs.InRange.{IsInRange}
-use Rattle.rc_spec.specs.Names.{IsWellNamed}
 use Rattle.rc_row.specs.Passes.{spec_of}
-use Rattle.rc_work.specs.CallColumns.{call_of, written_columns_at}
-use Rattle.rc_work.specs.CallLaws.{Fits-call_of}
+use Rattle.rc_work.specs.CallColumns.{HasKnownColumns, call_of, written_columns_at}
+use Rattle.rc_work.specs.CallLaws.{Fits-call_over}
 use Rattle.rc_work.specs.Fitting.{IsOfWords}
 use Rattle.rc_embed.proofs.shared.Shared.refill_call.Goals as goal
 
 pub overflow_cast-number : goal.overflow_cast-number
 overflow_cast-number c = let few = c.spec-spec.ensures.range.ops in let known = c.requires.known in omega arith
 
-pub refill_call-requires-clause-range : goal.refill_call-requires-clause-range
-refill_call-requires-clause-range c = subst (λ (spec : Spec). IsInRange spec) (sym c.spec-spec.ensures.value) c.spec-spec.ensures.range
-
-pub refill_call-requires-clause-named : goal.refill_call-requires-clause-named
-refill_call-requires-clause-named c = subst (λ (spec : Spec). IsWellNamed spec) (sym c.spec-spec.ensures.value) c.spec-spec.ensures.named
+pub refill_call-requires-clause-columns : goal.refill_call-requires-clause-columns
+refill_call-requires-clause-columns c = subst (λ (spec : Spec). HasKnownColumns spec) (sym c.spec-spec.ensures.value) c.spec-spec.ensures.known
 
 pub refill_call-requires-clause-known : goal.refill_call-requires-clause-known
 refill_call-requires-clause-known c = subst (λ (spec : Spec). c.args.op < length spec.ops) (sym c.spec-spec.ensures.value) c.requires.known
@@ -37,5 +32,5 @@ returns-clause-fits c =
     let spec = spec_of c.args.self.now.row in
     let made = c.in_ok-refill_call.ensures.call ∙ ap (λ (s : Spec). call_of s c.args.op c.args.values.now) c.spec-spec.ensures.value in
     subst (λ (call : Call). Fits spec call) (sym made)
-    (Fits-call_of spec c.args.op c.args.values.now c.requires.known c.spec-spec.ensures.named c.requires.count
+    (Fits-call_over spec c.args.op c.args.values.now c.requires.known c.spec-spec.ensures.known.distinct c.requires.count
     (subst (λ (call : Call). IsOfWords call) made c.in_ok-refill_call.ensures.words))

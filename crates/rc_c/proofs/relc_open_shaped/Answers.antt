@@ -1,0 +1,19 @@
+use Rattle.std.proofs.Common.{ℕ, take, refl, ap, arith}
+use Rattle.rc_embed.specs.declared.fault.OpenFault.TheVariants.{Memory}
+use Rattle.rc_c.proofs.relc_open_shaped.Goals as goal
+
+pub returns-clause-refused : goal.returns-clause-refused
+returns-clause-refused c other =
+    let seed = c.in-Ok.ensures.opened.0 in
+    let is = c.in-Ok.ensures.opened.1 in
+    let none = c.in-Ok.ensures.none in
+    record {
+      fault = Memory;
+      seed = seed;
+      cause = (is.texts.allowed, is.texts.short);
+      code_is = refl;
+      told = record {
+        told = λ short. (none, ap (λ (n : ℕ). take n c.open_with_by.new.frame.refusal) none);
+        long = λ above. absurd (omega (arith, above));
+      };
+    }

@@ -1,0 +1,113 @@
+-- What resuming a closed store answers.
+use Rattle.std.proofs.Common.{◌≡◌, ℕ, List, Result, Ok, Err, IfOk, IfErr, inl, inr, sym, subst}
+use Rattle.rc_plan.specs.Compiled.{SpecWithPlans}
+use Rattle.rc_rel.specs.Further.{Extends}
+use Rattle.rc_store.specs.Closed.{ClosedSeen}
+use Rattle.rc_embed.specs.declared.fault.OpenFault.{OpenFault}
+use Rattle.rc_embed.specs.declared.fault.OpenFault.TheVariants as faults
+use Rattle.rc_embed.specs.declared.fault.ResumeFault.{ResumeFault}
+use Rattle.rc_embed.specs.declared.fault.ResumeFault.TheVariants.{Refused, Sessions, Limit, Other}
+use Rattle.rc_embed.specs.declared.open_frame.OpenFrame.{OpenFrame}
+use Rattle.rc_embed.specs.declared.opening.Options as asked
+use Rattle.rc_embed.specs.OpenFrames.{HasItem, options_asked}
+use Rattle.rc_embed.specs.Opened.{AreInBounds, IsCompiledWith, IsRefusedWith, OpenSeen}
+use Rattle.rc_embed.specs.ResumedFrames.{BreaksRuleOf, HasItemOf, IsUnresumedBy, TellsResumeFault}
+use Rattle.rc_embed.specs.Resuming.{IsOneOf, IsOneResumed, IsResumedOf, IsResumedWith, IsTooSmallFor, IsUnresumedFor, Suffices}
+use Rattle.rc_embed.proofs.PlanningLemmas.{memory_too, store_of_texts, tells_none}
+
+-- what comes of what is so
+pub ok_if : {A E : Type 0} (P Q : A → Type 0) (r : Result A E) → IfOk r P → ((x : A) → P x → Q x) → IfOk r Q
+ok_if P Q (Ok x) is more = more x is
+ok_if P Q (Err y) is more = tt
+
+pub err_if : {A E : Type 0} (P Q : E → Type 0) (r : Result A E) → IfErr r P → ((y : E) → P y → Q y) → IfErr r Q
+err_if P Q (Ok x) is more = tt
+err_if P Q (Err y) is more = more y is
+
+module _ (closed : ClosedSeen) (text shapes plans : List ℕ) (options : asked.Options) where
+  -- the options are refused, or don't suffice
+  pub too_small : (fault : ResumeFault) → IsTooSmallFor closed options fault → IsUnresumedFor closed text shapes plans options fault
+  too_small (Refused fault) cause =
+      (subst (IsRefusedWith text shapes plans options) (sym cause.0) cause.1, λ bounds. absurd (cause.1 bounds))
+  too_small Sessions cause = cause
+  too_small Limit cause = cause
+  too_small Other cause = absurd cause
+
+  module _ (bounds : AreInBounds options) (suffices : Suffices closed options) where
+    -- a text is refused
+    pub text_refused : (fault : OpenFault) → IsRefusedWith text shapes plans options fault → IsUnresumedFor closed text shapes plans options (Refused fault)
+    text_refused fault cause = (cause, λ _. suffices)
+
+    module _ (compiled : SpecWithPlans) (with_plans : IsCompiledWith text shapes plans options compiled) where
+      -- the specification is another one
+      pub another : (Extends closed.compiled.spec compiled.spec → ⊥) → IsUnresumedFor closed text shapes plans options Other
+      another other = (bounds, suffices, record { compiled = compiled; with_plans = with_plans; other = other })
+
+      -- memory is wanted
+      pub no_memory : (fault : ResumeFault) → fault ≡ Refused faults.Memory → IsUnresumedFor closed text shapes plans options fault
+      no_memory fault is =
+          subst (IsUnresumedFor closed text shapes plans options) (sym is) ((bounds, with_plans.short), λ _. suffices)
+
+      module _ (further : Extends closed.compiled.spec compiled.spec) where
+        -- a store goes on
+        pub resumed_with : (opened : OpenSeen) → IsResumedOf closed compiled options opened
+            → IsResumedWith closed text shapes plans options opened
+        resumed_with opened of = record {
+          texts = store_of_texts text shapes plans options bounds compiled with_plans opened of.made;
+          suffices = suffices;
+          further = subst (λ (z : SpecWithPlans). Extends closed.compiled.spec z.spec) (sym of.made.compiled_is) further;
+          resumed = of.resumed;
+          all = of.all;
+        }
+
+        pub one_resumed : (stores : List OpenSeen) → IsOneOf closed compiled options stores
+            → IsOneResumed closed text shapes plans options stores
+        one_resumed stores one = (one.0, one.1, resumed_with one.0 one.2)
+
+-- ---- frames
+
+-- what is refused is an item of the specification
+has_item : (text shapes plans : List ℕ) (options : asked.Options) (fault : OpenFault) → IsRefusedWith text shapes plans options fault → HasItem fault
+has_item text shapes plans options faults.Memory cause = tt
+has_item text shapes plans options faults.Options cause = tt
+has_item text shapes plans options faults.TooLong cause = tt
+has_item text shapes plans options (faults.Line rule line) cause = tt
+has_item text shapes plans options (faults.Rule spec refusal) cause = cause.2.item
+has_item text shapes plans options (faults.ShapeLine rule line) cause = tt
+has_item text shapes plans options (faults.PlanLine rule line) cause = tt
+has_item text shapes plans options (faults.Plan spec op refusal) cause = cause.2.refused.known
+
+module _ (closed : ClosedSeen) (text shapes plans : List ℕ) (options : asked.Options) where
+  pub has_item_of : (fault : ResumeFault) → IsUnresumedFor closed text shapes plans options fault → HasItemOf fault
+  has_item_of (Refused fault) cause = has_item text shapes plans options fault cause.0
+  has_item_of Sessions cause = tt
+  has_item_of Limit cause = tt
+  has_item_of Other cause = tt
+
+  -- where memory is wanted for the refusal of a text, nothing else was wrong before
+  pub memory_resumed : (fault : ResumeFault) → BreaksRuleOf fault → IsUnresumedFor closed text shapes plans options fault
+      → IsUnresumedFor closed text shapes plans options (Refused faults.Memory)
+  memory_resumed (Refused fault) breaks cause = (memory_too text shapes plans options fault breaks cause.0, cause.1)
+  memory_resumed Sessions breaks cause = absurd breaks
+  memory_resumed Limit breaks cause = absurd breaks
+  memory_resumed Other breaks cause = absurd breaks
+
+-- why a closed store doesn't go on, as the frame tells it
+pub unresumed_by : (closed : ClosedSeen) (text shapes plans : List ℕ) (before after : OpenFrame) (options : asked.Options)
+    → options ≡ options_asked before options.seed → (fault : ResumeFault) → IsUnresumedFor closed text shapes plans options fault
+    → (code : ℕ) → TellsResumeFault fault after code → IsUnresumedBy closed text shapes plans before after code
+unresumed_by closed text shapes plans before after options is fault cause code (inl (code_is, told)) = record {
+  fault = fault;
+  seed = options.seed;
+  cause = subst (λ (o : asked.Options). IsUnresumedFor closed text shapes plans o fault) is cause;
+  code_is = code_is;
+  told = told;
+}
+unresumed_by closed text shapes plans before after options is fault cause code (inr (code_is, breaks, none)) = record {
+  fault = Refused faults.Memory;
+  seed = options.seed;
+  cause = subst (λ (o : asked.Options). IsUnresumedFor closed text shapes plans o (Refused faults.Memory)) is
+      (memory_resumed closed text shapes plans options fault breaks cause);
+  code_is = code_is;
+  told = tells_none after none;
+}
