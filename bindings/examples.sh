@@ -32,6 +32,14 @@ if command -v cargo >/dev/null 2>&1; then
     for name in scheduler states cache directory graph accounts payments connections expiry; do
         run cargo run --quiet --offline --release --example "$name"
     done
+    # (of a refusal the first sentence)
+    run sh -c 'test "$(printf "+ src dst = 1 2 10\n? dst = 2 -> src\n- src = 1\n? dst = 2 -> src weight\n- dst src = 2 1\n" |
+        cargo run --quiet --offline --release --example shell -- examples/graph.relc |
+        cut -d . -f 1)" = "insert src dst [1, 2, 10]: Added
+query dst -> src [2]: [[1]]
+remove src [1]: refused W4 line 2 (\`remove src\`)
+query dst -> src weight [2]: [[1, 10]]
+remove dst src [2, 1]: Removed([1, 2, 10])"'
     if [ -x "$here/../crates/relc/out/relc" ]; then
         run cargo run --quiet --offline --release --example judged -- "$here/../crates/relc/out/relc"
     else

@@ -36,6 +36,10 @@ compile -o "$out/test-shared" "$here/c/test.c" -L"$out" -lrelc -Wl,-rpath,"$out"
 run "$out/test-shared"
 compile -o "$out/plans" "$here/c/plans.c" "$out/librelc.a" || exit 1
 run "$out/plans"
+compile -o "$out/shapes" "$here/c/shapes.c" "$out/librelc.a" || exit 1
+run "$out/shapes"
+compile -o "$out/resume" "$here/c/resume.c" "$out/librelc.a" || exit 1
+run "$out/resume"
 compile -o "$out/wakes" "$here/c/wakes.c" "$out/librelc.a" || exit 1
 run "$out/wakes"
 compile -o "$out/patience" "$here/c/patience.c" "$out/librelc.a" || exit 1
@@ -51,6 +55,10 @@ compile -o "$out/test-check" "$here/c/test.c" "$out/librelc-check.a" || exit 1
 run "$out/test-check"
 compile -o "$out/plans-check" "$here/c/plans.c" "$out/librelc-check.a" || exit 1
 run "$out/plans-check"
+compile -o "$out/shapes-check" "$here/c/shapes.c" "$out/librelc-check.a" || exit 1
+run "$out/shapes-check"
+compile -o "$out/resume-check" "$here/c/resume.c" "$out/librelc-check.a" || exit 1
+run "$out/resume-check"
 compile -o "$out/sessions-check" "$here/c/sessions.c" "$out/librelc-check.a" || exit 1
 run "$out/sessions-check"
 compile -o "$out/texts" "$here/c/texts.c" "$out/librelc.a" || exit 1
@@ -67,6 +75,8 @@ fi
 if has valgrind "the tests in C once more, for memory"; then
     run valgrind -q --error-exitcode=1 --leak-check=full "$out/test"
     run valgrind -q --error-exitcode=1 --leak-check=full "$out/plans"
+    run valgrind -q --error-exitcode=1 --leak-check=full "$out/shapes"
+    run valgrind -q --error-exitcode=1 --leak-check=full "$out/resume"
     run valgrind -q --error-exitcode=1 --leak-check=full "$out/memory"
     run valgrind -q --error-exitcode=1 --leak-check=full "$out/texts"
 fi

@@ -1,7 +1,8 @@
 /* The functions of relc.h that take a handle, each with a look at its handles first, for programs that are looked into:
  * `build.sh --check` puts them before the proved ones, under the same names. A handle that is none, was closed or given
- * back, is of the other kind, of another store, or is used by another call at the same time, the number of another
- * store's operation, and a NULL where none may be, are told on standard error, and the program is aborted. (What is closed may be had again by a store or a session
+ * back, is of another kind, of another store, or is used by another call at the same time, the number of another
+ * store's operation, and a NULL where none may be, are told on standard error, and the program is aborted. A store that
+ * goes on takes the numbers of operations that it had before. (What is closed may be had again by a store or a session
  * that is opened later; then a handle of before isn't told apart from it.) A look costs a lock and a walk over all
  * handles. */
 #include "relc.h"
@@ -10,14 +11,15 @@
 #include <stdio.h>
 #include <stdlib.h>
 
-enum kind { STORE, SESSION };
-static const char *const KINDS[] = {"store", "session"};
+enum kind { STORE, SESSION, CLOSED };
+static const char *const KINDS[] = {"store", "session", "closed store"};
+static const char *const NONE[] = {"this is no open store", "this is no open session", "this is no closed store"};
 
 struct handle {
     const void *at;
     enum kind kind;
     const void *of;  /* a session's store, also where that is closed */
-    uint32_t number; /* of the store, or of the session's: none has 0 */
+    uint32_t number; /* of the store, also where it goes on, or of the session's: none has 0 */
     int is_used;    /* a call has it */
     struct handle *next;
 };
@@ -43,23 +45,31 @@ static void want(const char *function, const void *lent)
         stop(function, "a pointer is NULL", "");
 }
 
-/* keeps a store, or a session of one */
-static void add(const char *function, const void *at, const struct handle *of)
+/* keeps a handle */
+static void add(const char *function, struct handle kept)
 {
     struct handle *handle = malloc(sizeof *handle);
     if (handle == NULL)
         stop(function, "there is no memory to keep the handle", "");
     pthread_mutex_lock(&lock);
-    *handle = (struct handle){.at = at, .kind = STORE, .next = handles};
-    if (of != NULL) {
-        handle->kind = SESSION;
-        handle->of = of->at;
-        handle->number = of->number;
-    } else if (stores < STORES) {
-        handle->number = ++stores;
-    }
+    kept.next = handles;
+    *handle = kept;
     handles = handle;
     pthread_mutex_unlock(&lock);
+}
+
+/* the number of a store that was opened just now */
+static uint32_t next_number(void)
+{
+    pthread_mutex_lock(&lock);
+    uint32_t number = stores < STORES ? ++stores : 0;
+    pthread_mutex_unlock(&lock);
+    return number;
+}
+
+static void add_store(const char *function, const relc_store *store)
+{
+    add(function, (struct handle){.at = store, .kind = STORE, .number = next_number()});
 }
 
 /* the number that the session's store has for an operation */
@@ -91,7 +101,7 @@ static struct handle *enter(const char *function, const void *at, enum kind kind
     pthread_mutex_lock(&lock);
     struct handle *handle = *find(at);
     if (handle == NULL || handle->kind != kind)
-        stop(function, "this is no open ", KINDS[kind]);
+        stop(function, NONE[kind], "");
     if (handle->is_used)
         stop(function, "another call uses the ", KINDS[kind]);
     handle->is_used = 1;
@@ -106,11 +116,14 @@ static void leave(struct handle *handle)
     pthread_mutex_unlock(&lock);
 }
 
-/* takes a handle that is used out of the list */
+/* takes a handle that is used out of the list, in which its place may be another one's already */
 static void end(struct handle *handle)
 {
     pthread_mutex_lock(&lock);
-    *find(handle->at) = handle->next;
+    struct handle **place = &handles;
+    while (*place != handle)
+        place = &(*place)->next;
+    *place = handle->next;
     pthread_mutex_unlock(&lock);
     free(handle);
 }
@@ -121,12 +134,19 @@ uint32_t relc_unchecked_open(
     const uint8_t *text, size_t length, relc_open_frame *frame, relc_store **store);
 uint32_t relc_unchecked_open_with_plans(const uint8_t *text, size_t length, const uint8_t *plans,
     size_t plans_length, relc_open_frame *frame, relc_store **store);
+uint32_t relc_unchecked_open_with(const uint8_t *text, size_t length, const uint8_t *shapes, size_t shapes_length,
+    const uint8_t *plans, size_t plans_length, relc_open_frame *frame, relc_store **store);
 uint32_t relc_unchecked_plans(relc_store *store, relc_text_page *page);
 uint32_t relc_unchecked_operation(relc_store *store, relc_operation_frame *frame);
+uint32_t relc_unchecked_shape(relc_store *store, const uint8_t *line, size_t length, relc_operation_frame *frame);
 uint32_t relc_unchecked_open_session(relc_store *store, relc_session **session);
 uint32_t relc_unchecked_give_back(relc_store *store, relc_session *session);
 void relc_unchecked_close_store(relc_store *store);
 void relc_unchecked_close_session(relc_session *session);
+uint32_t relc_unchecked_close(relc_store *store, relc_closed **closed);
+uint32_t relc_unchecked_resume(relc_closed *closed, const uint8_t *text, size_t length, const uint8_t *shapes,
+    size_t shapes_length, const uint8_t *plans, size_t plans_length, relc_open_frame *frame, relc_store **store);
+void relc_unchecked_drop_closed(relc_closed *closed);
 
 uint32_t relc_open(const uint8_t *text, size_t length, relc_open_frame *frame, relc_store **store)
 {
@@ -135,7 +155,7 @@ uint32_t relc_open(const uint8_t *text, size_t length, relc_open_frame *frame, r
     want(__func__, store);
     uint32_t code = relc_unchecked_open(text, length, frame, store);
     if (code == RELC_DONE)
-        add(__func__, *store, NULL);
+        add_store(__func__, *store);
     return code;
 }
 
@@ -147,7 +167,19 @@ uint32_t relc_open_with_plans(const uint8_t *text, size_t length, const uint8_t 
     want(__func__, store);
     uint32_t code = relc_unchecked_open_with_plans(text, length, plans, plans_length, frame, store);
     if (code == RELC_DONE)
-        add(__func__, *store, NULL);
+        add_store(__func__, *store);
+    return code;
+}
+
+uint32_t relc_open_with(const uint8_t *text, size_t length, const uint8_t *shapes, size_t shapes_length,
+    const uint8_t *plans, size_t plans_length, relc_open_frame *frame, relc_store **store)
+{
+    want(__func__, text);
+    want(__func__, frame);
+    want(__func__, store);
+    uint32_t code = relc_unchecked_open_with(text, length, shapes, shapes_length, plans, plans_length, frame, store);
+    if (code == RELC_DONE)
+        add_store(__func__, *store);
     return code;
 }
 
@@ -171,13 +203,25 @@ uint32_t relc_operation(relc_store *store, relc_operation_frame *frame)
     return code;
 }
 
+uint32_t relc_shape(relc_store *store, const uint8_t *line, size_t length, relc_operation_frame *frame)
+{
+    struct handle *handle = enter(__func__, store, STORE);
+    want(__func__, line);
+    want(__func__, frame);
+    uint32_t code = relc_unchecked_shape(store, line, length, frame);
+    if (code == RELC_DONE)
+        frame->op |= handle->number << HALF;
+    leave(handle);
+    return code;
+}
+
 uint32_t relc_open_session(relc_store *store, relc_session **session)
 {
     struct handle *handle = enter(__func__, store, STORE);
     want(__func__, session);
     uint32_t code = relc_unchecked_open_session(store, session);
     if (code == RELC_DONE)
-        add(__func__, *session, handle);
+        add(__func__, (struct handle){.at = *session, .kind = SESSION, .of = store, .number = handle->number});
     leave(handle);
     return code;
 }
@@ -210,6 +254,48 @@ void relc_close_session(relc_session *session)
         return;
     end(enter(__func__, session, SESSION));
     relc_unchecked_close_session(session);
+}
+
+uint32_t relc_close(relc_store *store, relc_closed **closed)
+{
+    struct handle *handle = enter(__func__, store, STORE);
+    want(__func__, closed);
+    uint32_t code = relc_unchecked_close(store, closed);
+    if (code != RELC_DONE) {
+        leave(handle);
+        return code;
+    }
+    uint32_t number = handle->number;
+    end(handle);
+    add(__func__, (struct handle){.at = *closed, .kind = CLOSED, .number = number});
+    return code;
+}
+
+uint32_t relc_resume(relc_closed *closed, const uint8_t *text, size_t length, const uint8_t *shapes, size_t shapes_length,
+    const uint8_t *plans, size_t plans_length, relc_open_frame *frame, relc_store **store)
+{
+    struct handle *handle = enter(__func__, closed, CLOSED);
+    want(__func__, text);
+    want(__func__, frame);
+    want(__func__, store);
+    uint32_t code =
+        relc_unchecked_resume(closed, text, length, shapes, shapes_length, plans, plans_length, frame, store);
+    if (code != RELC_DONE) {
+        leave(handle);
+        return code;
+    }
+    uint32_t number = handle->number;
+    end(handle);
+    add(__func__, (struct handle){.at = *store, .kind = STORE, .number = number});
+    return code;
+}
+
+void relc_drop_closed(relc_closed *closed)
+{
+    if (closed == NULL)
+        return;
+    end(enter(__func__, closed, CLOSED));
+    relc_unchecked_drop_closed(closed);
 }
 
 /* ---- sessions */

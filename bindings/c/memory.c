@@ -129,15 +129,19 @@ static void call(relc_session *by, relc_frame *frame)
     own += by == session;
 }
 
+static void begin_sessions(relc_store *store)
+{
+    CHECK(relc_open_session(store, &session) == RELC_DONE);
+    CHECK(relc_open_session(store, &other) == RELC_DONE);
+}
+
 /* A store of three nodes with three edges each, and a reply that the session has. */
-static void open_sessions(void)
+static relc_store *open_store(void)
 {
     relc_open_frame open = {.passes = 2, .limit = 1000, .seed = {1, 2}};
     relc_store *store = NULL;
     CHECK(relc_open((const uint8_t *)GRAPH, strlen(GRAPH), &open, &store) == RELC_DONE);
-    CHECK(relc_open_session(store, &session) == RELC_DONE);
-    CHECK(relc_open_session(store, &other) == RELC_DONE);
-    relc_close_store(store);
+    begin_sessions(store);
     entries = own = 0;
     for (uint64_t node = 1; node < 4; node++) {
         for (uint64_t end = 1; end < 4; end++) {
@@ -148,6 +152,12 @@ static void open_sessions(void)
     relc_frame read = {.op = SUCC, .count = 1, .values = {3}};
     call(session, &read);
     CHECK(read.number == 3);
+    return store;
+}
+
+static void open_sessions(void)
+{
+    relc_close_store(open_store());
 }
 
 static void close_sessions(void)
@@ -490,6 +500,67 @@ static void test_giving_back(void)
     close_sessions();
 }
 
+static uint32_t resume(relc_closed *closed, relc_store **store)
+{
+    relc_open_frame open = {.passes = 2, .limit = 1000, .seed = {3, 4}};
+    return relc_resume(closed, (const uint8_t *)GRAPH, strlen(GRAPH), (const uint8_t *)"query dst -> src", 16, NULL, 0, &open, store);
+}
+
+/* A new session of each pass finds these edges. */
+static void check_edges(relc_store *store, const struct edges *wanted)
+{
+    begin_sessions(store);
+    struct edges now = edges_now();
+    CHECK(memcmp(wanted, &now, sizeof now) == 0);
+    check_free();
+}
+
+static void give_back(relc_store *store)
+{
+    CHECK(relc_give_back(store, session) == RELC_DONE && relc_give_back(store, other) == RELC_DONE);
+}
+
+/* A store is closed with the allocation of one number failing, and goes on with that of another, 0 for none: where memory is
+ * wanted, it is the store, or the closed store, that it was. Whether any failed. */
+static int goes_on_failing(unsigned closing, unsigned resuming, int fails_on)
+{
+    relc_store *store = open_store(), *next = NULL;
+    relc_closed *closed = NULL;
+    struct edges before = edges_now();
+    give_back(store);
+    fail(closing, fails_on);
+    uint32_t code = relc_close(store, &closed);
+    unsigned failed = fail_no_more();
+    CHECK(code == RELC_DONE || (code == RELC_MEMORY && failed != 0 && closed == NULL));
+    if (code == RELC_MEMORY) {
+        check_edges(store, &before);
+        give_back(store);
+        CHECK(relc_close(store, &closed) == RELC_DONE);
+    }
+    fail(resuming, fails_on);
+    code = resume(closed, &next);
+    failed += fail_no_more();
+    CHECK(code == RELC_DONE || (code == RELC_MEMORY && failed != 0 && next == NULL));
+    if (code == RELC_MEMORY)
+        CHECK(resume(closed, &next) == RELC_DONE);
+    check_edges(next, &before);
+    relc_close_store(next);
+    close_sessions();
+    return failed != 0;
+}
+
+/* How many allocations of a store that is closed and goes on fail, each in turn. */
+static unsigned test_going_on(int fails_on)
+{
+    unsigned closing = 1, resuming = 1;
+    while (goes_on_failing(closing, 0, fails_on))
+        closing++;
+    while (goes_on_failing(0, resuming, fails_on))
+        resuming++;
+    CHECK(resuming > 1);
+    return closing + resuming - 2;
+}
+
 int main(void)
 {
     unsigned refused = 0;
@@ -497,7 +568,8 @@ int main(void)
         refused += test_failing(&TRIALS[at], 0) + test_failing(&TRIALS[at], 1);
     test_closing();
     test_giving_back();
+    refused += test_going_on(0) + test_going_on(1);
     printf("relc.h with %u allocations that fail: %zu passed, 0 failed\n", refused,
-        2 * COUNT_OF_TRIALS + 1);
+        2 * COUNT_OF_TRIALS + 4);
     return 0;
 }

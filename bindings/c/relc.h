@@ -4,16 +4,18 @@
  * Ownership.  relc_open gives a store, relc_open_session a session of it: a thread's own end.
  *             Whoever opens closes, by relc_close_session and relc_close_store, each handle once,
  *             in any order: sessions live on when their store is closed. Before it is a session may
- *             be given back to it by relc_give_back, in place of being closed. Nothing that a call
- *             takes is kept: texts, names, values and frames are read and written during the call
- *             alone.
+ *             be given back to it by relc_give_back, in place of being closed. A store that has all
+ *             of its sessions back may become a closed store, by relc_close, in place of being closed;
+ *             whoever has that resumes or drops it, once. Nothing that a call takes is kept: texts,
+ *             names, values and frames are read and written during the call alone.
  * Threads.    A session is used by one call at a time. It may move to another thread, where the
  *             move is ordered, as by a lock or by the start or the end of a thread. Different
  *             sessions are used at the same time. Of the functions that take a store one is called
  *             at a time for that store, beside calls on its sessions (relc_wait.h has them for
- *             several threads). A frame, too, is lent to one call at a time.
+ *             several threads). A closed store may move as a session does. A frame, too, is lent to
+ *             one call at a time.
  * Codes.      Each function of this header answers a code, but relc_version, the two that answer
- *             texts and those that close; RELC_DONE is 0.
+ *             texts, relc_close_store, relc_close_session and relc_drop_closed; RELC_DONE is 0.
  *             A call that is refused has changed nothing in the store, nor in the session but for
  *             RELC_UNSEEN, and for RELC_NO_CALL of relc_commit and RELC_MEMORY of relc_call_open,
  *             which end an open group; a relc_frame or a relc_operation_frame is as before but for
@@ -26,9 +28,10 @@
  *             and session are written to (= NULL). What is lent is aligned as its type is. What one
  *             call is lent doesn't overlap, and but for a text nobody else reads or writes it
  *             meanwhile. No pointer is NULL, not even that of a text of no bytes, nor the frame of
- *             relc_cancel; but the text of plans of relc_open_with_plans may be, and the functions that
- *             close take NULL, and do nothing. No function is
- *             called from a signal handler, nor in a forked child of a process with threads.
+ *             relc_cancel; but the texts of shapes and of plans of relc_open_with, relc_open_with_plans
+ *             and relc_resume may be, and the functions that end what a handle has, but relc_close, take
+ *             NULL, and do nothing. No function is called from a signal handler, nor in a forked child
+ *             of a process with threads.
  *
  * What is proved of each function (crates/rc_c), and what is not, says docs/EMBEDDING.md. That
  * callers keep what is said here is theirs to see to; that this header agrees with
@@ -61,26 +64,28 @@ extern "C" {
 #define RELC_NAME 16
 #define RELC_REFUSAL 64
 
-/* how many bytes of a text at once */
+/* how many bytes of a text at once, and of a line by which an operation is looked up */
 #define RELC_TEXT 4096
+#define RELC_SHAPE 4096
 
-/* A store with the sessions that are left to begin, and a session. */
+/* A store with the sessions that are left to begin, a session, and a store that was closed and may go on. */
 typedef struct relc_store relc_store;
 typedef struct relc_session relc_session;
+typedef struct relc_closed relc_closed;
 
 enum relc_code {
     RELC_DONE = 0,
     RELC_MEMORY = 1,       /* memory was wanted */
     RELC_BUSY = 2,         /* another session stood in the way: stripe, found, who of the frame */
     RELC_SPENT = 3,        /* the session has made as many calls as its store lets it */
-    RELC_OPERATION = 4,    /* no operation has this number, or this name */
+    RELC_OPERATION = 4,    /* no operation has this number, or this name, or asks so */
     RELC_VALUE_COUNT = 5,  /* the operation takes another number of values */
     RELC_PREPARED = 6,     /* a call or a group is prepared, or a group is open, and neither
                               committed nor cancelled */
     RELC_NOT_PREPARED = 7, /* nothing is prepared, and no group open */
     RELC_NO_ROW = 8,       /* the reply has no such row, or there is no such reply */
     RELC_OPTIONS = 9,      /* passes, limit or rows are out of their ranges */
-    RELC_TOO_LONG = 10,    /* the text, or that of the plans, is longer than 2^24 bytes */
+    RELC_TOO_LONG = 10,    /* one of the texts is longer than 2^24 bytes */
     RELC_LINE = 11,        /* the text breaks a line rule: refusal of the frame */
     RELC_RULE = 12,        /* the specification breaks a rule of acceptance: the same */
     RELC_NONE_LEFT = 13,   /* of the store's passes none is left to begin a session with */
@@ -90,7 +95,13 @@ enum relc_code {
     RELC_UNCOVERED = 17,   /* what the open group declared doesn't suffice for the call */
     RELC_NO_CALL = 18,     /* the open group had made no call, and is over */
     RELC_PLAN_LINE = 19,   /* the text of the plans breaks a rule of their lines: refusal of the frame */
-    RELC_PLAN = 20         /* a plan that is written breaks a rule of plans: the same */
+    RELC_PLAN = 20,        /* a plan that is written breaks a rule of plans: the same */
+    RELC_SHAPE_LINE = 21,  /* the text of the shapes breaks a line rule: the same */
+    RELC_SESSIONS = 22,    /* the closed store had more sessions than passes of the frame */
+    RELC_LIMIT = 23,       /* a session of the closed store has made more calls than limit of the frame */
+    RELC_OTHER = 24,       /* the specification, rows with it, isn't that of the closed store, nor that
+                              with further operations behind its own */
+    RELC_OUTSIDE = 25      /* a session of the store isn't given back */
 };
 
 /* kinds of a reply */
@@ -116,7 +127,7 @@ enum relc_found {
 typedef struct relc_open_frame {
     uint32_t passes;               /* asked: how many sessions there may be, 1 to 255 */
     uint32_t length;               /* told: how many bytes the refusal has; 0 but for RELC_LINE,
-                                      RELC_RULE, RELC_PLAN_LINE and RELC_PLAN */
+                                      RELC_RULE, RELC_SHAPE_LINE, RELC_PLAN_LINE and RELC_PLAN */
     uint64_t limit;                /* asked: how many calls each session may make, 1 to 2^48 */
     uint64_t rows;                 /* asked: the most rows that a query tells one by one, 1 to
                                       2^32 - 1, or 0 for no limit; of more it tells the number */
@@ -126,7 +137,8 @@ typedef struct relc_open_frame {
     uint8_t refusal[RELC_REFUSAL]; /* told with these: as `relc check` and `relc hand` print it,
                                       `refused S3 line 12`, `refused A6 edge e2`, `refused H2 line 3`
                                       of the text of the plans, or `refused K2 plan succ statement 1`,
-                                      the statements counted from 0 */
+                                      the statements counted from 0; with RELC_SHAPE_LINE `refused W4
+                                      line 3` of the text of the shapes */
 } relc_open_frame;
 
 /* Which operation is meant, what its calls give and are told, and what it finds tuples by. */
@@ -204,13 +216,24 @@ uint32_t relc_open(const uint8_t *text, size_t length, relc_open_frame *frame, r
 uint32_t relc_open_with_plans(const uint8_t *text, size_t length, const uint8_t *plans, size_t plans_length,
                               relc_open_frame *frame, relc_store **store);
 
+/* Opens a store so, with operations that the specification doesn't declare: a text of shapes has a line for
+ * each, `query COLS -> COLS`, `insert COLS` or `remove COLS`, in a text with `relc 2` also `query COLS : COLS
+ * -> COLS` and `update COLS`, as an `op` line has it behind its name. They stand behind the declared operations,
+ * at most 32, and relc_shape finds them; a line that asks as an earlier one does gives no further one. No text
+ * of plans has plans of them. Where `shapes`, or `plans`, is NULL or the text is empty there are none. Codes as
+ * relc_open_with_plans; RELC_SHAPE_LINE, for the first broken rule of the lines of shapes (S2, S3, S4, S6, W4),
+ * comes before RELC_PLAN_LINE. */
+uint32_t relc_open_with(const uint8_t *text, size_t length, const uint8_t *shapes, size_t shapes_length, const uint8_t *plans,
+                        size_t plans_length, relc_open_frame *frame, relc_store **store);
+
 /* Copies the text of the plans by which the store answers its operations, from byte `at` on, as many bytes
- * as there is room for: of each operation a line `plan NAME`, and a line for each statement. With a line
- * `end` behind it is what relc_open_with_plans reads. RELC_DONE or RELC_MEMORY. */
+ * as there is room for: of each operation a line `plan NAME`, and a line for each statement; of one that isn't
+ * declared `plan ?1` and so on. With a line `end` behind it is what relc_open_with_plans reads, where all are
+ * declared. RELC_DONE or RELC_MEMORY. */
 uint32_t relc_plans(relc_store *store, relc_text_page *page);
 
-/* Of a refusal that relc_open or relc_open_with_plans told: what the rule asks, what the item or line
- * that it names does, and what to try, as docs/REFUSALS.md has it. NULL where the frame tells none. */
+/* Of a refusal that relc_open, relc_open_with, relc_open_with_plans or relc_resume told: what the rule asks, what the item
+ * or line that it names does, and what to try, as docs/REFUSALS.md has it. NULL where the frame tells none. */
 const char *relc_rule_text(const relc_open_frame *frame);
 
 /* What a code means, in a few words. Neither this text nor the one above is ever freed. */
@@ -218,6 +241,12 @@ const char *relc_code_text(uint32_t code);
 
 /* Looks an operation up by its name, once. RELC_DONE or RELC_OPERATION. */
 uint32_t relc_operation(relc_store *store, relc_operation_frame *frame);
+
+/* Looks an operation up by what it asks, once: the first one, declared or not, of the kind and with the lists
+ * of columns, in written order, of this one line of at most RELC_SHAPE bytes, which has the form of a line of
+ * shapes. It tells the frame what relc_operation tells; length and name of the frame aren't read. RELC_DONE, or
+ * RELC_OPERATION where no operation asks so, also where the line is longer or has no such form, or RELC_MEMORY. */
+uint32_t relc_shape(relc_store *store, const uint8_t *line, size_t length, relc_operation_frame *frame);
 
 /* Begins a session, with the lowest number that is left of its store's, from 0: the n-th has number n
  * where none was given back. RELC_DONE: *session is the caller's. Else RELC_NONE_LEFT or RELC_MEMORY,
@@ -304,15 +333,41 @@ uint32_t relc_rows(relc_session *session, relc_page *page);
 void relc_close_store(relc_store *store);
 
 /* Closes a session, where it isn't NULL, and cancels the call or the group that it has prepared or opened,
- * where there is one. No later session has its pass: so close a spent one. */
+ * where there is one. No later session has its pass: so close a spent one, but where the store is to be closed
+ * by relc_close. */
 void relc_close_session(relc_session *session);
 
 /* Gives a session back to its store, where it isn't NULL, and cancels first what it has prepared or opened.
  * The handle ends. A session that is opened later has its pass and its number: its calls count on, `nth` and
  * the store's limit, and stand after all that the pass had seen. So one that has made all its calls is spent
- * again: close it. The store is the one that the session was opened of, and isn't closed. It takes no memory.
- * Always RELC_DONE. */
+ * again: close it, but where relc_close is to come. The store is the one that the session was opened of, and
+ * isn't closed. It takes no memory. Always RELC_DONE. */
 uint32_t relc_give_back(relc_store *store, relc_session *session);
+
+/* Makes a closed store of a store that has all its sessions back (relc_give_back): it has the tuples and the
+ * history, and no operation is called on it until it is resumed. RELC_DONE: the store's handle ends, and *closed
+ * is the caller's. Else RELC_OUTSIDE, where a session that was begun isn't given back, as one that was closed,
+ * also before; or RELC_MEMORY. In both cases the store is as it was and goes on, and *closed is not written. Its
+ * time rises with the stripes and the passes, and not with the tuples. */
+uint32_t relc_close(relc_store *store, relc_closed **closed);
+
+/* Makes a store of a closed one again, by texts and a frame as relc_open_with takes them. It has the tuples of the
+ * closed store, and its history goes on: the first call's place is the number of those that were made before. The
+ * specification is that of the closed store, shapes among its operations, or that with further operations behind
+ * its own: those of `op` lines where no shapes were there, and those of shapes. Operations keep their numbers. `rows`
+ * is as it was (else RELC_OTHER); plans, limit and seed may be others (the seed is that of tables that are made from now on). There
+ * may be more sessions than before, and not fewer. None is begun: one that is opened has the pass of its number, so
+ * that its calls count on, `nth` and the limit, and stand after all that were made before.
+ *
+ * RELC_DONE: the closed store's handle ends, and *store is the caller's. Else the closed store is as it was, and may
+ * be resumed again, and *store is not written: RELC_OPTIONS, RELC_SESSIONS, RELC_LIMIT, then what relc_open_with
+ * answers of the texts, then RELC_OTHER, in that order of tests, or RELC_MEMORY. Its time rises with the texts, the
+ * stripes and the passes: no tuple is copied, and no call made again. */
+uint32_t relc_resume(relc_closed *closed, const uint8_t *text, size_t length, const uint8_t *shapes, size_t shapes_length,
+                     const uint8_t *plans, size_t plans_length, relc_open_frame *frame, relc_store **store);
+
+/* Drops a closed store, where it isn't NULL: its tuples are gone. */
+void relc_drop_closed(relc_closed *closed);
 
 #ifdef __cplusplus
 }

@@ -28,7 +28,7 @@ static const struct relc_rule {
      "This line has a number or a text out of its range. "
      "Take a number within the range, or a shorter text. All classes together have at most 256 stripes (P6)."},
     {"S6",
-     "There are at most 16 columns (32 in `relc 2`), 32 dependencies, 16 nodes, 24 edges, 16 classes, 24 placements and 32 operations; of a workload 64 rounds and 20,000 calls. "
+     "There are at most 16 columns (32 in `relc 2`), 32 dependencies, 16 nodes, 24 edges, 16 classes, 24 placements and 32 operations; of a workload 64 rounds and 20,000 calls; and 32 shapes. "
      "This line is one more. "
      "Take `relc 2` for more columns; else make two relations of it, or two runs."},
     {"S7",
@@ -147,6 +147,10 @@ static const struct relc_rule {
      "An insert tests that no tuple is there (`absent`), an update that one is (`found`), and behind that each dependency that could break, in the order of their numbers. "
      "This `check` comes before `absent` or `found`, or behind one with a larger number; or this `apply` comes before a test that it needs. "
      "Write `absent` or `found` first, then a `check` for each dependency whose left side doesn't hold the whole pattern."},
+    {"W4",
+     "The operation that a call or a shape brings keeps O1, O2 and O3. "
+     "The operation of this line breaks one of them: an insert has no column in its pattern, the pattern of a remove or an update doesn't determine all columns, or a query has no output or one twice. "
+     "Name a key's columns behind - and ! (`remove` and `update`), a column behind + (`insert`), and each output once behind ->."},
 };
 
 #endif

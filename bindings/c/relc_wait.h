@@ -1,5 +1,5 @@
 /* relc_wait.h: calls and groups that wait, over those of relc.h that don't. Not proved: tested. One
- * relc_waiting is shared by all threads that call on one store. Calls that are made, committed or
+ * relc_waiting is shared by all threads that call on one store, also where that is closed and goes on. Calls that are made, committed or
  * cancelled beside it ring it by relc_ring. What relc.h says of sessions, frames and memory holds
  * here too; a relc_waiting is used by any number of calls at a time. No thread is cancelled
  * (pthread_cancel) in one of these functions: it might leave a lock taken, and all others would

@@ -28,13 +28,13 @@ const char *relc_code_text(uint32_t code)
         [RELC_MEMORY] = "memory was wanted",
         [RELC_BUSY] = "another session stood in the way",
         [RELC_SPENT] = "the session has made as many calls as its store lets it",
-        [RELC_OPERATION] = "no operation has this number, or this name",
+        [RELC_OPERATION] = "no operation has this number, or this name, or asks so",
         [RELC_VALUE_COUNT] = "the operation takes another number of values",
         [RELC_PREPARED] = "a call or a group is prepared, or a group is open",
         [RELC_NOT_PREPARED] = "nothing is prepared, and no group open",
         [RELC_NO_ROW] = "the reply has no such row, or there is no such reply",
         [RELC_OPTIONS] = "passes, limit or rows are out of their ranges",
-        [RELC_TOO_LONG] = "the text, or that of the plans, is longer than 2^24 bytes",
+        [RELC_TOO_LONG] = "one of the texts is longer than 2^24 bytes",
         [RELC_LINE] = "the text breaks a rule of lines",
         [RELC_RULE] = "the specification breaks a rule of acceptance",
         [RELC_NONE_LEFT] = "as many sessions were begun as the store has passes",
@@ -45,6 +45,11 @@ const char *relc_code_text(uint32_t code)
         [RELC_NO_CALL] = "the open group had made no call, and is over",
         [RELC_PLAN_LINE] = "the text of the plans breaks a rule of their lines",
         [RELC_PLAN] = "a plan that is written breaks a rule of plans",
+        [RELC_SHAPE_LINE] = "the text of the shapes breaks a rule of lines",
+        [RELC_SESSIONS] = "the closed store had more sessions",
+        [RELC_LIMIT] = "a session of the closed store has made more calls",
+        [RELC_OTHER] = "the specification isn't the closed store's with operations behind its own",
+        [RELC_OUTSIDE] = "a session of the store isn't given back",
     };
     return code < COUNT(texts) ? texts[code] : "no such code";
 }

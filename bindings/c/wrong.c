@@ -90,6 +90,59 @@ static void call_an_operation_of_another(void)
     relc_try_call(session, &put);
 }
 
+/* the store, with its session given back, and closed */
+static relc_closed *closed_store(void)
+{
+    relc_closed *closed = NULL;
+    CHECK(relc_give_back(store, session) == RELC_DONE && relc_close(store, &closed) == RELC_DONE);
+    return closed;
+}
+
+static void resume(relc_closed *closed)
+{
+    relc_store *resumed = NULL;
+    relc_open_frame opening = {.passes = 4, .limit = 1ull << 48};
+    relc_resume(closed, (const uint8_t *)TEXT, sizeof TEXT - 1, NULL, 0, NULL, 0, &opening, &resumed);
+}
+
+static void open_by_one_that_was_closed(void)
+{
+    closed_store();
+    relc_open_session(store, &session);
+}
+
+static void close_one_that_was_closed(void)
+{
+    relc_closed *closed = closed_store();
+    relc_close((relc_store *)closed, &closed);
+}
+
+static void resume_twice(void)
+{
+    relc_closed *closed = closed_store();
+    resume(closed);
+    resume(closed);
+}
+
+static void resume_what_was_dropped(void)
+{
+    relc_closed *closed = closed_store();
+    relc_drop_closed(closed);
+    resume(closed);
+}
+
+static void drop_what_goes_on(void)
+{
+    relc_closed *closed = closed_store();
+    resume(closed);
+    relc_drop_closed(closed);
+}
+
+static void drop_a_store(void)
+{
+    relc_drop_closed((relc_closed *)store);
+}
+
 static void *call_on(void *unused)
 {
     relc_frame mine = frame;
@@ -121,6 +174,12 @@ static const struct {
     {give_back_to_another, "relc_give_back: the session is of another store\n"},
     {call_an_operation_of_another, "relc_try_call: the operation is of another store\n"},
     {call_on_two_threads, "relc_try_call: another call uses the session\n"},
+    {open_by_one_that_was_closed, "relc_open_session: this is no open store\n"},
+    {close_one_that_was_closed, "relc_close: this is no open store\n"},
+    {resume_twice, "relc_resume: this is no closed store\n"},
+    {resume_what_was_dropped, "relc_resume: this is no closed store\n"},
+    {drop_what_goes_on, "relc_drop_closed: this is no closed store\n"},
+    {drop_a_store, "relc_drop_closed: this is no closed store\n"},
 };
 enum { COUNT = sizeof WRONG / sizeof *WRONG };
 

@@ -47,13 +47,15 @@ pub enum Error {
     Memory,
     /// There are not 1 to 255 sessions, or not 1 to 2^48 calls each.
     Options,
-    /// The text, or that of the plans, is longer than 2^24 bytes.
+    /// One of the texts is longer than 2^24 bytes.
     TooLong,
-    /// The specification is refused, or plans that are written: the first broken rule, with its line or its item, and
-    /// why.
+    /// The specification is refused, or a shape, or plans that are written: the first broken rule, with its line or its
+    /// item, and why.
     Refused(Refusal),
     /// No operation has this name.
     Unknown(String),
+    /// No operation asks as this shape does: the store was opened without it.
+    Undeclared(String),
     /// The operation is of another kind.
     Kind(String),
     /// The operation takes, or its rows have, another number of values.
@@ -78,6 +80,15 @@ pub enum Error {
     NoneLeft,
     /// The operation, or what was seen, is another store's.
     Foreign,
+    /// A clone of the store, or a session of it, is alive.
+    InUse,
+    /// The closed store had more sessions than it is to have now.
+    FewerSessions,
+    /// A session of the closed store has made more calls than each may make now.
+    LowerLimit,
+    /// The specification isn't that of the closed store, nor that with further operations behind its own; or another limit of
+    /// rows is asked for.
+    Specification,
     /// Another session was in the way at this stripe. Only calls that don't wait, or not without an
     /// end, are told so.
     Busy {
@@ -119,12 +130,15 @@ impl fmt::Display for Error {
         match self {
             Error::Memory => write!(f, "memory was wanted"),
             Error::Options => write!(f, "1 to 255 sessions, and 1 to 2^48 calls each"),
-            Error::TooLong => write!(
-                f,
-                "the text, or that of the plans, is longer than 2^24 bytes"
-            ),
+            Error::TooLong => write!(f, "one of the texts is longer than 2^24 bytes"),
             Error::Refused(refusal) => refusal.fmt(f),
             Error::Unknown(name) => write!(f, "no operation is named {name}"),
+            Error::Undeclared(shape) => {
+                write!(
+                    f,
+                    "no operation asks `{shape}`: open the store with this shape"
+                )
+            }
             Error::Kind(name) => write!(f, "the operation {name} is of another kind"),
             Error::Arity { name, has, asked } => {
                 write!(f, "{name} has {has} values, and {asked} were asked for")
@@ -138,6 +152,15 @@ impl fmt::Display for Error {
             }
             Error::NoneLeft => write!(f, "all sessions are out, or spent"),
             Error::Foreign => write!(f, "the operation, or what was seen, is another store's"),
+            Error::InUse => write!(f, "a clone of the store, or a session of it, is alive"),
+            Error::FewerSessions => write!(f, "the closed store had more sessions"),
+            Error::LowerLimit => write!(f, "a session of the closed store has made more calls"),
+            Error::Specification => {
+                write!(
+                    f,
+                    "the specification isn't the closed store's with operations behind its own"
+                )
+            }
             Error::Busy { stripe, found } => write!(f, "busy at stripe {stripe}: {found}"),
             Error::Spent => write!(f, "the session has made all its calls"),
             Error::Prepared => write!(f, "a prepared call, or a transaction, was forgotten"),

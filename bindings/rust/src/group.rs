@@ -285,7 +285,7 @@ impl<'s> PreparedGroup<'s> {
     pub fn commit(mut self) -> Done<'s> {
         let replies = self.replies.take();
         let replies = replies.expect("they are there until the commit");
-        let code = replies.session.ask(sys::relc_commit);
+        let code = replies.session.ask_frame(sys::relc_commit);
         assert_eq!(code, sys::DONE, "a group is prepared");
         replies.session.ring();
         Done {
@@ -301,7 +301,7 @@ impl<'s> PreparedGroup<'s> {
 impl Drop for PreparedGroup<'_> {
     fn drop(&mut self) {
         if let Some(Replies { session, .. }) = &mut self.replies {
-            session.ask(sys::relc_cancel);
+            session.ask_frame(sys::relc_cancel);
             session.ring();
         }
     }

@@ -35,24 +35,30 @@
 //! What the calls of the archive promise is proved (`crates/rc_c`); this crate, and that it agrees
 //! with the archive, are tested.
 
+mod closed;
 mod error;
 mod group;
+mod handle;
 mod names;
+mod opening;
 mod operation;
 mod refusal;
 mod row;
 mod session;
+mod shape;
 mod store;
 mod sys;
 mod texts;
 mod transaction;
 mod waiting;
 
+pub use closed::{CloseError, ClosedStore, ResumeError};
 pub use error::{Error, Found, Many};
 pub use group::{Done, Group, PreparedGroup, Slot};
 pub use operation::{Answer, Insert, Inserted, Operation, Query, Reading, Remove, Update, Updated};
 pub use refusal::Refusal;
 pub use session::{Position, Prepared, Rows, Seen, Session};
+pub use shape::{Reply, Shape};
 pub use store::{Options, Store};
 pub use texts::Texts;
 pub use transaction::{Declared, Transaction};

@@ -1,4 +1,4 @@
-//! Why a specification, or plans of its operations, are refused.
+//! Why a specification, shapes of further operations, or plans are refused.
 
 use std::fmt;
 
@@ -8,16 +8,23 @@ const RULES: &str = include_str!("rules.txt");
 /// How many characters of a refused line are shown.
 const SHOWN: usize = 80;
 
-/// A specification that is refused, or plans of its operations: the first rule that is broken, with the line or the item that
-/// breaks it.
+/// Which text is refused.
+#[derive(Clone, Copy, Debug, PartialEq, Eq)]
+pub(crate) enum Text {
+    Specification,
+    Shapes,
+    Plans,
+}
+
+/// A specification that is refused, or a shape of an operation that it doesn't declare, or plans of its operations: the first
+/// rule that is broken, with the line or the item that breaks it.
 ///
 /// `Display` says it in words: what the rule asks, what the line or the item does, and what to try.
 #[derive(Clone, Debug, PartialEq, Eq)]
 pub struct Refusal {
     /// As `relc check` and `relc hand` print it.
     said: String,
-    /// Whether plans are refused.
-    plans: bool,
+    of: Text,
     /// The line that is refused, where one is.
     line: Option<String>,
 }
@@ -34,11 +41,11 @@ fn part(rule: &str, word: &str) -> &'static str {
 }
 
 impl Refusal {
-    /// The refusal that the store told of the text.
-    pub(crate) fn new(said: String, text: &str) -> Refusal {
+    /// The refusal that the store told of a text.
+    pub(crate) fn new(said: String, of: Text, text: &str) -> Refusal {
         let mut refusal = Refusal {
             said,
-            plans: false,
+            of,
             line: None,
         };
         refusal.line = refusal
@@ -48,16 +55,14 @@ impl Refusal {
         refusal
     }
 
-    /// That of plans, told of their text.
-    pub(crate) fn of_plans(said: String, plans: &str) -> Refusal {
-        let mut refusal = Refusal::new(said, plans);
-        refusal.plans = true;
-        refusal
-    }
-
     /// Whether the plans are refused, and not the specification: a line of their text, or a plan.
     pub fn is_of_plans(&self) -> bool {
-        self.plans
+        self.of == Text::Plans
+    }
+
+    /// Whether a shape is refused: the line's number is that among the shapes, from 1.
+    pub fn is_of_shapes(&self) -> bool {
+        self.of == Text::Shapes
     }
 
     /// As `relc check` prints it: `refused S2 line 11`, or `refused A3 edge e2`; and of plans as `relc hand` does:
@@ -110,12 +115,16 @@ impl Refusal {
         part(self.rule(), "try")
     }
 
-    /// The forms of a line that begins as the refused one does, of a specification or of plans; all forms, where none
-    /// begins so. What may be left out stands in brackets.
+    /// The forms of a line that begins as the refused one does, of a specification, of shapes or of plans; all forms, where
+    /// none begins so. What may be left out stands in brackets.
     pub fn forms(&self) -> Vec<&'static str> {
         let line = self.line.as_deref().unwrap_or("");
         let word = line.split_ascii_whitespace().next();
-        let all = forms(if self.plans { "statements" } else { "forms" });
+        let all = forms(match self.of {
+            Text::Specification => "forms",
+            Text::Shapes => "shapes",
+            Text::Plans => "statements",
+        });
         let some: Vec<_> = (all.clone())
             .filter(|form| form.split(' ').next() == word)
             .collect();
@@ -123,7 +132,7 @@ impl Refusal {
     }
 }
 
-/// The forms of the lines of a specification, or of plans.
+/// The forms of the lines of a specification, of shapes, or of plans.
 fn forms(of: &str) -> impl Iterator<Item = &'static str> + Clone {
     RULES
         .lines()

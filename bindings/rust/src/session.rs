@@ -2,6 +2,7 @@
 
 use crate::error::{Error, Found, Many};
 use crate::operation::{Operation, Query, Reading, Told};
+use crate::shape::{Reply, Shape};
 use crate::store::{Begun, Shared};
 use crate::sys::{self, Frame, Page};
 use std::ffi::c_void;
@@ -81,8 +82,6 @@ fn busy(frame: &Frame) -> Error {
 pub struct Session {
     shared: Arc<Shared>,
     begun: ManuallyDrop<Begun>,
-    /// It has made all its calls.
-    spent: bool,
     pub(crate) frame: Box<Frame>,
     /// Those of the group that it made, prepared or opened last.
     pub(crate) frames: Vec<Frame>,
@@ -94,7 +93,7 @@ impl fmt::Debug for Session {
     fn fmt(&self, f: &mut fmt::Formatter<'_>) -> fmt::Result {
         f.debug_struct("Session")
             .field("number", &self.number())
-            .field("spent", &self.spent)
+            .field("made", &self.begun.made)
             .finish_non_exhaustive()
     }
 }
@@ -102,16 +101,12 @@ impl fmt::Debug for Session {
 impl Drop for Session {
     fn drop(&mut self) {
         // a call that was prepared and forgotten gives its stripes back
-        if self.ask(sys::relc_cancel) == sys::DONE {
+        if self.ask_frame(sys::relc_cancel) == sys::DONE {
             self.ring();
         }
         // SAFETY: it is taken once, here.
-        let begun = unsafe { ManuallyDrop::take(&mut self.begun) };
-        if self.spent {
-            begun.close();
-        } else {
-            self.shared.keep(begun);
-        }
+        self.shared
+            .keep(unsafe { ManuallyDrop::take(&mut self.begun) });
     }
 }
 
@@ -120,7 +115,6 @@ impl Session {
         Session {
             shared,
             begun: ManuallyDrop::new(begun),
-            spent: false,
             frame: Box::new(Frame::new()),
             frames: Vec::new(),
             page: None,
@@ -134,10 +128,10 @@ impl Session {
     }
 
     /// Calls one of the session's exports.
-    pub(crate) fn ask(&mut self, export: Export) -> u32 {
+    pub(crate) fn ask_frame(&mut self, export: Export) -> u32 {
         // SAFETY: `&mut self` lets one call at a time use the session, and the frame is initialised
         // and lent for the call.
-        unsafe { export(self.begun.handle.0.as_ptr(), &mut *self.frame) }
+        unsafe { export(self.begun.handle.as_ptr(), &mut *self.frame) }
     }
 
     /// Calls one of the exports that take a group, with the session's frames.
@@ -145,7 +139,7 @@ impl Session {
         // SAFETY: as above; and there are as many frames as are said.
         unsafe {
             export(
-                self.begun.handle.0.as_ptr(),
+                self.begun.handle.as_ptr(),
                 self.frames.as_mut_ptr(),
                 self.frames.len(),
             )
@@ -175,7 +169,7 @@ impl Session {
     }
 
     fn ask_waiting(&mut self, end: Option<Instant>, export: Export) -> u32 {
-        self.until_free(end, |session| session.ask(export))
+        self.until_free(end, |session| session.ask_frame(export))
     }
 
     /// Wakes those that wait.
@@ -203,7 +197,6 @@ impl Session {
 
     /// The error of a code other than 0 of a call.
     fn error(&mut self, code: u32) -> Error {
-        self.spent |= code == sys::SPENT;
         match code {
             sys::BUSY => busy(&self.frame),
             sys::SPENT => Error::Spent,
@@ -232,7 +225,7 @@ impl Session {
     }
 
     pub(crate) fn placed(&mut self, place: u64, nth: u64) -> Position {
-        self.spent |= nth + 1 == self.shared.limit;
+        self.begun.made = nth + 1;
         Position {
             place,
             nth,
@@ -281,14 +274,14 @@ impl Session {
     /// Picks the reply to a call of the group: rows are its from then on.
     pub(crate) fn pick(&mut self, call: usize) {
         self.frame.row = call as u64;
-        let code = self.ask(sys::relc_pick);
+        let code = self.ask_frame(sys::relc_pick);
         assert_eq!(code, sys::DONE, "the group has the call");
     }
 
     /// Row `row` of the reply that is picked.
     pub(crate) fn row<const N: usize>(&mut self, row: u64) -> Option<[u64; N]> {
         self.frame.row = row;
-        if self.ask(sys::relc_row) != sys::DONE {
+        if self.ask_frame(sys::relc_row) != sys::DONE {
             return None;
         }
         self.frame.cells[..self.frame.width as usize]
@@ -302,7 +295,7 @@ impl Session {
         page.row = row;
         // SAFETY: `&mut self` lets one call at a time use the session, and the page is initialised
         // and lent for the call.
-        unsafe { sys::relc_rows(self.begun.handle.0.as_ptr(), &mut **page) };
+        unsafe { sys::relc_rows(self.begun.handle.as_ptr(), &mut **page) };
         page.rows
     }
 
@@ -367,7 +360,7 @@ impl Session {
         values: [u64; N],
     ) -> Result<(O::Reply, Position), Error> {
         self.put(&op, values)?;
-        let code = self.ask(sys::relc_try_call);
+        let code = self.ask_frame(sys::relc_try_call);
         self.ring();
         self.made::<N, O>(code)
     }
@@ -443,6 +436,53 @@ impl Session {
         answer.map(|answer| answer.0)
     }
 
+    /// Calls the operation that asks as the shape does, declared or not, as `call` does. It looks the operation up at each
+    /// call, under the store's lock: `Store::shape_query` and its like do that once. `Undeclared` where the store has no such
+    /// operation, `Arity` where it takes another number of values.
+    pub fn ask(&mut self, shape: &Shape, values: impl AsRef<[u64]>) -> Result<Reply, Error> {
+        let values = values.as_ref();
+        let operation = self.shared.shape(shape)?;
+        if values.len() != operation.count as usize {
+            return Err(Error::Arity {
+                name: shape.to_string(),
+                has: operation.count as usize,
+                asked: values.len(),
+            });
+        }
+        self.frame.ask(operation.op, values);
+        let code = self.ask_waiting(None, sys::relc_try_call);
+        self.ring();
+        if code != sys::DONE {
+            return Err(self.error(code));
+        }
+        self.position();
+        Ok(self.any_reply())
+    }
+
+    /// The reply that the frame tells of, of whatever operation.
+    fn any_reply(&mut self) -> Reply {
+        let Frame { kind, number, .. } = *self.frame;
+        match kind {
+            sys::ROWS => Reply::Rows((0..number).map(|row| self.cells(row)).collect()),
+            sys::MANY => Reply::Many(number),
+            sys::INSERTED => Reply::Added,
+            sys::PRESENT => Reply::Present,
+            sys::CONFLICT => Reply::Conflict(number),
+            sys::REMOVED => Reply::Removed(self.cells(0)),
+            sys::UPDATED => Reply::Replaced(self.cells(0)),
+            sys::ABSENT => Reply::Absent,
+            kind => unreachable!("there is no reply of kind {kind}"),
+        }
+    }
+
+    /// The values of a row of the reply that is there.
+    fn cells(&mut self, row: u64) -> Vec<u64> {
+        self.frame.row = row;
+        let code = self.ask_frame(sys::relc_row);
+        assert_eq!(code, sys::DONE, "a reply has the rows that it counts");
+        self.frame.cells[..self.frame.width as usize].to_vec()
+    }
+
     /// Prepares a call, and waits for nobody: it has its reply, and holds its stripes until it is
     /// committed, or dropped.
     pub fn begin<const N: usize, O: Operation<N>>(
@@ -451,7 +491,7 @@ impl Session {
         values: [u64; N],
     ) -> Result<Prepared<'_, O::Reply>, Error> {
         self.put(&op, values)?;
-        let code = self.ask(sys::relc_begin);
+        let code = self.ask_frame(sys::relc_begin);
         self.prepared::<N, O>(code)
     }
 
@@ -498,7 +538,7 @@ impl Session {
 
     fn see(&mut self, length: u64) -> Result<Seen, Error> {
         self.frame.seen = length;
-        match self.ask(sys::relc_learn) {
+        match self.ask_frame(sys::relc_learn) {
             sys::DONE => Ok(Seen {
                 store: self.store(),
                 length: self.frame.seen,
@@ -572,7 +612,7 @@ impl<R> Prepared<'_, R> {
 
     /// Makes the call. It isn't refused.
     pub fn commit(mut self) -> (R, Position) {
-        let code = self.session.ask(sys::relc_commit);
+        let code = self.session.ask_frame(sys::relc_commit);
         assert_eq!(code, sys::DONE, "a call is prepared");
         self.session.ring();
         let reply = self.reply.take().expect("it is there until the commit");
@@ -583,7 +623,7 @@ impl<R> Prepared<'_, R> {
 impl<R> Drop for Prepared<'_, R> {
     fn drop(&mut self) {
         if self.reply.is_some() {
-            self.session.ask(sys::relc_cancel);
+            self.session.ask_frame(sys::relc_cancel);
             self.session.ring();
         }
     }

@@ -1,29 +1,31 @@
 //! Stores.
 
+use crate::closed::ClosedStore;
 use crate::error::Error;
+use crate::handle::{ClosedHandle, SessionHandle, StoreHandle};
 use crate::names::Names;
+use crate::opening::Opening;
 use crate::operation::{Insert, Number, Query, Remove, Update};
-use crate::refusal::Refusal;
 use crate::session::Session;
+use crate::shape::Shape;
 use crate::sys;
 use crate::waiting::EventCount;
-use std::ffi::c_void;
 use std::fmt;
-use std::hash::{BuildHasher, Hasher, RandomState};
 use std::num::NonZeroU32;
-use std::ptr::{self, NonNull};
+use std::ptr;
 use std::sync::atomic::{AtomicU64, Ordering::Relaxed};
 use std::sync::{Arc, Mutex, MutexGuard, PoisonError};
 
 /// How much a store is opened for.
 #[derive(Clone, Copy, Debug)]
 pub struct Options {
-    /// How many sessions there may be at a time, 1 to 255.
+    /// How many sessions there may be at a time, 1 to 255; of a store that goes on no fewer than before.
     pub sessions: u32,
     /// How many calls each may make over all that it is handed out to, 1 to 2^48. The session that was dropped last is
     /// handed out first, however few are left to it.
     pub limit: u64,
-    /// The most rows that a query lists; of more it answers their number. None sets no limit.
+    /// The most rows that a query lists; of more it answers their number. None sets no limit. A store that goes on has the
+    /// limit that it had.
     pub rows: Option<NonZeroU32>,
 }
 
@@ -38,10 +40,11 @@ impl Options {
     }
 }
 
-/// A store with no tuple at first, which threads share: clones are the same store.
+/// A store with no tuple at first, which threads share: clones are the same store. It may be closed, and go on by other options
+/// and with further operations ([`Store::close`]).
 #[derive(Clone)]
 pub struct Store {
-    shared: Arc<Shared>,
+    pub(crate) shared: Arc<Shared>,
 }
 
 impl fmt::Debug for Store {
@@ -52,34 +55,33 @@ impl fmt::Debug for Store {
     }
 }
 
-/// A handle of the archive's.
-pub(crate) struct Handle(pub(crate) NonNull<c_void>);
-
 /// A store of the archive's, and how many sessions were begun of it.
 struct Opened {
-    handle: Handle,
+    handle: StoreHandle,
     begun: u32,
+    /// How many calls those had made, by their numbers, that were given back; those behind have made none.
+    made: Vec<u64>,
 }
 
-/// A session of the archive's, and its number among those of its store.
-pub(crate) struct Begun {
-    pub(crate) handle: Handle,
-    pub(crate) number: u32,
-}
-
-// SAFETY: what lies behind a handle may go to another thread (`sessions_are_send` and
-// `stores_are_send` of rc_embed are proved), and it is used by one call at a time: a session's by
-// `&mut Session`, the store's under its lock. Rattle wants a move to be ordered by a lock, by a
-// thread's start or end, or by a sequentially consistent atomic; in safe Rust at the least a
-// release that an acquire sees orders it, as a channel's, and a lock orders no more than that.
-unsafe impl Send for Handle {}
-
-impl Begun {
-    /// Closes the session.
-    pub(crate) fn close(self) {
-        // SAFETY: the handle came from relc_open_session, and this is the last use of it.
-        unsafe { sys::relc_close_session(self.handle.0.as_ptr()) }
+impl Opened {
+    /// Gives a session back.
+    fn take_back(&mut self, session: Begun) {
+        let number = session.number as usize;
+        self.made.resize(self.made.len().max(number + 1), 0);
+        self.made[number] = session.made;
+        // SAFETY: `&mut self` lets one call at a time use the store, of which the session was begun, and this is the last
+        // use of the session.
+        unsafe { sys::relc_give_back(self.handle.as_ptr(), session.handle.into_raw()) };
     }
+}
+
+/// A session of the archive's.
+pub(crate) struct Begun {
+    pub(crate) handle: SessionHandle,
+    /// Its number among those of its store.
+    pub(crate) number: u32,
+    /// How many calls it has made.
+    pub(crate) made: u64,
 }
 
 pub(crate) struct Shared {
@@ -90,6 +92,8 @@ pub(crate) struct Shared {
     store: Mutex<Opened>,
     /// Sessions that were dropped before they were spent, to be handed out again.
     idle: Mutex<Vec<Begun>>,
+    /// Those that have made all their calls.
+    spent: Mutex<Vec<Begun>>,
     pub(crate) events: EventCount,
 }
 
@@ -98,43 +102,118 @@ fn locked<T>(lock: &Mutex<T>) -> MutexGuard<'_, T> {
     lock.lock().unwrap_or_else(PoisonError::into_inner)
 }
 
+/// What the lock guards, where nobody else has it.
+fn unlocked<T>(lock: &mut Mutex<T>) -> &mut T {
+    lock.get_mut().unwrap_or_else(PoisonError::into_inner)
+}
+
 impl Shared {
+    /// A store of which no session is begun yet, and of which those have made so many calls that were given back.
+    pub(crate) fn new(
+        handle: StoreHandle,
+        opening: &Opening<'_>,
+        number: u64,
+        made: Vec<u64>,
+    ) -> Shared {
+        Shared {
+            number,
+            limit: opening.options.limit,
+            names: Names::of(opening.text),
+            store: Mutex::new(Opened {
+                handle,
+                begun: 0,
+                made,
+            }),
+            idle: Mutex::default(),
+            spent: Mutex::default(),
+            events: EventCount::default(),
+        }
+    }
+
+    /// Gives all sessions back, none of which anybody has, and closes the store. Where it is done, the store's handle is ended.
+    fn end(&mut self) -> Result<ClosedHandle, Error> {
+        let store = unlocked(&mut self.store);
+        for sessions in [&mut self.idle, &mut self.spent] {
+            for session in unlocked(sessions).drain(..) {
+                store.take_back(session);
+            }
+        }
+        store.begun = 0;
+        let mut closed = ptr::null_mut();
+        // SAFETY: nobody else has the store, and `closed` is written where it answers 0.
+        match unsafe { sys::relc_close(store.handle.as_ptr(), &mut closed) } {
+            sys::DONE => Ok(ClosedHandle::of(closed)),
+            sys::OUTSIDE => Err(Error::InUse),
+            sys::MEMORY => Err(Error::Memory),
+            code => unreachable!("closing is never refused by code {code}"),
+        }
+    }
+
+    /// The closed store, or the store as it was, and why it isn't closed.
+    pub(crate) fn close(mut self: Arc<Shared>) -> Result<ClosedStore, (Arc<Shared>, Error)> {
+        let ended = Arc::get_mut(&mut self).ok_or(Error::InUse);
+        let handle = match ended.and_then(Shared::end) {
+            Ok(handle) => handle,
+            Err(error) => return Err((self, error)),
+        };
+        let shared = Arc::into_inner(self).expect("nobody else had it");
+        let store = shared.store.into_inner();
+        let Opened {
+            handle: ended,
+            made,
+            ..
+        } = store.unwrap_or_else(PoisonError::into_inner);
+        ended.into_raw();
+        Ok(ClosedStore {
+            handle,
+            number: shared.number,
+            made,
+        })
+    }
+
     pub(crate) fn number(&self) -> u64 {
         self.number
     }
 
+    /// Looks the first operation up that asks as the shape does.
+    pub(crate) fn shape(&self, shape: &Shape) -> Result<sys::OperationFrame, Error> {
+        let line = shape.as_str();
+        let mut frame = sys::OperationFrame::new();
+        let store = locked(&self.store);
+        // SAFETY: the lock lets one call at a time use the store; the line and the frame are lent for the call.
+        let code = unsafe {
+            sys::relc_shape(store.handle.as_ptr(), line.as_ptr(), line.len(), &mut frame)
+        };
+        match code {
+            sys::DONE => Ok(frame),
+            sys::MEMORY => Err(Error::Memory),
+            sys::OPERATION => Err(Error::Undeclared(line.into())),
+            code => unreachable!("a shape is never refused by code {code}"),
+        }
+    }
+
     /// Keeps a session that holds nothing.
     pub(crate) fn keep(&self, session: Begun) {
-        locked(&self.idle).push(session);
+        let is_spent = session.made >= self.limit;
+        locked(if is_spent { &self.spent } else { &self.idle }).push(session);
     }
-}
-
-impl Drop for Shared {
-    fn drop(&mut self) {
-        for session in locked(&self.idle).drain(..) {
-            session.close();
-        }
-        let store = locked(&self.store).handle.0.as_ptr();
-        // SAFETY: the handle came from relc_open, and nobody has it any more.
-        unsafe { sys::relc_close_store(store) }
-    }
-}
-
-/// The secret of a store's hash tables: two numbers drawn at random.
-fn drawn_seed() -> [u64; 2] {
-    [(); 2].map(|()| RandomState::new().build_hasher().finish())
-}
-
-/// The refusal that a frame tells.
-fn said(frame: &sys::OpenFrame) -> String {
-    String::from_utf8_lossy(&frame.refusal[..frame.length as usize]).into_owned()
 }
 
 impl Store {
     /// Opens a store by its specification's text. The secret of its hash tables is drawn at
     /// random, so that nobody who gives it values can tell which collide.
     pub fn open(text: &str, options: Options) -> Result<Store, Error> {
-        Store::open_with_plans(text, "", options)
+        Store::open_by(Opening::new(text, &[], "", options))
+    }
+
+    /// Opens a store so, with further operations: those of these shapes, at most 32, which the specification needn't declare.
+    /// [`Store::shape_query`] and its like look them up, and [`Session::ask`] calls them. Each is planned as the declared
+    /// operations are, behind them.
+    ///
+    /// A shape that names what is no column, or breaks a rule of operations, is `Error::Refused`, whose
+    /// [`Refusal`](crate::Refusal) says the number of the shape as its line.
+    pub fn open_with(text: &str, shapes: &[Shape], options: Options) -> Result<Store, Error> {
+        Store::open_by(Opening::new(text, shapes, "", options))
     }
 
     /// Opens a store so, with plans of operations that are written by hand: in the form in which
@@ -143,53 +222,17 @@ impl Store {
     /// operation without a plan there has the one that is planned for it, as all have where the text is empty.
     ///
     /// A plan is taken exactly where it keeps the rules of plans; what calls answer is the same by any. Else it is
-    /// `Error::Refused`, whose [`Refusal`] says whether the plans are refused, with the line, or the operation and the
-    /// statement.
+    /// `Error::Refused`, whose [`Refusal`](crate::Refusal) says whether the plans are refused, with the line, or the
+    /// operation and the statement.
     pub fn open_with_plans(text: &str, plans: &str, options: Options) -> Result<Store, Error> {
+        Store::open_by(Opening::new(text, &[], plans, options))
+    }
+
+    fn open_by(opening: Opening<'_>) -> Result<Store, Error> {
         static STORES: AtomicU64 = AtomicU64::new(0);
-        let mut frame = sys::OpenFrame {
-            passes: options.sessions,
-            length: 0,
-            limit: options.limit,
-            rows: options.rows.map_or(0, |rows| u64::from(rows.get())),
-            seed: drawn_seed(),
-            refusal: [0; sys::REFUSAL],
-        };
-        let mut store = ptr::null_mut();
-        // SAFETY: the texts and the frame are lent for the call, and `store` is written by it where
-        // it answers 0.
-        let code = unsafe {
-            sys::relc_open_with_plans(
-                text.as_ptr(),
-                text.len(),
-                plans.as_ptr(),
-                plans.len(),
-                &mut frame,
-                &mut store,
-            )
-        };
-        match code {
-            sys::DONE => {}
-            sys::OPTIONS => return Err(Error::Options),
-            sys::TOO_LONG => return Err(Error::TooLong),
-            sys::LINE | sys::RULE => return Err(Error::Refused(Refusal::new(said(&frame), text))),
-            sys::PLAN_LINE | sys::PLAN => {
-                return Err(Error::Refused(Refusal::of_plans(said(&frame), plans)));
-            }
-            sys::MEMORY => return Err(Error::Memory),
-            code => unreachable!("a store is never refused by code {code}"),
-        }
-        let shared = Shared {
-            number: STORES.fetch_add(1, Relaxed),
-            limit: options.limit,
-            names: Names::of(text),
-            store: Mutex::new(Opened {
-                handle: Handle(NonNull::new(store).ok_or(Error::Memory)?),
-                begun: 0,
-            }),
-            idle: Mutex::new(Vec::new()),
-            events: EventCount::default(),
-        };
+        let handle = opening.open()?;
+        let number = STORES.fetch_add(1, Relaxed);
+        let shared = Shared::new(handle, &opening, number, Vec::new());
         Ok(Store {
             shared: Arc::new(shared),
         })
@@ -202,24 +245,31 @@ impl Store {
             return Ok(Session::new(self.shared.clone(), begun));
         }
         let mut store = locked(&self.shared.store);
-        let mut session = ptr::null_mut();
-        // SAFETY: the lock lets one call at a time use the store.
-        match unsafe { sys::relc_open_session(store.handle.0.as_ptr(), &mut session) } {
-            sys::DONE => {
-                let begun = Begun {
-                    handle: Handle(NonNull::new(session).ok_or(Error::Memory)?),
-                    number: store.begun,
-                };
-                store.begun += 1;
-                Ok(Session::new(self.shared.clone(), begun))
+        loop {
+            let mut session = ptr::null_mut();
+            // SAFETY: the lock lets one call at a time use the store.
+            match unsafe { sys::relc_open_session(store.handle.as_ptr(), &mut session) } {
+                sys::DONE => {}
+                // (one may have been dropped meanwhile)
+                sys::NONE_LEFT => {
+                    let begun = locked(&self.shared.idle).pop().ok_or(Error::NoneLeft)?;
+                    return Ok(Session::new(self.shared.clone(), begun));
+                }
+                sys::MEMORY => return Err(Error::Memory),
+                code => unreachable!("a session is never refused by code {code}"),
             }
-            // (one may have been dropped meanwhile)
-            sys::NONE_LEFT => match locked(&self.shared.idle).pop() {
-                Some(begun) => Ok(Session::new(self.shared.clone(), begun)),
-                None => Err(Error::NoneLeft),
-            },
-            sys::MEMORY => Err(Error::Memory),
-            code => unreachable!("a session is never refused by code {code}"),
+            let number = store.begun;
+            store.begun += 1;
+            let begun = Begun {
+                handle: SessionHandle::of(session),
+                number,
+                made: store.made.get(number as usize).copied().unwrap_or(0),
+            };
+            if begun.made < self.shared.limit {
+                return Ok(Session::new(self.shared.clone(), begun));
+            }
+            // (it was spent before the store was closed)
+            self.shared.keep(begun);
         }
     }
 
@@ -237,7 +287,7 @@ impl Store {
         loop {
             page.at = text.len() as u64;
             // SAFETY: the lock lets one call at a time use the store.
-            match unsafe { sys::relc_plans(store.handle.0.as_ptr(), &mut page) } {
+            match unsafe { sys::relc_plans(store.handle.as_ptr(), &mut page) } {
                 sys::DONE => {}
                 sys::MEMORY => return Err(Error::Memory),
                 code => unreachable!("plans are never refused by code {code}"),
@@ -359,6 +409,48 @@ impl Store {
         self.operation(name, sys::QUERY, K, Some(N)).map(Query)
     }
 
+    /// The insert that asks as the shape does, declared or not, of tuples of `N` values. Of a store that was opened without
+    /// it, that is `Error::Undeclared`.
+    pub fn shape_insert<const N: usize>(&self, shape: &Shape) -> Result<Insert<N>, Error> {
+        self.shaped(shape, sys::INSERT, N, None).map(Insert)
+    }
+
+    /// The update that asks as the shape does, to tuples of `N` values.
+    pub fn shape_update<const N: usize>(&self, shape: &Shape) -> Result<Update<N>, Error> {
+        self.shaped(shape, sys::UPDATE, N, Some(N)).map(Update)
+    }
+
+    /// The remove that asks as the shape does, by a pattern of `K` values, of tuples of `N`.
+    pub fn shape_remove<const K: usize, const N: usize>(
+        &self,
+        shape: &Shape,
+    ) -> Result<Remove<K, N>, Error> {
+        self.shaped(shape, sys::REMOVE, K, Some(N)).map(Remove)
+    }
+
+    /// The query that asks as the shape does, for rows of `N` values. `K` counts the values of its pattern, and two for
+    /// each range column.
+    pub fn shape_query<const K: usize, const N: usize>(
+        &self,
+        shape: &Shape,
+    ) -> Result<Query<K, N>, Error> {
+        self.shaped(shape, sys::QUERY, K, Some(N)).map(Query)
+    }
+
+    fn shaped(
+        &self,
+        shape: &Shape,
+        kind: u32,
+        count: usize,
+        width: Option<usize>,
+    ) -> Result<Number, Error> {
+        let name = shape.as_str();
+        if shape.kind() != kind {
+            return Err(Error::Kind(name.into()));
+        }
+        self.fitting(name, self.shared.shape(shape)?, kind, count, width)
+    }
+
     /// The columns of the pattern of the operation with this name, by their numbers in the
     /// specification, in the order in which the pattern is written: `Declared::at` takes a value of
     /// each, in this order.
@@ -370,26 +462,16 @@ impl Store {
     /// Looks the operation with this name up.
     fn look_up(&self, name: &str) -> Result<sys::OperationFrame, Error> {
         let unknown = || Error::Unknown(name.into());
-        let mut frame = sys::OperationFrame {
-            length: name.len() as u32,
-            op: 0,
-            kind: 0,
-            count: 0,
-            width: 0,
-            name: [0; sys::NAME],
-            columns: [0; sys::VALUES],
-            pattern_count: 0,
-            pattern: [0; sys::CELLS],
-        };
+        let mut frame = sys::OperationFrame::new();
+        frame.length = name.len() as u32;
         frame
             .name
             .get_mut(..name.len())
             .ok_or_else(unknown)?
             .copy_from_slice(name.as_bytes());
         // SAFETY: the lock lets one call at a time use the store.
-        let code = unsafe {
-            sys::relc_operation(locked(&self.shared.store).handle.0.as_ptr(), &mut frame)
-        };
+        let code =
+            unsafe { sys::relc_operation(locked(&self.shared.store).handle.as_ptr(), &mut frame) };
         match code {
             sys::DONE => Ok(frame),
             _ => Err(unknown()),
@@ -403,7 +485,18 @@ impl Store {
         count: usize,
         width: Option<usize>,
     ) -> Result<Number, Error> {
-        let frame = self.look_up(name)?;
+        self.fitting(name, self.look_up(name)?, kind, count, width)
+    }
+
+    /// The operation that the frame tells of, where it is of the kind, and takes and has so many values.
+    fn fitting(
+        &self,
+        name: &str,
+        frame: sys::OperationFrame,
+        kind: u32,
+        count: usize,
+        width: Option<usize>,
+    ) -> Result<Number, Error> {
         if frame.kind != kind {
             return Err(Error::Kind(name.into()));
         }

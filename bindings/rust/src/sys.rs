@@ -23,6 +23,7 @@ pub const DONE: u32 = 0;
 pub const MEMORY: u32 = 1;
 pub const BUSY: u32 = 2;
 pub const SPENT: u32 = 3;
+pub const OPERATION: u32 = 4;
 pub const PREPARED: u32 = 6;
 pub const OPTIONS: u32 = 9;
 pub const TOO_LONG: u32 = 10;
@@ -36,6 +37,11 @@ pub const UNCOVERED: u32 = 17;
 pub const NO_CALL: u32 = 18;
 pub const PLAN_LINE: u32 = 19;
 pub const PLAN: u32 = 20;
+pub const SHAPE_LINE: u32 = 21;
+pub const SESSIONS: u32 = 22;
+pub const LIMIT: u32 = 23;
+pub const OTHER: u32 = 24;
+pub const OUTSIDE: u32 = 25;
 
 // Kinds of a reply.
 pub const ROWS: u32 = 0;
@@ -160,6 +166,23 @@ impl Frame {
     }
 }
 
+impl OperationFrame {
+    /// A frame of zeros.
+    pub fn new() -> OperationFrame {
+        OperationFrame {
+            length: 0,
+            op: 0,
+            kind: 0,
+            count: 0,
+            width: 0,
+            name: [0; NAME],
+            columns: [0; VALUES],
+            pattern_count: 0,
+            pattern: [0; CELLS],
+        }
+    }
+}
+
 impl Page {
     /// A page of zeros.
     pub fn new() -> Page {
@@ -172,9 +195,11 @@ impl Page {
 }
 
 unsafe extern "C" {
-    pub fn relc_open_with_plans(
+    pub fn relc_open_with(
         text: *const u8,
         length: usize,
+        shapes: *const u8,
+        shapes_length: usize,
         plans: *const u8,
         plans_length: usize,
         frame: *mut OpenFrame,
@@ -182,6 +207,12 @@ unsafe extern "C" {
     ) -> u32;
     pub fn relc_plans(store: *mut c_void, page: *mut TextPage) -> u32;
     pub fn relc_operation(store: *mut c_void, frame: *mut OperationFrame) -> u32;
+    pub fn relc_shape(
+        store: *mut c_void,
+        line: *const u8,
+        length: usize,
+        frame: *mut OperationFrame,
+    ) -> u32;
     pub fn relc_open_session(store: *mut c_void, session: *mut *mut c_void) -> u32;
     pub fn relc_try_call(session: *mut c_void, frame: *mut Frame) -> u32;
     pub fn relc_begin(session: *mut c_void, frame: *mut Frame) -> u32;
@@ -197,4 +228,18 @@ unsafe extern "C" {
     pub fn relc_learn(session: *mut c_void, frame: *mut Frame) -> u32;
     pub fn relc_close_store(store: *mut c_void);
     pub fn relc_close_session(session: *mut c_void);
+    pub fn relc_give_back(store: *mut c_void, session: *mut c_void) -> u32;
+    pub fn relc_close(store: *mut c_void, closed: *mut *mut c_void) -> u32;
+    pub fn relc_resume(
+        closed: *mut c_void,
+        text: *const u8,
+        length: usize,
+        shapes: *const u8,
+        shapes_length: usize,
+        plans: *const u8,
+        plans_length: usize,
+        frame: *mut OpenFrame,
+        store: *mut *mut c_void,
+    ) -> u32;
+    pub fn relc_drop_closed(closed: *mut c_void);
 }

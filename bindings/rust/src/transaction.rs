@@ -124,7 +124,7 @@ impl Transaction<'_> {
         values: [u64; N],
     ) -> Result<O::Reply, Error> {
         self.session.put(&op, values)?;
-        match self.session.ask(sys::relc_call_open) {
+        match self.session.ask_frame(sys::relc_call_open) {
             sys::DONE => Ok(self.session.reply()),
             sys::COUNT => Err(Error::Count),
             sys::UNCOVERED => Err(Error::Uncovered),
@@ -144,7 +144,7 @@ impl Transaction<'_> {
         if self.is_over {
             return Err(Error::Memory);
         }
-        let code = self.session.ask(sys::relc_commit);
+        let code = self.session.ask_frame(sys::relc_commit);
         self.is_over = true;
         self.session.ring();
         match code {
@@ -161,7 +161,7 @@ impl Transaction<'_> {
 impl Drop for Transaction<'_> {
     fn drop(&mut self) {
         if !self.is_over {
-            self.session.ask(sys::relc_cancel);
+            self.session.ask_frame(sys::relc_cancel);
             self.session.ring();
         }
     }

@@ -2,7 +2,7 @@
 
 mod common;
 
-use common::{Graph, Random, graph};
+use common::{Graph, Random, graph, specification};
 use relc::{Answer, Error, Found, Inserted, Options, Position, Session};
 use std::collections::BTreeMap;
 use std::sync::atomic::{AtomicBool, Ordering::Relaxed};
@@ -118,24 +118,28 @@ fn is_legal(map: &mut BTreeMap<(u64, u64), u64>, entry: &Entry) -> bool {
     }
 }
 
-#[test]
-fn calls_are_one_history() {
-    let graph = graph(Options::sessions(THREADS as u32));
-    let graph = &graph;
+/// What threads call side by side, each by the session of its number: for each its calls.
+fn work_of_threads(graph: &Graph, turn: u64) -> Vec<Vec<(Position, Entry)>> {
     // (before any thread: one that ends leaves its session, which goes on counting, to one that starts)
     let sessions: Vec<_> = (0..THREADS)
         .map(|_| graph.store.session().unwrap())
         .collect();
-    let threads: Vec<_> = thread::scope(|scope| {
+    thread::scope(|scope| {
         let started: Vec<_> = (0..THREADS)
             .zip(sessions)
-            .map(|(thread, session)| scope.spawn(move || work(graph, session, thread)))
+            .map(|(thread, session)| {
+                scope.spawn(move || work(graph, session, turn * THREADS + thread))
+            })
             .collect();
         started
             .into_iter()
             .map(|thread| thread.join().unwrap())
             .collect()
-    });
+    })
+}
+
+/// The calls of the threads, by their places, are one legal history, each thread's in its order. Answers how many they are.
+fn check_history(threads: Vec<Vec<(Position, Entry)>>) -> usize {
     let mut history = BTreeMap::new();
     for entries in threads {
         let mut last = None;
@@ -151,7 +155,33 @@ fn calls_are_one_history() {
         assert_eq!(*place, nth as u64);
         assert!(is_legal(&mut map, entry), "the call at place {place}");
     }
-    assert_eq!(history.len(), THREADS as usize * CALLS / 12 * 11);
+    history.len()
+}
+
+#[test]
+fn calls_are_one_history() {
+    let graph = graph(Options::sessions(THREADS as u32));
+    let length = check_history(work_of_threads(&graph, 0));
+    assert_eq!(length, THREADS as usize * CALLS / 12 * 11);
+}
+
+/// So they are where the store is closed between them, and goes on.
+#[test]
+fn one_history_goes_on() {
+    const TURNS: u64 = 4;
+    let options = Options::sessions(THREADS as u32);
+    let mut graph = graph(options);
+    let mut threads = work_of_threads(&graph, 0);
+    for turn in 1..TURNS {
+        let closed = graph.store.close().unwrap();
+        let store = closed.resume(specification(), options).unwrap();
+        graph = Graph { store, ..graph };
+        for (entries, more) in threads.iter_mut().zip(work_of_threads(&graph, turn)) {
+            entries.extend(more);
+        }
+    }
+    let length = check_history(threads);
+    assert_eq!(length, TURNS as usize * THREADS as usize * CALLS / 12 * 11);
 }
 
 /// Two threads that read one stripe get in each other's way by its latch alone, which each holds

@@ -110,7 +110,7 @@ fn wakes(let_go: impl Fn(&Graph, Session)) {
 
 /// Gives the session's stripes back, and tells nobody.
 fn commit_silently(mut holder: Session) {
-    assert_eq!(holder.ask(sys::relc_commit), sys::DONE);
+    assert_eq!(holder.ask_frame(sys::relc_commit), sys::DONE);
     // (the drop of a session that has prepared nothing doesn't ring)
 }
 
