@@ -22,7 +22,7 @@ GROUPS = [
     ("Operations", "O", "A refusal names the operation."),
     ("Written plans", "H", "`relc hand` reads plans between a specification and a workload, and a program may open a store with them, where S8 may come too. A refusal names the line: in a program that of the plans' text."),
     ("Plans", "K", "Each written plan is tested by these. A refusal names the operation and the statement, counted from 0."),
-    ("Calls", "W", "Only a workload has these: `relc run` and `relc group`. A refusal names the line."),
+    ("Calls", "W", "Only a workload has these, and W4 a text of shapes too, with which a program opens a store. A refusal names the line."),
 ]
 
 
@@ -35,16 +35,18 @@ class Rule:
 
 
 def read():
-    """The rules, the forms of lines and those of statements, and the lines of the text that the examples change."""
-    rules, forms, statements, text, part = [], [], [], [], None
+    """The rules, the forms of lines, of shapes and of statements, and the lines of the text that the examples change."""
+    rules, forms, shapes, statements, text, part = [], [], [], [], [], None
     for line in open(DATA, encoding="ascii").read().split("\n"):
         word, _, rest = line.partition(" ")
-        if line in ("forms", "statements", "text"):
+        if line in ("forms", "shapes", "statements", "text"):
             part = line
         elif part == "text":
             text.append(line)
         elif part == "forms":
             forms.append(line)
+        elif part == "shapes":
+            shapes.append(line)
         elif part == "statements":
             statements.append(line)
         elif word == "rule":
@@ -62,7 +64,7 @@ def read():
             rules[-1].new.append((int(count), repeated))
         elif line and word != "#":
             sys.exit(f"refusals.py: no such line: {line}")
-    return rules, *([line for line in lines if line] for lines in (forms, statements, text))
+    return rules, *([line for line in lines if line] for lines in (forms, shapes, statements, text))
 
 
 def changed(text, rule):
@@ -80,10 +82,10 @@ def wrapped(paragraph):
     return textwrap.wrap(paragraph, 120, break_long_words=False, break_on_hyphens=False) + [""]
 
 
-def page(rules, forms, statements, text):
+def page(rules, forms, shapes, statements, text):
     out = ["# Why a text is refused", ""]
     out += wrapped(
-        "RELC refuses a specification by the first rule that it breaks, and so plans that are written for it. This page says of each rule what it asks, what the item or "
+        "RELC refuses a specification by the first rule that it breaks, and so shapes of further operations, and plans that are written for it. This page says of each rule what it asks, what the item or "
         "line that the refusal names does, and what to try; a store that a program opens says the same (`Display` of the crate's "
         "`Error`, `relc_rule_text` in C). It is made by `checks/refusals.py` from `bindings/rust/src/rules.txt`. The rules in full are in "
         "[LANGUAGE.md](LANGUAGE.md) and [RULES.md](RULES.md)."
@@ -105,6 +107,8 @@ def page(rules, forms, statements, text):
             if rule.name == "S2":
                 out += wrapped("The forms of a specification's lines, with what may be left out in brackets; those of a workload are in LANGUAGE.md:")
                 out += ["```"] + forms + ["```", ""]
+                out += wrapped("Those of the lines of a text of shapes:")
+                out += ["```"] + shapes + ["```", ""]
             if rule.name == "H2":
                 out += wrapped("The forms of the lines of plans, with what may be left out in brackets:")
                 out += ["```"] + statements + ["```", ""]
@@ -121,7 +125,7 @@ def header(rules):
     out += [" * does, and what to try. Made by checks/refusals.py. */", "#ifndef RELC_RULES_H", "#define RELC_RULES_H", ""]
     out += ["static const struct relc_rule {", "    char name[3];", "    const char *text;", "} relc_rules[] = {"]
     for rule in rules:
-        if rule.name[0] == "W":
+        if rule.name[0] == "W" and rule.name != "W4":
             continue
         out += [f"    {{{quoted(rule.name)},"]
         out += [f"     {quoted(rule.asks + ' ')}", f"     {quoted(rule.does + ' ')}", f"     {quoted(rule.advice)}}},"]
@@ -164,8 +168,8 @@ def tried(program, rules, text):
 
 
 def main():
-    rules, forms, statements, text = read()
-    made = ((PAGE, page(rules, forms, statements, text)), (HEADER, header(rules)))
+    rules, forms, shapes, statements, text = read()
+    made = ((PAGE, page(rules, forms, shapes, statements, text)), (HEADER, header(rules)))
     if sys.argv[1:] == ["--write"]:
         for path, content in made:
             open(path, "w", encoding="utf-8").write(content)
