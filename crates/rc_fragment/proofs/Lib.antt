@@ -6,6 +6,7 @@ mod ListingLemmas
 mod BesideLemmas
 mod ChangeLemmas
 mod NoteLemmas
+mod PartLemmas
 mod PlaceLemmas
 mod RowLemmas
 mod RevertLemmas

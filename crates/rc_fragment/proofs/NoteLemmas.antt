@@ -40,7 +40,7 @@ few_pairs t i =
 -- ---- the values of a row at sets of columns that have none in common
 
 -- how many values the pair adds at the columns
-abbrev at_pair : Bool → ℕ
+abbrev pub at_pair : Bool → ℕ
 at_pair b = cond b 1 0
 
 count_more : (cols : List ℕ) (p : ℕ × ℕ) (t : Pairs) → length (values_at cols (p ∷ t)) ≡ at_pair (has cols p.0) + length (values_at cols t)

@@ -1,6 +1,6 @@
 //! A fragment that is copied before the first change, where others may have it.
 
-ghost use Rattle.std.specs.Prelude.{◌≡◌, ◌<◌, ◌≤◌, Err, IfSome, OnErr, OnOk, length};
+ghost use Rattle.std.specs.Prelude.{◌≡◌, ◌<◌, ◌≤◌, Err, IfOk, IfSome, OnErr, OnOk, length};
 ghost use Rattle.rc_fragment.specs.Fragment.{HasColumns, HasNoRowOf, HasRowOf, edge_row};
 ghost use Rattle.rc_fragment.specs.FragmentRows.{rolled_back, settled, with_promise};
 ghost use Rattle.rc_fragment.specs.Keep.{IsAtRest, at_rest, kept_rows};
@@ -75,13 +75,13 @@ impl CowFragment {
         ensures ok { OnOk result (self.new ≡ with_promise changes self.old) }
         ensures err { OnErr result (self.new ≡ self.old) }
     {
-        if let Possession::Kept(keep) = &self.possession {
-            let copy = keep.fragment().copy(alloc)?;
-            self.possession = Possession::Alone(copy);
-        }
         match &mut self.possession {
             Possession::Alone(fragment) => fragment.own(changes),
-            Possession::Kept(_) => unreachable!(),
+            Possession::Kept(keep) => {
+                let copy = owned_copy(keep, alloc, changes)?;
+                self.possession = Possession::Alone(copy);
+                Ok(())
+            }
         }
     }
 
@@ -169,4 +169,15 @@ impl CowFragment {
             Possession::Kept(keep) => keep,
         }
     }
+}
+
+/// A copy of the kept fragment with room for at least so many changes.
+// It stands apart, so that a writer's way, which is to have the fragment, stays small.
+#[inline(never)]
+fn owned_copy(keep: &Keep, alloc: Global, changes: u16) -> Result<Fragment, Memory>
+    ensures { IfOk result (λ copy. copy ≡ with_promise changes (at_rest keep.now)) }
+{
+    let mut copy = keep.fragment().copy(alloc)?;
+    copy.own(changes)?;
+    Ok(copy)
 }

@@ -1,6 +1,6 @@
 //! The fragment of a stripe, with the rows of all edges.
 
-ghost use Rattle.std.specs.Prelude.{◌≡◌, ◌<◌, ◌≤◌, Err, length, true, OnOk, OnErr, IfOk, option_copied};
+ghost use Rattle.std.specs.Prelude.{◌≡◌, ◌<◌, ◌≤◌, ◌↔◌, Err, IsTrue, length, OnOk, OnErr, IfOk, option_copied};
 ghost use Rattle.rc_fragment.specs.Fragment.{AreAllRows, AreRowsOf, HasColumns, HasNoRowOf, HasRowOf, HasScanned, HasShape, IsFoundAt, IsLookedUp, IsScan, edge_row, edge_table};
 ghost use Rattle.rc_fragment.specs.FragmentRows.{no_rows, rolled_back, settled, with_promise, without_promise};
 ghost use Rattle.rc_fragment.specs.ImpliedTables.{IsTable, full_rows};
@@ -106,7 +106,7 @@ impl Fragment {
     /// Whether the edge is the first of the class whose rows are kept. Costs a step for each edge before it.
     pub fn is_first_kept(&self, class: u8, edge: u8) -> bool
         requires { edge < length self.now.table }
-        ensures { result ≡ true → IsFirstKept self.now.table class edge }
+        ensures { IsTrue result ↔ IsFirstKept self.now.table class edge }
     {
         self.stored.is_first_kept(class, edge)
     }

@@ -1,6 +1,7 @@
 //! Notes of the changes since a fragment was taken.
 
-ghost use Rattle.std.specs.Prelude.{◌≡◌, ◌+◌, ◌≤◌, ◌-◌, ◌++◌, drop, length, take, vec_len, vec_capacity};
+ghost use Rattle.std.specs.Prelude.{◌≡◌, ◌+◌, ◌<◌, ◌≤◌, ◌-◌, ◌++◌, drop, length, take, vec_len, vec_capacity};
+ghost use Rattle.std.specs.List.{insert};
 ghost use Rattle.rc_fragment.specs.Notes.{IsWithin, is_swept, key_of, noted_extra, place_of, source_of};
 ghost use Rattle.rc_fragment.specs.RowValues.{IsParted, extra_columns, values_at};
 
@@ -85,7 +86,9 @@ fn part(values: &[u64], start: usize, end: usize) -> &[u64]
     &values[start..end]
 }
 
-/// The row in the list, whose values are put behind those that are there. Takes no memory.
+/// The row in the list, whose values are put behind those that are there. Costs one walk over the tuple. Takes no memory.
+// In its caller's place it tells the note where the row stands with no move.
+#[inline(always)]
 pub fn note_row(values: &mut Vec<u64>, edge: u8, row: &Tuple, shape: &EdgeShape) -> NotedRow
     requires room { vec_len values.old + 32 ≤ vec_capacity values.old }
     requires parted { IsParted shape.now }
@@ -98,11 +101,7 @@ pub fn note_row(values: &mut Vec<u64>, edge: u8, row: &Tuple, shape: &EdgeShape)
     ensures capacity { vec_capacity values.new ≡ vec_capacity values.old }
 {
     let start = values.len();
-    push_values(values, row.pairs(), shape.source);
-    let key_start = values.len();
-    push_values(values, row.pairs(), shape.key);
-    let extra_start = values.len();
-    push_values(values, row.pairs(), shape.extra());
+    let (key_start, extra_start) = push_parts(values, row.pairs(), shape);
     NotedRow {
         edge,
         start,
@@ -110,6 +109,67 @@ pub fn note_row(values: &mut Vec<u64>, edge: u8, row: &Tuple, shape: &EdgeShape)
         extra_start,
         end: values.len(),
     }
+}
+
+/// Adds the row's values at the columns of the source, then those at the key's and then the extra ones at the end, and
+/// answers where the latter two begin. Takes no memory. Costs one walk over the row; a value whose column comes behind
+/// one of a later part moves that part.
+#[inline(always)]
+fn push_parts(values: &mut Vec<u64>, row: &[(u8, u64)], shape: &EdgeShape) -> (usize, usize)
+    requires room { vec_len values.old + length row.now ≤ vec_capacity values.old }
+    requires parted { IsParted shape.now }
+    ensures values { values.new.items ≡ values.old.items ++ (values_at shape.now.source row.now ++ (values_at shape.now.key row.now ++ values_at (extra_columns shape.now) row.now)) }
+    ensures key { result.0 ≡ length values.old.items + length (values_at shape.now.source row.now) }
+    ensures extra { result.1 ≡ result.0 + length (values_at shape.now.key row.now) }
+    ensures len { vec_len values.new ≤ vec_len values.old + length row.now }
+    ensures capacity { vec_capacity values.new ≡ vec_capacity values.old }
+{
+    let extra = shape.extra();
+    let mut key_start = values.len();
+    let mut extra_start = key_start;
+    for pair in row {
+        if shape.source.has(pair.0) {
+            put_value(values, key_start, pair.1);
+            key_start += 1;
+            extra_start += 1;
+        } else if shape.key.has(pair.0) {
+            put_value(values, extra_start, pair.1);
+            extra_start += 1;
+        } else if extra.has(pair.0) {
+            values.push_reserved(pair.1);
+        }
+    }
+    (key_start, extra_start)
+}
+
+/// Puts the value at the place, and moves those from there on by one, where there is room for one more.
+fn put_value(values: &mut Vec<u64>, place: usize, value: u64)
+    requires place { place ≤ vec_len values.old }
+    requires room { vec_len values.old < vec_capacity values.old }
+    ensures items { values.new.items ≡ insert values.old.items place value }
+    ensures len { vec_len values.new ≡ vec_len values.old + 1 }
+    ensures capacity { vec_capacity values.new ≡ vec_capacity values.old }
+{
+    if place == values.len() {
+        values.push_reserved(value);
+    } else {
+        insert_value(values, place, value);
+    }
+}
+
+/// Does so where some are moved.
+// Columns mostly come in the order of the parts: it stands apart, so that what puts a value at the end stays small.
+#[inline(never)]
+fn insert_value(values: &mut Vec<u64>, place: usize, value: u64)
+    requires place { place ≤ vec_len values.old }
+    requires room { vec_len values.old < vec_capacity values.old }
+    ensures items { values.new.items ≡ insert values.old.items place value }
+    ensures len { vec_len values.new ≡ vec_len values.old + 1 }
+    ensures capacity { vec_capacity values.new ≡ vec_capacity values.old }
+{
+    let Ok(()) = values.insert(place, value) else {
+        unreachable!()
+    };
 }
 
 /// Adds the values at those of the row's columns that the set has at the end. Takes no memory, and no

@@ -78,6 +78,8 @@ pub fn put_back_place(edges: &mut Vec<EdgeRows>, row: &NotedRow, values: &[u64],
 }
 
 /// Lets a tombstone at the noted place go.
+// It stands apart, so that a walk over notes of which no tombstone is left stays small.
+#[inline(never)]
 pub fn sweep_place(edges: &mut Vec<EdgeRows>, row: &NotedRow, values: &[u64])
     requires stored { AreStored edges.old.items }
     requires edge { row.now.edge < length edges.old.items }

@@ -90,6 +90,8 @@ impl SourceTable {
     }
 
     /// Takes the source's container out, if it has one.
+    // A source is left by its last row alone: it stands apart, so that a change of another row stays small.
+    #[inline(never)]
     pub fn remove(&mut self, source: &[u64])
         ensures containers { containers_of self.new ≡ fin.remove (containers_of self.old) source.now }
         ensures width { width_of self.new ≡ width_of self.old }

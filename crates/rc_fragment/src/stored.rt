@@ -1,6 +1,6 @@
 //! The rows that a fragment keeps.
 
-ghost use Rattle.std.specs.Prelude.{◌≡◌, ◌<◌, ◌↔◌, IsTrue, length, true, OnOk, OnErr, IfOk, option_copied};
+ghost use Rattle.std.specs.Prelude.{◌≡◌, ◌<◌, ◌↔◌, IsTrue, length, OnOk, OnErr, IfOk, option_copied};
 ghost use Rattle.rc_spec.specs.CountedRows.{lowered, raised};
 ghost use Rattle.rc_fragment.specs.Fragment.{edge_row, AreAllRows, AreRowsOf, AreWhole, HasColumns, HasNoRowOf, HasScanned, HasShape, IsFoundAt, IsLookedUp, IsScan, IsThere, edge_table, seen_parts, shape_of};
 ghost use Rattle.rc_fragment.specs.FragmentRows.{changed, no_rows, rolled_back, settled, with_promise, without_promise};
@@ -248,7 +248,7 @@ impl Stored {
     /// Whether the edge is the first of the class whose rows are kept.
     pub(crate) fn is_first_kept(&self, class: u8, edge: u8) -> bool
         requires { edge < length self.now.table }
-        ensures { result ≡ true → IsFirstKept self.now.table class edge }
+        ensures { IsTrue result ↔ IsFirstKept self.now.table class edge }
     {
         let own = self.shape(edge);
         if !own.is_kept_of(class) {

@@ -1,16 +1,16 @@
 -- A tuple's rows class by class: changed on the stripes on which the tuple falls, they are changed in all edges of the classes.
-use Rattle.std.specs.Prelude.{◌≡◌, ℕ, zero, suc, ◌+◌, ◌<◌, ◌≤◌, ◌==◌, ◌||◌, ◌++◌, ◌⊎◌, Bool, true, false, List, [], ◌∷◌, cond, filter, get_or, length, map, not, take}
+use Rattle.std.specs.Prelude.{◌≡◌, ℕ, zero, suc, ◌+◌, ◌<◌, ◌==◌, ◌||◌, ◌++◌, ◌⊎◌, Bool, true, false, List, [], ◌∷◌, cond, filter, get_or, length, map, not, take}
 use Rattle.std.specs.List.{fold, list_any, range_with_len}
 use Rattle.std.specs.Option.{option_map_or}
 use Rattle.std.specs.Ordering.{nat_cmp}
-use Rattle.std.proofs.Common.{inl, inr, refl, sym, ap, subst, ◌∙◌, arith, zero-add}
+use Rattle.std.proofs.Common.{inl, inr, refl, sym, ap, subst, ◌∙◌, arith}
 use Rattle.std.proofs.lemmas.Bool.{eq-eqb, eqb-true, false≢true, ne_eqb, not-true, not_from_false}
 use Rattle.std.proofs.lemmas.List.{append-nil, map-append, take_more}
 use Rattle.std.proofs.lemmas.List.Elements.{filter-append}
 use Rattle.rc_tuple.specs.RisingSet.{AreDistinct, In}
 use Rattle.rc_tuple.specs.RisingSetLaws.{append_in_left, append_in_right, filter-filter, filter_in, get_or_in, has_in, in_append, in_filter, in_has, in_map, nat_order, rising_filter, same_rising}
 use Rattle.rc_tuple.specs.ColSet.{Within, has}
-use Rattle.rc_tuple.specs.ColSetLaws.{in_range_below, range_with_len_more}
+use Rattle.rc_tuple.specs.ColSetLaws.{in_range_below}
 use Rattle.rc_tuple.specs.Tuple.{Pairs, cols_of, project}
 use Rattle.rc_spec.specs.declared.spec.Spec.{Spec}
 use Rattle.rc_spec.specs.Acceptance.{IsSealed}

@@ -3,21 +3,23 @@ use Rattle.std.specs.Prelude.{◌≡◌, ℕ, zero, suc, ◌+◌, ◌<◌, ◌�
 use Rattle.std.specs.List.{range_with_len, zip}
 use Rattle.std.specs.Option.{is_some, option_copied}
 use Rattle.std.specs.Ordering.{nat_cmp}
-use Rattle.std.proofs.Common.{Bor, inl, inr, refl, sym, ap, subst, ◌∙◌, arith}
+use Rattle.std.proofs.Math.Seq.{take-suc}
+use Rattle.std.proofs.lemmas.List.{map-append}
+use Rattle.std.proofs.Common.{Bor, get_or, inl, inr, refl, sym, ap, subst, ◌∙◌, arith}
 use Rattle.std.proofs.lemmas.Bool.{cases_Bool, eq-eqb, eqb-true, false≢true}
 use Rattle.std.proofs.lemmas.Option.{none-some}
 use Rattle.rc_tuple.specs.RisingSet.{AreDistinct, In, IsRising, gather}
 use Rattle.rc_tuple.specs.RisingSetLaws.{gather_in, has_in, in_gather, in_has, in_map, map_in, rising_filter, rising_gather, same_rising}
-use Rattle.rc_tuple.specs.ColSet.{IsColSet, Within, has, union}
-use Rattle.rc_tuple.specs.ColSetLaws.{in_range_bounds, in_union, minus_in, union_left, union_right}
+use Rattle.rc_tuple.specs.ColSet.{IsColSet, Within, has, rank, union}
+use Rattle.rc_tuple.specs.ColSetLaws.{in_range_bounds, in_union, minus_in, rank_within, slice_get-rank, union_left, union_right}
 use Rattle.rc_tuple.specs.MergeLaws.{project_all, value_in}
 use Rattle.rc_tuple.specs.Tuple.{IsTuple, Pairs, cols_of, get, pair_cmp, pick, project, tuple_of, value}
-use Rattle.rc_tuple.specs.TupleLaws.{cols-project, in_project, one_pair, pair_order, project_by, project_in, rising_cols, rising_pairs}
+use Rattle.rc_tuple.specs.TupleLaws.{cols-project, cols_of-zip, in_project, one_pair, pair_order, project_by, project_in, rising_cols, rising_pairs}
 use Rattle.rc_spec.specs.declared.spec.Spec.{Spec}
 use Rattle.rc_spec.specs.Acceptance.{IsSealed}
 use Rattle.rc_spec.specs.Decomposition.{edge_at, source_and_key}
 use Rattle.rc_spec.specs.Fragments.{EdgeRow}
-use Rattle.rc_bindings.specs.RegistersLaws.{get-project}
+use Rattle.rc_bindings.specs.RegistersLaws.{get-project, get_of, zip_there}
 use Rattle.rc_fragment.specs.Fragment.{IsThereWith, shape_of}
 use Rattle.rc_fragment.specs.FragmentLaws.{parted_edge}
 use Rattle.rc_fragment.specs.RowValues.{IsParted, extra_columns, values_at}
@@ -67,6 +69,26 @@ picked_alike (c ∷ outs) t u same =
     let here : value t c ≡ value u c = ap (λ (o : Option ℕ). unwrap_or o 0) (same c (inl refl)) in
     let others : pick outs t ≡ pick outs u = picked_alike outs t u (λ d m. same d (inr m)) in
     λ i. here i ∷ others i
+
+-- ---- the value at a column: the next of the extra values, or else the tuple's
+
+pub value_extra : (extra values : List ℕ) (t : Pairs) (c : ℕ) → IsColSet extra → length values ≡ length extra → has extra c ≡ true → get_or values (rank extra c) 0 ≡ value (zip extra values ++ t) c
+value_extra extra values t c set fits there =
+    let place : ℕ = rank extra c in
+    let within : place < length extra = rank_within extra c set there in
+    let pair = zip_there extra values place c (slice_get-rank extra c set there) (omega (arith, within, fits)) in
+    let rises : IsRising nat_cmp _ = subst (IsRising nat_cmp) (sym (cols_of-zip extra values fits)) set.rising in
+    sym (ap (λ (o : Option ℕ). unwrap_or o 0) (get_first (zip extra values) t c (get_or values place 0) (get_of (zip extra values) (c, get_or values place 0) rises pair)))
+
+pub value_other : (extra values : List ℕ) (t : Pairs) (c : ℕ) → length values ≡ length extra → has extra c ≡ false → unwrap_or (get t c) 0 ≡ value (zip extra values ++ t) c
+value_other extra values t c fits none =
+    let nowhere = get_none (zip extra values) c (λ m. false≢true (sym none ∙ has_in extra c (subst (In c) (cols_of-zip extra values fits) m))) in
+    ap (λ (o : Option ℕ). unwrap_or o 0) (sym (get_second (zip extra values) t c nowhere))
+
+pub pick_more : (columns : List ℕ) (i : ℕ) (t : Pairs) → i < length columns → pick (take (i + 1) columns) t ≡ pick (take i columns) t ++ value t (get_or columns i 0) ∷ []
+pick_more columns i t below =
+    let one : i + 1 ≡ suc i = omega arith in
+    ap (λ n. pick (take n columns) t) one ∙ ap (λ l. pick l t) (take-suc columns i 0 below) ∙ map-append (value t) (take i columns) (get_or columns i 0 ∷ [])
 
 -- ---- what a look-up told
 

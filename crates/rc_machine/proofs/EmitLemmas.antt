@@ -1,8 +1,8 @@
 -- What a query answers from rows that rise.
-use Rattle.std.specs.Prelude.{◌≡◌, ℕ, suc, ◌+◌, ◌<◌, ◌≤◌, ◌==◌, Bool, true, false, List, [], ◌∷◌, cond, filter, get_or, length}
+use Rattle.std.specs.Prelude.{◌≡◌, ℕ, zero, suc, ◌+◌, ◌<◌, ◌≤◌, ◌==◌, Bool, true, false, List, [], ◌∷◌, cond, filter, get_or, length}
 use Rattle.std.specs.declared.cmp.Ordering.{Ordering}
 use Rattle.std.specs.declared.cmp.Ordering.TheVariants.{Less}
-use Rattle.std.proofs.Common.{arith, ap, leb, refl, subst, sym, ◌∙◌}
+use Rattle.std.proofs.Common.{arith, ap, inl, leb, refl, subst, sym, ◌∙◌}
 use Rattle.std.proofs.lemmas.Bool.{eqb-true, le-leb, leb-true}
 use Rattle.rc_tuple.specs.RisingSet.{IsRising}
 use Rattle.rc_tuple.specs.RisingSetLaws.{IsOrder}
@@ -20,6 +20,16 @@ module _ {A : Type 0} (R : A → A → Ordering) (o : IsOrder R) (d : A) where
   rising_by_steps (x ∷ y ∷ xs) steps =
       rising_behind R o x y xs (steps 0 (omega arith))
       (rising_by_steps (y ∷ xs) (λ i l. let e : suc i + 1 ≡ suc (i + 1) = omega arith in subst (λ k. R (get_or (y ∷ xs) i d) (get_or (x ∷ y ∷ xs) k d) ≡ Less) e (steps (suc i) (omega (arith, l)))))
+
+-- and in one that rises each is below the next
+module _ {A : Type 0} (R : A → A → Ordering) (d : A) where
+  pub steps_rise : (xs : List A) → IsRising R xs → (i : ℕ) → i + 1 < length xs → R (get_or xs i d) (get_or xs (i + 1) d) ≡ Less
+  steps_rise [] r i l = absurd (omega (arith, l))
+  steps_rise (x ∷ []) r i l = absurd (omega (arith, l))
+  steps_rise (x ∷ y ∷ xs) r zero l = r.0 y (inl refl)
+  steps_rise (x ∷ y ∷ xs) r (suc i) l =
+      let e : suc i + 1 ≡ suc (i + 1) = omega arith in
+      subst (λ k. R (get_or (y ∷ xs) i d) (get_or (x ∷ y ∷ xs) k d) ≡ Less) (sym e) (steps_rise (y ∷ xs) r.1 i (omega (arith, l)))
 
 pub few_rows : (most : ℕ) (rows : List (List ℕ)) → length rows ≤ most → at_most most rows ≡ Rows rows
 few_rows most rows l = ap (λ b. cond b (Rows rows) (Many (length rows))) (le-leb (length rows) most l)

@@ -1,10 +1,8 @@
 -- An insert that adds the rows of its path's class where no row has the arguments' values of source and key, and those of the other classes then.
-use Rattle.std.specs.Prelude.{◌≡◌, ℕ, zero, suc, ◌<◌, Bool, true, false, List, [], ◌∷◌, ◌++◌, None, Some, cond, length, map}
-use Rattle.std.specs.List.{fold, range_with_len}
+use Rattle.std.specs.Prelude.{◌≡◌, ℕ, suc, ◌<◌, List, [], ◌∷◌, None, Some, length, map}
 use Rattle.std.proofs.lemmas.List.{length-map}
 use Rattle.std.proofs.lemmas.List.FromFn.{length-range_with_len}
 use Rattle.std.proofs.Common.{inl, inr, refl, sym, ap, subst, ◌∙◌, arith}
-use Rattle.rc_tuple.specs.ColSet.{has}
 use Rattle.rc_tuple.specs.ColSetLaws.{in_range_below}
 use Rattle.rc_tuple.specs.RisingSet.{AreDistinct, In}
 use Rattle.rc_tuple.specs.RisingSetLaws.{in_map, map_in}
@@ -33,7 +31,7 @@ use Rattle.rc_machine.specs.Access.{HasLockedPath, IsRowFound}
 use Rattle.rc_machine.specs.Applied.{AreTakenAlike, CanInsert}
 use Rattle.rc_machine.specs.Apply.{ArePlaces, CanChange, HaveRoom, IsSameButLent, all_changed, all_placed, place_in}
 use Rattle.rc_plan.specs.EdgeClassLaws.{classes_from, others}
-use Rattle.rc_plan.specs.EdgeClasses.{class_edges, classes_of, with_class}
+use Rattle.rc_plan.specs.EdgeClasses.{class_edges, classes_of}
 use Rattle.rc_machine.specs.declared.stripe.ClassStripe.{ClassStripe}
 use Rattle.rc_machine.proofs.ApplyLemmas.{cols_of-row_in}
 use Rattle.rc_machine.proofs.CheckStepLemmas.{whole_tuple}

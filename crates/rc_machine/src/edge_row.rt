@@ -1,6 +1,6 @@
 //! The row of an edge that has a tuple's values of source and key.
 
-ghost use Rattle.std.specs.Prelude.{◌≡◌, ◌≤◌, ◌++◌, length, IfOk, OnOk};
+ghost use Rattle.std.specs.Prelude.{◌≡◌, ◌+◌, ◌≤◌, ◌++◌, length, IfOk, OnOk, vec_capacity, vec_len};
 ghost use Rattle.std.specs.List.{range_with_len, zip};
 ghost use Rattle.std.specs.Option.{option_copied};
 ghost use Rattle.rc_tuple.specs.ColSet.{Within};
@@ -27,7 +27,9 @@ const COLUMNS: [u8; 32] = [
 ];
 
 /// Of the row that has the tuple's values of source and key the values at the extra columns, if there is one. Costs a walk
-/// over the tuple for each of source and key, and a look-up.
+/// over the tuple, and a look-up.
+// Most calls begin with it: in its caller's place it hands on what it found with no move.
+#[inline(always)]
 pub(crate) fn find_row<'a>(
     fragment: &'a Fragment,
     read: &EdgeRead,
@@ -37,11 +39,43 @@ pub(crate) fn find_row<'a>(
     requires { IsReadOver fragment.now.table read.now }
     ensures { IfOk result (λ found. IsRowFound (shape_of read.now.spec.now read.now.edge) fragment.now.now read.now.edge tuple.now (option_copied found)) }
 {
-    finder.source.clear();
-    push_values(tuple, read.resolved.source, &mut finder.source)?;
-    finder.key.clear();
-    push_values(tuple, read.resolved.key, &mut finder.key)?;
+    part_values(
+        tuple,
+        read.resolved.source,
+        read.resolved.key,
+        &mut finder.source,
+        &mut finder.key,
+    )?;
     Ok(fragment.lookup(read.edge, &finder.source, &finder.key))
+}
+
+/// Makes the two lists the tuple's values at the columns of the source and at those of the key, each in column order. Costs
+/// a walk over the tuple, and memory only where a list had room for fewer values than the tuple has.
+#[inline(always)]
+fn part_values(
+    tuple: &Tuple,
+    source: ColSet,
+    key: ColSet,
+    source_values: &mut Vec<u64>,
+    key_values: &mut Vec<u64>,
+) -> Result<(), Memory>
+    ensures source { OnOk result (source_values.new.items ≡ values_at source tuple.now) }
+    ensures key { OnOk result (key_values.new.items ≡ values_at key tuple.now) }
+{
+    let pairs = tuple.pairs();
+    source_values.clear();
+    source_values.reserve(pairs.len())?;
+    key_values.clear();
+    key_values.reserve(pairs.len())?;
+    for pair in pairs {
+        if source.has(pair.0) {
+            source_values.push_reserved(pair.1);
+        }
+        if key.has(pair.0) {
+            key_values.push_reserved(pair.1);
+        }
+    }
+    Ok(())
 }
 
 /// The row that has the tuple's values of source and key, if there is one; what else the tuple has is of no matter. The
@@ -83,9 +117,30 @@ fn completed(
     ensures { IfOk result (λ row. row ≡ tuple_of (range_with_len 0 width) (pick (range_with_len 0 width) (zip extra values.now ++ tuple.now))) }
 {
     let columns = &COLUMNS[..width];
-    finder.rows.clear();
-    push_picked(&mut finder.rows, columns, tuple, extra, values)?;
-    Tuple::from_columns(alloc, columns, &finder.rows)
+    let row = &mut finder.rows;
+    row.clear();
+    row.reserve(width)?;
+    push_completed(row, columns, tuple, extra, values);
+    Tuple::from_columns(alloc, columns, row)
+}
+
+/// Adds the values at the columns, those below some number: the next of the extra values at an extra column, and else the
+/// tuple's. There is room for them.
+fn push_completed(row: &mut Vec<u64>, columns: &[u8], tuple: &Tuple, extra: ColSet, values: &[u64])
+    requires columns { columns.now ≡ range_with_len 0 (length columns.now) }
+    requires fits { length values.now ≡ length extra }
+    requires room { vec_len row.old + length columns.now ≤ vec_capacity row.old }
+    ensures { row.new.items ≡ row.old.items ++ pick columns.now (zip extra values.now ++ tuple.now) }
+{
+    let mut place = 0;
+    for col in columns {
+        if extra.has(*col) {
+            row.push_reserved(values[place]);
+            place += 1;
+        } else {
+            row.push_reserved(tuple.get(*col).unwrap_or(0));
+        }
+    }
 }
 
 /// Adds the values at the columns, in the order of the list: those of the extra columns, or else the tuple's.

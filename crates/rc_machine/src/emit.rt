@@ -1,6 +1,6 @@
 //! Emit: a query's reply from its bindings.
 
-ghost use Rattle.std.specs.Prelude.{◌≡◌, ℕ, List, IfOk, IsTrue, filter, map};
+ghost use Rattle.std.specs.Prelude.{◌≡◌, ◌↔◌, ℕ, List, IfOk, IsTrue, filter, map};
 ghost use Rattle.rc_tuple.specs.RisingSet.{IsRising};
 ghost use Rattle.rc_tuple.specs.Tuple.{pick};
 ghost use Rattle.rc_spec.specs.Plain.{row_cmp};
@@ -61,7 +61,7 @@ fn answer(alloc: Global, most: u64, outs: &Cols, bindings: &Bindings) -> Result<
 
 /// Whether each binding's row is below the next one's.
 fn rows_rise(outs: &Cols, bindings: &Bindings) -> bool
-    ensures { IsTrue result → IsRising row_cmp (map (pick outs.now) bindings.now.tuples) }
+    ensures { IsTrue result ↔ IsRising row_cmp (map (pick outs.now) bindings.now.tuples) }
 {
     for at in 1..bindings.len() {
         if !bindings

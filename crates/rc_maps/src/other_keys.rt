@@ -33,6 +33,8 @@ impl<V> OtherKeys<V> {
     }
 
     /// The value at the key, if there is one, to be changed.
+    // It stands apart as that of pairs does.
+    #[inline(never)]
     pub(crate) fn get_mut(&mut self, key: &[u64]) -> Option<&mut V>
         ensures* writes_back { sem 𝓛 (lends_other V.row self.entry key.now result) }
         ensures value { option_copied_mut result ≡ fin.get (others_of self.old) key.now }

@@ -35,7 +35,7 @@ lead g c =
     let spec = c.args.compiled.now.spec in
     subst (λ k. IsFirstKept (edge_table spec) k c.args.path.edge) c.edge.ensures.class
     (subst (λ (z : List EdgeShape). IsFirstKept z c.edge.result.now.class c.args.path.edge) (c.fragment-fragment.ensures.table ∙ c.requires.locked.table)
-    (c.is_first_kept.ensures c.if-not-is_first_kept.false))
+    (c.is_first_kept.ensures.0 c.if-not-is_first_kept.false))
 
 pub is_first_kept-requires : goal.is_first_kept-requires
 is_first_kept-requires g c =

@@ -1,4 +1,4 @@
-use Rattle.std.proofs.Common.{◌++◌, ◌∙◌, ap, subst, sym}
+use Rattle.std.proofs.Common.{◌∙◌, ap, subst, sym}
 use Rattle.std.specs.Option.{option_copied}
 use Rattle.rc_fragment.specs.Fragment.{HasShape, IsLookedUp, shape_of}
 use Rattle.rc_fragment.specs.RowValues.{values_at}
@@ -17,10 +17,8 @@ returns c =
     let rows = c.args.fragment.now.now in
     let tuple = c.args.tuple.now in
     let found = option_copied c.lookup.result in
-    let source =
-    c.deref.ensures.value ∙ c.in_ok-push_values.ensures ∙ ap (λ l. l ++ values_at read.resolved.now.source tuple) c.clear.ensures.items ∙ ap (λ xs. values_at xs tuple) c.requires.resolved.edge.source in
-    let key =
-    c.deref-2.ensures.value ∙ c.in_ok-push_values-2.ensures ∙ ap (λ l. l ++ values_at read.resolved.now.key tuple) c.clear-2.ensures.items ∙ ap (λ xs. values_at xs tuple) c.requires.resolved.edge.key in
+    let source = c.deref.ensures.value ∙ c.in_ok-part_values.ensures.source ∙ ap (λ xs. values_at xs tuple) c.requires.resolved.edge.source in
+    let key = c.deref-2.ensures.value ∙ c.in_ok-part_values.ensures.key ∙ ap (λ xs. values_at xs tuple) c.requires.resolved.edge.key in
     let has = subst (λ table. HasShape table read.edge shape) (sym c.requires.table) (number_has_shape spec read.edge c.requires.known) in
     subst (λ k. IsLookedUp shape rows read.edge (values_at shape.source tuple) k found) key
     (subst (λ s. IsLookedUp shape rows read.edge s c.deref-2.result.now found) source (c.lookup.ensures shape has))

@@ -13,7 +13,7 @@ use Rattle.rc_machine.proofs.emit.answer.Goals.{After-len-count}
 
 -- rows that rise are all distinct
 distinct : (c : After-len-count) → gather row_cmp (map (pick c.args.outs.now) c.args.bindings.now.tuples) ≡ map (pick c.args.outs.now) c.args.bindings.now.tuples
-distinct c = gather-rising row_cmp number_lists_order (map (pick c.args.outs.now) c.args.bindings.now.tuples) (c.rows_rise.ensures c.if-not-rows_rise.false)
+distinct c = gather-rising row_cmp number_lists_order (map (pick c.args.outs.now) c.args.bindings.now.tuples) (c.rows_rise.ensures.0 c.if-not-rows_rise.false)
 
 pub returns-then-not-rows_rise : goal.returns-then-not-rows_rise
 returns-then-not-rows_rise c =

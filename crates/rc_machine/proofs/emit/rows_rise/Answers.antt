@@ -1,14 +1,16 @@
-use Rattle.std.proofs.Common.{◌≡◌, ◌+◌, ◌-◌, ◌≤◌, [], inl, inr, get_or, is_lt, refl, true, map, sym, ap, ◌∙◌, arith}
+use Rattle.std.proofs.Common.{◌≡◌, ◌+◌, ◌-◌, ◌<◌, ◌≤◌, ℕ, [], inl, inr, get_or, is_lt, length, refl, true, map, sym, ap, ◌∙◌, arith}
 use Rattle.std.proofs.Math.Nat.{eq-or-lt_of_le}
 use Rattle.std.proofs.Math.ListN.{get_or-map}
 use Rattle.std.proofs.lemmas.List.{length-map}
 use Rattle.std.proofs.lemmas.Bool.{false≢true}
 use Rattle.std.specs.declared.cmp.Ordering.{Ordering}
 use Rattle.std.specs.declared.cmp.Ordering.TheVariants.{Less, Equal, Greater}
+use Rattle.rc_tuple.specs.RisingSet.{IsRising}
 use Rattle.rc_tuple.specs.RisingSetLaws.{number_lists_order}
 use Rattle.rc_tuple.specs.Tuple.{pick}
 use Rattle.rc_spec.specs.Plain.{row_cmp}
-use Rattle.rc_machine.proofs.EmitLemmas.{rising_by_steps}
+use Rattle.rc_machine.proofs.EmitLemmas.{rising_by_steps, steps_rise}
+use Rattle.rc_machine.proofs.emit.rows_rise.Goals.{After-loop-at}
 use Rattle.rc_machine.proofs.emit.rows_rise.Goals as goal
 
 pub loop-at-preserved : goal.loop-at-preserved
@@ -31,8 +33,26 @@ loop-at-preserved c i l =
     less_from Equal h = absurd (false≢true h)
     less_from Greater h = absurd (false≢true h)
 
-pub returns : goal.returns
-returns c h =
+pub returns-then-not-is_lt : goal.returns-then-not-is_lt
+returns-then-not-is_lt c =
+    let outs = c.args.outs.now in
+    let ts = c.args.bindings.now.tuples in
+    let rows = map (pick outs) ts in
+    let n = length-map ts (pick outs) in
+    let at : ℕ = c.loop-at.at in
+    let some = c.loop-at.auto.at in
+    let before : at - 1 + 1 ≡ at = omega (arith, some) in
+    let within : at - 1 + 1 < length rows = omega (arith, before, n, c.loop-at-test.true, c.len-at-end.ensures) in
+    let less : IsRising row_cmp rows → c.order_by.result ≡ Less = λ r.
+    c.order_by.ensures ∙ (λ i. row_cmp (pick outs (c.get.ensures.tuple i)) (pick outs (c.get-in-loop-at.ensures.tuple i)))
+    ∙ ap (λ k. row_cmp (pick outs (get_or ts (at - 1) [])) (pick outs (get_or ts k []))) (sym before)
+    ∙ (λ i. row_cmp (sym (get_or-map (pick outs) ts (at - 1) []) i) (sym (get_or-map (pick outs) ts (at - 1 + 1) []) i))
+    ∙ steps_rise row_cmp (pick outs []) rows r (at - 1) within in
+    ((λ t. absurd (false≢true t)), λ r. absurd (false≢true (sym c.if-not-is_lt.true ∙ c.is_lt.ensures ∙ ap is_lt (less r))))
+
+-- where each row is below the next, all rise
+risen : (c : After-loop-at) → IsRising row_cmp (map (pick c.args.outs.now) c.args.bindings.now.tuples)
+risen c =
     let outs = c.args.outs.now in
     let ts = c.args.bindings.now.tuples in
     let n = length-map ts (pick outs) in
@@ -41,3 +61,6 @@ returns c h =
     rising_by_steps row_cmp number_lists_order (pick outs []) (map (pick outs) ts) (λ i k.
     ap (λ z. row_cmp z (get_or (map (pick outs) ts) (i + 1) (pick outs []))) (get_or-map (pick outs) ts i [])
     ∙ ap (row_cmp (pick outs (get_or ts i []))) (get_or-map (pick outs) ts (i + 1) []) ∙ c.loop-at.invariant i (omega (arith, n, l, len, k)))
+
+pub returns : goal.returns
+returns c = ((λ _. risen c), λ _. refl)

@@ -1,10 +1,10 @@
-use Rattle.std.proofs.Common.{◌≡◌, ◌<◌, ◌++◌, ◌∷◌, [], List, ℕ, get_or, length, map, subst, sym, take, ap, ◌∙◌, arith}
+use Rattle.std.proofs.Common.{◌<◌, ◌∷◌, get_or, length, map, subst, sym, ap, ◌∙◌, arith}
 use Rattle.std.specs.Global.{Vec}
 use Rattle.std.proofs.lemmas.List.{take_all}
 use Rattle.rc_tuple.specs.ColSet.{Within}
 use Rattle.rc_tuple.specs.Tuple.{cols_of}
 use Rattle.rc_spec.specs.Fragments.{edge_numbers}
-use Rattle.rc_spec.specs.Placement.{class_at, class_of}
+use Rattle.rc_spec.specs.Placement.{class_at}
 use Rattle.rc_plan.specs.EdgeClassLaws.{classes_from, others}
 use Rattle.rc_plan.specs.EdgeClasses.{classes_of}
 use Rattle.rc_machine.specs.Apply.{place_in}

@@ -1,6 +1,5 @@
 use Rattle.std.proofs.Common.{◌≡◌, ◌∷◌, map, take}
 use Rattle.rc_spec.specs.Fragments.{edge_numbers}
-use Rattle.rc_spec.specs.Placement.{class_of}
 use Rattle.rc_plan.specs.EdgeClassLaws.{others}
 use Rattle.rc_plan.specs.EdgeClasses.{classes_of}
 use Rattle.rc_machine.specs.Apply.{place_in}
