@@ -1,7 +1,8 @@
 -- A state that goes on from a history is good, and what follows it too.
-use Rattle.std.proofs.Common.{◌≡◌, ℕ, zero, suc, ◌+◌, ◌<◌, ◌≤◌, List, [], ◌∷◌, ◌++◌, map, length, Some, false, sym, refl, ap, ◌∙◌, subst, arith}
+use Rattle.std.proofs.Common.{◌≡◌, ◌⊎◌, ℕ, zero, suc, ◌+◌, ◌<◌, ◌≤◌, ◌^◌, List, [], ◌∷◌, ◌++◌, map, length, Some, false, inl, inr, sym, refl, ap, ◌∙◌, subst, arith}
 use Rattle.std.specs.Prelude.{replicate}
 use Rattle.std.specs.List.{range_with_len, slice_get}
+use Rattle.std.proofs.lemmas.Bool.{cases_lt}
 use Rattle.std.proofs.lemmas.List.{length-map}
 use Rattle.std.proofs.lemmas.List.FromFn.{length-range_with_len}
 use Rattle.std.proofs.lemmas.Option.{slice_get_within}
@@ -15,7 +16,7 @@ use Rattle.rc_rel.specs.declared.entry.Entry.{Entry}
 use Rattle.rc_rel.specs.declared.entry.Placed.{Placed}
 use Rattle.rc_rel.specs.FurtherLaws.{histories_stay}
 use Rattle.rc_rel.specs.History.{own_placed}
-use Rattle.rc_rel.specs.OwnLaws.{own_stands}
+use Rattle.rc_rel.specs.OwnLaws.{none_own, own_length, own_stands}
 use Rattle.rc_rel.specs.PlaceLaws.{prefix_again, prefix_same}
 use Rattle.rc_core.specs.declared.event.Event.{Event}
 use Rattle.rc_core.specs.declared.event.Event.TheVariants as event
@@ -129,6 +130,28 @@ goes_on_with_more earlier later passes history extends may =
       good = record { legal = stays.legal may.good.legal; fit = stays.fit; numbered = may.good.numbered; entries = may.good.entries };
       few = may.few;
     }
+
+-- ---- with further passes
+
+pub goes_on_with_passes : (spec : Spec) (passes more : ℕ) (history : List Entry) → MayGoOn spec passes history → passes ≤ more → more ≤ 255 → MayGoOn spec more history
+goes_on_with_passes spec passes more history may wide few = record {
+  some_pass = (let s = may.some_pass in omega (arith, s, wide));
+  few_passes = few;
+  good = record {
+    legal = may.good.legal;
+    fit = may.good.fit;
+    numbered = may.good.numbered;
+    entries = λ e m. (let g = may.good.entries e m in let lt = g.pass in record { pass = omega (arith, lt, wide); some = g.some; few = g.few });
+  };
+  few = λ k lt. short k (cases_lt k passes);
+}
+  where
+    short : (k : ℕ) → (k < passes) ⊎ (passes ≤ k) → length (own_placed history k) ≤ 2 ^ 48
+    short k (inl lt) = may.few k lt
+    short k (inr beyond) =
+        let n = own_length history k in
+        let z = none_own history passes k (λ e m. (may.good.entries e m).pass) beyond in
+        omega (arith, n, z)
 
 -- ---- what follows
 

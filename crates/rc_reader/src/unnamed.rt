@@ -21,7 +21,7 @@ use std::alloc::Global;
 pub(crate) struct FoundOperation {
     /// A word that names no column is left out.
     pub(crate) op: Op,
-    /// A list names a column twice.
+    /// The pattern names a column twice, or the range columns do, or one stands in both.
     pub(crate) names_twice: bool,
     /// A word names no column.
     pub(crate) has_unknown: bool,

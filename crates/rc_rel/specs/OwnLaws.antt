@@ -1,11 +1,12 @@
 -- Laws of own entries: of longer histories, with their places, where they stand, and how large a replay is.
-use Rattle.std.proofs.Common.{◌≡◌, ◌≢◌, ◌↔◌, ℕ, zero, suc, ◌+◌, ◌≤◌, Bool, true, false, cond, eqb, List, [], ◌∷◌, ◌++◌, length, map, Some, None, refl, sym, ap, subst, ◌∙◌, inl, inr, arith}
+use Rattle.std.proofs.Common.{◌≡◌, ◌≢◌, ◌↔◌, ℕ, zero, suc, ◌+◌, ◌<◌, ◌≤◌, Bool, true, false, cond, eqb, List, [], ◌∷◌, ◌++◌, length, map, Some, None, refl, sym, ap, subst, ◌∙◌, inl, inr, arith}
 use Rattle.std.specs.List.{range_with_len, slice_get}
 use Rattle.std.proofs.lemmas.Bool.{eqb-true, eq-eqb, ne_eqb, false≢true}
-use Rattle.std.proofs.lemmas.List.{append-nil, map-append, map-id, length-append}
+use Rattle.std.proofs.lemmas.List.{append-nil, length-append, length-map, map-append, map-id}
 use Rattle.std.proofs.lemmas.List.Elements.{filter-append}
 use Rattle.std.proofs.lemmas.List.FromFn.{map-range_with_len_more}
 use Rattle.rc_tuple.specs.RisingSet.{In}
+use Rattle.rc_tuple.specs.RisingSetLaws.{in_filter}
 use Rattle.rc_tuple.specs.Tuple.{Pairs}
 use Rattle.rc_spec.specs.declared.spec.Spec.{Spec}
 use Rattle.rc_spec.specs.Plain.{plain}
@@ -52,6 +53,18 @@ NumberedGoesOn = (history : List Entry) (e : Entry) → IsNumbered history → e
 pub numbered_more : NumberedGoesOn
 numbered_more history e n f k = numbered_at history e k (eqb e.pass k) refl n f
 
+-- a pass of which no entry is has none of its own
+pub none_own : (history : List Entry) (passes k : ℕ) → ((e : Entry) → In e history → e.pass < passes) → passes ≤ k → length (own history k) ≡ 0
+none_own history passes k few beyond = go (own history k) refl
+  where
+    go : (xs : List Entry) → xs ≡ own history k → length xs ≡ 0
+    go [] is = refl
+    go (x ∷ xs) is =
+        let m = in_filter (λ (e : Entry). eqb e.pass k) x history (subst (λ (l : List Entry). In x l) is (inl refl)) in
+        let lt = few x m.0 in
+        let same = eqb-true x.pass k m.1 in
+        absurd (omega (arith, lt, same, beyond))
+
 -- ---- own entries with their places
 
 abbrev pub PlacedAreOwn : Type 0
@@ -65,6 +78,10 @@ placed_own n (e ∷ history) pass = go (eqb e.pass pass) (placed_own (n + 1) his
         → map (λ (w : Placed). w.entry) (cond b (placed n e ∷ placed_from (n + 1) history pass) (placed_from (n + 1) history pass)) ≡ cond b (e ∷ own history pass) (own history pass)
     go true ih = ap (λ l. e ∷ l) ih
     go false ih = ih
+
+pub own_length : (history : List Entry) (pass : ℕ) → length (own_placed history pass) ≡ length (own history pass)
+own_length history pass =
+    sym (length-map (own_placed history pass) (λ (w : Placed). w.entry)) ∙ ap (λ (l : List Entry). length l) (placed_own 0 history pass)
 
 pub placed_from-append : (n : ℕ) (xs ys : List Entry) (pass : ℕ) → placed_from n (xs ++ ys) pass ≡ placed_from n xs pass ++ placed_from (n + length xs) ys pass
 placed_from-append n [] ys pass = let z : n ≡ n + 0 = omega arith in ap (λ i. placed_from i ys pass) z

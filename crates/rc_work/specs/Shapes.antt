@@ -1,4 +1,4 @@
--- Operations that a specification doesn't declare, and the specification with them.
+-- Further operations, and the specification with them behind its own.
 use Rattle.std.specs.Prelude.{◌++◌, List, length}
 use Rattle.rc_tuple.specs.RisingSet.{AreDistinct}
 use Rattle.rc_spec.specs.declared.items.Op.{Op}

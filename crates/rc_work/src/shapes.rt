@@ -60,7 +60,7 @@ impl OpenDraft {
 pub(crate) struct FoundShape {
     /// The operation, without a name. A word that names no column is left out.
     pub(crate) op: Op,
-    /// A list names a column twice.
+    /// The pattern names a column twice, or the range columns do, or one stands in both.
     pub(crate) breaks_names: bool,
     /// A word names no column.
     pub(crate) breaks_known: bool,

@@ -68,7 +68,7 @@ impl<'a> Language for ShapeLines<'a> {
     }
 }
 
-/// Reads a text of shapes for a specification whose text is of this version: operations that it doesn't declare, a line for
+/// Reads a text of shapes for a specification whose text is of this version: further operations, a line for
 /// each, in the form of an `op` line behind its name. They are named `?1`, `?2` and so on, in the order of their first lines; a
 /// line that asks as an earlier one does gives no further one. A refusal is for the first broken rule and its line, one of S2,
 /// S3, S4, S6 and W4, or is want of memory.
