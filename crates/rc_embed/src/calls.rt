@@ -5,9 +5,9 @@ ghost use Rattle.rc_embed.specs.Asked.{one_call};
 ghost use Rattle.rc_embed.specs.Refused.{Answers, fault_of};
 ghost use Rattle.rc_embed.specs.Session.{HasCalled};
 
-use crate::fault::{CallFault, call_fault};
+use crate::fault::CallFault;
 use crate::session::{Last, Position, Session, State};
-use rc_store::Receipt;
+use rc_spec::Reply;
 
 impl Session {
     /// Calls the operation with this number with these values, in the order of its columns, with a
@@ -33,7 +33,8 @@ impl Session {
         self.call_idle(op, values)
     }
 
-    /// Makes a call that has no fault of its own.
+    /// Makes a call that has no fault of its own. Where the last receipt was a call's, the reply is told in its place, so
+    /// that it isn't moved; a fault leaves that reply.
     pub(crate) fn call_idle(&mut self, op: u32, values: &[u64]) -> Result<Position, CallFault>
         requires { fault_of self.old (one_call op values.now) ≡ None }
         ensures { let calls = one_call op values.now in
@@ -43,13 +44,26 @@ impl Session {
             unreachable!()
         };
         self.shared.refill_call(&mut self.call, op, values)?;
-        match self.shared.store.try_call(pass, &self.call) {
-            Ok(Receipt { place, nth, reply }) => {
-                self.last = Last::Call(reply);
-                self.picked = 0;
-                Ok(Position { place, nth })
-            }
-            Err(fault) => Err(call_fault(fault)),
+        let store = &self.shared.store;
+        if let Last::Call(Some(reply)) = &mut self.last {
+            let at = store.try_call_into(pass, &self.call, reply)?;
+            self.picked = 0;
+            return Ok(position(at));
         }
+        let mut reply = Reply::Absent;
+        let at = store.try_call_into(pass, &self.call, &mut reply)?;
+        self.last = Last::Call(Some(reply));
+        self.picked = 0;
+        Ok(position(at))
+    }
+}
+
+/// The position that the store answers, as a session answers it.
+fn position(at: rc_store::Position) -> Position
+    ensures { result ≡ record { place = at.place; nth = at.nth } }
+{
+    Position {
+        place: at.place,
+        nth: at.nth,
     }
 }

@@ -148,6 +148,14 @@ impl From<Memory> for CallFault {
     }
 }
 
+impl From<TryFault> for CallFault {
+    ghost from_gives = { λ fault gives. gives ≡ call_fault fault };
+
+    fn from(fault: TryFault) -> Self {
+        call_fault(fault)
+    }
+}
+
 /// Why a session doesn't learn what another one has seen.
 #[derive(Clone, Copy, Debug, PartialEq, Eq)]
 pub enum LearnFault {

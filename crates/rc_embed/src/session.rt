@@ -89,11 +89,12 @@ impl Last {
     }
 }
 
-/// A thread's end of a store: a pass, and the replies of its last call or group. One thread uses it
-/// at a time, and it may move to another. One that is dropped in the midst of a prepared call, or of an
-/// open group, keeps the stripes of that: cancel it before. It keeps the memory of its largest call, in which it
-/// makes the next ones, so that a call whose values fit there takes none for them; and so it does for
-/// the calls of groups, once it has made one.
+/// A thread's end of a store: a pass, and the replies of its last call or group. One thread uses it at a
+/// time, and it may move to another. One that is dropped in the midst of a prepared call, or of an open
+/// group, keeps the stripes of that: cancel it before. It keeps the memory of its largest call, in which it
+/// makes the next ones, so that a call whose values fit there takes none for them; so it does for the calls
+/// of groups, once it has made one; and it keeps that of one tuple that was removed or updated, in which
+/// the next one is answered.
 #[derive(Drop)]
 pub struct Session {
     pub(crate) shared: Arc<Shared, Global>,

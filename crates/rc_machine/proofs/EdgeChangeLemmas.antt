@@ -51,7 +51,8 @@ use Rattle.rc_plan.specs.declared.statement.Statement.{Statement}
 use Rattle.rc_machine.specs.Access.{HasAnsweredByPath, HasLockedPath, HasRunByPath, IsBehind, IsOnlyMatch, IsRowFound, IsTupleFound, leaving}
 use Rattle.rc_machine.specs.Applied.{CanInsert, CanReplace, HasReplaced, replaced_in}
 use Rattle.rc_machine.specs.Apply.{IsSameButLent, all_changed}
-use Rattle.rc_machine.specs.Machine.{AreAsTaken, AreTakenAsOffered, HasRefusedCall, HasReplied}
+use Rattle.rc_machine.specs.Machine.{AreAsTaken, AreTakenAsOffered, HasRefusedCall, HasReplied, told_answer}
+use Rattle.rc_machine.specs.ReplyLaws.{told_answer_fault}
 use Rattle.rc_machine.specs.Stopped.{CountsIfHeld}
 use Rattle.rc_machine.specs.Stripes.{AreStripesOf}
 use Rattle.rc_machine.specs.declared.stop.Stop.{Stop}
@@ -395,21 +396,28 @@ module _ (compiled : SpecWithPlans) (call : Call) (p : AccessPath) (stripe : ℕ
 
 -- ---- what was taken as offered stays so, also where memory was wanted
 
-pub unanswered : {E : Type 0} (compiled : SpecWithPlans) (call : Call) (old new : Holding) (result : Result Reply E) → IsErr result → AreTakenAsOffered new → IsSameButLent old new → HasAnsweredByPath compiled call old new result
-unanswered compiled call old new (Ok answer) is told lent = absurd cc
-unanswered compiled call old new (Err e) is told lent = record { answered = tt; taken = told; lent = lent }
+-- the call is answered
+abbrev pub done : Result (Unit {0}) Stop
+done = Ok tt
+
+pub unanswered : {T E : Type 0} (compiled : SpecWithPlans) (call : Call) (old new : Holding) (result : Result T E) (reply : Reply) → IsErr result → AreTakenAsOffered new → IsSameButLent old new
+    → HasAnsweredByPath compiled call old new (told_answer result reply)
+unanswered compiled call old new (Ok x) reply is told lent = absurd cc
+unanswered compiled call old new (Err e) reply is told lent = record { answered = tt; taken = told; lent = lent }
 
 -- ---- what is answered in place is one way to run a call, and so is one behind stripes that were taken
 
-pub run_in_place : (compiled : SpecWithPlans) (call : Call) (old new : Holding) (result : Result Reply Stop) → IfErr result (λ s. s ≡ stop.Memory) → HasAnsweredByPath compiled call old new result → HasRunByPath compiled call old new result
-run_in_place compiled call old new result memory by = record {
-  answered = by.answered;
-  taken = by.taken;
-  stopped = λ h e. absurd (memory_alone result h memory e);
-  refused = λ h e. absurd (memory_alone result h memory e);
-  counted = counted_lent result old new by.lent;
-  goes_on = lent_goes_on old new by.lent;
-}
+pub run_in_place : {T : Type 0} (compiled : SpecWithPlans) (call : Call) (old new : Holding) (result : Result T Stop) (reply : Reply) → IfErr result (λ s. s ≡ stop.Memory)
+    → HasAnsweredByPath compiled call old new (told_answer result reply) → HasRunByPath compiled call old new (told_answer result reply)
+run_in_place compiled call old new result reply memory by =
+    let alone = told_answer_fault (λ s. s ≡ stop.Memory) result reply memory in record {
+      answered = by.answered;
+      taken = by.taken;
+      stopped = λ h e. absurd (memory_alone (told_answer result reply) h alone e);
+      refused = λ h e. absurd (memory_alone (told_answer result reply) h alone e);
+      counted = counted_lent (told_answer result reply) old new by.lent;
+      goes_on = lent_goes_on old new by.lent;
+    }
 
 pub run_since : (compiled : SpecWithPlans) (call : Call) (first old new : Holding) (result : Result Reply Stop) → GoesOn first old → old.refusals ≡ first.refusals → HasRunByPath compiled call old new result → HasRunByPath compiled call first new result
 run_since compiled call first old new result on same by = record {
@@ -422,10 +430,11 @@ run_since compiled call first old new result on same by = record {
 }
 
 -- a stop that is handed on
-pub run_stopped : (compiled : SpecWithPlans) (call : Call) (old new : Holding) (result : Result Reply Stop) (x : Stop) → IsErr result → IsErrAnd result (λ y. y ≡ x) → AreTakenAsOffered new → ((h : Held) → x ≡ stop.Held h → AreAsTaken (held_of new))
-    → ((h : Held) → x ≡ stop.Held h → HasRefusedCall compiled call old new h) → CountsIfHeld x old new → GoesOn old new → HasRunByPath compiled call old new result
-run_stopped compiled call old new (Ok answer) x is gives told stopped refused counted on = absurd cc
-run_stopped compiled call old new (Err e) x is gives told stopped refused counted on = record {
+pub run_stopped : {T : Type 0} (compiled : SpecWithPlans) (call : Call) (old new : Holding) (result : Result T Stop) (reply : Reply) (x : Stop) → IsErr result → IsErrAnd result (λ y. y ≡ x) → AreTakenAsOffered new
+    → ((h : Held) → x ≡ stop.Held h → AreAsTaken (held_of new)) → ((h : Held) → x ≡ stop.Held h → HasRefusedCall compiled call old new h) → CountsIfHeld x old new → GoesOn old new
+    → HasRunByPath compiled call old new (told_answer result reply)
+run_stopped compiled call old new (Ok answer) reply x is gives told stopped refused counted on = absurd cc
+run_stopped compiled call old new (Err e) reply x is gives told stopped refused counted on = record {
   answered = tt;
   taken = told;
   stopped = λ h q. stopped h (sym gives ∙ same_stop e (stop.Held h) q);
@@ -437,6 +446,6 @@ run_stopped compiled call old new (Err e) x is gives told stopped refused counte
     same_stop : (a b : Stop) → ◌≡◌ {A = Result Reply Stop} (Err a) (Err b) → a ≡ b
     same_stop a b q = cc
 
-pub if_stopped : (result : Result Reply Stop) (x : Stop) → IsErrAnd result (λ y. y ≡ x) → IfErr result (λ y. y ≡ x)
+pub if_stopped : {T : Type 0} (result : Result T Stop) (x : Stop) → IsErrAnd result (λ y. y ≡ x) → IfErr result (λ y. y ≡ x)
 if_stopped (Ok answer) x gives = tt
 if_stopped (Err e) x gives = gives

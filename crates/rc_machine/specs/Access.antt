@@ -16,7 +16,6 @@ use Rattle.rc_spec.specs.Plain.{Outcome, at_most}
 use Rattle.rc_spec.specs.Stripes.{physical_stripe}
 use Rattle.rc_fragment.specs.Fragment.{IsFoundAt, IsLookedUp, IsScan, edge_table}
 use Rattle.rc_fragment.specs.RowValues.{extra_columns, values_at}
-use Rattle.rc_fragment.specs.Tuples.{IsFirstKept}
 use Rattle.rc_fragment.specs.declared.shape.EdgeShape.{EdgeShape}
 use Rattle.rc_fragment.specs.declared.held.Held.{Held}
 use Rattle.rc_fragment.specs.Holder.{AreOfRelation, GoesOn, HeldStripe, Holding, held_of}

@@ -1,8 +1,8 @@
 -- A tuple's rows added to the edges on held stripes, or taken out of them.
 use Rattle.std.specs.Prelude.{◌≡◌, ℕ, ◌<◌, ◌^◌, ◌==◌, ◌++◌, Bool, List, [], ◌∷◌, cond, filter, length, map, not}
-use Rattle.std.specs.List.{fold, list_any}
+use Rattle.std.specs.List.{list_any}
 use Rattle.rc_tuple.specs.RisingSet.{AreDistinct, In}
-use Rattle.rc_tuple.specs.ColSet.{has, inter}
+use Rattle.rc_tuple.specs.ColSet.{inter}
 use Rattle.rc_tuple.specs.Tuple.{Pairs}
 use Rattle.rc_spec.specs.declared.spec.Spec.{Spec}
 use Rattle.rc_spec.specs.CountedRows.{row_in}

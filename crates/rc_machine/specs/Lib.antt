@@ -8,6 +8,7 @@ pub mod Machine
 pub mod Offers
 pub mod OffersLaws
 pub mod Read
+pub mod ReplyLaws
 pub mod Run
 pub mod Stopped
 pub mod Stripes

@@ -1,5 +1,5 @@
 -- What a run of a plan over a holder leaves: held stripes, and a reply. (PLDI 2012, execution of query plans with two-phase locks.)
-use Rattle.std.specs.Prelude.{◌≡◌, ℕ, List, Some, map}
+use Rattle.std.specs.Prelude.{◌≡◌, ℕ, List, Result, Ok, Err, Some, map}
 use Rattle.std.specs.List.{flat_map}
 use Rattle.std.specs.Ordering.{nat_cmp}
 use Rattle.rc_tuple.specs.RisingSet.{In, IsRising, gather}
@@ -65,6 +65,11 @@ pub record HasReplied (spec : Spec) (plan : List Statement) (call : Call) (held 
 -- the same by the call's own plan
 abbrev pub HasAnswered : SpecWithPlans → Call → Holding → Reply → Type 0
 HasAnswered compiled call s answer = HasReplied compiled.spec (plan_at compiled.plans call.op) call (held_of s) answer
+
+-- the answer of a call whose reply is told into a place
+abbrev pub told_answer : {T E : Type 0} → Result T E → Reply → Result Reply E
+told_answer (Ok x) reply = Ok reply
+told_answer (Err e) reply = Err e
 
 -- each held stripe was taken with the rows that are offered of it, where they are told
 abbrev pub AreTakenAsOffered : Holding → Type 0

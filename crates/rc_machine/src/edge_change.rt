@@ -1,6 +1,6 @@
 //! Inserts, removes and updates that are answered from the rows of one edge.
 
-ghost use Rattle.std.specs.Prelude.{◌≡◌, IfErr};
+ghost use Rattle.std.specs.Prelude.{◌≡◌, IfErr, OnErr};
 ghost use Rattle.rc_spec.specs.Locks.{StripeLock};
 ghost use Rattle.rc_spec.specs.Placement.{op_at};
 ghost use Rattle.rc_spec.specs.declared.items.OpKind.TheVariants as kind;
@@ -9,6 +9,7 @@ ghost use Rattle.rc_fragment.specs.Holder.{MayTake};
 ghost use Rattle.rc_plan.specs.Compiled.{plan_at};
 ghost use Rattle.rc_plan.specs.NamedStripes.{IsNamedBy};
 ghost use Rattle.rc_machine.specs.Access.{HasAnsweredByPath, HasLockedPath, HasRunByPath};
+ghost use Rattle.rc_machine.specs.Machine.{told_answer};
 ghost use Rattle.rc_machine.specs.Stripes.{AreStripesOf};
 ghost use Rattle.rc_machine.specs.declared.stop.Stop.TheVariants as stop;
 
@@ -24,8 +25,8 @@ use rc_plan::{AccessPath, Compiled};
 use rc_spec::{Call, Reply};
 use std::slice;
 
-/// Adds the call's tuple, where the path's edge has no row with its values at the pattern. Where memory is wanted some rows
-/// may be changed; as taken they are what they were. Where the edge is the first of its class whose rows are kept, its class
+/// Adds the call's tuple, where the path's edge has no row with its values at the pattern. Where memory is wanted the reply
+/// stays, and some rows may be changed; as taken they are what they were. Where the edge is the first of its class whose rows are kept, its class
 /// comes first, and the search for that row's place tells whether one has the values.
 pub(crate) fn insert_by_edge<H: Holder>(
     holder: &mut H,
@@ -34,19 +35,21 @@ pub(crate) fn insert_by_edge<H: Holder>(
     path: AccessPath,
     stripe: u32,
     space: &mut Workspace,
-) -> Result<Reply, Stop>
+    reply: &mut Reply,
+) -> Result<(), Stop>
     requires insert { (op_at compiled.now.spec call.now.op).kind ≡ kind.Insert }
     requires locked { HasLockedPath compiled.now call.now path stripe (H.seen holder.old) }
     requires stripes { AreStripesOf compiled.now.spec call.now.args space.old.class_stripes.items }
     requires sound { H.is_sound holder.old compiled.now.spec }
-    ensures answered { HasAnsweredByPath compiled.now call.now (H.seen holder.old) (H.seen holder.new) result }
+    ensures answered { HasAnsweredByPath compiled.now call.now (H.seen holder.old) (H.seen holder.new) (told_answer result reply.new) }
+    ensures kept { OnErr result (reply.new ≡ reply.old) }
     ensures memory { IfErr result (λ s. s ≡ stop.Memory) }
     ensures sound { (spec : Spec) → H.is_sound holder.old spec → H.is_sound holder.new spec }
 {
     let fragment = holder.fragment(stripe);
     let class = compiled.edge(path.edge).class;
     if !fragment.is_first_kept(class, path.edge) {
-        return insert_looked_up(holder, compiled, call, path, stripe, space);
+        return insert_looked_up(holder, compiled, call, path, stripe, space, reply);
     }
     let tuple = &call.args;
     let stripes = &mut space.class_stripes;
@@ -57,11 +60,15 @@ pub(crate) fn insert_by_edge<H: Holder>(
     make_room(holder, compiled, slice::from_ref(first))?;
     match holder.add_new_tuple(stripe, class, path.edge, tuple) {
         Ok(()) => {}
-        Err(AddStop::There) => return Ok(Reply::Present),
+        Err(AddStop::There) => {
+            space.finder.tell(reply, Reply::Present);
+            return Ok(());
+        }
         Err(AddStop::Memory) => return Err(Stop::Memory),
     }
     add_placed(holder, compiled, others, tuple)?;
-    Ok(Reply::Inserted)
+    space.finder.tell(reply, Reply::Inserted);
+    Ok(())
 }
 
 /// The same by a look-up beforehand.
@@ -72,19 +79,22 @@ fn insert_looked_up<H: Holder>(
     path: AccessPath,
     stripe: u32,
     space: &mut Workspace,
-) -> Result<Reply, Stop>
+    reply: &mut Reply,
+) -> Result<(), Stop>
     requires insert { (op_at compiled.now.spec call.now.op).kind ≡ kind.Insert }
     requires locked { HasLockedPath compiled.now call.now path stripe (H.seen holder.old) }
     requires stripes { AreStripesOf compiled.now.spec call.now.args space.old.class_stripes.items }
     requires sound { H.is_sound holder.old compiled.now.spec }
-    ensures answered { HasAnsweredByPath compiled.now call.now (H.seen holder.old) (H.seen holder.new) result }
+    ensures answered { HasAnsweredByPath compiled.now call.now (H.seen holder.old) (H.seen holder.new) (told_answer result reply.new) }
+    ensures kept { OnErr result (reply.new ≡ reply.old) }
     ensures memory { IfErr result (λ s. s ≡ stop.Memory) }
     ensures sound { (spec : Spec) → H.is_sound holder.old spec → H.is_sound holder.new spec }
 {
     let read = EdgeRead::of(compiled, path.edge, path.mode);
     let fragment = holder.fragment(stripe);
     if find_row(fragment, &read, &call.args, &mut space.finder)?.is_some() {
-        return Ok(Reply::Present);
+        space.finder.tell(reply, Reply::Present);
+        return Ok(());
     }
     add_rows(
         holder,
@@ -93,11 +103,12 @@ fn insert_looked_up<H: Holder>(
         &mut space.class_stripes,
         &mut space.places,
     )?;
-    Ok(Reply::Inserted)
+    space.finder.tell(reply, Reply::Inserted);
+    Ok(())
 }
 
 /// Takes out the tuple that the row of the path's edge with the arguments' values is, if there is one, once it has the
-/// stripes of the plan's late Locks, on which the tuple falls. Where memory is wanted or a take refused the rows stay.
+/// stripes of the plan's late Locks, on which the tuple falls. Where memory is wanted or a take refused rows and reply stay.
 pub(crate) fn remove_by_edge<H: Holder>(
     holder: &mut H,
     compiled: &Compiled,
@@ -105,31 +116,35 @@ pub(crate) fn remove_by_edge<H: Holder>(
     path: AccessPath,
     stripe: u32,
     space: &mut Workspace,
-) -> Result<Reply, Stop>
+    reply: &mut Reply,
+) -> Result<(), Stop>
     requires remove { (op_at compiled.now.spec call.now.op).kind ≡ kind.Remove }
     requires locked { HasLockedPath compiled.now call.now path stripe (H.seen holder.old) }
     requires stripes { AreStripesOf compiled.now.spec call.now.args space.old.class_stripes.items }
     requires sound { H.is_sound holder.old compiled.now.spec }
     requires lent { (lock : StripeLock) → IsNamedBy compiled.now.spec call.now.args (plan_at compiled.now.plans call.now.op) lock
         → MayTake (H.seen holder.old).lends lock.0 lock.1 }
-    ensures run { HasRunByPath compiled.now call.now (H.seen holder.old) (H.seen holder.new) result }
+    ensures run { HasRunByPath compiled.now call.now (H.seen holder.old) (H.seen holder.new) (told_answer result reply.new) }
+    ensures kept { OnErr result (reply.new ≡ reply.old) }
     ensures sound { (spec : Spec) → H.is_sound holder.old spec → H.is_sound holder.new spec }
 {
     let alloc = space.alloc();
     let read = EdgeRead::of(compiled, path.edge, path.mode);
     let fragment = holder.fragment(stripe);
     let Some(removed) = find_tuple(alloc, fragment, &read, &call.args, &mut space.finder)? else {
-        return Ok(Reply::Absent);
+        space.finder.tell(reply, Reply::Absent);
+        return Ok(());
     };
     // The stripes of the arguments are those of the tuple, which has their values.
     let stripes = &mut space.class_stripes;
     lock_found(holder, compiled, call, path, &removed, stripes)?;
     sub_rows(holder, compiled, &removed, stripes, &mut space.places)?;
-    Ok(Reply::Removed(removed))
+    space.finder.tell(reply, Reply::Removed(removed));
+    Ok(())
 }
 
 /// Puts the call's tuple in the place of the one that the row of the path's edge with its values at the pattern is, if there
-/// is one. Where memory is wanted some rows may be changed; as taken they are what they were.
+/// is one. Where memory is wanted the reply stays, and some rows may be changed; as taken they are what they were.
 pub(crate) fn update_by_edge<H: Holder>(
     holder: &mut H,
     compiled: &Compiled,
@@ -137,11 +152,13 @@ pub(crate) fn update_by_edge<H: Holder>(
     path: AccessPath,
     stripe: u32,
     space: &mut Workspace,
-) -> Result<Reply, Stop>
+    reply: &mut Reply,
+) -> Result<(), Stop>
     requires update { (op_at compiled.now.spec call.now.op).kind ≡ kind.Update }
     requires locked { HasLockedPath compiled.now call.now path stripe (H.seen holder.old) }
     requires sound { H.is_sound holder.old compiled.now.spec }
-    ensures answered { HasAnsweredByPath compiled.now call.now (H.seen holder.old) (H.seen holder.new) result }
+    ensures answered { HasAnsweredByPath compiled.now call.now (H.seen holder.old) (H.seen holder.new) (told_answer result reply.new) }
+    ensures kept { OnErr result (reply.new ≡ reply.old) }
     ensures memory { IfErr result (λ s. s ≡ stop.Memory) }
     ensures sound { (spec : Spec) → H.is_sound holder.old spec → H.is_sound holder.new spec }
 {
@@ -149,7 +166,8 @@ pub(crate) fn update_by_edge<H: Holder>(
     let read = EdgeRead::of(compiled, path.edge, path.mode);
     let fragment = holder.fragment(stripe);
     let Some(old) = find_tuple(alloc, fragment, &read, &call.args, &mut space.finder)? else {
-        return Ok(Reply::Absent);
+        space.finder.tell(reply, Reply::Absent);
+        return Ok(());
     };
     replace(
         holder,
@@ -159,5 +177,6 @@ pub(crate) fn update_by_edge<H: Holder>(
         &mut space.class_stripes,
         &mut space.places,
     )?;
-    Ok(Reply::Updated(old))
+    space.finder.tell(reply, Reply::Updated(old));
+    Ok(())
 }

@@ -1,12 +1,13 @@
 //! Queries that are answered from the rows of one edge.
 
-ghost use Rattle.std.specs.Prelude.{◌≡◌, ℕ, List, ◌∷◌, ◌++◌, [], length, true, IfErr, IfOk};
+ghost use Rattle.std.specs.Prelude.{◌≡◌, ℕ, List, ◌∷◌, ◌++◌, [], length, true, IfErr, IfOk, OnErr, OnOk};
 ghost use Rattle.std.specs.List.{zip};
 ghost use Rattle.rc_tuple.specs.RisingSet.{In};
 ghost use Rattle.rc_tuple.specs.Tuple.{Pairs, cols_of, pick};
 ghost use Rattle.rc_spec.specs.Decomposition.{bound, edge_at};
 ghost use Rattle.rc_spec.specs.Fragments.{EdgeRow};
 ghost use Rattle.rc_spec.specs.Placement.{op_at};
+ghost use Rattle.rc_spec.specs.declared.call.Reply.TheVariants.{Rows};
 ghost use Rattle.rc_spec.specs.Plain.{plain};
 ghost use Rattle.rc_fragment.specs.Fragment.{shape_of};
 ghost use Rattle.rc_fragment.specs.Holder.{AreOfOneRelation, AreOfRelation, held_of};
@@ -27,40 +28,49 @@ use rc_tuple::{ColSet, Cols, Memory, Tuple};
 use std::alloc::Global;
 
 /// Answers a query from the rows of its path's edge, on the stripe on which the arguments fall, which is held.
-/// Only want of memory stops it.
+/// Only want of memory stops it, and then the reply stays.
 pub(crate) fn answer_by_edge<H: Holder>(
-    alloc: Global,
     holder: &H,
     compiled: &Compiled,
     call: &Call,
     path: AccessPath,
     stripe: u32,
     finder: &mut Finder,
-) -> Result<Reply, Stop>
+    reply: &mut Reply,
+) -> Result<(), Stop>
     requires locked { HasLockedPath compiled.now call.now path stripe (H.seen holder.now) }
     requires query { IsQuery (op_at compiled.now.spec call.now.op).kind }
     requires one { AreOfOneRelation compiled.now.spec (held_of (H.seen holder.now)) }
-    ensures answered { IfOk result (λ reply. (r : List Pairs) → AreOfRelation compiled.now.spec (held_of (H.seen holder.now)) r
-        → plain compiled.now.spec r call.now ≡ leaving reply r) }
+    ensures answered { OnOk result ((r : List Pairs) → AreOfRelation compiled.now.spec (held_of (H.seen holder.now)) r
+        → plain compiled.now.spec r call.now ≡ leaving reply.new r) }
+    ensures kept { OnErr result (reply.new ≡ reply.old) }
     ensures memory { IfErr result (λ s. s ≡ stop.Memory) }
 {
     let OpKind::Query { outs, .. } = &compiled.accepted().spec().op(call.op).kind else {
         unreachable!()
     };
+    let alloc = *finder.rows.allocator();
     let read = EdgeRead::of(compiled, path.edge, path.mode);
     let fragment = holder.fragment(stripe);
+    let args = &call.args;
     match path.mode {
         ReadMode::Lookup => {
             let alone = path.extra_alone;
-            look_up(alloc, fragment, &read, &call.args, outs, alone, finder)
+            let rows = look_up(alloc, fragment, &read, args, outs, alone, finder)?;
+            finder.tell(reply, Reply::Rows(rows));
+            Ok(())
         }
-        ReadMode::Scan => list(alloc, fragment, &read, &call.args, outs, finder),
+        ReadMode::Scan => {
+            let told = list(alloc, fragment, &read, args, outs, finder)?;
+            finder.tell(reply, told);
+            Ok(())
+        }
     }
 }
 
-/// The row that has the arguments' values of source and key, if there is one. Where the outputs are the extra columns alone,
+/// The outputs of the row that has the arguments' values of source and key, if there is one. Where the outputs are the extra columns alone,
 /// they are the row that was found.
-// A call hands its reply on by moving it. In its caller's place this one, which answers most queries, moves it once less.
+// In its caller's place this one, which answers most queries, hands its row on with no move.
 #[inline(always)]
 fn look_up(
     alloc: Global,
@@ -70,20 +80,18 @@ fn look_up(
     outs: &Cols,
     alone: bool,
     finder: &mut Finder,
-) -> Result<Reply, Stop>
+) -> Result<RowList, Memory>
     requires read { IsReadOver fragment.now.table read.now }
     requires columns { (w : EdgeRow) → In w fragment.now.now → cols_of w.1 ≡ bound read.now.spec.now (edge_at read.now.spec.now w.0).to }
     requires alone { alone ≡ true → outs.now ≡ extra_of read.now.spec.now (edge_at read.now.spec.now read.now.edge) }
-    ensures rows { IfOk result (HasLookedUp (shape_of read.now.spec.now read.now.edge) fragment.now.now read.now.edge args.now outs.now) }
-    ensures memory { IfErr result (λ s. s ≡ stop.Memory) }
+    ensures { IfOk result (λ rows. HasLookedUp (shape_of read.now.spec.now read.now.edge) fragment.now.now read.now.edge args.now outs.now (Rows rows)) }
 {
     match find_row(fragment, read, args, finder)? {
-        None => Ok(Reply::Rows(RowList::new(alloc))),
-        Some(values) if alone => Ok(Reply::Rows(RowList::of_row(alloc, values)?)),
+        None => Ok(RowList::new(alloc)),
+        Some(values) if alone => RowList::of_row(alloc, values),
         Some(values) => {
             let extra = read.resolved.extra;
-            let rows = picked(alloc, outs, args, extra, values, &mut finder.rows)?;
-            Ok(Reply::Rows(rows))
+            picked(alloc, outs, args, extra, values, &mut finder.rows)
         }
     }
 }
@@ -97,13 +105,12 @@ fn list(
     args: &Tuple,
     outs: &Cols,
     finder: &mut Finder,
-) -> Result<Reply, Stop>
+) -> Result<Reply, Memory>
     requires read { IsReadOver fragment.now.table read.now }
     requires columns { (w : EdgeRow) → In w fragment.now.now → cols_of w.1 ≡ bound read.now.spec.now (edge_at read.now.spec.now w.0).to }
     requires outs { outs.now ≡ (edge_at read.now.spec.now read.now.edge).key ++ extra_of read.now.spec.now (edge_at read.now.spec.now read.now.edge) }
     requires keyed { (edge_at read.now.spec.now read.now.edge).key ≡ [] → ⊥ }
-    ensures rows { IfOk result (HasListed (shape_of read.now.spec.now read.now.edge) fragment.now.now read.now.edge args.now outs.now read.now.spec.now.most_rows) }
-    ensures memory { IfErr result (λ s. s ≡ stop.Memory) }
+    ensures { IfOk result (HasListed (shape_of read.now.spec.now read.now.edge) fragment.now.now read.now.edge args.now outs.now read.now.spec.now.most_rows) }
 {
     finder.source.clear();
     push_values(args, read.resolved.source, &mut finder.source)?;

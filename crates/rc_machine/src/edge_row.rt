@@ -19,6 +19,7 @@ use crate::workspace::Finder;
 use rc_fragment::Fragment;
 use rc_tuple::{ColSet, Memory, Tuple};
 use std::alloc::Global;
+use std::mem;
 
 /// The columns that a tuple may have.
 const COLUMNS: [u8; 32] = [
@@ -79,7 +80,7 @@ fn part_values(
 }
 
 /// The row that has the tuple's values of source and key, if there is one; what else the tuple has is of no matter. The
-/// row has all columns. Costs what `find_row` does, and the row's block.
+/// row has all columns. Costs what `find_row` does, and a block for the row, where no recycled one has room for it.
 pub(crate) fn find_tuple(
     alloc: Global,
     fragment: &Fragment,
@@ -103,7 +104,8 @@ pub(crate) fn find_tuple(
 }
 
 /// The tuple over the columns below the width that has these values at the extra columns, and at the others the tuple's.
-/// Costs one block.
+/// Takes the recycled tuple's memory, and a block only where that had room for fewer values; and memory for a list of the
+/// values, where the space had room for fewer.
 fn completed(
     alloc: Global,
     width: usize,
@@ -121,7 +123,9 @@ fn completed(
     row.clear();
     row.reserve(width)?;
     push_completed(row, columns, tuple, extra, values);
-    Tuple::from_columns(alloc, columns, row)
+    let mut found = mem::replace(&mut finder.recycled, Tuple::empty(alloc));
+    found.refill(columns, row)?;
+    Ok(found)
 }
 
 /// Adds the values at the columns, those below some number: the next of the extra values at an extra column, and else the

@@ -1,6 +1,6 @@
 //! The run of a plan.
 
-ghost use Rattle.std.specs.Prelude.{◌≡◌, [], IfOk, IfErr, Err};
+ghost use Rattle.std.specs.Prelude.{◌≡◌, [], IfOk, IfErr, Err, OnErr, OnOk};
 ghost use Rattle.rc_spec.specs.Calls.{Fits};
 ghost use Rattle.rc_spec.specs.declared.spec.Spec.{Spec};
 ghost use Rattle.rc_spec.specs.Locks.{StripeLock};
@@ -22,7 +22,7 @@ use rc_fragment::{Holder, Reverts};
 use rc_plan::Compiled;
 use rc_spec::{Call, Reply};
 
-/// Does what `run_statements` does, and after any stop each held stripe has its rows as taken.
+/// Does what `run_statements` does, but hands the reply up, and after any stop each held stripe has its rows as taken.
 #[tactic(auto, using(crate::proofs::BackLemmas::back_goes_on, crate::proofs::BackLemmas::back_taken, crate::proofs::BackLemmas::back_as_taken))]
 pub fn run_plan<H: Reverts>(
     compiled: &Compiled,
@@ -44,8 +44,9 @@ pub fn run_plan<H: Reverts>(
     ensures goes_on { GoesOn (H.seen holder.old) (H.seen holder.new) }
     ensures sound { (spec : Spec) → H.is_sound holder.old spec → H.is_sound holder.new spec }
 {
-    match run_statements(compiled, call, space, holder) {
-        Ok(reply) => Ok(reply),
+    let mut reply = Reply::Absent;
+    match run_statements(compiled, call, space, holder, &mut reply) {
+        Ok(()) => Ok(reply),
         Err(Stop::Held(held)) => Err(Stop::Held(held)),
         Err(Stop::Memory) => {
             holder.revert();
@@ -55,8 +56,8 @@ pub fn run_plan<H: Reverts>(
 }
 
 /// Runs the statements of the call's plan that come before its Commit over a sound holder that holds nothing: it takes
-/// the stripes that the Locks name, reads and changes their rows, and answers. (PLDI 2012, query plans with two-phase
-/// locks.)
+/// the stripes that the Locks name, reads and changes their rows, and tells the answer in the reply's place. (PLDI 2012, query
+/// plans with two-phase locks.)
 ///
 /// Where it answers, evaluation of the plan on the rows as taken gives the reply, the held stripes and their rows now.
 /// On any relation of which the rows as taken are fragments the plain step gives the same reply, the call touches
@@ -68,25 +69,28 @@ pub fn run_plan<H: Reverts>(
 ///
 /// A call of an operation that has an access path costs its first Locks, each of which hashes its tuple, once for each
 /// class, or takes all stripes of a class, and then: a query one look-up, or the rows of one source; an insert one look-up,
-/// and where it finds no row a change in each edge whose rows are kept; a remove one look-up, and where it finds a row the
-/// removed tuple's block, its late Locks, each of which hashes that tuple, and as many changes; an update one look-up, and
-/// where it finds a row the old tuple's block and twice as many changes in the classes in which the two tuples don't have
-/// all rows alike. Other calls cost, for each Read and binding, a look-up or the rows of one source, on one stripe where
-/// the binding chooses it and else on each of the class; and for an Apply a change in each edge whose rows are kept. A
-/// look-up at an edge whose rows another's tell takes a step more for each row of its source that the holder's changes took
-/// out. What the workspace has is of no matter.
+/// and where it finds no row a change in each edge whose rows are kept; a remove one look-up, and where it finds a row its
+/// late Locks, each of which hashes the removed tuple, and as many changes; an update one look-up, and where it finds a row
+/// twice as many changes in the classes in which the two tuples don't have all rows alike. The tuple that a remove or an
+/// update answers takes a block, where the space has none of an earlier reply in whose place another was told. Other calls
+/// cost, for each Read and binding, a look-up or the rows of one source, on one stripe where the binding chooses it and
+/// else on each of the class; and for an Apply a change in each edge whose rows are kept. A look-up at an edge whose rows
+/// another's tell takes a step more for each row of its source that the holder's changes took out. What the workspace has
+/// is of no matter.
 pub fn run_statements<H: Holder>(
     compiled: &Compiled,
     call: &Call,
     space: &mut Workspace,
     holder: &mut H,
-) -> Result<Reply, Stop>
+    reply: &mut Reply,
+) -> Result<(), Stop>
     requires fits { Fits compiled.now.spec call.now }
     requires sound { H.is_sound holder.old compiled.now.spec }
     requires free { held_of (H.seen holder.old) ≡ [] }
     requires lent { (lock : StripeLock) → IsNamedBy compiled.now.spec call.now.args (plan_at compiled.now.plans call.now.op) lock
         → MayTake (H.seen holder.old).lends lock.0 lock.1 }
-    ensures answered { IfOk result (HasAnswered compiled.now call.now (H.seen holder.new)) }
+    ensures answered { OnOk result (HasAnswered compiled.now call.now (H.seen holder.new) reply.new) }
+    ensures kept { OnErr result (reply.new ≡ reply.old) }
     ensures taken { AreTakenAsOffered (H.seen holder.new) }
     ensures stopped { (h : Held) → result ≡ Err (stop.Held h) → AreAsTaken (held_of (H.seen holder.new)) }
     ensures refused { (h : Held) → result ≡ Err (stop.Held h)
@@ -96,7 +100,7 @@ pub fn run_statements<H: Holder>(
     ensures sound { (spec : Spec) → H.is_sound holder.old spec → H.is_sound holder.new spec }
 {
     let Some(path) = compiled.access_path(call.op) else {
-        return run_in_turn(compiled, call, space, holder);
+        return run_in_turn(compiled, call, space, holder, reply);
     };
     // What is compiled is accepted.
     let _ = compiled.accepted();
@@ -104,7 +108,7 @@ pub fn run_statements<H: Holder>(
     lock_arguments(holder, compiled, call, plan, path.locks, space)?;
     let class = compiled.edge(path.edge).class;
     let stripe = find_stripe(compiled, class, &call.args, &mut space.class_stripes)?;
-    answer_by_path(holder, compiled, call, path, stripe, space)
+    answer_by_path(holder, compiled, call, path, stripe, space, reply)
 }
 
 /// Runs the statements one after another, up to the one that answers.
@@ -113,13 +117,15 @@ fn run_in_turn<H: Holder>(
     call: &Call,
     space: &mut Workspace,
     holder: &mut H,
-) -> Result<Reply, Stop>
+    reply: &mut Reply,
+) -> Result<(), Stop>
     requires fits { Fits compiled.now.spec call.now }
     requires sound { H.is_sound holder.old compiled.now.spec }
     requires free { held_of (H.seen holder.old) ≡ [] }
     requires lent { (lock : StripeLock) → IsNamedBy compiled.now.spec call.now.args (plan_at compiled.now.plans call.now.op) lock
         → MayTake (H.seen holder.old).lends lock.0 lock.1 }
-    ensures answered { IfOk result (HasAnswered compiled.now call.now (H.seen holder.new)) }
+    ensures answered { OnOk result (HasAnswered compiled.now call.now (H.seen holder.new) reply.new) }
+    ensures kept { OnErr result (reply.new ≡ reply.old) }
     ensures taken { AreTakenAsOffered (H.seen holder.new) }
     ensures stopped { (h : Held) → result ≡ Err (stop.Held h) → AreAsTaken (held_of (H.seen holder.new)) }
     ensures refused { (h : Held) → result ≡ Err (stop.Held h)
@@ -134,8 +140,9 @@ fn run_in_turn<H: Holder>(
     space.bindings.begin(call.args.cols());
     space.bindings.push_projection(&call.args)?;
     for at in 0..plan.len() {
-        if let Some(reply) = step(alloc, holder, compiled, call, plan, at, space)? {
-            return Ok(reply);
+        if let Some(answer) = step(alloc, holder, compiled, call, plan, at, space)? {
+            space.finder.tell(reply, answer);
+            return Ok(());
         }
     }
     unreachable!()

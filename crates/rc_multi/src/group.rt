@@ -163,8 +163,9 @@ fn run_offered<O: Starts, H: Holder>(
         ≡ all_taken (held_of (H.seen offered.old.holder.now)) }
     ensures lent { IsSameButLent (H.seen offered.old.holder.now) (H.seen offered.new.holder.now) }
 {
-    match run_statements(compiled, call, space, offered) {
-        Ok(reply) => Ok(reply),
+    let mut reply = Reply::Absent;
+    match run_statements(compiled, call, space, offered, &mut reply) {
+        Ok(()) => Ok(reply),
         Err(Stop::Memory) => Err(Memory),
         Err(Stop::Held(_)) => unreachable!(),
     }

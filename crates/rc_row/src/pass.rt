@@ -47,12 +47,14 @@ impl Model for Pass {
 impl Pass {
     /// Hands out the space with which the pass runs plans, whose memory the next run uses again; `put_space` gives it back.
     /// Takes memory only where the pass has none: the first time, and while its space is handed out.
+    // Each call takes it: in its caller's place that is a move.
+    #[inline(always)]
     pub fn take_space(&mut self) -> Result<Box<Workspace>, Memory>
         ensures { self.new ≡ self.old }
     {
         match self.space.take() {
             Some(space) => Ok(space),
-            None => Ok(Box::new(self.alloc, Workspace::new(self.alloc))?),
+            None => new_space(self.alloc),
         }
     }
 
@@ -113,6 +115,13 @@ impl Pass {
             None => Ok(()),
         }
     }
+}
+
+/// A space in a block of its own.
+// The first call of a pass alone makes one.
+#[inline(never)]
+fn new_space(alloc: Global) -> Result<Box<Workspace>, Memory> {
+    Ok(Box::new(alloc, Workspace::new(alloc))?)
 }
 
 /// What a pass had seen, to be learned by another pass of its row.

@@ -12,6 +12,8 @@ use Rattle.rc_plan.specs.NamedStripes.{IsNamedBy}
 use Rattle.rc_spec.specs.Locks.{StripeLock}
 use Rattle.rc_plan.specs.Turns.{with_plans}
 use Rattle.rc_core.specs.declared.state.Hold.{Hold}
+use Rattle.rc_machine.specs.declared.stop.Stop.{Stop}
+use Rattle.rc_machine.specs.declared.stop.Stop.TheVariants as stop
 use Rattle.rc_multi.specs.GroupLocks.{group_locks}
 use Rattle.rc_row.specs.Passes.{PassSeen, RowSeen, compiled_of, core_of, spec_of}
 use Rattle.rc_row.specs.Standings.{KeepsOut}
@@ -48,6 +50,11 @@ abbrev pub AreBusy : RowSeen → List Call → PassSeen → PassSeen → ℕ →
 AreBusy row [] old new stripe what = ⊥
 AreBusy row (call ∷ []) old new stripe what = IsBusy row call old new stripe what
 AreBusy row (call ∷ (other ∷ calls)) old new stripe what = IsLockBusy row (group_locks (spec_of row) (with_plans (compiled_of row).plans (call ∷ (other ∷ calls)))) old new stripe what
+
+-- the fault of a call that waits for nobody, by what stopped it
+abbrev pub fault_by : Stop → TryFault
+fault_by stop.Memory = Memory
+fault_by (stop.Held h) = Busy h.stripe h.found
 
 -- Memory may be wanted at any time, but where a step was refused, that is the cause. That a pass is spent is found before anything else is done.
 -- Something is in the way only for that cause.

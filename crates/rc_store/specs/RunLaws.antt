@@ -76,13 +76,13 @@ module _ (waits : Bool) (row other : RowSeen) (begun now : PassSeen) (last : Opt
 
 module _ (waits : Bool) (row : RowSeen) (call : Call) (begun now : PassSeen) (old new : Holding) (quiet : new.refusals ≡ old.refusals → IsUnrefused waits begun now) where
   -- a run that was refused only for causes stopped for a cause
-  pub stopped_so : (answer : Result Reply Stop) → CountsOnlyHeld answer old new
+  pub stopped_so : {T : Type 0} (answer : Result T Stop) → CountsOnlyHeld answer old new
       → ((h : Held) → answer ≡ Err (stop.Held h) → (waits ≡ false) × IsBusy row call begun now h.stripe h.found) → IfErr answer (IsStoppedFor waits row (call ∷ []) begun now)
-  stopped_so (Ok reply) counted busy = tt
+  stopped_so (Ok x) counted busy = tt
   stopped_so (Err stop.Memory) counted busy = quiet counted
   stopped_so (Err (stop.Held h)) counted busy = busy h refl
 
   -- and one that answered was not refused
-  pub answered_so : (answer : Result Reply Stop) → CountsOnlyHeld answer old new → IfOk answer (λ _. IsUnrefused waits begun now)
-  answered_so (Ok reply) counted = quiet counted
+  pub answered_so : {T : Type 0} (answer : Result T Stop) → CountsOnlyHeld answer old new → IfOk answer (λ _. IsUnrefused waits begun now)
+  answered_so (Ok x) counted = quiet counted
   answered_so (Err stop) counted = tt

@@ -23,6 +23,7 @@ use Rattle.rc_row.specs.declared.keeping.Keeping.TheVariants.{Counts, Entries}
 use Rattle.rc_row.specs.Passes.{IsMoreRoom, IsPassOf, PassSeen, RowSeen, compiled_of, core_of, idle, spec_of, with_commit, with_entry}
 use Rattle.rc_row.specs.Standings.{HaveOneRelation, IsAtHistory, KeepsRefusals, with_core}
 use Rattle.rc_store.specs.declared.receipt.GroupReceipt.{GroupReceipt}
+use Rattle.rc_store.specs.declared.receipt.Position.{Position}
 use Rattle.rc_store.specs.declared.receipt.Receipt.{Receipt}
 
 -- a store: its row, and how many entries a pass may make
@@ -116,6 +117,10 @@ pub record HasMade (store : StoreSeen) (call : Call) (reply : Reply) (old new : 
 -- it was made with some reply
 abbrev pub HasReceipt : StoreSeen → Call → PassSeen → PassSeen → Receipt → Type 0
 HasReceipt store call old new receipt = (reply : Reply) × HasMade store call reply old new receipt
+
+-- the receipt of an entry at this position, with the reply
+abbrev pub receipt_at : Position → Reply → Receipt
+receipt_at at reply = record { place = at.place; nth = at.nth; reply = Some reply }
 
 -- the one entry of these steps was committed behind the history of that moment, and all was given back
 pub record IsFinished (row : RowSeen) (steps : List Step) (old new : PassSeen) (place nth : ℕ) : Type 0 where

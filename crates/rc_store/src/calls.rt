@@ -1,22 +1,22 @@
 //! Calls.
 
-ghost use Rattle.std.specs.Prelude.{◌≡◌, ◌<◌, ◌↔◌, [], ◌∷◌, Err, IfErr, IfOk, IsTrue, length};
+ghost use Rattle.std.specs.Prelude.{◌≡◌, ◌<◌, ◌↔◌, [], ◌∷◌, Err, IfErr, IfOk, IsTrue, OnErr, length};
 ghost use Rattle.rc_row.specs.Passes.{core_of};
+ghost use Rattle.rc_row.specs.declared.keeping.Keeping.TheVariants.{Counts};
 ghost use Rattle.rc_store.specs.Busy.{HasCause};
 ghost use Rattle.rc_store.specs.Runs.{IsStoppedFor};
-ghost use Rattle.rc_store.specs.Store.{HasReceipt, IsAsBefore, IsFree, MayCall};
+ghost use Rattle.rc_store.specs.Store.{HasMade, HasReceipt, IsAsBefore, IsFree, MayCall, receipt_at};
 ghost use Rattle.rc_store.specs.declared.receipt.TryFault.TheVariants as fault;
 ghost use Rattle.rc_store.specs.declared.receipt.CallFault.TheVariants as waited;
 
 use crate::gate::{Gate, OpenGate, Point};
-use crate::receipt::{CallFault, Receipt, TryFault};
+use crate::receipt::{CallFault, Position, Receipt, TryFault};
 use crate::store::Store;
 use crate::taking::{AtOnce, Patiently, Takes};
 use crate::wakes::{Wakes, Waking};
-use rc_fragment::Held;
 use rc_machine::Stop;
 use rc_row::Pass;
-use rc_spec::Call;
+use rc_spec::{Call, Reply};
 use std::sync::Wait;
 
 impl<W: Wakes> Store<W> {
@@ -42,11 +42,36 @@ impl<W: Wakes> Store<W> {
             return Err(TryFault::Spent);
         }
         let taking = AtOnce { wakes: &self.wakes };
-        match self.make(pass, call, &taking, &OpenGate) {
-            Ok(receipt) => Ok(receipt),
-            Err(Stop::Memory) => Err(TryFault::Memory),
-            Err(Stop::Held(Held { stripe, found })) => Err(TryFault::Busy { stripe, found }),
+        Ok(self.make(pass, call, &taking, &OpenGate)?)
+    }
+
+    /// Makes a call as `try_call` does, in a store whose passes keep no entries, and tells the reply into a place that the
+    /// caller lends: so one place serves many calls. The receipt is that of this position with this reply, and means what
+    /// it means there. After any fault the reply that stood in the place stands there still, and all else is as said of
+    /// `try_call`, with the same causes. Costs what the plan costs and a few atomic steps a stripe; no call is copied.
+    /// Where a reply is told, what stood in its place is let go, but for its tuple, if it had one, whose memory the pass
+    /// keeps for the next that it answers.
+    pub fn try_call_into(
+        &self,
+        pass: &mut Pass,
+        call: &Call,
+        reply: &mut Reply,
+    ) -> Result<Position, TryFault>
+        requires may { MayCall self.now pass.old call.now }
+        requires counts { self.now.row.keeping ≡ Counts }
+        ensures free { IsFree self.now pass.new }
+        ensures made { IfOk result (λ at. HasMade self.now call.now reply.new pass.old pass.new (receipt_at at reply.new)) }
+        ensures kept { OnErr result (reply.new ≡ reply.old) }
+        ensures before { IfErr result (λ _. IsAsBefore pass.old pass.new) }
+        ensures spent { result ≡ Err fault.Spent ↔ length (core_of pass.old).own ≡ self.now.limit }
+        ensures cause { IfErr result (HasCause self.now.row (call.now ∷ []) pass.old pass.new) }
+    {
+        if self.is_spent(pass) {
+            return Err(TryFault::Spent);
         }
+        let taking = AtOnce { wakes: &self.wakes };
+        self.prepare(pass, call, &taking, reply)?;
+        Ok(self.commit_call(pass, call, reply, &OpenGate))
     }
 
     /// Whether the pass has made as many entries as the store lets it.
@@ -73,7 +98,8 @@ impl<W: Wakes> Store<W> {
     {
         pass.held_agrees();
         gate.at(pass.number(), Point::BeforeLocks);
-        let reply = self.prepare(pass, call, taking)?;
+        let mut reply = Reply::Absent;
+        self.prepare(pass, call, taking, &mut reply)?;
         Ok(self.finish(pass, call, reply, gate)?)
     }
 }

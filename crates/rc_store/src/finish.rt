@@ -1,14 +1,14 @@
 //! The end of a call.
 
-ghost use Rattle.std.specs.Prelude.{◌≡◌, IfOk, OnErr};
+ghost use Rattle.std.specs.Prelude.{◌≡◌, IfOk, None, OnErr};
 ghost use Rattle.rc_rel.specs.History.{with_replies};
 ghost use Rattle.rc_core.specs.Passes.{next_of};
 ghost use Rattle.rc_row.specs.Passes.{IsPassOf, core_of, idle};
 ghost use Rattle.rc_store.specs.Prepared.{IsReady};
-ghost use Rattle.rc_store.specs.Store.{IsCallFinished, one_step};
+ghost use Rattle.rc_store.specs.Store.{IsCallFinished, IsFinished, one_step};
 
 use crate::gate::Gate;
-use crate::receipt::Receipt;
+use crate::receipt::{Position, Receipt};
 use crate::store::Store;
 use crate::wakes::Wakes;
 use rc_rel::{Entry, Step, Steps};
@@ -67,12 +67,30 @@ impl<W: Wakes> Store<W> {
         ensures pass { IsPassOf self.now.row pass.new }
         ensures finished { IsCallFinished self.now.row call.now pass.old pass.new reply result }
     {
-        let at = self.commit_counted(pass, slice::from_ref(call), slice::from_ref(&reply), gate);
+        let at = self.commit_call(pass, call, &reply, gate);
         Receipt {
             place: at.place,
             nth: at.nth,
             reply: Some(reply),
         }
+    }
+
+    /// Does so where the pass keeps no entries and the reply stands elsewhere, and answers where the entry stands. It takes no
+    /// memory.
+    pub(crate) fn commit_call<G: Gate>(
+        &self,
+        pass: &mut Pass,
+        call: &Call,
+        reply: &Reply,
+        gate: &G,
+    ) -> Position
+        requires pass { IsPassOf self.now.row pass.old }
+        requires ready { IsReady self.now.row (one_step call.now reply.now) pass.old }
+        requires counts { pass.old.kept ≡ None }
+        ensures pass { IsPassOf self.now.row pass.new }
+        ensures finished { IsFinished self.now.row (one_step call.now reply.now) pass.old pass.new result.place result.nth }
+    {
+        self.commit_counted(pass, slice::from_ref(call), slice::from_ref(reply), gate)
     }
 }
 

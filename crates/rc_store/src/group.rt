@@ -18,7 +18,6 @@ use crate::receipt::{CallFault, GroupReceipt, TryFault};
 use crate::store::Store;
 use crate::taking::{AtOnce, Patiently, Takes};
 use crate::wakes::{Wakes, Waking};
-use rc_fragment::Held;
 use rc_machine::Stop;
 use rc_multi::{calls_that_fit_have_operations, group_locks};
 use rc_row::Pass;
@@ -54,11 +53,7 @@ impl<W: Wakes> Store<W> {
             return Err(TryFault::Spent);
         }
         let taking = AtOnce { wakes: &self.wakes };
-        match self.make_all(pass, calls, &taking, &OpenGate) {
-            Ok(receipt) => Ok(receipt),
-            Err(Stop::Memory) => Err(TryFault::Memory),
-            Err(Stop::Held(Held { stripe, found })) => Err(TryFault::Busy { stripe, found }),
-        }
+        Ok(self.make_all(pass, calls, &taking, &OpenGate)?)
     }
 
     /// Makes calls as one for a pass that isn't spent. It takes stripes as said, and tells the gate of its points.
@@ -121,7 +116,8 @@ impl<W: Wakes> Store<W> {
         ensures cause { IfErr result (IsStoppedFor T.waits self.now.row (call.now ∷ []) pass.old pass.new) }
     {
         pass.held_agrees();
-        let reply = self.prepare(pass, call, taking)?;
+        let mut reply = Reply::Absent;
+        self.prepare(pass, call, taking, &mut reply)?;
         match list_of(self.alloc, reply) {
             Ok(replies) => Ok(replies),
             Err(Memory) => {

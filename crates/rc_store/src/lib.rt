@@ -35,7 +35,7 @@ pub use laws::{
     resumed_histories_are_one, telling_goes_on,
 };
 pub use open_group::{OpenBack, OpenGroup};
-pub use receipt::{BeginBack, CallFault, GroupReceipt, Receipt, TryFault};
+pub use receipt::{BeginBack, CallFault, GroupReceipt, Position, Receipt, TryFault};
 pub use resume::ResumeBack;
 pub use running::Running;
 pub use running_group::RunningGroup;

@@ -1,5 +1,10 @@
 //! What calls answer.
 
+ghost use Rattle.std.specs.Prelude.{◌≡◌};
+ghost use Rattle.rc_store.specs.Busy.{fault_by};
+
+use rc_fragment::Held;
+use rc_machine::Stop;
 use rc_row::Pass;
 use rc_spec::{Found, Reply};
 use rc_tuple::SmallList;
@@ -29,10 +34,12 @@ pub struct GroupReceipt {
 }
 
 /// Where an entry stands.
-#[derive(Clone, Copy)]
-pub(crate) struct Position {
-    pub(crate) place: u64,
-    pub(crate) nth: u64,
+#[derive(Clone, Copy, Debug, PartialEq, Eq)]
+pub struct Position {
+    /// Its place in the history, counted from 0.
+    pub place: u64,
+    /// Its number among the pass's own entries, counted from 0.
+    pub nth: u64,
 }
 
 /// Why a call that waits for nobody has no receipt. History, fragments and the pass's own entries are as before, and the
@@ -50,6 +57,17 @@ pub enum TryFault {
     },
     /// The pass has made as many entries as the store lets it.
     Spent,
+}
+
+impl From<Stop> for TryFault {
+    ghost from_gives = { λ stop fault. fault ≡ fault_by stop };
+
+    fn from(stop: Stop) -> Self {
+        match stop {
+            Stop::Memory => TryFault::Memory,
+            Stop::Held(Held { stripe, found }) => TryFault::Busy { stripe, found },
+        }
+    }
 }
 
 /// A pass whose call was not begun, and why. It holds nothing; its entries and what it has seen are as before.

@@ -155,7 +155,8 @@ impl<W: Wakes> Store<W> {
     {
         pass.held_agrees();
         let taking = AtOnce { wakes: &self.wakes };
-        let reply = self.prepare(pass, call, &taking)?;
+        let mut reply = Reply::Absent;
+        self.prepare(pass, call, &taking, &mut reply)?;
         match prepared_of(self.alloc, self.row.keeping(), pass, call, reply) {
             Ok(prepared) => Ok(prepared),
             Err(Memory) => {

@@ -1,6 +1,6 @@
 //! The steps of a call.
 
-ghost use Rattle.std.specs.Prelude.{◌≡◌, ◌<◌, [], ◌∷◌, IfErr, IfOk, None, length};
+ghost use Rattle.std.specs.Prelude.{◌≡◌, ◌<◌, [], ◌∷◌, IfErr, None, OnErr, OnOk, length};
 ghost use Rattle.rc_rel.specs.History.{with_replies};
 ghost use Rattle.rc_core.specs.Passes.{next_of};
 ghost use Rattle.rc_row.specs.Passes.{AreAtRest, IsPassOf, compiled_of, core_of, idle};
@@ -21,32 +21,34 @@ use rc_row::Pass;
 use rc_spec::{Call, Reply};
 
 impl<W: Wakes> Store<W> {
-    /// Makes room for the call's entry and runs its plan up to the commit. After a stop the pass holds nothing, and all is as
-    /// before.
+    /// Makes room for the call's entry and runs its plan up to the commit, and tells the reply. After a stop the pass holds
+    /// nothing, and all is as before, the reply too.
     pub(crate) fn prepare<T: Takes>(
         &self,
         pass: &mut Pass,
         call: &Call,
         taking: &T,
-    ) -> Result<Reply, Stop>
+        reply: &mut Reply,
+    ) -> Result<(), Stop>
         requires may { MayCall self.now pass.old call.now }
         requires left { length (core_of pass.old).own < self.now.limit }
         ensures pass { IsPassOf self.now.row pass.new }
-        ensures ok { IfOk result (λ reply. IsPrepared self.now.row (one_step call.now reply) pass.old pass.new) }
-        ensures exact { IfOk result (λ reply. HoldsExactly (compiled_of self.now.row) (core_of pass.new) (one_step call.now reply)) }
-        ensures unrefused { IfOk result (λ _. IsUnrefused T.waits pass.old pass.new) }
-        ensures err { IfErr result (λ _. IsAsBefore pass.old pass.new) }
+        ensures ok { OnOk result (IsPrepared self.now.row (one_step call.now reply.new) pass.old pass.new) }
+        ensures exact { OnOk result (HoldsExactly (compiled_of self.now.row) (core_of pass.new) (one_step call.now reply.new)) }
+        ensures unrefused { OnOk result (IsUnrefused T.waits pass.old pass.new) }
+        ensures kept { OnErr result (reply.new ≡ reply.old) }
+        ensures err { OnErr result (IsAsBefore pass.old pass.new) }
         ensures cause { IfErr result (IsStoppedFor T.waits self.now.row (call.now ∷ []) pass.old pass.new) }
     {
         pass.held_agrees();
         pass.reserve()?;
-        let answer = run_call(&self.row, &self.compiled, call, pass, taking);
-        // The answer is handed on as it is: taken apart and put together again, the reply would be moved twice.
-        if answer.is_ok() {
-            return answer;
+        match run_call(&self.row, &self.compiled, call, pass, taking, reply) {
+            Ok(()) => Ok(()),
+            Err(stop) => {
+                self.give_back(pass);
+                Err(stop)
+            }
         }
-        self.give_back(pass);
-        answer
     }
 
     /// Takes back what the pass changed and didn't commit, and gives back all that it holds.

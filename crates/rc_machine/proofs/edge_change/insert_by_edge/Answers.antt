@@ -8,10 +8,11 @@ use Rattle.rc_fragment.specs.Holder.{AreOfOneRelation, CanRaiseNew, HasRoomFor, 
 use Rattle.rc_fragment.specs.Tuples.{IsFirstKept}
 use Rattle.rc_fragment.specs.declared.shape.EdgeShape.{EdgeShape}
 use Rattle.rc_machine.specs.Apply.{HaveRoom, IsSameButLent}
-use Rattle.rc_machine.specs.Machine.{HasReplied}
+use Rattle.rc_machine.specs.Access.{HasAnsweredByPath}
+use Rattle.rc_machine.specs.Machine.{HasReplied, told_answer}
 use Rattle.rc_plan.specs.Compiled.{plan_at}
 use Rattle.rc_machine.specs.declared.stripe.ClassStripe.{ClassStripe}
-use Rattle.rc_machine.proofs.EdgeChangeLemmas.{insert_replies, present_replies, unanswered}
+use Rattle.rc_machine.proofs.EdgeChangeLemmas.{done, insert_replies, present_replies, unanswered}
 use Rattle.rc_machine.proofs.GoLemmas.{applied_told, told_alike}
 use Rattle.rc_machine.proofs.InsertLemmas.{all_added, first_can, first_columns, first_exclusive, first_held, first_known, first_room, first_used, half_alike, half_lent, half_table, left_can, left_places, not_none, nowhere, somewhere, table, table_known, whole}
 use Rattle.rc_machine.proofs.LentLemmas.{lent_again, lent_goes_on}
@@ -105,12 +106,12 @@ returns-in-Err-There-clause-answered g c =
     let found = somewhere c.args.compiled.now c.args.call.now c.args.path c.args.stripe (g.H.Holder.seen c.args.holder.now) c.requires.locked (one g at.Start) c.requires.insert c.deref.result.now (c.deref.ensures.value ∙ c.in_ok-place_classes_from.ensures) c.in-Some.first.now c.in-Some.others.now c.in-Some.ensures.cases.0 (g.H.Holder.seen c.make_room.new.holder) c.in_ok-make_room.ensures.held c.in_ok-make_room.ensures.lent (roomy g at.In_ok-make_room) c.fragment-fragment.result.now c.fragment-fragment.ensures there.0 in
     let held : held_of new ≡ held_of old = ap held_of there.1 ∙ c.in_ok-make_room.ensures.held in
     let lent : IsSameButLent old new = subst (IsSameButLent old) (sym there.1) c.in_ok-make_room.ensures.lent in
-    record {
+    subst (λ reply. HasAnsweredByPath c.args.compiled.now c.args.call.now old new (told_answer done reply)) (sym c.tell.ensures) (record {
       answered = subst (λ z. HasReplied c.args.compiled.now.spec (plan_at c.args.compiled.now.plans c.args.call.now.op) c.args.call.now z Present) (sym held)
           (present_replies c.args.compiled.now c.args.call.now c.args.path c.args.stripe (g.H.Holder.seen c.args.holder.now) c.requires.locked (one g at.Start) c.requires.insert c.fragment-fragment.result.now c.fragment-fragment.ensures found.0 found.1);
       taken = told_alike old new (lent_goes_on old new lent) (ap (map reverted) held) c.requires.locked.taken;
       lent = lent;
-    }
+    })
 
 pub returns-in-Err-Memory-clause-answered : goal.returns-in-Err-Memory-clause-answered
 returns-in-Err-Memory-clause-answered g c =
@@ -141,7 +142,7 @@ returns-in_err-add_placed-clause-answered g c =
     let half = g.H.Holder.seen c.add_new_tuple.new.self in
     let new = g.H.Holder.seen c.add_placed.new.holder in
     let lent : IsSameButLent old new = lent_again old half new (half_lent c.args.compiled.now c.args.call.now c.args.path c.args.stripe (g.H.Holder.seen c.args.holder.now) c.requires.locked (one g at.Start) c.requires.insert c.deref.result.now (c.deref.ensures.value ∙ c.in_ok-place_classes_from.ensures) c.in-Some.first.now c.in-Some.others.now c.in-Some.ensures.cases.0 (g.H.Holder.seen c.make_room.new.holder) c.in_ok-make_room.ensures.held c.in_ok-make_room.ensures.lent (roomy g at.In_ok-make_room) c.fragment-fragment.result.now c.fragment-fragment.ensures c.in-Ok.ensures.none (g.H.Holder.seen c.add_new_tuple.new.self) (added g at.In-Ok)) c.in_err-add_placed.ensures.lent in
-    unanswered c.args.compiled.now c.args.call.now old new c.from_residual-in_err-add_placed.result c.from_residual-in_err-add_placed.ensures.0
+    unanswered c.args.compiled.now c.args.call.now old new c.from_residual-in_err-add_placed.result c.args.reply.now c.from_residual-in_err-add_placed.ensures.0
     (told_alike old new (lent_goes_on old new lent) (c.in_err-add_placed.ensures.alike ∙ half_alike c.args.compiled.now c.args.call.now c.args.path c.args.stripe (g.H.Holder.seen c.args.holder.now) c.requires.locked (one g at.Start) c.requires.insert c.deref.result.now (c.deref.ensures.value ∙ c.in_ok-place_classes_from.ensures) c.in-Some.first.now c.in-Some.others.now c.in-Some.ensures.cases.0 (g.H.Holder.seen c.make_room.new.holder) c.in_ok-make_room.ensures.held c.in_ok-make_room.ensures.lent (roomy g at.In_ok-make_room) c.fragment-fragment.result.now c.fragment-fragment.ensures c.in-Ok.ensures.none (g.H.Holder.seen c.add_new_tuple.new.self) (added g at.In-Ok)) c.requires.locked.taken) lent
 
 pub returns-clause-answered : goal.returns-clause-answered
@@ -154,8 +155,8 @@ returns-clause-answered g c =
     let lent : IsSameButLent old new = lent_again old half new (half_lent c.args.compiled.now c.args.call.now c.args.path c.args.stripe (g.H.Holder.seen c.args.holder.now) c.requires.locked (one g at.Start) c.requires.insert c.deref.result.now (c.deref.ensures.value ∙ c.in_ok-place_classes_from.ensures) c.in-Some.first.now c.in-Some.others.now c.in-Some.ensures.cases.0 (g.H.Holder.seen c.make_room.new.holder) c.in_ok-make_room.ensures.held c.in_ok-make_room.ensures.lent (roomy g at.In_ok-make_room) c.fragment-fragment.result.now c.fragment-fragment.ensures c.in-Ok.ensures.none (g.H.Holder.seen c.add_new_tuple.new.self) (added g at.In-Ok)) c.in_ok-add_placed.ensures.lent in
     let all = all_added c.args.compiled.now c.args.call.now c.args.path c.args.stripe (g.H.Holder.seen c.args.holder.now) c.requires.locked (one g at.Start) c.requires.insert c.deref.result.now (c.deref.ensures.value ∙ c.in_ok-place_classes_from.ensures) c.in-Some.first.now c.in-Some.others.now c.in-Some.ensures.cases.0 (g.H.Holder.seen c.make_room.new.holder) c.in_ok-make_room.ensures.held c.in_ok-make_room.ensures.lent (roomy g at.In_ok-make_room) c.fragment-fragment.result.now c.fragment-fragment.ensures c.in-Ok.ensures.none (g.H.Holder.seen c.add_new_tuple.new.self) (added g at.In-Ok) (held_of new) c.in_ok-add_placed.ensures.ok in
     let sound = c.in_ok-add_placed.ensures.sound spec (c.in-Ok.ensures.sound spec (c.in_ok-make_room.ensures.sound spec c.requires.sound)) in
-    record {
+    subst (λ reply. HasAnsweredByPath c.args.compiled.now c.args.call.now old new (told_answer done reply)) (sym c.tell-2.ensures) (record {
       answered = insert_replies c.args.compiled.now c.args.call.now c.args.path c.args.stripe (g.H.Holder.seen c.args.holder.now) c.requires.locked (one g at.Start) c.requires.insert c.fragment-fragment.result.now c.fragment-fragment.ensures (nowhere c.args.compiled.now c.args.call.now c.args.path c.args.stripe (g.H.Holder.seen c.args.holder.now) c.requires.locked (one g at.Start) c.requires.insert c.deref.result.now (c.deref.ensures.value ∙ c.in_ok-place_classes_from.ensures) c.in-Some.first.now c.in-Some.others.now c.in-Some.ensures.cases.0 (g.H.Holder.seen c.make_room.new.holder) c.in_ok-make_room.ensures.held c.in_ok-make_room.ensures.lent (roomy g at.In_ok-make_room) c.fragment-fragment.result.now c.fragment-fragment.ensures c.in-Ok.ensures.none) (held_of new) all (g.met.H.Holder.sound_rows c.add_placed.new.holder spec sound);
       taken = applied_told spec Insert c.args.call.now.args None [] old new Inserted (refl, all) (lent_goes_on old new lent) c.requires.locked.taken;
       lent = lent;
-    }
+    })

@@ -5,8 +5,9 @@ use Rattle.rc_spec.specs.declared.items.OpKind.TheVariants.{Insert}
 use Rattle.rc_spec.specs.declared.spec.Spec.{Spec}
 use Rattle.rc_fragment.specs.Fragment.{shape_of}
 use Rattle.rc_fragment.specs.Holder.{AreOfOneRelation, held_of}
-use Rattle.rc_machine.specs.Access.{IsRowFound}
-use Rattle.rc_machine.proofs.EdgeChangeLemmas.{can_insert, insert_replies, present_replies, unanswered}
+use Rattle.rc_machine.specs.Access.{HasAnsweredByPath, IsRowFound}
+use Rattle.rc_machine.specs.Machine.{told_answer}
+use Rattle.rc_machine.proofs.EdgeChangeLemmas.{can_insert, done, insert_replies, present_replies, unanswered}
 use Rattle.rc_machine.proofs.EdgeRowLemmas.{nothing_told, values_told}
 use Rattle.rc_machine.proofs.GoLemmas.{applied_told, told_alike}
 use Rattle.rc_machine.proofs.LentLemmas.{lent_goes_on}
@@ -41,12 +42,13 @@ pub returns-then-is_some-clause-answered : goal.returns-then-is_some-clause-answ
 returns-then-is_some-clause-answered g c =
     let at = goal.at.returns-then-is_some-clause-answered g c in
     let told = values_told c.in_ok-find_row.field-0 (sym c.is_some.ensures ∙ c.if-is_some.true) in
-    record {
+    let old = g.H.Holder.seen c.args.holder.now in
+    subst (λ reply. HasAnsweredByPath c.args.compiled.now c.args.call.now old old (told_answer done reply)) (sym c.tell.ensures) (record {
       answered = present_replies c.args.compiled.now c.args.call.now c.args.path c.args.stripe (g.H.Holder.seen c.args.holder.now) c.requires.locked (one g at.Start) c.requires.insert c.fragment-fragment.result.now c.fragment-fragment.ensures told.0
           (subst (IsLooked g at.In_ok-find_row) told.1 (looked g at.In_ok-find_row));
       taken = c.requires.locked.taken;
       lent = refl;
-    }
+    })
 
 pub add_rows-requires-clause-can : goal.add_rows-requires-clause-can
 add_rows-requires-clause-can g c =
@@ -58,7 +60,7 @@ returns-in_err-add_rows-clause-answered g c =
     let old = g.H.Holder.seen c.args.holder.now in
     let new = g.H.Holder.seen c.add_rows.new.holder in
     let failed = c.in_err-add_rows.ensures in
-    unanswered c.args.compiled.now c.args.call.now old new c.from_residual-in_err-add_rows.result c.from_residual-in_err-add_rows.ensures.0
+    unanswered c.args.compiled.now c.args.call.now old new c.from_residual-in_err-add_rows.result c.args.reply.now c.from_residual-in_err-add_rows.ensures.0
     (told_alike old new (lent_goes_on old new failed.lent) failed.alike c.requires.locked.taken) failed.lent
 
 pub returns-clause-answered : goal.returns-clause-answered
@@ -68,9 +70,9 @@ returns-clause-answered g c =
     let old = g.H.Holder.seen c.args.holder.now in
     let new = g.H.Holder.seen c.add_rows.new.holder in
     let added = c.in_ok-add_rows.ensures in
-    record {
+    subst (λ reply. HasAnsweredByPath c.args.compiled.now c.args.call.now old new (told_answer done reply)) (sym c.tell-2.ensures) (record {
       answered = insert_replies c.args.compiled.now c.args.call.now c.args.path c.args.stripe (g.H.Holder.seen c.args.holder.now) c.requires.locked (one g at.Start) c.requires.insert c.fragment-fragment.result.now c.fragment-fragment.ensures (nowhere g at.Else-is_some)
           (held_of new) added.ok (g.met.H.Holder.sound_rows c.add_rows.new.holder spec (added.sound spec c.requires.sound));
       taken = applied_told spec Insert c.args.call.now.args None [] old new Inserted (refl, added.ok) (lent_goes_on old new added.lent) c.requires.locked.taken;
       lent = added.lent;
-    }
+    })

@@ -1,20 +1,21 @@
-use Rattle.std.proofs.Common.{◌≡◌, ◌∷◌, Err, List, None, Ok, Option, Some, ap, drop, filter, map, refl, subst, sym, take, []}
+use Rattle.std.proofs.Common.{◌≡◌, ◌∷◌, Err, List, None, Option, Some, ap, drop, filter, map, refl, subst, sym, take, []}
 use Rattle.rc_tuple.specs.RisingSet.{In}
 use Rattle.rc_tuple.specs.Tuple.{Pairs, cols_of, matches}
 use Rattle.rc_spec.specs.Calls.{all_columns}
 use Rattle.rc_spec.specs.CallsLaws.{fits_at_op}
 use Rattle.rc_spec.specs.Decomposition.{bound, edge_at, source_and_key}
-use Rattle.rc_spec.specs.declared.call.Reply.TheVariants.{Removed}
+use Rattle.rc_spec.specs.declared.call.Reply.TheVariants.{Absent, Removed}
 use Rattle.rc_spec.specs.declared.items.OpKind.TheVariants.{Remove}
 use Rattle.rc_spec.specs.declared.spec.Spec.{Spec}
 use Rattle.rc_fragment.specs.Fragment.{shape_of}
 use Rattle.rc_fragment.specs.Holder.{AreOfOneRelation, HeldStripe, held_of, reverted}
 use Rattle.rc_plan.specs.Compiled.{plan_at}
 use Rattle.rc_plan.specs.declared.statement.Statement.{Statement}
-use Rattle.rc_machine.specs.Access.{IsTupleFound}
+use Rattle.rc_machine.specs.Access.{HasRunByPath, IsTupleFound}
+use Rattle.rc_machine.specs.Machine.{told_answer}
 use Rattle.rc_machine.proofs.AccessRunLemmas.{lent_over}
 use Rattle.rc_machine.proofs.ArriveLemmas.{ComesToApply}
-use Rattle.rc_machine.proofs.EdgeChangeLemmas.{absent_replies, if_stopped, only_match, remove_given, remove_whole, run_in_place, run_since, run_stopped, stripes_of_removed, unanswered}
+use Rattle.rc_machine.proofs.EdgeChangeLemmas.{absent_replies, done, if_stopped, only_match, remove_given, remove_whole, run_in_place, run_since, run_stopped, stripes_of_removed, unanswered}
 use Rattle.rc_machine.proofs.GoLemmas.{applied_told, told_alike}
 use Rattle.rc_machine.proofs.LateLemmas.{arrives_behind, can_remove, remove_replies}
 use Rattle.rc_machine.proofs.LentLemmas.{lent_goes_on}
@@ -70,12 +71,12 @@ pub returns-in_default-clause-run : goal.returns-in_default-clause-run
 returns-in_default-clause-run g c =
     let at = goal.at.returns-in_default-clause-run g c in
     let old = g.H.Holder.seen c.args.holder.now in
-    run_in_place c.args.compiled.now c.args.call.now old old _ tt (record {
+    subst (λ reply. HasRunByPath c.args.compiled.now c.args.call.now old old (told_answer done reply)) (sym c.tell.ensures) (run_in_place c.args.compiled.now c.args.call.now old old done Absent tt (record {
       answered = absent_replies c.args.compiled.now c.args.call.now c.args.path c.args.stripe old c.requires.locked (one g at.Start) c.requires.remove c.fragment-fragment.result.now c.fragment-fragment.ensures
           (subst (IsLooked g at.In_ok-removed) c.in_default.is (looked g at.In_ok-removed));
       taken = c.requires.locked.taken;
       lent = refl;
-    })
+    }))
 
 pub lock_found-requires-clause-locked : goal.lock_found-requires-clause-locked
 lock_found-requires-clause-locked g c = (c.args.stripe, c.requires.locked)
@@ -123,7 +124,7 @@ pub returns-in_err-lock_found-clause-run : goal.returns-in_err-lock_found-clause
 returns-in_err-lock_found-clause-run g c =
     let failed = c.in_err-lock_found.ensures in
     let given = c.from_residual-in_err-lock_found.ensures in
-    run_stopped c.args.compiled.now c.args.call.now (g.H.Holder.seen c.args.holder.now) (g.H.Holder.seen c.lock_found.new.holder) c.from_residual-in_err-lock_found.result c.in_err-lock_found.field-0.0 given.0 given.1
+    run_stopped c.args.compiled.now c.args.call.now (g.H.Holder.seen c.args.holder.now) (g.H.Holder.seen c.lock_found.new.holder) c.from_residual-in_err-lock_found.result c.args.reply.now c.in_err-lock_found.field-0.0 given.0 given.1
     failed.taken (λ h q. failed.stopped h (ap Err q)) (λ h q. failed.refused h (ap Err q)) failed.counted failed.goes_on
 
 pub sub_rows-requires-clause-can : goal.sub_rows-requires-clause-can
@@ -143,9 +144,10 @@ returns-in_err-sub_rows-clause-run g c =
     let failed = c.in_err-sub_rows.ensures in
     let result = c.from_residual-in_err-sub_rows.result in
     let given = c.from_residual-in_err-sub_rows.ensures in
-    run_since compiled call old mid new result locked.goes_on locked.counted
-    (run_in_place compiled call mid new result (if_stopped result _ given.1)
-    (unanswered compiled call mid new result given.0 (told_alike mid new (lent_goes_on mid new failed.lent) (ap (map reverted) failed.err) locked.taken) failed.lent))
+    let reply = c.args.reply.now in
+    run_since compiled call old mid new (told_answer result reply) locked.goes_on locked.counted
+    (run_in_place compiled call mid new result reply (if_stopped result _ given.1)
+    (unanswered compiled call mid new result reply given.0 (told_alike mid new (lent_goes_on mid new failed.lent) (ap (map reverted) failed.err) locked.taken) failed.lent))
 
 pub returns-clause-run : goal.returns-clause-run
 returns-clause-run g c =
@@ -159,9 +161,10 @@ returns-clause-run g c =
     let gone = c.in_ok-sub_rows.ensures in
     let path = c.requires.locked in
     let answer = Removed c.in-Some.removed in
-    run_since compiled call old mid_seen new (Ok answer) locked.goes_on locked.counted (run_in_place compiled call mid_seen new (Ok answer) tt (record {
+    subst (λ reply. HasRunByPath compiled call old new (told_answer done reply)) (sym c.tell-2.ensures)
+    (run_since compiled call old mid_seen new (told_answer done answer) locked.goes_on locked.counted (run_in_place compiled call mid_seen new done answer tt (record {
       answered = remove_replies (spec g at) path.sealed (plan g at) call path.fits path.planned c.requires.remove (mid g at) (still_one g at) (arrived g at) (c.in-Some.removed ∷ []) (only g at) (held_of new) answer (refl, gone.ok)
           (g.met.H.Holder.sound_rows c.sub_rows.new.holder compiled.spec (gone.sound compiled.spec (locked.sound compiled.spec c.requires.sound)));
       taken = applied_told compiled.spec Remove call.args None (c.in-Some.removed ∷ []) mid_seen new answer (refl, gone.ok) (lent_goes_on mid_seen new gone.lent) locked.taken;
       lent = gone.lent;
-    }))
+    })))

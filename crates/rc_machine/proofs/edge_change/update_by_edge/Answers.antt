@@ -9,9 +9,10 @@ use Rattle.rc_spec.specs.declared.items.OpKind.TheVariants.{Update}
 use Rattle.rc_spec.specs.declared.spec.Spec.{Spec}
 use Rattle.rc_fragment.specs.Fragment.{shape_of}
 use Rattle.rc_fragment.specs.Holder.{AreOfOneRelation, held_of}
-use Rattle.rc_machine.specs.Access.{IsTupleFound}
+use Rattle.rc_machine.specs.Access.{HasAnsweredByPath, IsTupleFound}
+use Rattle.rc_machine.specs.Machine.{told_answer}
 use Rattle.rc_machine.proofs.AccessRunLemmas.{lent_over}
-use Rattle.rc_machine.proofs.EdgeChangeLemmas.{can_update, unanswered, unfound_replies, update_given, update_replies, update_whole}
+use Rattle.rc_machine.proofs.EdgeChangeLemmas.{can_update, done, unanswered, unfound_replies, update_given, update_replies, update_whole}
 use Rattle.rc_machine.proofs.GoLemmas.{applied_told, told_alike}
 use Rattle.rc_machine.proofs.LentLemmas.{lent_goes_on}
 use Rattle.rc_machine.proofs.ReadLemmas.{is_held}
@@ -65,12 +66,13 @@ find_tuple-requires-clause-whole g c =
 pub returns-in_default-clause-answered : goal.returns-in_default-clause-answered
 returns-in_default-clause-answered g c =
     let at = goal.at.returns-in_default-clause-answered g c in
-    record {
+    let old = g.H.Holder.seen c.args.holder.now in
+    subst (λ reply. HasAnsweredByPath c.args.compiled.now c.args.call.now old old (told_answer done reply)) (sym c.tell.ensures) (record {
       answered = unfound_replies c.args.compiled.now c.args.call.now c.args.path c.args.stripe (g.H.Holder.seen c.args.holder.now) c.requires.locked (one g at.Start) c.requires.update c.fragment-fragment.result.now c.fragment-fragment.ensures
           (subst (IsLooked g at.In_ok-old) c.in_default.is (looked g at.In_ok-old));
       taken = c.requires.locked.taken;
       lent = refl;
-    }
+    })
 
 pub replace-requires-clause-can : goal.replace-requires-clause-can
 replace-requires-clause-can g c =
@@ -82,7 +84,7 @@ returns-in_err-replace-clause-answered g c =
     let old = g.H.Holder.seen c.args.holder.now in
     let new = g.H.Holder.seen c.replace.new.holder in
     let failed = c.in_err-replace.ensures in
-    unanswered c.args.compiled.now c.args.call.now old new c.from_residual-in_err-replace.result c.from_residual-in_err-replace.ensures.0
+    unanswered c.args.compiled.now c.args.call.now old new c.from_residual-in_err-replace.result c.args.reply.now c.from_residual-in_err-replace.ensures.0
     (told_alike old new (lent_goes_on old new failed.lent) failed.alike c.requires.locked.taken) failed.lent
 
 pub returns-clause-answered : goal.returns-clause-answered
@@ -91,10 +93,10 @@ returns-clause-answered g c =
     let spec = c.args.compiled.now.spec in
     let old = g.H.Holder.seen c.args.holder.now in
     let new = g.H.Holder.seen c.replace.new.holder in
-    let done = c.in_ok-replace.ensures in
-    record {
+    let put = c.in_ok-replace.ensures in
+    subst (λ reply. HasAnsweredByPath c.args.compiled.now c.args.call.now old new (told_answer done reply)) (sym c.tell-2.ensures) (record {
       answered = update_replies c.args.compiled.now c.args.call.now c.args.path c.args.stripe (g.H.Holder.seen c.args.holder.now) c.requires.locked (one g at.Start) c.requires.update c.fragment-fragment.result.now c.fragment-fragment.ensures
-          c.in-Some.old (replaced g at.In-Some) (held_of new) done.ok (g.met.H.Holder.sound_rows c.replace.new.holder spec (done.sound spec c.requires.sound));
-      taken = applied_told spec Update c.args.call.now.args (Some c.in-Some.old) [] old new (Updated c.in-Some.old) (refl, done.ok) (lent_goes_on old new done.lent) c.requires.locked.taken;
-      lent = done.lent;
-    }
+          c.in-Some.old (replaced g at.In-Some) (held_of new) put.ok (g.met.H.Holder.sound_rows c.replace.new.holder spec (put.sound spec c.requires.sound));
+      taken = applied_told spec Update c.args.call.now.args (Some c.in-Some.old) [] old new (Updated c.in-Some.old) (refl, put.ok) (lent_goes_on old new put.lent) c.requires.locked.taken;
+      lent = put.lent;
+    })

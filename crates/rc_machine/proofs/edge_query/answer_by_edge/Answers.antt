@@ -8,13 +8,15 @@ use Rattle.rc_spec.specs.declared.spec.Spec.{Spec}
 use Rattle.rc_spec.specs.Decomposition.{bound, edge_at}
 use Rattle.rc_spec.specs.Fragments.{EdgeRow}
 use Rattle.rc_spec.specs.Placement.{op_at}
+use Rattle.rc_spec.specs.Plain.{plain}
+use Rattle.rc_spec.specs.declared.call.Reply.TheVariants.{Rows}
 use Rattle.rc_fragment.specs.Fragment.{shape_of}
 use Rattle.rc_fragment.specs.Holder.{held_of}
 use Rattle.rc_plan.specs.Access.{AsksFor, extra_of}
 use Rattle.rc_plan.specs.Compiled.{plan_at}
-use Rattle.rc_machine.specs.Access.{HasListed, HasLookedUp}
+use Rattle.rc_machine.specs.Access.{HasListed, HasLookedUp, leaving}
 use Rattle.rc_machine.proofs.AccessRunLemmas.{lent_over, lent_rows, row_served, rows_served}
-use Rattle.rc_machine.proofs.ReadLemmas.{if_ok, is_held}
+use Rattle.rc_machine.proofs.ReadLemmas.{is_held}
 use Rattle.rc_machine.proofs.edge_query.answer_by_edge.Given.{Over}
 use Rattle.rc_machine.proofs.edge_query.answer_by_edge.Goals.{After-fragment-fragment, After-of-read}
 use Rattle.rc_machine.proofs.edge_query.answer_by_edge.Goals as goal
@@ -50,28 +52,26 @@ look_up-requires-clause-alone g c alone =
 pub list-requires-clause-columns : goal.list-requires-clause-columns
 list-requires-clause-columns g c = columns g (goal.at.list-requires-clause-columns g c).After-fragment-fragment
 
-pub returns-in-Lookup-clause-answered : goal.returns-in-Lookup-clause-answered
-returns-in-Lookup-clause-answered g c =
-    let at = (goal.at.returns-in-Lookup-clause-answered g c).After-fragment-fragment in
+pub returns-in_ok-rows-in-Lookup-clause-answered : goal.returns-in_ok-rows-in-Lookup-clause-answered
+returns-in_ok-rows-in-Lookup-clause-answered g c r a =
+    let at = (goal.at.returns-in_ok-rows-in-Lookup-clause-answered g c).After-fragment-fragment in
     let spec = c.args.compiled.now.spec in
     let rows = c.fragment-fragment.result.now.now in
-    if_ok c.look_up.result
-    (λ reply found r a.
-    row_served spec c.requires.locked.sealed c.args.call.now c.requires.locked.fits (plan_at c.args.compiled.now.plans c.args.call.now.op) c.args.path c.requires.locked.path c.in-Query.outs c.in-Query.ranges (kind_is g at.before)
+    let reply = Rows c.in_ok-rows-in-Lookup.rows in
+    subst (λ told. plain spec r c.args.call.now ≡ leaving told r) (sym c.tell.ensures)
+    (row_served spec c.requires.locked.sealed c.args.call.now c.requires.locked.fits (plan_at c.args.compiled.now.plans c.args.call.now.op) c.args.path c.requires.locked.path c.in-Query.outs c.in-Query.ranges (kind_is g at.before)
     rows r a.relation (lent_rows c.args.compiled.now c.args.call.now c.args.path c.args.stripe (g.H.Holder.seen c.args.holder.now) c.requires.locked c.fragment-fragment.result.now c.fragment-fragment.ensures r a) reply c.in-Lookup.is
     (subst (λ e. HasLookedUp (shape_of spec e) rows e c.args.call.now.args c.in-Query.outs reply) c.of-read.ensures.edge
-    (subst (λ (s : Spec). HasLookedUp (shape_of s c.of-read.result.edge) rows c.of-read.result.edge c.args.call.now.args c.in-Query.outs reply) c.of-read.ensures.spec found)))
-    c.look_up.ensures.rows
+    (subst (λ (s : Spec). HasLookedUp (shape_of s c.of-read.result.edge) rows c.of-read.result.edge c.args.call.now.args c.in-Query.outs reply) c.of-read.ensures.spec c.in_ok-rows-in-Lookup.ensures)))
 
-pub returns-in-Scan-clause-answered : goal.returns-in-Scan-clause-answered
-returns-in-Scan-clause-answered g c =
-    let at = (goal.at.returns-in-Scan-clause-answered g c).After-fragment-fragment in
+pub returns-in_ok-told-in-Scan-clause-answered : goal.returns-in_ok-told-in-Scan-clause-answered
+returns-in_ok-told-in-Scan-clause-answered g c r a =
+    let at = (goal.at.returns-in_ok-told-in-Scan-clause-answered g c).After-fragment-fragment in
     let spec = c.args.compiled.now.spec in
     let rows = c.fragment-fragment.result.now.now in
-    if_ok c.list.result
-    (λ reply found r a.
-    rows_served spec c.requires.locked.sealed c.args.call.now c.requires.locked.fits (plan_at c.args.compiled.now.plans c.args.call.now.op) c.args.path c.requires.locked.path c.in-Query.outs c.in-Query.ranges (kind_is g at.before)
+    let reply = c.in_ok-told-in-Scan.told in
+    subst (λ told. plain spec r c.args.call.now ≡ leaving told r) (sym c.tell-in-Scan.ensures)
+    (rows_served spec c.requires.locked.sealed c.args.call.now c.requires.locked.fits (plan_at c.args.compiled.now.plans c.args.call.now.op) c.args.path c.requires.locked.path c.in-Query.outs c.in-Query.ranges (kind_is g at.before)
     rows r a.relation (lent_rows c.args.compiled.now c.args.call.now c.args.path c.args.stripe (g.H.Holder.seen c.args.holder.now) c.requires.locked c.fragment-fragment.result.now c.fragment-fragment.ensures r a) reply c.in-Scan.is
     (subst (λ e. HasListed (shape_of spec e) rows e c.args.call.now.args c.in-Query.outs spec.most_rows reply) c.of-read.ensures.edge
-    (subst (λ (s : Spec). HasListed (shape_of s c.of-read.result.edge) rows c.of-read.result.edge c.args.call.now.args c.in-Query.outs s.most_rows reply) c.of-read.ensures.spec found)))
-    c.list.ensures.rows
+    (subst (λ (s : Spec). HasListed (shape_of s c.of-read.result.edge) rows c.of-read.result.edge c.args.call.now.args c.in-Query.outs s.most_rows reply) c.of-read.ensures.spec c.in_ok-told-in-Scan.ensures)))

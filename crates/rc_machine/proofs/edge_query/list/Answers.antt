@@ -65,9 +65,9 @@ count c t =
     let some : 0 < length outs = subst (λ (z : List ℕ). 0 < length z) (sym c.requires.outs) (some_length (edge_at c.args.read.now.spec.now c.args.read.now.edge).key (extra_columns (edge_shape c)) c.requires.keyed) in
     ap (λ n. n / length c.list-width.result.now) many ∙ ap (λ (l : List ℕ). length t.rows * length outs / length l) c.list-width.ensures ∙ mul-div_cancel (length t.rows) some
 
-pub returns-then-rows-read-clause-rows : goal.returns-then-rows-read-clause-rows
-returns-then-rows-read-clause-rows c =
-    let at = (goal.at.returns-then-rows-read-clause-rows c).After-as_slice in
+pub returns-then-rows-read : goal.returns-then-rows-read
+returns-then-rows-read c =
+    let at = (goal.at.returns-then-rows-read c).After-as_slice in
     let t : Told at = told at in
     let rows : List (List ℕ) = map (pick c.args.outs.now) t.rows in
     let all : length rows ≡ length t.rows = length-map t.rows (pick c.args.outs.now) in
@@ -82,9 +82,9 @@ of_width-requires c =
     let outs : List ℕ = c.args.outs.now in
     ap length t.values ∙ length-flat_map_width (pick outs) (length outs) (wide outs) t.rows ∙ ap (λ n. n * length outs) (sym (count at t)) ∙ ap (λ (l : List ℕ). (length c.as_slice.result.now / length c.list-width.result.now) * length l) (sym c.list-width.ensures)
 
-pub returns-clause-rows : goal.returns-clause-rows
-returns-clause-rows c =
-    let at = (goal.at.returns-clause-rows c).After-as_slice in
+pub returns : goal.returns
+returns c =
+    let at = (goal.at.returns c).After-as_slice in
     let t : Told at = told at in
     let outs : List ℕ = c.args.outs.now in
     let rows : List (List ℕ) = map (pick outs) t.rows in

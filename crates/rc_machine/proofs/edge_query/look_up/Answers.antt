@@ -9,6 +9,7 @@ use Rattle.rc_fragment.specs.RowValues.{extra_columns}
 use Rattle.rc_machine.specs.Access.{IsRowFound}
 use Rattle.rc_fragment.specs.RowValuesLaws.{extra_set}
 use Rattle.rc_machine.proofs.PickLemmas.{pick_zip}
+use Rattle.rc_machine.proofs.ReadLemmas.{if_ok}
 use Rattle.rc_machine.proofs.SeekLemmas.{length_extra}
 use Rattle.rc_machine.proofs.edge_query.look_up.Goals.{In-Some, In-Some-2, In_ok-find_row}
 use Rattle.rc_machine.proofs.edge_query.look_up.Goals as goal
@@ -34,36 +35,36 @@ picked-requires c =
     as_many (goal.at.picked-requires c).In_ok-find_row c.in-Some.values.now (ap option_copied c.in-Some.is)
     ∙ ap length (sym c.requires.read.resolved.edge.extra)
 
-pub returns-in-None-clause-rows : goal.returns-in-None-clause-rows
-returns-in-None-clause-rows c =
+pub returns-in-None : goal.returns-in-None
+returns-in-None c =
     let read = c.args.read.now in (
       None,
       subst (λ o. IsRowFound (shape_of read.spec.now read.edge) c.args.fragment.now.now read.edge c.args.args.now (option_copied o)) c.in-None.is c.in_ok-find_row.ensures,
       ap Rows c.new.ensures,
     )
 
-pub returns-in_ok-of_row-in-Some-clause-rows : goal.returns-in_ok-of_row-in-Some-clause-rows
-returns-in_ok-of_row-in-Some-clause-rows c =
+pub returns-in-Some : goal.returns-in-Some
+returns-in-Some c =
     let read = c.args.read.now in
     let spec = read.spec.now in
     let values : List ℕ = c.in-Some.values.now in
     let extra = extra_columns (shape_of spec read.edge) in
-    let at = (goal.at.returns-in_ok-of_row-in-Some-clause-rows c).In_ok-find_row in
+    let at = (goal.at.returns-in-Some c).In_ok-find_row in
     let is = ap option_copied c.in-Some.is in
     let alone : c.args.outs.now ≡ extra = c.requires.alone c.if-alone.true in
     let rising = (extra_set (shape_of spec read.edge) (parted_edge spec c.requires.read.sealed read.edge c.requires.read.known)).rising in
     let row : pick c.args.outs.now (zip extra values ++ c.args.args.now) ≡ values =
-    ap (λ outs. pick outs (zip extra values ++ c.args.args.now)) alone ∙ pick_zip extra values c.args.args.now rising (as_many at values is) in (
-      Some values,
-      looked at values is,
-      ap Rows (c.in_ok-of_row-in-Some.ensures ∙ ap (λ row. row ∷ []) (sym row)),
-    )
+    ap (λ outs. pick outs (zip extra values ++ c.args.args.now)) alone ∙ pick_zip extra values c.args.args.now rising (as_many at values is) in
+    if_ok c.of_row.result (λ rows told. (Some values, looked at values is, ap Rows (told ∙ ap (λ row. row ∷ []) (sym row)))) c.of_row.ensures
 
-pub returns-in_ok-rows-in-Some-2-clause-rows : goal.returns-in_ok-rows-in-Some-2-clause-rows
-returns-in_ok-rows-in-Some-2-clause-rows c =
+pub returns-in-Some-2 : goal.returns-in-Some-2
+returns-in-Some-2 c =
     let values : List ℕ = c.in-Some.values.now in
-    let outs : List ℕ = c.args.outs.now in (
+    let outs : List ℕ = c.args.outs.now in
+    if_ok c.picked.result
+    (λ rows told. (
       Some values,
-      looked (goal.at.returns-in_ok-rows-in-Some-2-clause-rows c).In_ok-find_row values (ap option_copied c.in-Some.is),
-      ap Rows (c.in_ok-rows-in-Some-2.ensures ∙ ap (λ extra. pick outs (zip extra values ++ c.args.args.now) ∷ []) c.requires.read.resolved.edge.extra),
-    )
+      looked (goal.at.returns-in-Some-2 c).In_ok-find_row values (ap option_copied c.in-Some.is),
+      ap Rows (told ∙ ap (λ extra. pick outs (zip extra values ++ c.args.args.now) ∷ []) c.requires.read.resolved.edge.extra),
+    ))
+    c.picked.ensures

@@ -70,6 +70,7 @@ loop-at-init g c =
       taken = λ h m. absurd (subst (In h) c.requires.free m);
       counted = refl;
       goes_on = goes_on_same (g.H.Holder.seen c.args.holder.now);
+      reply = refl;
       sound = λ spec h. h;
     }
 
@@ -79,28 +80,28 @@ step-requires-clause-lent g c lock named =
     subst (λ lends. MayTake lends lock.0 lock.1) (sym c.loop-at.invariant.goes_on.lends)
     (c.requires.lent lock (subst (λ (z : List Statement). IsNamedBy c.args.compiled.now.spec c.args.call.now.args z lock) (plan_is g (goal.at.step-requires-clause-lent g c).After-list-plan) named))
 
-pub returns-in_err-reply-clause-stopped : goal.returns-in_err-reply-clause-stopped
-returns-in_err-reply-clause-stopped g c h e =
-    let given = c.from_residual-in_err-reply.ensures.1 in
+pub returns-in_err-answer-clause-stopped : goal.returns-in_err-answer-clause-stopped
+returns-in_err-answer-clause-stopped g c h e =
+    let given = c.from_residual-in_err-answer.ensures.1 in
     let is = rw e at given in
-    c.in_err-reply.ensures.stopped h (ap Err (sym is))
+    c.in_err-answer.ensures.stopped h (ap Err (sym is))
 
-pub returns-in_err-reply-clause-refused : goal.returns-in_err-reply-clause-refused
-returns-in_err-reply-clause-refused g c h e =
-    let given = c.from_residual-in_err-reply.ensures.1 in
+pub returns-in_err-answer-clause-refused : goal.returns-in_err-answer-clause-refused
+returns-in_err-answer-clause-refused g c h e =
+    let given = c.from_residual-in_err-answer.ensures.1 in
     let is = rw e at given in
     let spec : Spec = c.args.compiled.now.spec in
     let old = g.H.Holder.seen c.args.holder.now in
     let new = g.H.Holder.seen c.step.new.holder in
-    subst (λ (z : List Statement). IsRefused spec z c.args.call.now old new h) (plan_is g (goal.at.returns-in_err-reply-clause-refused g c).After-list-plan)
-    (refused_since spec c.list-plan.result.now c.args.call.now old (g.H.Holder.seen c.loop-at.holder) new h c.loop-at.invariant.goes_on (c.in_err-reply.ensures.refused h (ap Err (sym is))))
+    subst (λ (z : List Statement). IsRefused spec z c.args.call.now old new h) (plan_is g (goal.at.returns-in_err-answer-clause-refused g c).After-list-plan)
+    (refused_since spec c.list-plan.result.now c.args.call.now old (g.H.Holder.seen c.loop-at.holder) new h c.loop-at.invariant.goes_on (c.in_err-answer.ensures.refused h (ap Err (sym is))))
 
 pub returns-in_err-push_projection-clause-counted : goal.returns-in_err-push_projection-clause-counted
 returns-in_err-push_projection-clause-counted g c = counted_same _ _
 
-pub returns-in_err-reply-clause-counted : goal.returns-in_err-reply-clause-counted
-returns-in_err-reply-clause-counted g c =
+pub returns-in_err-answer-clause-counted : goal.returns-in_err-answer-clause-counted
+returns-in_err-answer-clause-counted g c =
     let old = g.H.Holder.seen c.loop-at.holder in
     let new = g.H.Holder.seen c.step.new.holder in
-    counted_stop_since c.from_residual-in_err-reply.result (g.H.Holder.seen c.args.holder.now) old new c.loop-at.invariant.counted
-    (counted_stop_on c.from_residual-in_err-reply.result c.in_err-reply.field-0.0 old new c.from_residual-in_err-reply.ensures.0 c.from_residual-in_err-reply.ensures.1 c.in_err-reply.ensures.counted)
+    counted_stop_since c.from_residual-in_err-answer.result (g.H.Holder.seen c.args.holder.now) old new c.loop-at.invariant.counted
+    (counted_stop_on c.from_residual-in_err-answer.result c.in_err-answer.field-0.0 old new c.from_residual-in_err-answer.ensures.0 c.from_residual-in_err-answer.ensures.1 c.in_err-answer.ensures.counted)

@@ -13,5 +13,6 @@ invariant-loop-at g l = record {
   taken : AreTakenAsOffered (g.H.Holder.seen l.holder);
   counted : (g.H.Holder.seen l.holder).refusals ≡ (g.H.Holder.seen l.fn.holder).refusals;
   goes_on : GoesOn (g.H.Holder.seen l.fn.holder) (g.H.Holder.seen l.holder);
+  reply : l.reply ≡ l.fn.reply;
   sound : (spec : Spec) → g.H.Holder.is_sound l.fn.holder spec → g.H.Holder.is_sound l.holder spec;
 }

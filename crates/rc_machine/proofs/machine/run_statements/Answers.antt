@@ -9,7 +9,9 @@ use Rattle.rc_plan.specs.Compiled.{IsPlanOf, plan_at}
 use Rattle.rc_plan.specs.declared.statement.Statement.{Statement}
 use Rattle.std.specs.Prelude.{List, drop, take}
 use Rattle.rc_machine.specs.Access.{HasRunByPath}
-use Rattle.rc_machine.specs.Machine.{IsRefused, stripes_held}
+use Rattle.rc_machine.specs.Machine.{HasAnswered, IsRefused, stripes_held, told_answer}
+use Rattle.rc_machine.specs.ReplyLaws.{told_answer_counts, told_answer_err, told_answer_from_ok}
+use Rattle.rc_machine.specs.declared.stop.Stop.TheVariants as stop
 use Rattle.rc_machine.specs.Run.{IsAt}
 use Rattle.rc_machine.proofs.AccessRunLemmas.{args_are, args_striped}
 use Rattle.rc_machine.proofs.EdgeChangeLemmas.{run_since}
@@ -82,26 +84,29 @@ pub answer_by_path-requires-clause-lent : goal.answer_by_path-requires-clause-le
 answer_by_path-requires-clause-lent g c lock named = subst (λ lends. MayTake lends lock.0 lock.1) (sym c.in_ok-lock_arguments.ensures.goes_on.lends) (c.requires.lent lock named)
 
 -- the whole run
-run : (g : Over) (c : After-answer_by_path g) → HasRunByPath c.args.compiled.now c.args.call.now (g.H.Holder.seen c.args.holder.now) (g.H.Holder.seen c.answer_by_path.new.holder) c.answer_by_path.result
+run : (g : Over) (c : After-answer_by_path g)
+    → HasRunByPath c.args.compiled.now c.args.call.now (g.H.Holder.seen c.args.holder.now) (g.H.Holder.seen c.answer_by_path.new.holder) (told_answer c.answer_by_path.result c.answer_by_path.new.reply)
 run g c =
     let locked = c.in_ok-lock_arguments.ensures in
-    run_since c.args.compiled.now c.args.call.now (g.H.Holder.seen c.args.holder.now) (g.H.Holder.seen c.lock_arguments.new.holder) (g.H.Holder.seen c.answer_by_path.new.holder) c.answer_by_path.result
+    run_since c.args.compiled.now c.args.call.now (g.H.Holder.seen c.args.holder.now) (g.H.Holder.seen c.lock_arguments.new.holder) (g.H.Holder.seen c.answer_by_path.new.holder) (told_answer c.answer_by_path.result c.answer_by_path.new.reply)
     locked.goes_on locked.counted c.answer_by_path.ensures.run
 
 pub returns-clause-answered : goal.returns-clause-answered
-returns-clause-answered g c = (run g c).answered
+returns-clause-answered g c =
+    told_answer_from_ok (HasAnswered c.args.compiled.now c.args.call.now (g.H.Holder.seen c.answer_by_path.new.holder)) c.answer_by_path.result c.answer_by_path.new.reply (run g c).answered
 
 pub returns-clause-taken : goal.returns-clause-taken
 returns-clause-taken g c = (run g c).taken
 
 pub returns-clause-stopped : goal.returns-clause-stopped
-returns-clause-stopped g c = (run g c).stopped
+returns-clause-stopped g c h is = (run g c).stopped h (told_answer_err c.answer_by_path.result c.answer_by_path.new.reply (stop.Held h) is)
 
 pub returns-clause-refused : goal.returns-clause-refused
-returns-clause-refused g c = (run g c).refused
+returns-clause-refused g c h is = (run g c).refused h (told_answer_err c.answer_by_path.result c.answer_by_path.new.reply (stop.Held h) is)
 
 pub returns-clause-counted : goal.returns-clause-counted
-returns-clause-counted g c = (run g c).counted
+returns-clause-counted g c =
+    told_answer_counts c.answer_by_path.result c.answer_by_path.new.reply (g.H.Holder.seen c.args.holder.now) (g.H.Holder.seen c.answer_by_path.new.holder) (run g c).counted
 
 pub returns-clause-goes_on : goal.returns-clause-goes_on
 returns-clause-goes_on g c = (run g c).goes_on

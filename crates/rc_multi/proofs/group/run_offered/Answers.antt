@@ -44,7 +44,7 @@ pub returns-in-Ok-clause-ran : goal.returns-in-Ok-clause-ran
 returns-in-Ok-clause-ran g c =
     let new = c.run_statements.new.holder in
     ran_taking (held_of (g.H.Holder.seen new.begun.now.value)) (held_of (g.H.Holder.seen c.args.offered.now.holder.now)) (g.H.Holder.seen new.holder.now) new.taken.now.items new.holder.ghost_name
-    c.args.compiled.now.spec (plan_at c.args.compiled.now.plans c.args.call.now.op) c.args.call.now c.in-Ok.reply (ap held_of (same g (goal.at.returns-in-Ok-clause-ran g c).After-run_statements)) new.kept c.in-Ok.ensures.answered
+    c.args.compiled.now.spec (plan_at c.args.compiled.now.plans c.args.call.now.op) c.args.call.now c.run_statements.new.reply (ap held_of (same g (goal.at.returns-in-Ok-clause-ran g c).After-run_statements)) new.kept c.in-Ok.ensures.answered
 
 pub returns-in-Ok-clause-taken : goal.returns-in-Ok-clause-taken
 returns-in-Ok-clause-taken g c = kept g (goal.at.returns-in-Ok-clause-taken g c).After-run_statements

@@ -1,36 +1,45 @@
-use Rattle.std.proofs.Common.{◌≡◌, [], ◌∷◌, rules, refl, subst}
+use Rattle.std.proofs.Common.{◌≡◌, rules, refl}
 use Rattle.rc_spec.specs.declared.call.Call.{Call}
 use Rattle.rc_row.specs.Passes.{spec_of}
-use Rattle.rc_store.specs.Store.{HasMadeGroup, StoreSeen}
 use Rattle.rc_work.specs.CallColumns.{call_of}
-use Rattle.rc_embed.specs.Session.{receipt_of, replies_given}
-use Rattle.rc_embed.specs.declared.session.Last.TheVariants as lasts
-use Rattle.rc_embed.proofs.SessionLemmas.{told_made}
+use Rattle.rc_embed.proofs.SessionLemmas.{made_into}
 use Rattle.rc_embed.proofs.session.Session.call_idle.Goals as goal
 
-pub returns-in-Ok : goal.returns-in-Ok
-returns-in-Ok c =
-    let has = c.in-Ok.ensures.made in
-    let receipt = c.in-Ok.field-0 in
-    let told = replies_given (lasts.Call receipt.reply) in
-    let before = c.in-Idle.pass in
-    let after = c.try_call.new.pass in
-    let at = receipt_of (record { place = receipt.place; nth = receipt.nth }) told in
+pub returns-in-Call-Some : goal.returns-in-Call-Some
+returns-in-Call-Some c =
     let here : c.behind-self.inside.store ≡ c.args.self.now.store = search rules in
     let call : c.refill_call.new.call ≡ call_of (spec_of c.args.self.now.store.row) c.args.op c.args.values.now = search rules in
     record {
       store = search rules;
       made = record {
-        before = before;
-        after = after;
+        before = c.in-Idle.pass;
+        after = c.try_call_into.new.pass;
         was = search rules;
         is = refl;
         picked = refl;
-        made =
-            subst (λ (z : Call). HasMadeGroup c.args.self.now.store (z ∷ []) told before after at) call
-            (subst (λ (s : StoreSeen). HasMadeGroup s (c.refill_call.new.call ∷ []) told before after at) here
-            (told_made c.behind-self.inside.store c.refill_call.new.call has.0 before after receipt
-            c.behind-self.invariant.counts has.1));
+        made = made_into c.behind-self.inside.store c.args.self.now.store here c.refill_call.new.call
+            (call_of (spec_of c.args.self.now.store.row) c.args.op c.args.values.now) call c.try_call_into.new.reply c.in-Idle.pass
+            c.try_call_into.new.pass c.in_ok-at.at c.position.result c.position.ensures c.behind-self.invariant.counts c.in_ok-at.ensures.made;
+      };
+      cause = tt;
+      unchanged = tt;
+    }
+
+pub returns : goal.returns
+returns c =
+    let here : c.behind-self.inside.store ≡ c.args.self.now.store = search rules in
+    let call : c.refill_call.new.call ≡ call_of (spec_of c.args.self.now.store.row) c.args.op c.args.values.now = search rules in
+    record {
+      store = search rules;
+      made = record {
+        before = c.in-Idle.pass;
+        after = c.try_call_into-2.new.pass;
+        was = search rules;
+        is = refl;
+        picked = refl;
+        made = made_into c.behind-self.inside.store c.args.self.now.store here c.refill_call.new.call
+            (call_of (spec_of c.args.self.now.store.row) c.args.op c.args.values.now) call c.try_call_into-2.new.reply c.in-Idle.pass
+            c.try_call_into-2.new.pass c.in_ok-at-2.at c.position-2.result c.position-2.ensures c.behind-self.invariant.counts c.in_ok-at-2.ensures.made;
       };
       cause = tt;
       unchanged = tt;
