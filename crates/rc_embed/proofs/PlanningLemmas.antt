@@ -145,6 +145,7 @@ pub opened_with : (text shapes plans : List ℕ) (options : asked.Options) → A
     → IsOpenedWith text shapes plans options opened
 opened_with text shapes plans options bounds compiled with_plans opened built = record {
   texts = store_of_texts text shapes plans options bounds compiled with_plans opened built.made;
+  history = built.history;
   passes = built.passes;
 }
 
@@ -240,9 +241,8 @@ module _ (text : List ℕ) (before after : OpenFrame) where
   refused_by plans (Ok opened) none refused = tt
   refused_by plans (Err code) none refused = record {
     fault = refused.fault;
-    seed = refused.seed;
-    cause = refused_without_plans text (options_asked before refused.seed) refused.fault
-        (subst (λ (p : List ℕ). IsRefusedWith text [] p (options_asked before refused.seed) refused.fault) none refused.cause);
+    cause = refused_without_plans text (options_asked before) refused.fault
+        (subst (λ (p : List ℕ). IsRefusedWith text [] p (options_asked before) refused.fault) none refused.cause);
     code_is = refused.code_is;
     told = refused.told;
   }

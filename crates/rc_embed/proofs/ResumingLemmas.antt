@@ -94,18 +94,16 @@ module _ (closed : ClosedSeen) (text shapes plans : List ℕ) (options : asked.O
 
 -- why a closed store doesn't go on, as the frame tells it
 pub unresumed_by : (closed : ClosedSeen) (text shapes plans : List ℕ) (before after : OpenFrame) (options : asked.Options)
-    → options ≡ options_asked before options.seed → (fault : ResumeFault) → IsUnresumedFor closed text shapes plans options fault
+    → options ≡ options_asked before → (fault : ResumeFault) → IsUnresumedFor closed text shapes plans options fault
     → (code : ℕ) → TellsResumeFault fault after code → IsUnresumedBy closed text shapes plans before after code
 unresumed_by closed text shapes plans before after options is fault cause code (inl (code_is, told)) = record {
   fault = fault;
-  seed = options.seed;
   cause = subst (λ (o : asked.Options). IsUnresumedFor closed text shapes plans o fault) is cause;
   code_is = code_is;
   told = told;
 }
 unresumed_by closed text shapes plans before after options is fault cause code (inr (code_is, breaks, none)) = record {
   fault = Refused faults.Memory;
-  seed = options.seed;
   cause = subst (λ (o : asked.Options). IsUnresumedFor closed text shapes plans o (Refused faults.Memory)) is
       (memory_resumed closed text shapes plans options fault breaks cause);
   code_is = code_is;

@@ -24,11 +24,12 @@ pub record IsPlaceOf (number : ℕ) (passes : List PassSeen) (at : ℕ) : Type 0
   pub lower : All (λ pass. number_of pass < number) (take at passes)
   pub next : IfSome (slice_get passes at) (λ pass. number ≤ number_of pass)
 
--- The store has a session's pass back, at the place of its number.
+-- The store, which didn't have all of its passes, has a session's back, at the place of its number.
 pub record HasTakenBack (old new : OpenSeen) (session : SessionSeen) : Type 0 where
   pub pass : PassSeen
   pub was : session.state ≡ Idle pass
   pub store : new.store ≡ old.store
+  pub room : length old.passes < pass_count old
   pub at : ℕ
   pub place : IsPlaceOf (number_of pass) old.passes at
   pub passes : new.passes ≡ take at old.passes ++ pass ∷ drop at old.passes

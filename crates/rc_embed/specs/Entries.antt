@@ -19,6 +19,14 @@ entries_of (PreparedGroup running) = (core_of running.begun).own
 entries_of (Open group) = (core_of group.begun).own
 entries_of Moving = []
 
+-- The histories that its pass was told of; while something is prepared or open, those before it.
+abbrev pub known_of : State → List (List Entry)
+known_of (Idle pass) = pass.standing.known
+known_of (Prepared running) = running.begun.standing.known
+known_of (PreparedGroup running) = running.begun.standing.known
+known_of (Open group) = group.begun.standing.known
+known_of Moving = []
+
 -- the number of its pass
 abbrev pub number_in : State → Option ℕ
 number_in (Idle pass) = Some (core_of pass).number
@@ -35,10 +43,12 @@ pub record StandsAt (entries : List Placed) (place : ℕ) (calls : List Call) (r
   pub count : length replies ≡ length calls
   pub steps_are : entry.steps ≡ with_replies calls replies
 
--- The session has the pass that it had, with all entries of that.
+-- The session has the pass that it had, with all entries of that, and which was told of all that it was told of: between idle
+-- sessions this is `KnowsAll` of their passes.
 pub record KeepsPass (old new : SessionSeen) : Type 0 where
   pub number : number_in new.state ≡ number_in old.state
   pub entries : (w : Placed) → In w (entries_of old.state) → In w (entries_of new.state)
+  pub knows : (history : List Entry) → In history (known_of old.state) → In history (known_of new.state)
 
 -- the entry is one pass's own
 pub record HasEntry (passes : List PassSeen) (w : Placed) : Type 0 where

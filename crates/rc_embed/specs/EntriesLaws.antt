@@ -13,6 +13,8 @@ use Rattle.rc_rel.specs.HistoryLaws.{with_replies-parts}
 use Rattle.rc_core.specs.declared.state.PassState.{PassState}
 use Rattle.rc_core.specs.Passes.{next_of}
 use Rattle.rc_row.specs.Passes.{PassSeen, core_of}
+use Rattle.rc_store.specs.ReceiptLaws.{telling_goes_on}
+use Rattle.rc_store.specs.Receipts.{KnowsAll}
 use Rattle.rc_store.specs.Running.{RunningGroupSeen, calls_of, replies_of as replies_with}
 use Rattle.rc_store.specs.Store.{HasMadeEntry, IsAsBefore, StoreSeen}
 use Rattle.rc_embed.specs.declared.session.Position.{Position}
@@ -20,7 +22,7 @@ use Rattle.rc_embed.specs.declared.session.State.{State}
 use Rattle.rc_embed.specs.declared.session.State.TheVariants.{Idle, Prepared, PreparedGroup, Open, Moving}
 use Rattle.rc_embed.specs.Asked.{AskedCall}
 use Rattle.rc_embed.specs.Closing.{HasTakenBack}
-use Rattle.rc_embed.specs.Entries.{HasEntry, KeepsPass, StandsAt, entries_of, number_in}
+use Rattle.rc_embed.specs.Entries.{HasEntry, KeepsPass, StandsAt, entries_of, known_of, number_in}
 use Rattle.rc_embed.specs.Opened.{HasDealt, OpenSeen}
 use Rattle.rc_embed.specs.Session.{HasCalled, HasCancelled, HasCommitted, HasLooked, HasPrepared}
 use Rattle.rc_embed.specs.Session.{IsStateAsBefore, IsUnchanged, SessionSeen, calls_in, prepared_in, uncommitted_in}
@@ -78,7 +80,7 @@ commits_stand old new at h =
     ∙ sym (length-map steps (λ (s : Step). s.call)))
     (sym (with_replies-parts steps) ∙ ap (with_replies (calls_of steps)) (sym told)))
 
--- ---- a session keeps its pass, and the entries of that
+-- ---- a session keeps its pass, the entries of that, and what it was told of
 
 -- an entry stays where its pass makes another,
 made_keeps : (store : StoreSeen) (steps : List Step) (old new : PassSeen) (place nth : ℕ)
@@ -116,11 +118,16 @@ begun_or d (Some running) = running.begun
 
 same_begun : (begun : PassSeen) (running : RunningGroupSeen) → begun ≡ running.begun
     → (Some (core_of begun).number ≡ Some (core_of running.begun).number) × ((core_of begun).own ≡ (core_of running.begun).own)
-same_begun begun running same =
-    (ap (λ (pass : PassSeen). Some (core_of pass).number) same, ap (λ (pass : PassSeen). (core_of pass).own) same)
+    × (begun.standing.known ≡ running.begun.standing.known)
+same_begun begun running same = (
+  ap (λ (pass : PassSeen). Some (core_of pass).number) same,
+  ap (λ (pass : PassSeen). (core_of pass).own) same,
+  ap (λ (pass : PassSeen). pass.standing.known) same,
+)
 
 uncommitted_keeps : (state : State) (running : RunningGroupSeen) → uncommitted_in state ≡ Some running
     → (number_in state ≡ Some (core_of running.begun).number) × (entries_of state ≡ (core_of running.begun).own)
+    × (known_of state ≡ running.begun.standing.known)
 uncommitted_keeps (Idle pass) running is = absurd cc
 uncommitted_keeps (Prepared call) running is = same_begun call.begun running (ap (begun_or call.begun) is)
 uncommitted_keeps (PreparedGroup group) running is = same_begun group.begun running (ap (begun_or group.begun) is)
@@ -130,26 +137,33 @@ uncommitted_keeps Moving running is = absurd cc
 -- from an idle one to another
 pub from_to : (before after : PassSeen) (old new : SessionSeen) → old.state ≡ Idle before → new.state ≡ Idle after
     → Some (core_of after).number ≡ Some (core_of before).number
-    → ((w : Placed) → In w (core_of before).own → In w (core_of after).own) → KeepsPass old new
-from_to before after old new was is same keeps = record {
+    → ((w : Placed) → In w (core_of before).own → In w (core_of after).own) → KnowsAll before after → KeepsPass old new
+from_to before after old new was is same keeps knows = record {
   number = ap number_in is ∙ same ∙ sym (ap number_in was);
   entries = λ w m.
       subst (λ (state : State). In w (entries_of state)) (sym is)
       (keeps w (subst (λ (state : State). In w (entries_of state)) was m));
+  knows = λ history m.
+      subst (λ (state : State). In history (known_of state)) (sym is)
+      (knows history (subst (λ (state : State). In history (known_of state)) was m));
 }
 
 -- and from one that has calls which aren't committed yet
 from_uncommitted : (running : RunningGroupSeen) (after : PassSeen) (old new : SessionSeen)
     → uncommitted_in old.state ≡ Some running → new.state ≡ Idle after
     → Some (core_of after).number ≡ Some (core_of running.begun).number
-    → ((w : Placed) → In w (core_of running.begun).own → In w (core_of after).own) → KeepsPass old new
-from_uncommitted running after old new was is same keeps =
+    → ((w : Placed) → In w (core_of running.begun).own → In w (core_of after).own) → KnowsAll running.begun after
+    → KeepsPass old new
+from_uncommitted running after old new was is same keeps knows =
     let of = uncommitted_keeps old.state running was in
     record {
       number = ap number_in is ∙ same ∙ sym of.0;
       entries = λ w m.
           subst (λ (state : State). In w (entries_of state)) (sym is)
           (keeps w (subst (λ (l : List Placed). In w l) of.1 m));
+      knows = λ history m.
+          subst (λ (state : State). In history (known_of state)) (sym is)
+          (knows history (subst (λ (l : List (List Entry)). In history l) of.2 m));
     }
 
 -- what a session has made stays through its calls,
@@ -162,6 +176,7 @@ calls_keep old new asked at h =
     from_to h.before h.after old new h.was h.is
     (made_number old.store (with_replies (calls_in old asked) new.last) h.before h.after at.place at.nth h.made.entry)
     (made_keeps old.store (with_replies (calls_in old asked) new.last) h.before h.after at.place at.nth h.made.entry)
+    (telling_goes_on.made old.store (with_replies (calls_in old asked) new.last) h.before h.after at.place at.nth h.made.entry).1
 
 -- while it prepares calls,
 abbrev pub PreparingKeepsPasses : Type 0
@@ -177,6 +192,10 @@ preparing_keeps old new asked h =
           subst (λ (l : List Placed). In w l) (sym of.1)
           (subst (λ (pass : PassSeen). In w (core_of pass).own) (sym h.begun.begun)
           (subst (λ (state : State). In w (entries_of state)) h.was m));
+      knows = λ history m.
+          subst (λ (l : List (List Entry)). In history l) (sym of.2)
+          (subst (λ (pass : PassSeen). In history pass.standing.known) (sym h.begun.begun)
+          (subst (λ (state : State). In history (known_of state)) h.was m));
     }
 
 -- commits them,
@@ -188,6 +207,7 @@ commits_keep old new at h =
     from_uncommitted h.running h.after old new h.was h.is
     (made_number old.store h.running.steps h.running.begun h.after at.place at.nth h.entry)
     (made_keeps old.store h.running.steps h.running.begun h.after at.place at.nth h.entry)
+    (telling_goes_on.made old.store h.running.steps h.running.begun h.after at.place at.nth h.entry).1
 
 -- or cancels them,
 abbrev pub CancelsKeepPasses : Type 0
@@ -198,6 +218,7 @@ cancels_keep old new h =
     from_uncommitted h.running h.after old new h.was h.is
     (before_number h.running.begun h.after h.before)
     (before_keeps h.running.begun h.after h.before)
+    (telling_goes_on.stopped h.running.begun h.after h.before)
 
 -- while it looks,
 abbrev pub LooksKeepPasses : Type 0
@@ -208,13 +229,14 @@ looks_keep old new length h =
     from_to h.before h.after old new h.was h.is
     (ap (λ (p : PassSeen). Some (core_of p).number) h.looked.is)
     (λ w m. subst (λ (p : PassSeen). In w (core_of p).own) (sym h.looked.is) m)
+    (telling_goes_on.looked old.store h.before h.after length h.looked).1
 
 -- picks another reply,
 abbrev pub PicksKeepPasses : Type 0
 PicksKeepPasses = (old : SessionSeen) (call : ℕ) → KeepsPass old (with_picked call old)
 
 pub picks_keep : PicksKeepPasses
-picks_keep old call = record { number = refl; entries = λ w m. m }
+picks_keep old call = record { number = refl; entries = λ w m. m; knows = λ history m. m }
 
 -- and where a call of it is refused.
 abbrev pub FaultsKeepPasses : Type 0
@@ -222,7 +244,8 @@ FaultsKeepPasses = (old new : SessionSeen) → IsUnchanged old new → KeepsPass
 
 state_keeps : (old new : State) → IsStateAsBefore old new
     → (number_in new ≡ number_in old) × ((w : Placed) → In w (entries_of old) → In w (entries_of new))
-state_keeps (Idle old) (Idle new) h = (before_number old new h, before_keeps old new h)
+    × ((history : List Entry) → In history (known_of old) → In history (known_of new))
+state_keeps (Idle old) (Idle new) h = (before_number old new h, before_keeps old new h, telling_goes_on.stopped old new h)
 state_keeps (Idle old) (Prepared running) h = absurd h
 state_keeps (Idle old) (PreparedGroup running) h = absurd h
 state_keeps (Idle old) (Open group) h = absurd h
@@ -230,20 +253,23 @@ state_keeps (Idle old) Moving h = absurd h
 state_keeps (Prepared running) new h = (
   ap number_in h,
   λ w m. subst (λ (state : State). In w (entries_of state)) (sym h) m,
+  λ history m. subst (λ (state : State). In history (known_of state)) (sym h) m,
 )
 state_keeps (PreparedGroup old) new h = (
   ap number_in h,
   λ w m. subst (λ (state : State). In w (entries_of state)) (sym h) m,
+  λ history m. subst (λ (state : State). In history (known_of state)) (sym h) m,
 )
 state_keeps (Open old) new h = (
   ap number_in h,
   λ w m. subst (λ (state : State). In w (entries_of state)) (sym h) m,
+  λ history m. subst (λ (state : State). In history (known_of state)) (sym h) m,
 )
 state_keeps Moving new h = absurd h
 
 pub faults_keep : FaultsKeepPasses
 faults_keep old new h =
-    let both = state_keeps old.state new.state h.state in record { number = both.0; entries = both.1 }
+    let both = state_keeps old.state new.state h.state in record { number = both.0; entries = both.1; knows = both.2 }
 
 -- ---- passes that come and go
 
@@ -288,3 +314,33 @@ pub dealing_keeps : DealingKeepsEntries
 dealing_keeps old new session h w has =
     subst (λ (s : SessionSeen). In w (entries_of s.state) ⊎ HasEntry new.passes w) (sym h.is)
     (dealt_or_kept h.pass new.passes w has.pass (subst (λ (l : List PassSeen). In has.pass l) h.was has.is) has.among)
+
+-- The pass of a session that is taken back is the store's as it is, and so is each that the store had. A session begins with a
+-- pass of the store as it is, and the store keeps the others. So what passes made and were told of goes with them.
+abbrev pub PassesAreHandedOn : Type 0
+PassesAreHandedOn =
+    ((old new : OpenSeen) (session : SessionSeen) → HasTakenBack old new session
+    → ((pass : PassSeen) × (session.state ≡ Idle pass) × In pass new.passes)
+    × ((pass : PassSeen) → In pass old.passes → In pass new.passes))
+    × ((old new : OpenSeen) (session : SessionSeen) → HasDealt old new session
+    → (pass : PassSeen) → In pass old.passes → (session.state ≡ Idle pass) ⊎ In pass new.passes)
+
+pub passes_are_handed_on : PassesAreHandedOn
+passes_are_handed_on = (
+  λ old new session h. (
+    (
+      h.pass,
+      h.was,
+      subst (λ (l : List PassSeen). In h.pass l) (sym h.passes)
+          (append_in_right h.pass (take h.at old.passes) (h.pass ∷ drop h.at old.passes) (inl refl)),
+    ),
+    λ pass m. subst (λ (l : List PassSeen). In pass l) (sym h.passes) (others_stay h.at old.passes h.pass pass m),
+  ),
+  λ old new session h pass m.
+      dealt old new session h pass (subst (λ (l : List PassSeen). In pass l) h.was m),
+)
+  where
+    dealt : (old new : OpenSeen) (session : SessionSeen) (h : HasDealt old new session) (pass : PassSeen)
+        → In pass (h.pass ∷ new.passes) → (session.state ≡ Idle pass) ⊎ In pass new.passes
+    dealt old new session h pass (inl q) = inl (ap (λ (s : SessionSeen). s.state) h.is ∙ ap Idle (sym q))
+    dealt old new session h pass (inr m) = inr m

@@ -23,6 +23,7 @@ pub mod ReceiptsOfText
 pub mod Refused
 pub mod Replies
 pub mod ResumedFrames
+pub mod ResumedFramesLaws
 pub mod ResumedLaws
 pub mod Resuming
 pub mod SameSpec

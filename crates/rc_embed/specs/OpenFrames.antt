@@ -1,7 +1,8 @@
 -- Frames by which stores are opened and operations looked up.
-use Rattle.std.specs.Prelude.{◌≡◌, ℕ, ◌<◌, ◌≤◌, ◌==◌, List, [], ◌++◌, length, take, Option, Some, None, if◌then◌else◌}
+use Rattle.std.specs.Prelude.{◌≡◌, ℕ, ◌<◌, ◌≤◌, ◌==◌, List, [], ◌++◌, get_or, length, take, Option, Some, None, if◌then◌else◌}
 use Rattle.std.specs.Prelude as text
 use Rattle.rc_maps.specs.declared.seed.Seed.{Seed}
+use Rattle.rc_maps.specs.Seed.{seed_of}
 use Rattle.rc_spec.specs.declared.items.OpKind.{OpKind}
 use Rattle.rc_spec.specs.declared.items.OpKind.TheVariants as kinds
 use Rattle.rc_spec.specs.declared.spec.Spec.{Spec}
@@ -33,9 +34,18 @@ use Rattle.rc_embed.specs.Opened.{IsOpenedWith, IsRefusedFor, IsRefusedWith, Ope
 abbrev pub rows_asked : ℕ → Option ℕ
 rows_asked rows = if rows == 0 then None else Some rows
 
--- what a frame asks for, with a seed, of which no clause depends
-abbrev pub options_asked : OpenFrame → Seed → asked.Options
-options_asked frame seed = record { passes = frame.passes; limit = frame.limit; rows = rows_asked frame.rows; seed = seed }
+-- the seed of a frame's two numbers
+abbrev pub seed_asked : OpenFrame → Seed
+seed_asked frame = seed_of (get_or frame.seed 0 0) (get_or frame.seed 1 0)
+
+-- what a frame asks for
+abbrev pub options_asked : OpenFrame → asked.Options
+options_asked frame = record {
+  passes = frame.passes;
+  limit = frame.limit;
+  rows = rows_asked frame.rows;
+  seed = seed_asked frame;
+}
 
 -- the code of a fault
 abbrev pub open_code : OpenFault → ℕ
@@ -112,7 +122,7 @@ pub record KeepsAsked (before after : OpenFrame) : Type 0 where
 -- the text gives a specification that keeps all rules, the other texts give shapes and plans that do, and this is a new store
 -- of all three, as the frame asks
 abbrev pub IsOpenedWithBy : List ℕ → List ℕ → List ℕ → OpenFrame → OpenSeen → Type 0
-IsOpenedWithBy text shapes plans frame store = (seed : Seed) × IsOpenedWith text shapes plans (options_asked frame seed) store
+IsOpenedWithBy text shapes plans frame store = IsOpenedWith text shapes plans (options_asked frame) store
 
 -- so it is with no further operation, and no plan written
 abbrev pub IsOpenedBy : List ℕ → OpenFrame → OpenSeen → Type 0
@@ -130,8 +140,7 @@ HasOpened text before after = HasOpenedWith text [] [] before after
 -- no store was opened, for a cause, which the code and the frame tell
 pub record IsRefusedAs (IsCause : asked.Options → OpenFault → Type 0) (before after : OpenFrame) (code : ℕ) : Type 0 where
   pub fault : OpenFault
-  pub seed : Seed
-  pub cause : IsCause (options_asked before seed) fault
+  pub cause : IsCause (options_asked before) fault
   pub code_is : code ≡ open_code fault
   pub told : HasRefusal (fault_text fault) after
 

@@ -21,7 +21,7 @@ use Rattle.rc_embed.specs.declared.session.State.{State}
 use Rattle.rc_embed.specs.declared.session.State.TheVariants.{Idle, Prepared, PreparedGroup, Open, Moving}
 use Rattle.rc_embed.specs.Asked.{AskedCall, calls_by}
 use Rattle.rc_embed.specs.Declaring.{IsDeclared, declared_in}
-use Rattle.rc_embed.specs.Entries.{HaveEntriesOf, KeepsPass, entries_of, number_in}
+use Rattle.rc_embed.specs.Entries.{HaveEntriesOf, KeepsPass, entries_of, known_of, number_in}
 use Rattle.rc_embed.specs.EntriesLaws.{commits_stand}
 use Rattle.rc_embed.specs.OfText.{AreAnsweredAt, IsHistoryOfText}
 use Rattle.rc_embed.specs.OpenGroups.{HasCalledOpen, HasOpenCause, HasOpenedGroup, IsUncoveredIn, call_in}
@@ -29,7 +29,7 @@ use Rattle.rc_embed.specs.Opened.{IsStoreOfTexts, OpenSeen}
 use Rattle.rc_embed.specs.Session.{HasCommitted, SessionSeen, calls_in, replies_of, uncommitted_in}
 use Rattle.rc_embed.specs.ToldLaws.{answered, calls_or, same_calls}
 
--- ---- the session keeps its pass, and the entries of that
+-- ---- the session keeps its pass, the entries of that, and what it was told of
 
 -- while it opens a group,
 abbrev pub OpeningKeepsPasses : Type 0
@@ -38,11 +38,14 @@ OpeningKeepsPasses = (old new : SessionSeen) (declared : List AskedCall)
 
 -- from one state to another with the same entries
 kept_so : (old new : SessionSeen) (before after : State) → old.state ≡ before → new.state ≡ after
-    → number_in after ≡ number_in before → entries_of after ≡ entries_of before → KeepsPass old new
-kept_so old new before after was is number entries = record {
+    → number_in after ≡ number_in before → entries_of after ≡ entries_of before → known_of after ≡ known_of before
+    → KeepsPass old new
+kept_so old new before after was is number entries known = record {
   number = ap number_in is ∙ number ∙ sym (ap number_in was);
   entries = λ w m.
       subst (λ (l : List Placed). In w l) (ap entries_of was ∙ sym entries ∙ sym (ap entries_of is)) m;
+  knows = λ history m.
+      subst (λ (l : List (List Entry)). In history l) (ap known_of was ∙ sym known ∙ sym (ap known_of is)) m;
 }
 
 pub opening_keeps : OpeningKeepsPasses
@@ -50,6 +53,7 @@ opening_keeps old new declared h =
     kept_so old new (Idle h.before) (Open h.group) h.was h.is
     (ap (λ (pass : PassSeen). number_in (Idle pass)) h.opened.begun)
     (ap (λ (pass : PassSeen). (core_of pass).own) h.opened.begun)
+    (ap (λ (pass : PassSeen). pass.standing.known) h.opened.begun)
 
 -- and while that makes a call
 abbrev pub OpenCallsKeepPasses : Type 0
@@ -60,6 +64,7 @@ open_calls_keep old new asked h =
     kept_so old new (Open h.before) (Open h.after) h.was h.is
     (ap (λ (pass : PassSeen). number_in (Idle pass)) h.called.begun)
     (ap (λ (pass : PassSeen). (core_of pass).own) h.called.begun)
+    (ap (λ (pass : PassSeen). pass.standing.known) h.called.begun)
 
 -- ---- the calls of an open group, one after another
 

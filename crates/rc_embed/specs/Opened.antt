@@ -17,6 +17,7 @@ use Rattle.rc_query.specs.Planned.{IsPlanned}
 use Rattle.rc_reader.specs.Grammar.{spec_of, text_version}
 use Rattle.rc_reader.specs.declared.refusal.LineRule.{LineRule}
 use Rattle.rc_row.specs.declared.keeping.Keeping.TheVariants.{Counts}
+use Rattle.rc_row.specs.Law.{history_by}
 use Rattle.rc_row.specs.Passes as rows
 use Rattle.rc_row.specs.Passes.{PassSeen, compiled_of, new_passes}
 use Rattle.rc_store.specs.Store.{StoreSeen}
@@ -116,9 +117,11 @@ pub record IsStoreOfTexts (text shapes plans : List ℕ) (options : asked.Option
   pub written : AreWritten of.declared spec plans hands
   pub store : IsStoreOf spec hands options opened
 
--- It is a new one, with all of its passes, by number. None of them has made a call.
+-- It is a new one: its history has no entry, and so it has no tuple; and it has all of its passes, by number. None of them has
+-- made a call.
 pub record IsOpenedWith (text shapes plans : List ℕ) (options : asked.Options) (opened : OpenSeen) : Type 0 where
   pub texts : IsStoreOfTexts text shapes plans options opened
+  pub history : history_by opened.store.row.key ≡ []
   pub passes : opened.passes ≡ new_passes opened.store.row
 
 -- So it is with no further operation, and with no plan written: each operation has its planned plan (`ArePlannedOf`).
@@ -283,9 +286,10 @@ pub record IsMadeOf (compiled : SpecWithPlans) (options : asked.Options) (opened
   pub limit : opened.store.limit ≡ options.limit
   pub seed : opened.store.row.key.seed ≡ options.seed
 
--- a new one, with all of its passes
+-- a new one, with no history, and with all of its passes
 pub record IsBuiltOf (compiled : SpecWithPlans) (options : asked.Options) (opened : OpenSeen) : Type 0 where
   pub made : IsMadeOf compiled options opened
+  pub history : history_by opened.store.row.key ≡ []
   pub passes : opened.passes ≡ new_passes opened.store.row
 
 -- a session of the store with this pass: no call is prepared, and it tells no reply yet

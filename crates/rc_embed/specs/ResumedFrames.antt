@@ -1,6 +1,5 @@
 -- Frames by which closed stores go on, and how a store is closed for callers in other languages.
 use Rattle.std.specs.Prelude.{◌≡◌, ◌⊎◌, ◌∷◌, ℕ, List, [], Option, Some}
-use Rattle.rc_maps.specs.declared.seed.Seed.{Seed}
 use Rattle.rc_store.specs.Closed.{ClosedSeen, HasClosed}
 use Rattle.rc_embed.specs.declared.fault.ResumeFault.{ResumeFault}
 use Rattle.rc_embed.specs.declared.fault.ResumeFault.TheVariants.{Refused, Sessions, Limit, Other}
@@ -47,15 +46,13 @@ TellsResumeFault fault frame code =
 
 -- the store goes on from the closed one, by the texts and as the frame asks
 abbrev pub IsResumedBy : ClosedSeen → List ℕ → List ℕ → List ℕ → OpenFrame → OpenSeen → Type 0
-IsResumedBy closed text shapes plans frame opened =
-    (seed : Seed) × IsResumedWith closed text shapes plans (options_asked frame seed) opened
+IsResumedBy closed text shapes plans frame opened = IsResumedWith closed text shapes plans (options_asked frame) opened
 
 -- the closed store doesn't go on, for a cause, which the code and the frame tell
 pub record IsUnresumedBy (closed : ClosedSeen) (text shapes plans : List ℕ) (before after : OpenFrame) (code : ℕ)
     : Type 0 where
   pub fault : ResumeFault
-  pub seed : Seed
-  pub cause : IsUnresumedFor closed text shapes plans (options_asked before seed) fault
+  pub cause : IsUnresumedFor closed text shapes plans (options_asked before) fault
   pub code_is : code ≡ resume_code fault
   pub told : HasRefusal (resume_text fault) after
 

@@ -33,7 +33,7 @@ impl OpenStore {
     /// Takes a session of this store back: its pass is the store's again, among the others by its
     /// number, and serves the next session that begins. Its last reply is gone. Takes no memory.
     ///
-    /// `Err`, with session and store as they were, only where the session has prepared a call or
+    /// `Err`, with session and store as they were, exactly where the session has prepared a call or
     /// a group, or has opened one, or the store has as many passes as it was opened with. Where a
     /// session of it is outside it has fewer (`passes_come_back`), so an idle session is taken back.
     pub fn take_back(&mut self, session: Session) -> Result<(), Session>

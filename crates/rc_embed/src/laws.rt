@@ -6,7 +6,7 @@ ghost use Rattle.rc_embed.specs.DeclaringLaws.{DeclaredCallsAreCovered};
 ghost use Rattle.rc_embed.specs.EntriesLaws.{CallsKeepPasses, CallsStand, CancelsKeepPasses};
 ghost use Rattle.rc_embed.specs.EntriesLaws.{CommitsKeepPasses, CommitsStand, DealingKeepsEntries};
 ghost use Rattle.rc_embed.specs.EntriesLaws.{FaultsKeepPasses, LooksKeepPasses, PicksKeepPasses};
-ghost use Rattle.rc_embed.specs.EntriesLaws.{PreparingKeepsPasses, TakingBackKeepsEntries};
+ghost use Rattle.rc_embed.specs.EntriesLaws.{PassesAreHandedOn, PreparingKeepsPasses, TakingBackKeepsEntries};
 ghost use Rattle.rc_embed.specs.OpenGroupLaws.{NoDeclaredCallIsUncovered, OpenCallsKeepPasses};
 ghost use Rattle.rc_embed.specs.OpenGroupLaws.{OpenGroupsKeepTheirLocks, OpenRepliesArePlain};
 ghost use Rattle.rc_embed.specs.OpenGroupLaws.{OpeningKeepsPasses};
@@ -64,9 +64,9 @@ pub fn closed_stores_are_of_the_text()
 
 /// The one history goes on where a closed store does, by the specification that the later texts give: behind the calls of each
 /// receipt stands a history that begins with that which was closed, and is good for that specification, where the receipt's pass
-/// knows what one of the passes knew that the store began with (as it does from its first call on: `telling_goes_on` of
-/// `rc_store`); and where the store is closed again, the one history that it leaves begins with that which was closed before.
-/// (PLDI 2012, serializable transactions.)
+/// knows what one of the passes knew that the store began with (as those of a session do that began with it: `entries_stay`);
+/// and where the store is closed again, the one history that it leaves begins with that which was closed before. (PLDI 2012,
+/// serializable transactions.)
 pub fn resumed_stores_go_on()
     ensures receipts { ReceiptsGoOnFromClosed }
     ensures closed { ClosedHistoriesGoOn }
@@ -80,10 +80,11 @@ pub fn calls_stand()
     ensures commits { CommitsStand }
 {}
 
-/// A session keeps its pass, and the entries of that, through all that it does: calls, prepared
-/// ones that are committed or cancelled, looks at the history, picks of a reply, and calls that are
-/// refused; and so of groups, also of those that are opened, and of their calls. One that is taken back
-/// gives its entries to the store, which keeps those of its passes until a session begins with the pass.
+/// A session keeps its pass, the entries of that, and all that it was told of, through all that it does:
+/// calls, prepared ones that are committed or cancelled, looks at the history, picks of a reply, and calls
+/// that are refused; and so of groups, also of those that are opened, and of their calls. So its later
+/// passes know what its first one knew. One that is taken back gives its pass to the store, with its entries
+/// and all that it was told of, and the store keeps its passes as they are until a session begins with one.
 pub fn entries_stay()
     ensures calls { CallsKeepPasses }
     ensures preparing { PreparingKeepsPasses }
@@ -96,6 +97,7 @@ pub fn entries_stay()
     ensures faults { FaultsKeepPasses }
     ensures taking_back { TakingBackKeepsEntries }
     ensures dealing { DealingKeepsEntries }
+    ensures passes { PassesAreHandedOn }
 {}
 
 /// A new store has all of its passes, and so has one that goes on; one goes outside with each session that

@@ -114,7 +114,7 @@ fn plan_line_text(alloc: Global, rule: HandRule, line: u32) -> Result<Vec<u8>, M
 impl OpenFrame {
     /// What it asks for.
     pub(crate) fn options(&self) -> Options
-        ensures { result ≡ options_asked self.now result.seed }
+        ensures { result ≡ options_asked self.now }
     {
         Options {
             passes: self.passes,

@@ -24,7 +24,7 @@ use Rattle.rc_row.specs.declared.keeping.Keeping.{Keeping}
 use Rattle.rc_row.specs.declared.keeping.Keeping.TheVariants.{Counts, Entries}
 use Rattle.rc_row.specs.declared.law.Key.{Key}
 use Rattle.rc_row.specs.declared.slot.Slot.TheVariants.{Empty}
-use Rattle.rc_row.specs.Ended.{IsEndedPass, IsLeftOf, no_entries, resumed_from}
+use Rattle.rc_row.specs.Ended.{IsEndedOf, IsLeftOf, no_entries, resumed_from}
 use Rattle.rc_row.specs.Law.{IsKept, Slot, compiled_by, history_by, kept_of, opener, spec_by, stripes_by}
 use Rattle.rc_row.specs.Passes.{KeepsAs, PassSeen, RowSeen, new_pass, resumed_pass}
 use Rattle.rc_row.specs.Rooms.{AreFirstSlots, spaced}
@@ -85,9 +85,9 @@ back_in fragments n slots is = ap (filter_map kept_at) is ∙ fragments_in fragm
 
 -- ---- a new row goes on from nothing
 
-none_made : (keeping : Keeping) → IsEndedPass [] (no_entries keeping).entries (no_entries keeping)
-none_made Entries = record { made = refl; entries = refl; own_entries = refl }
-none_made Counts = record { made = refl; entries = refl; own_entries = tt }
+none_made : (keeping : Keeping) → IsEndedOf [] (no_entries keeping)
+none_made Entries = record { made = refl; own_entries = refl }
+none_made Counts = record { made = refl; own_entries = tt }
 
 keeps_none : (keeping : Keeping) → KeepsAs keeping (no_entries keeping).entries
 keeps_none Entries = tt
@@ -114,7 +114,7 @@ nothing_left spec keeping passes some few = record {
   });
   count = length-replicate (stripe_total spec) (kept_of spec []);
   rows = λ p lt. there_all (kept_of spec []) (stripe_total spec) p (subst (λ n. p < n) (length-replicate (stripe_total spec) (kept_of spec [])) lt) ∙ ap (λ rows. Some (kept_of spec rows)) (sym (empty_law spec p));
-  made = λ k e at. subst (λ (x : EndedPass). IsEndedPass [] x.entries x) (same_all (no_entries keeping) passes k e at) (none_made keeping);
+  made = λ k e at. subst (λ (x : EndedPass). IsEndedOf [] x) (same_all (no_entries keeping) passes k e at) (none_made keeping);
   keeps = λ k e at. subst (λ (x : EndedPass). KeepsAs keeping x.entries) (same_all (no_entries keeping) passes k e at) (keeps_none keeping);
 }
 

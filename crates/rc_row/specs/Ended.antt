@@ -23,6 +23,11 @@ pub record IsEndedPass (own : List Placed) (kept : Option PartEntries) (e : Ende
   pub entries : e.entries ≡ kept
   pub own_entries : AreOwnKept kept own
 
+-- what a pass leaves that made these entries: so many, and the entries themselves where it has any
+pub record IsEndedOf (own : List Placed) (e : EndedPass) : Type 0 where
+  pub made : e.made ≡ length own
+  pub own_entries : AreOwnKept e.entries own
+
 -- There is one good history of which the passes have their own entries, which goes on from all that they were told of, and whose rows the
 -- fragments have. It is short, and leaves few tuples.
 pub record HasHistory (spec : Spec) (passes : List PassSeen) (fragments : List KeptRows) : Type 0 where
@@ -42,7 +47,7 @@ pub record IsLeftOf (spec : Spec) (keeping : Keeping) (history : List Entry) (fr
   pub may : MayGoOn spec (length ended) history
   pub count : length fragments ≡ stripe_total spec
   pub rows : (p : ℕ) → p < length fragments → slice_get fragments p ≡ Some (kept_of spec (fragment_of spec (replay spec history) p))
-  pub made : (k : ℕ) (e : EndedPass) → slice_get ended k ≡ Some e → IsEndedPass (own_placed history k) e.entries e
+  pub made : (k : ℕ) (e : EndedPass) → slice_get ended k ≡ Some e → IsEndedOf (own_placed history k) e
   pub keeps : (k : ℕ) (e : EndedPass) → slice_get ended k ≡ Some e → KeepsAs keeping e.entries
 
 -- the passes of a row that goes on, from the number k

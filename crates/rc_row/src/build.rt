@@ -7,7 +7,7 @@ ghost use Rattle.rc_spec.specs.Stripes.{stripe_total};
 ghost use Rattle.rc_rel.specs.History.{own_placed};
 ghost use Rattle.rc_row.specs.declared.slot.Slot.TheVariants.{Empty};
 ghost use Rattle.rc_row.specs.declared.close.EndedPass.{EndedPass};
-ghost use Rattle.rc_row.specs.Ended.{IsEndedPass, IsLeftOf, no_entries, resumed_from};
+ghost use Rattle.rc_row.specs.Ended.{IsEndedOf, IsLeftOf, no_entries, resumed_from};
 ghost use Rattle.rc_row.specs.Law.{IsKept, history_by, kept_of, opener, passes_view, starts};
 ghost use Rattle.rc_row.specs.Passes.{new_passes, resumed_pass, stripes_of};
 ghost use Rattle.rc_row.specs.Rooms.{AreRooms, spaced};
@@ -132,7 +132,7 @@ impl Row {
     ) -> Vec<Pass>
         requires row { (seat.table_id ≡ self.now.table) × (seat.me ≡ (opener self.now.key, [])) }
         requires passes { (length ended.items ≡ self.now.key.passes) × (length ended.items ≤ 255) }
-        requires made { (k : ℕ) (e : EndedPass) → slice_get ended.items k ≡ Some e → IsEndedPass (own_placed (history_by self.now.key) k) e.entries e }
+        requires made { (k : ℕ) (e : EndedPass) → slice_get ended.items k ≡ Some e → IsEndedOf (own_placed (history_by self.now.key) k) e }
         requires seen { seen ≡ length (history_by self.now.key) }
         requires held { (length held.items ≡ length ended.items) × AreRooms (stripes_of self.now) held.items }
         requires dealt { (dealt.items ≡ []) × (length ended.items ≤ vec_capacity dealt) }
@@ -161,7 +161,7 @@ impl Row {
         requires number { number < 255 }
         requires some { (n : ℕ) × (seat.old.me.0 ≡ passes_view (starts (history_by self.now.key) number (suc n))) }
         requires room { (held.items ≡ []) × (stripes_of self.now ≤ held.cap) }
-        requires ended { IsEndedPass (own_placed (history_by self.now.key) number) ended.entries ended }
+        requires ended { IsEndedOf (own_placed (history_by self.now.key) number) ended }
         requires seen { seen ≡ length (history_by self.now.key) }
         ensures seat { (seat.new.table_id ≡ seat.old.table_id) × (seat.new.id ≡ seat.old.id) × (seat.new.me.1 ≡ seat.old.me.1) }
         ensures left { (n : ℕ) → seat.old.me.0 ≡ passes_view (starts (history_by self.now.key) number (suc n)) → seat.new.me.0 ≡ passes_view (starts (history_by self.now.key) (suc number) n) }

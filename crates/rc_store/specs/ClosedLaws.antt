@@ -18,7 +18,7 @@ use Rattle.rc_rel.specs.declared.entry.Entry.{Entry}
 use Rattle.rc_rel.specs.declared.entry.Placed.{Placed}
 use Rattle.rc_rel.specs.History.{IsPrefix, own, own_placed, replay}
 use Rattle.rc_rel.specs.HistoryLaws.{replay_in_states, states_are_relations, states_satisfy}
-use Rattle.rc_rel.specs.OwnLaws.{placed_own, same_places}
+use Rattle.rc_rel.specs.OwnLaws.{own_length, same_places}
 use Rattle.rc_core.specs.Resumed.{MayGoOn}
 use Rattle.rc_core.specs.ResumedLaws.{made_at, made_there}
 use Rattle.rc_rel.specs.SharesLaws.{shares_add_up}
@@ -222,9 +222,6 @@ made_by_number g (pass ∷ passes) a same =
     let first : length (core_of pass).own ≡ g a = same 0 pass refl ∙ ap g (let z : a + 0 ≡ a = omega arith in z) in
     let rest = made_by_number g passes (a + 1) (λ k p e. same (suc k) p e ∙ ap g (let z : a + suc k ≡ a + 1 + k = omega arith in z)) in
     λ i. first i ∷ rest i
-
-pub own_length : (history : List Entry) (k : ℕ) → length (own_placed history k) ≡ length (own history k)
-own_length history k = sym (length-map (own_placed history k) (λ (w : Placed). w.entry)) ∙ ap (λ (l : List Entry). length l) (placed_own 0 history k)
 
 -- what a store leaves has one history
 pub one_history : (store : StoreSeen) (passes : List PassSeen) (closed : ClosedSeen) → HasClosed store passes closed → HasOneHistory closed

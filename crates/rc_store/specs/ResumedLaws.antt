@@ -1,15 +1,15 @@
 -- Laws of stores that go on.
-use Rattle.std.proofs.Common.{◌≡◌, ◌⊎◌, ℕ, zero, suc, ◌+◌, ◌<◌, ◌≤◌, ◌^◌, List, [], ◌∷◌, ◌++◌, Option, Some, None, length, map, get_or, eqb, inl, inr, refl, sym, ap, subst, ◌∙◌, arith}
+use Rattle.std.proofs.Common.{◌≡◌, ◌⊎◌, ℕ, zero, suc, ◌+◌, ◌<◌, ◌≤◌, ◌^◌, List, [], ◌∷◌, ◌++◌, Option, Some, None, length, map, get_or, inl, inr, refl, sym, ap, subst, ◌∙◌, arith}
 use Rattle.std.specs.Prelude.{All, IfSome}
 use Rattle.std.specs.List.{AllByRecursion, range_with_len, slice_get}
 use Rattle.std.specs.Option.{option_map, unwrap_or}
-use Rattle.std.proofs.lemmas.Bool.{cases_lt, eqb-true}
+use Rattle.std.proofs.lemmas.Bool.{cases_lt}
 use Rattle.std.proofs.lemmas.List.Elements.{All-contains}
 use Rattle.std.proofs.lemmas.List.{length-map}
 use Rattle.std.proofs.lemmas.List.FromFn.{length-map-range_with_len, map-range_with_len_more}
 use Rattle.std.proofs.lemmas.Option.{same_Some, slice_get-get_or, slice_get-map, slice_get_past}
 use Rattle.rc_tuple.specs.RisingSet.{In}
-use Rattle.rc_tuple.specs.RisingSetLaws.{in_contains, in_filter, in_map}
+use Rattle.rc_tuple.specs.RisingSetLaws.{in_contains, in_map}
 use Rattle.rc_spec.specs.Fragments.{fragment_of}
 use Rattle.rc_spec.specs.Stripes.{stripe_total}
 use Rattle.rc_spec.specs.declared.spec.Spec.{Spec}
@@ -21,20 +21,20 @@ use Rattle.rc_rel.specs.declared.entry.Step.{Step}
 use Rattle.rc_rel.specs.Further.{Extends}
 use Rattle.rc_rel.specs.FurtherLaws.{histories_stay}
 use Rattle.rc_rel.specs.History.{IsPrefix, own, own_placed, replay}
+use Rattle.rc_rel.specs.OwnLaws.{none_own, own_length}
 use Rattle.rc_core.specs.Resumed.{MayGoOn}
-use Rattle.rc_core.specs.ResumedLaws.{goes_on_with_more, made_at, made_there}
+use Rattle.rc_core.specs.ResumedLaws.{goes_on_with_more, goes_on_with_passes, made_at, made_there}
 use Rattle.rc_journal.specs.PartEntries.{PartEntries}
 use Rattle.rc_instance.specs.Instance.{HaveOneTable, Stripe, kept_stripe}
 use Rattle.rc_row.specs.declared.close.EndedPass.{EndedPass}
 use Rattle.rc_row.specs.declared.keeping.Keeping.{Keeping}
 use Rattle.rc_row.specs.declared.keeping.Keeping.TheVariants.{Counts, Entries}
-use Rattle.rc_row.specs.Ended.{IsEndedPass, IsLeftOf, resumed_from}
+use Rattle.rc_row.specs.Ended.{IsEndedOf, IsLeftOf, resumed_from}
 use Rattle.rc_row.specs.Law.{history_by, kept_of}
 use Rattle.rc_row.specs.PassInside.{AreOwnKept}
 use Rattle.rc_row.specs.Passes.{KeepsAs, PassSeen, RowSeen, core_of, resumed_pass}
 use Rattle.rc_row.specs.Standings.{told_of}
 use Rattle.rc_store.specs.Closed.{AreKeptOf, ClosedSeen, HasOneHistory, left_by}
-use Rattle.rc_store.specs.ClosedLaws.{own_length}
 use Rattle.rc_store.specs.Headline.{IsReceipt, history_of}
 use Rattle.rc_store.specs.ReceiptLaws.{begins_closed}
 use Rattle.rc_store.specs.Receipts.{KnowsAll}
@@ -45,39 +45,6 @@ use Rattle.rc_store.specs.Store.{IsFree, StoreSeen}
 
 same_table : (earlier later : Spec) → Extends earlier later → edge_table later ≡ edge_table earlier
 same_table earlier later (more, is) = ap edge_table is
-
--- no entry is of a pass that isn't there
-none_own : (history : List Entry) (passes k : ℕ) → ((e : Entry) → In e history → e.pass < passes) → passes ≤ k → length (own history k) ≡ 0
-none_own history passes k few beyond = go (own history k) refl
-  where
-    go : (xs : List Entry) → xs ≡ own history k → length xs ≡ 0
-    go [] is = refl
-    go (x ∷ xs) is =
-        let m = in_filter (λ (e : Entry). eqb e.pass k) x history (subst (λ (l : List Entry). In x l) is (inl refl)) in
-        let lt = few x m.0 in
-        let same = eqb-true x.pass k m.1 in
-        absurd (omega (arith, lt, same, beyond))
-
--- more passes may go on from a history too
-more_go_on : (spec : Spec) (passes more : ℕ) (history : List Entry) → MayGoOn spec passes history → passes ≤ more → more ≤ 255 → MayGoOn spec more history
-more_go_on spec passes more history may wide few = record {
-  some_pass = (let s = may.some_pass in omega (arith, s, wide));
-  few_passes = few;
-  good = record {
-    legal = may.good.legal;
-    fit = may.good.fit;
-    numbered = may.good.numbered;
-    entries = λ e m. (let g = may.good.entries e m in let lt = g.pass in record { pass = omega (arith, lt, wide); some = g.some; few = g.few });
-  };
-  few = λ k lt. short k (cases_lt k passes);
-}
-  where
-    short : (k : ℕ) → (k < passes) ⊎ (passes ≤ k) → length (own_placed history k) ≤ 2 ^ 48
-    short k (inl lt) = may.few k lt
-    short k (inr beyond) =
-        let n = own_length history k in
-        let z = none_own history passes k (λ e m. (may.good.entries e m).pass) beyond in
-        omega (arith, n, z)
 
 -- how much each pass has made
 made_of_each : (closed : ClosedSeen) (h : HasOneHistory closed) (k : ℕ) → made_by_pass closed.made k ≡ length (own_placed h.history k)
@@ -94,15 +61,15 @@ made_of_each closed h k = go (cases_lt k (length closed.made)) ∙ sym (own_leng
 -- each of the passes leaves its own entries of the history, kept as the passes keep them that go on
 abbrev pub AreEndedOf : Keeping → List Entry → ℕ → List EndedPass → Type 0
 AreEndedOf keeping history passes ended = (length ended ≡ passes)
-    × ((k : ℕ) (e : EndedPass) → slice_get ended k ≡ Some e → IsEndedPass (own_placed history k) e.entries e × KeepsAs keeping e.entries)
+    × ((k : ℕ) (e : EndedPass) → slice_get ended k ≡ Some e → IsEndedOf (own_placed history k) e × KeepsAs keeping e.entries)
 
 module _ (closed : ClosedSeen) (h : HasOneHistory closed) (passes : ℕ) (ended : List EndedPass) where
   ended_counted : ended ≡ counted_passes closed.made passes → AreEndedOf Counts h.history passes ended
   ended_counted is = (
     ap (λ (l : List EndedPass). length l) is ∙ length-map-range_with_len (λ k. counted (made_by_pass closed.made k)) 0 passes,
     λ k e at. (let same : e ≡ counted (made_by_pass closed.made (0 + k)) = made_at (λ n. counted (made_by_pass closed.made n)) 0 passes k e (ap (λ (l : List EndedPass). slice_get l k) (sym is) ∙ at) in
-        subst (λ (y : EndedPass). IsEndedPass (own_placed h.history k) y.entries y × KeepsAs Counts y.entries) (sym same)
-        (record { made = made_of_each closed h (0 + k) ∙ ap (λ n. length (own_placed h.history n)) (let z : 0 + k ≡ k = omega arith in z); entries = refl; own_entries = tt }, tt)),
+        subst (λ (y : EndedPass). IsEndedOf (own_placed h.history k) y × KeepsAs Counts y.entries) (sym same)
+        (record { made = made_of_each closed h (0 + k) ∙ ap (λ n. length (own_placed h.history n)) (let z : 0 + k ≡ k = omega arith in z); own_entries = tt }, tt)),
   )
 
   ended_kept : (journal : List Entry) → journal ≡ h.history → AreKeptParts journal passes ended → AreEndedOf Entries h.history passes ended
@@ -110,8 +77,8 @@ module _ (closed : ClosedSeen) (h : HasOneHistory closed) (passes : ℕ) (ended 
     kept.count,
     λ k e at. (let part = kept.each k e at in
         let own : part.0.list ≡ own_placed h.history k = part.1 ∙ ap (λ (l : List Entry). own_placed l k) is in
-        subst (λ (y : EndedPass). IsEndedPass (own_placed h.history k) y.entries y × KeepsAs Entries y.entries) (sym part.2)
-        (record { made = ap (λ (l : List Placed). length l) own; entries = refl; own_entries = own }, tt)),
+        subst (λ (y : EndedPass). IsEndedOf (own_placed h.history k) y × KeepsAs Entries y.entries) (sym part.2)
+        (record { made = ap (λ (l : List Placed). length l) own; own_entries = own }, tt)),
   )
 
   pub are_ended : (ended_is : closed.journal ≡ None → ended ≡ counted_passes closed.made passes) → IfSome closed.journal (λ history. AreKeptParts history passes ended)
@@ -147,7 +114,7 @@ module _ (closed : ClosedSeen) (h : HasOneHistory closed) (later : Spec) (extend
   pub left_of_closed : (keeping : Keeping) (passes : ℕ) (ended : List EndedPass) → length closed.made ≤ passes → passes ≤ 255 → AreEndedOf keeping h.history passes ended
       → IsLeftOf later keeping h.history (left_by closed.compiled.spec h.history) ended
   left_of_closed keeping passes ended wide few are = record {
-    may = subst (λ n. MayGoOn later n h.history) (sym are.0) (more_go_on later (length closed.made) passes h.history (goes_on_with_more closed.compiled.spec later (length closed.made) h.history extends h.may) wide few);
+    may = subst (λ n. MayGoOn later n h.history) (sym are.0) (goes_on_with_passes later (length closed.made) passes h.history (goes_on_with_more closed.compiled.spec later (length closed.made) h.history extends h.may) wide few);
     count = many_fragments ∙ sym total;
     rows = λ p lt.
         made_there (λ q. kept_of closed.compiled.spec (fragment_of closed.compiled.spec (replay closed.compiled.spec h.history) q)) 0 (stripe_total closed.compiled.spec) p (subst (λ n. p < n) many_fragments lt)

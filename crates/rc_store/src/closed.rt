@@ -14,7 +14,8 @@ use rc_tuple::{Memory, Tuples};
 use std::alloc::Global;
 use std::marker::Model;
 
-/// What a store leaves that was closed: the relation with its history. `Store::close` alone makes it.
+/// What a store leaves that was closed: the relation with its history. `Store::close` alone makes it, and a `Store::resume` that
+/// wants memory hands it back.
 ///
 /// Its entries, where they were kept, are one legal history (PLDI 2012, serializable transactions), its fragments those of the
 /// relation that the history leaves.

@@ -33,7 +33,8 @@ pub fn receipts_are_of_the_closed()
 {}
 
 /// The one history goes on where a closed store does: it begins with each receipt of the closed store that a pass was told
-/// of, each later receipt stands behind it, and what the later store leaves begins with it.
+/// of; each receipt of the later store stands behind it, of a pass that knows what one that was handed out knew; and what the
+/// later store leaves begins with it.
 pub fn resumed_histories_are_one()
     ensures { ResumedHistoriesAreOne }
 {}

@@ -49,12 +49,12 @@ struct ResumingRoom {
 }
 
 impl<W: Wakes> Store<W> {
-    /// Makes a store that goes on from a closed one: it undoes `close`. The specification is the closed store's, or that with
-    /// further operations behind its own. The tuples are those of the closed store, and its history goes on: the passes are
-    /// new ones, by number, at least as many as before and at most 255, each of which has made what the pass of its number had
-    /// made, has seen the history and was told of it. Each may make so many entries in all, those of before among them. Where
-    /// the closed store has its journal, each pass keeps its entries, those of before too, and else none does. The seed is
-    /// that of hash tables that are made from now on.
+    /// Makes a store that goes on from a closed one. The specification is the closed store's, or that with further operations
+    /// behind its own; plans, seed and limit may be others. The tuples are those of the closed store, and its history goes on:
+    /// the passes are new ones, by number, at least as many as before and at most 255, each of which has made what the pass of
+    /// its number had made, has seen the history and was told of it. Each may make so many entries in all, those of before
+    /// among them. Where the closed store has its journal, each pass keeps its entries, those of before too, and else none
+    /// does. The seed is that of hash tables that are made from now on.
     ///
     /// Where memory is wanted all comes back as it was. Costs the stripes, for each pass room for a fragment of each stripe,
     /// and where entries were kept a move of each; no row is copied, and no call is made again. (PLDI 2012, serializable

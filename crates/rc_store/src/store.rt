@@ -1,6 +1,7 @@
 //! The store.
 
-ghost use Rattle.std.specs.Prelude.{◌≡◌, ◌≤◌, ◌^◌, IfOk};
+ghost use Rattle.std.specs.Prelude.{◌≡◌, ◌≤◌, ◌^◌, [], IfOk};
+ghost use Rattle.rc_row.specs.Law.{history_by};
 ghost use Rattle.rc_row.specs.Passes.{HasLookedAt, IsPassOf, compiled_of, new_passes, note_of, with_note};
 
 use crate::wakes::Wakes;
@@ -54,6 +55,7 @@ impl<W: Wakes> Store<W> {
         ensures limit { IfOk result (λ r. r.0.limit ≡ limit) }
         ensures row { IfOk result (λ r. (r.0.row.key.passes ≡ passes) × (r.0.row.keeping ≡ keeping)) }
         ensures seed { IfOk result (λ r. r.0.row.key.seed ≡ seed) }
+        ensures history { IfOk result (λ r. history_by r.0.row.key ≡ []) }
         ensures passes { IfOk result (λ r. r.1.items ≡ new_passes r.0.row) }
     {
         let (row, dealt) = Row::build(alloc, seed, &compiled, passes, keeping)?;

@@ -4,12 +4,10 @@ use Rattle.rc_c.proofs.relc_open_planned.Goals as goal
 
 pub returns-clause-refused : goal.returns-clause-refused
 returns-clause-refused c other =
-    let seed = c.in-Ok.ensures.opened.0 in
-    let is = c.in-Ok.ensures.opened.1 in
+    let is = c.in-Ok.ensures.opened in
     let none = c.in-Ok.ensures.none in
     record {
       fault = Memory;
-      seed = seed;
       cause = (is.texts.allowed, is.texts.short);
       code_is = refl;
       told = record {

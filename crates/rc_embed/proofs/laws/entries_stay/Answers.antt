@@ -34,3 +34,6 @@ returns-clause-taking_back c = laws.taking_back_keeps
 
 pub returns-clause-dealing : goal.returns-clause-dealing
 returns-clause-dealing c = laws.dealing_keeps
+
+pub returns-clause-passes : goal.returns-clause-passes
+returns-clause-passes c = laws.passes_are_handed_on

@@ -8,7 +8,6 @@ use Rattle.rc_embed.proofs.open_frame.open_with_by.Goals as goal
 pub returns-clause-refused : goal.returns-clause-refused
 returns-clause-refused c = record {
   fault = Memory;
-  seed = c.options.result.seed;
   cause = subst
       (λ (options : asked.Options). IsRefusedWith c.args.text.now c.args.shapes.now c.args.plans.now options Memory)
       c.options.ensures
@@ -20,7 +19,6 @@ returns-clause-refused c = record {
 pub returns-in-Ok-tell_fault-clause-refused : goal.returns-in-Ok-tell_fault-clause-refused
 returns-in-Ok-tell_fault-clause-refused c = record {
   fault = c.in-Err.fault;
-  seed = c.options.result.seed;
   cause = subst
       (λ (options : asked.Options). IsRefusedWith c.args.text.now c.args.shapes.now c.args.plans.now options c.in-Err.fault)
       c.options.ensures c.in-Err.ensures.refused;

@@ -34,5 +34,6 @@ returns-clause-store c =
         limit = built.limit;
         seed = built.seed;
       };
+      history = built.history;
       passes = built.passes;
     }

@@ -1,10 +1,10 @@
-use Rattle.std.proofs.Common.{rules, ◌≡◌, ℕ, List, ◌∷◌, ◌++◌, take, drop, All, sym, subst, ap, ◌∙◌, arith}
+use Rattle.std.proofs.Common.{rules, ◌≡◌, ◌<◌, ℕ, List, ◌∷◌, ◌++◌, length, take, drop, All, sym, subst, ap, ◌∙◌, arith}
 use Rattle.std.specs.Arc.{arc_value}
 use Rattle.rc_row.specs.Passes.{PassSeen}
 use Rattle.rc_store.specs.Store.{IsFree, StoreSeen}
 use Rattle.rc_embed.specs.declared.session.State.{State}
 use Rattle.rc_embed.specs.declared.session.State.TheVariants.{Idle}
-use Rattle.rc_embed.specs.Closing.{IsPlaceOf, number_of}
+use Rattle.rc_embed.specs.Closing.{IsPlaceOf, number_of, pass_count}
 use Rattle.rc_embed.specs.Holding.{held}
 use Rattle.rc_embed.specs.Opened.{OpenSeen}
 use Rattle.rc_embed.specs.Session.{IsStateOf, SessionSeen}
@@ -49,6 +49,13 @@ returns-clause-taken c =
       pass = c.into_pass.result;
       was = sym (ap (λ (session : SessionSeen). session.state) c.session.view_is) ∙ idle;
       store = ap (λ (opened : OpenSeen). opened.store) c.self.view_is;
+      room =
+          let below = c.if-len-self.false in
+          let len = c.len.ensures in
+          let many = ap (λ (ps : List PassSeen). length ps) passes in
+          let count = c.self.invariant.count in
+          let all = ap pass_count c.self.view_is in
+          omega (arith, below, len, many, count, all);
       at = at;
       place =
           subst (λ (n : ℕ). IsPlaceOf n c.args.self.now.passes at) number

@@ -9,7 +9,7 @@ use Rattle.rc_spec.specs.Stripes.{stripe_total}
 use Rattle.rc_spec.specs.declared.spec.Spec.{Spec}
 use Rattle.rc_row.specs.declared.close.EndedPass.{EndedPass}
 use Rattle.rc_row.specs.declared.law.Key.{Key}
-use Rattle.rc_row.specs.Ended.{IsEndedPass}
+use Rattle.rc_row.specs.Ended.{IsEndedOf}
 use Rattle.rc_row.specs.Law.{history_by}
 use Rattle.rc_row.proofs.ResumingLemmas.{back_in, made_is_length, resumes}
 use Rattle.rc_row.proofs.row.Row.resume.Goals as goal
@@ -46,7 +46,7 @@ open-requires c =
 
 pub deal_all-dealt-requires-clause-made : goal.deal_all-dealt-requires-clause-made
 deal_all-dealt-requires-clause-made c = λ k e at.
-    subst (λ (l : List Entry). IsEndedPass (own_placed l k) e.entries e) (sym (ap history_by c.in-Ok-open.ensures.row.0 ∙ c.of-2.ensures)) (c.requires.made k e at)
+    subst (λ (l : List Entry). IsEndedOf (own_placed l k) e) (sym (ap history_by c.in-Ok-open.ensures.row.0 ∙ c.of-2.ensures)) (c.requires.made k e at)
 
 pub deal_all-dealt-requires-clause-seen : goal.deal_all-dealt-requires-clause-seen
 deal_all-dealt-requires-clause-seen c =
