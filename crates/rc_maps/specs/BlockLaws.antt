@@ -1,28 +1,73 @@
 -- Laws of a block's rows: what a search finds, and what a change at a place is to them.
-use Rattle.std.specs.Prelude.{◌≡◌, ℕ, zero, suc, ◌+◌, ◌<◌, ◌≤◌, Bool, true, false, cond, T, nat_lt, ◌==◌, ◌&&◌, ◌||◌, Option, None, Some, is_some, Result, Ok, Err, IfOk, IfErr, List, [], ◌∷◌, length, map, take, slice_set, slice_index_or, insert, remove}
+use Rattle.std.specs.Prelude.{◌≡◌, ℕ, zero, suc, ◌+◌, ◌<◌, ◌≤◌, Bool, true, false, cond, T, nat_lt, ◌==◌, ◌&&◌, ◌||◌, not, Option, None, Some, is_some, Result, Ok, Err, IfOk, IfErr, List, [], ◌∷◌, ◌++◌, length, map, take, slice_set, slice_index_or, insert, remove}
 use Rattle.std.specs.declared.cmp.Ordering.TheVariants.{Less, Equal, Greater}
-use Rattle.std.specs.Ordering.{is_lt, nat_cmp, ordering_index}
+use Rattle.std.specs.declared.cmp.Ordering.{Ordering}
+use Rattle.std.specs.Ordering.{is_lt, nat_cmp, ordering_index, ordering_then}
 use Rattle.std.specs.Cmp.{nat_cmp_is}
 use Rattle.std.specs.FinMap as fin
+use Rattle.std.specs.FinMap.{is_sorted, len-entries}
+use Rattle.std.specs.Option.{unwrap_or}
 use Rattle.std.specs.FinMap.Entries.{below_all}
 use Rattle.std.specs.List.Sorted.{IsBinarySearchResult, IsNonDecreasingBy, IsSearchInRange}
-use Rattle.std.proofs.Common.{refl, sym, ap, subst, ◌∙◌, arith}
-use Rattle.std.specs.List.{list_any}
+use Rattle.std.proofs.Common.{leb, refl, sym, ap, subst, ◌∙◌, arith}
+use Rattle.std.specs.List.{list_any, slice_get}
 use Rattle.std.proofs.lemmas.Bool.{eq-eqb, lt-ltb}
 use Rattle.std.proofs.lemmas.Bool.Decides.{nat_tests}
 use Rattle.std.proofs.lemmas.Cmp.{ranked}
 use Rattle.std.proofs.lemmas.List.{drop-map, length-map, map-append, map-set, take-map}
+use Rattle.std.proofs.lemmas.Option.{none-some}
 use Rattle.std.proofs.lemmas.Simd.{map-map}
 use Rattle.std.proofs.Math.ListN.{get_or-map}
 use Rattle.rc_edges.specs.Values.{Values, values_cmp}
 use Rattle.rc_edges.specs.EdgeMap.{Counted, Rows, extra_of, present, swept}
 use Rattle.rc_edges.specs.ListMap.{IsAt, IsGap, IsKeyed, Items, count_in, rows_in}
-use Rattle.rc_edges.specs.ListMapLaws.{count_next, get_at, put_in, set_at, swept_filled, swept_out, writes_at, writes_gap, writes_out}
+use Rattle.rc_edges.specs.ListMapLaws.{count_next, entries-whole, get_at, put_in, set_at, swept_filled, swept_out, writes_at, writes_gap, writes_out}
 use Rattle.rc_edges.specs.RowsLaws.{head_below, less, tail_sorted}
 use Rattle.rc_maps.specs.Block.{item_of, items_of}
+use Rattle.rc_maps.specs.Blocks.{begin_by}
 use Rattle.rc_maps.specs.Keyed.{by_one}
 use Rattle.rc_maps.specs.TableLaws.{no_one, one, one_cmp}
 use Rattle.rc_maps.specs.declared.block.Row.{Row}
+
+-- ---- parts of a list of items
+
+pub first : (a b : Bool) → T (a && b) → T a
+first true b p = tt
+first false b p = p
+
+pub second : (a b : Bool) → T (a && b) → T b
+second true b p = p
+second false b p = absurd p
+
+pub both : (a b : Bool) → T a → T b → T (a && b)
+both true b p q = q
+both false b p q = p
+
+pub below_first : (x : Values) (i : Values × Counted) (items : Items) → T (below_all values_cmp x (i ∷ items)) → values_cmp x i.0 ≡ Less
+below_first x i items h = less (values_cmp x i.0) (first (is_lt (values_cmp x i.0)) (below_all values_cmp x items) h)
+
+pub below_rest : (x : Values) (i : Values × Counted) (items : Items) → T (below_all values_cmp x (i ∷ items)) → T (below_all values_cmp x items)
+below_rest x i items h = second (is_lt (values_cmp x i.0)) (below_all values_cmp x items) h
+
+pub below_back : (x : Values) (items more : Items) → T (below_all values_cmp x (items ++ more)) → T (below_all values_cmp x more)
+below_back x [] more h = h
+below_back x (i ∷ items) more h = below_back x items more (below_rest x i (items ++ more) h)
+
+pub below_front : (x : Values) (items more : Items) → T (below_all values_cmp x (items ++ more)) → T (below_all values_cmp x items)
+below_front x [] more h = tt
+below_front x (i ∷ items) more h =
+    both (is_lt (values_cmp x i.0)) (below_all values_cmp x items) (first (is_lt (values_cmp x i.0)) (below_all values_cmp x (items ++ more)) h)
+    (below_front x items more (below_rest x i (items ++ more) h))
+
+pub keyed_back : (items more : Items) → IsKeyed (items ++ more) → IsKeyed more
+keyed_back [] more h = h
+keyed_back (i ∷ items) more h = keyed_back items more (tail_sorted i (items ++ more) h)
+
+pub keyed_front : (items more : Items) → IsKeyed (items ++ more) → IsKeyed items
+keyed_front [] more h = tt
+keyed_front (i ∷ items) more h =
+    both (below_all values_cmp i.0 items) (is_sorted values_cmp items) (below_front i.0 items more (head_below i (items ++ more) h))
+    (keyed_front items more (tail_sorted i (items ++ more) h))
 
 -- ---- keys of one column
 
@@ -72,15 +117,7 @@ module _ {n : ℕ} where
       → r.key < (slice_index_or rows k d).key
   below_later r [] k d b l = absurd (omega arith)
   below_later r (s ∷ rows) zero d b l = below_is r.key s.key (first (is_lt (values_cmp (one r.key) (one s.key))) _ b)
-    where
-      first : (a c : Bool) → T (a && c) → T a
-      first true c p = tt
-      first false c p = p
   below_later r (s ∷ rows) (suc k) d b l = below_later r rows k d (second (is_lt (values_cmp (one r.key) (one s.key))) _ b) (omega arith)
-    where
-      second : (a c : Bool) → T (a && c) → T c
-      second true c p = p
-      second false c p = absurd p
 
   rises : (rows : List (Row n)) (i j : ℕ) (d : Row n) → IsKeyed (items_of rows) → i < j → j < length rows
       → (slice_index_or rows i d).key < (slice_index_or rows j d).key
@@ -141,9 +178,53 @@ module _ {n : ℕ} where
     end = l;
   }
 
+-- ---- the first key
+
+-- a row's key is at or below one that begins with this value, where it is at or below the value
+begin_row : (row k : ℕ) (key : Values) → leb row k ≡ not (is_lt (values_cmp (k ∷ key) (one row)))
+begin_row row k key = go (nat_cmp k row) refl
+  where
+    no : k < row → leb row k ≡ false
+    no l = grind (arith, nat_tests)
+
+    yes : row ≤ k → leb row k ≡ true
+    yes l = grind (arith, nat_tests)
+
+    rest : (xs : Values) → true ≡ not (is_lt (values_cmp xs []))
+    rest [] = refl
+    rest (x ∷ xs) = refl
+
+    go : (o : Ordering) → nat_cmp k row ≡ o → leb row k ≡ not (is_lt (ordering_then o (values_cmp key [])))
+    go Less e = no (ranked k row Less (sym e))
+    go Equal e = let same : k ≡ row = ranked k row Equal (sym e) in yes (omega (arith, same)) ∙ rest key
+    go Greater e = let l : row < k = ranked k row Greater (sym e) in yes (omega (arith, l))
+
+module _ {n : ℕ} where
+  pub begins_row : (rows : List (Row n)) (key : Values) (row : Row n) (k : ℕ) → Some row ≡ slice_get rows 0 → Some k ≡ slice_get key 0
+      → leb row.key k ≡ begin_by (items_of rows) key
+  begins_row [] key row k h e = absurd (none-some row (sym h))
+  begins_row (r ∷ rows) [] row k h e = absurd (none-some k (sym e))
+  begins_row (r ∷ rows) (x ∷ key) row k h e =
+      ap (λ o. leb (unwrap_or o row).key k) h ∙ ap (λ o. leb r.key (unwrap_or o k)) e ∙ begin_row r.key x key
+
+  pub begins_no_key : (rows : List (Row n)) (key : Values) → None ≡ slice_get key 0 → false ≡ begin_by (items_of rows) key
+  begins_no_key [] key h = refl
+  begins_no_key (r ∷ rows) [] h = refl
+  begins_no_key (r ∷ rows) (x ∷ key) h = absurd (none-some x h)
+
+  pub begins_no_row : (rows : List (Row n)) (key : Values) → None ≡ slice_get rows 0 → false ≡ begin_by (items_of rows) key
+  begins_no_row [] key h = refl
+  begins_no_row (r ∷ rows) key h = absurd (none-some r h)
+
 -- ---- a block's rows, as its calls have them: m is what they were, rows are its field
 
 module _ {n : ℕ} (rows : List (Row n)) (m : Rows) (is : rows_in (items_of rows) ≡ m) where
+  pub entries_are : IsKeyed (items_of rows) → fin.entries m ≡ items_of rows
+  entries_are k = ap fin.entries (sym is) ∙ entries-whole (items_of rows) k
+
+  pub len_is : IsKeyed (items_of rows) → fin.len m ≡ length rows
+  len_is k = len-entries m ∙ ap length (entries_are k) ∙ length-map rows item_of
+
   pub kept_at : (key : Values) (at : ℕ) (row : Row n) → IsAt key (items_of rows) at → row ≡ slice_index_or rows at row
       → fin.get m key ≡ Some (row.extra, row.count)
   kept_at key at row h e = get_at m key (items_of rows) at (item_of row) is h (item_at rows at row e)
@@ -218,3 +299,38 @@ present_gone extra k z = ap (λ i. cond (nat_lt 0 i) (Some (extra, i)) None) z
 pub list_any-map : {X Y : Type 0} (f : X → Y) (test : Y → Bool) (xs : List X) → list_any (λ x. test (f x)) xs ≡ list_any test (map f xs)
 list_any-map f test [] = refl
 list_any-map f test (x ∷ xs) = ap (λ b. test (f x) || b) (list_any-map f test xs)
+
+-- ---- two lists of rows
+
+-- the rows are two lists, one behind the other
+pub record IsHalved {n : ℕ} (m : Rows) (front back : List (Row n)) : Type 0 where
+  pub lower : IsKeyed (items_of front)
+  pub upper : IsKeyed (items_of back)
+  pub parts : fin.entries (rows_in (items_of front)) ++ fin.entries (rows_in (items_of back)) ≡ fin.entries m
+
+module _ {n : ℕ} (rows : List (Row n)) (m : Rows) (is : rows_in (items_of rows) ≡ m) (keyed : IsKeyed (items_of rows)) where
+  pub halved : (own front back lower upper : List (Row n)) → own ≡ rows → own ≡ front ++ back → lower ≡ front → upper ≡ back → IsHalved m lower upper
+  halved own front back lower upper same parted low up =
+      let whole : items_of lower ++ items_of upper ≡ items_of rows =
+      (λ i. items_of (low i) ++ items_of (up i)) ∙ sym (map-append item_of front back) ∙ ap items_of (sym parted ∙ same) in
+      let k : IsKeyed (items_of lower ++ items_of upper) = subst IsKeyed (sym whole) keyed in
+      let a : IsKeyed (items_of lower) = keyed_front (items_of lower) (items_of upper) k in
+      let b : IsKeyed (items_of upper) = keyed_back (items_of lower) (items_of upper) k in
+      record {
+        lower = a;
+        upper = b;
+        parts =
+            (λ i. entries-whole (items_of lower) a i ++ entries-whole (items_of upper) b i) ∙ whole
+            ∙ sym (entries_are rows m is keyed);
+      }
+
+  -- the rows with those of another block behind them
+  pub appended : (more new : List (Row n)) (b : Rows) → rows_in (items_of more) ≡ b → IsKeyed (items_of more)
+      → IsKeyed (fin.entries m ++ fin.entries b) → new ≡ rows ++ more
+      → IsKeyed (items_of new) × (fin.entries (rows_in (items_of new)) ≡ fin.entries m ++ fin.entries b)
+  appended more new b is_more keyed_more k e =
+      let whole : items_of new ≡ fin.entries m ++ fin.entries b =
+      ap items_of e ∙ map-append item_of rows more
+      ∙ (λ i. sym (entries_are rows m is keyed) i ++ sym (entries_are more b is_more keyed_more) i) in
+      let kept : IsKeyed (items_of new) = subst IsKeyed (sym whole) k in
+      (kept, entries-whole (items_of new) kept ∙ whole)

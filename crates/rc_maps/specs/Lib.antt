@@ -1,5 +1,8 @@
 pub mod Block
 pub mod BlockLaws
+pub mod Blocks
+pub mod BlocksLaws
+pub mod BlocksWalkLaws
 pub mod HashLaws
 pub mod HashTable
 pub mod KeyLengths

@@ -16,7 +16,7 @@ use Rattle.rc_maps.specs.Keyed.{pair_of, values_of_walk}
 abbrev line : Values × Counted → Values
 line e = e.0 ++ e.1.0
 
-values_in-append : (items more : Items) → values_in (items ++ more) ≡ values_in items ++ values_in more
+pub values_in-append : (items more : Items) → values_in (items ++ more) ≡ values_in items ++ values_in more
 values_in-append items more =
     ap (flat_map line) (filter_map-append (λ (e : Values × Counted). option_map (λ (y : Counted). (e.0, y)) (present e.1)) items more)
     ∙ flat_map-append line (parts present items) (parts present more)

@@ -1,12 +1,13 @@
 //! Rows of one width, side by side.
 
-ghost use Rattle.std.specs.Prelude.{◌≡◌, ◌+◌, ◌*◌, ◌<◌, ◌≤◌, ◌^◌, ◌++◌, ◌∷◌, ◌↔◌, [], IsTrue, None, true, length, take, OnOk, OnErr, IfOk, IfErr, IfSome, IfNone, IsSome, option_copied};
+ghost use Rattle.std.specs.Prelude.{◌≡◌, ◌+◌, ◌*◌, ◌/◌, ◌<◌, ◌≤◌, ◌^◌, ◌++◌, ◌∷◌, ◌↔◌, [], IsTrue, None, true, length, take, OnOk, OnErr, IfOk, IfErr, IfSome, IfNone, IsSome, option_copied};
 ghost use Rattle.std.specs.List.{list_any};
 ghost use Rattle.std.specs.Vec.{vec_len, vec_capacity};
 ghost use Rattle.std.specs.FinMap as fin;
 ghost use Rattle.rc_edges.specs.EdgeMap.{HasAsMany, IsAddedNew, count_at, current, extra_of, found, listed, once_less, once_more, swept};
 ghost use Rattle.rc_edges.specs.ListMap.{IsAt, IsGap, IsKeyed, count_in, is_filled, rows_in, values_in};
 ghost use Rattle.rc_maps.specs.Block.{item_of, items_of};
+ghost use Rattle.rc_maps.specs.Blocks.{begins_by};
 ghost use Rattle.rc_maps.specs.OrderedTable.{entries_of, has_one_column};
 
 use crate::keyed::only;
@@ -69,9 +70,68 @@ impl<const EXTRA: usize> Block<EXTRA> {
     /// Whether a row with these extra values may be added: they are as many as each row has, and the
     /// block isn't full.
     pub fn takes(&self, extra: &[u64]) -> bool
-        ensures { IsTrue result → length extra.now ≡ EXTRA }
+        ensures { IsTrue result ↔ ((length extra.now ≡ EXTRA) × (fin.len self.now < 128)) }
     {
-        extra.len() == EXTRA && self.rows.len() < MOST_ROWS
+        extra.len() == EXTRA && self.kept() < MOST_ROWS
+    }
+
+    /// How many rows and tombstones the block keeps.
+    pub(crate) fn kept(&self) -> usize
+        ensures { result ≡ fin.len self.now }
+    {
+        self.rows.len()
+    }
+
+    /// Whether the block is full, of rows with as many extra values as these.
+    pub(crate) fn is_full_of(&self, extra: &[u64]) -> bool
+        ensures { IsTrue result ↔ ((length extra.now ≡ EXTRA) × (fin.len self.now ≡ 128)) }
+    {
+        extra.len() == EXTRA && self.is_full()
+    }
+
+    /// Whether the block keeps 128 rows, with the tombstones.
+    pub(crate) fn is_full(&self) -> bool
+        ensures { IsTrue result ↔ (fin.len self.now ≡ 128) }
+    {
+        self.kept() == MOST_ROWS
+    }
+
+    /// Whether the first of the block's keys is at or below this key.
+    pub(crate) fn begins_by(&self, key: &[u64]) -> bool
+        ensures { result ≡ begins_by self.now key.now }
+    {
+        match (self.rows.first(), key.first()) {
+            (Some(row), Some(value)) => row.key <= *value,
+            _ => false,
+        }
+    }
+
+    /// Two new blocks, which have the first half of the rows and tombstones, and the others.
+    pub(crate) fn halves(&self) -> Result<(Self, Self), Memory>
+        ensures parts { IfOk result (λ halves. fin.entries halves.0 ++ fin.entries halves.1 ≡ fin.entries self.now) }
+        ensures half { IfOk result (λ halves. fin.len halves.0 ≡ fin.len self.now / 2) }
+    {
+        let alloc = *self.rows.allocator();
+        let (lower, upper) = self.rows.split_at(self.rows.len() / 2);
+        let lower = Vec::from_slice(alloc, lower)?;
+        let upper = Vec::from_slice(alloc, upper)?;
+        Ok((Block { rows: lower }, Block { rows: upper }))
+    }
+
+    /// Adds the rows and tombstones of the block behind, whose keys are above. Where memory is wanted
+    /// nothing changes.
+    pub(crate) fn append(&mut self, behind: &Self) -> Result<(), Memory>
+        requires { IsKeyed (fin.entries self.old ++ fin.entries behind.now) }
+        ensures ok { OnOk result (fin.entries self.new ≡ fin.entries self.old ++ fin.entries behind.now) }
+        ensures err { OnErr result (self.new ≡ self.old) }
+    {
+        self.rows.extend_from_slice(behind.rows.as_slice())?;
+        Ok(())
+    }
+
+    /// The allocator of the rows' memory.
+    pub(crate) fn allocator(&self) -> Global {
+        *self.rows.allocator()
     }
 
     /// Adds the row at the key with the count 1, or raises its count by 1, and answers the count

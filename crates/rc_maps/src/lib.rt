@@ -2,6 +2,7 @@
 #![tactic(auto)]
 
 mod block;
+mod blocks;
 mod entry_table;
 mod hash_table;
 mod keyed;
@@ -13,6 +14,7 @@ mod seed;
 mod table_edge;
 
 pub use block::{Block, Row};
+pub use blocks::Blocks;
 pub use entry_table::EntryTable;
 pub use hash_table::HashTable;
 pub use keyed::Keyed;
