@@ -83,6 +83,20 @@ module _ (shape : EdgeShape) (parted : IsParted shape) where
       (λ i. merge (merge (a i) (b i)) (d i)) ∙ ap (λ z. merge (merge z (project K t)) (project X t)) (sym first)
       ∙ ap (λ z. merge z (project X t)) (merge-merge [] t S K) ∙ merge-merge [] t (union S K) X ∙ whole
 
+  -- and is made of its part at source and key and of its extra values
+  pub row_of_parts : (u : Pairs) → cols_of u ≡ shape.target
+      → merge (project (union shape.source shape.key) u) (zip (extra_columns shape) (values_at (extra_columns shape) u)) ≡ u
+  row_of_parts u over =
+      let S : List ℕ = shape.source in
+      let K : List ℕ = shape.key in
+      let part : (ys : List ℕ) → IsRising pair_cmp (project ys u) = λ ys. rising_filter pair_cmp (λ (p : ℕ × ℕ). has ys p.0) u (rising_row u over) in
+      let first : merge [] (project S u) ≡ project S u = merge_first (project S u) (part S) in
+      let both : merge [] (project (union S K) u) ≡ project (union S K) u = merge_first (project (union S K) u) (part (union S K)) in
+      let two : project (union S K) u ≡ merge (zip S (values_at S u)) (zip K (values_at K u)) =
+      sym both ∙ sym (merge-merge [] u S K) ∙ ap (λ z. merge z (project K u)) first
+      ∙ (λ i. merge (sym (zip_values shape.target S u parted.target.rising parted.source.rising parted.source_within over) i) (sym (zip_values shape.target K u parted.target.rising parted.key.rising parted.key_within over) i)) in
+      ap (λ z. merge z (zip (extra_columns shape) (values_at (extra_columns shape) u))) two ∙ row_from_values u over
+
   pub row_with_values : (t : Pairs) (source key extra : List ℕ) → HasValues shape t source key extra → row_from shape source key extra ≡ t
   row_with_values t source key extra h = (λ i. row_from shape (sym h.source_is i) (sym h.key_is i) (sym h.extra_is i)) ∙ row_from_values t h.columns
 

@@ -1,19 +1,17 @@
 -- The row of an edge with the values of source and key that a tuple has, and no other.
-use Rattle.std.specs.Prelude.{◌≡◌, ℕ, zero, suc, ◌+◌, ◌<◌, ◌≤◌, ◌==◌, ◌++◌, Bool, true, false, List, [], ◌∷◌, None, Option, Some, cond, length, take, map, unwrap_or}
-use Rattle.std.specs.List.{range_with_len, zip}
+use Rattle.std.specs.Prelude.{◌≡◌, ℕ, ◌<◌, ◌==◌, ◌++◌, Bool, true, false, List, [], ◌∷◌, None, Option, Some, cond, length, map, unwrap_or}
+use Rattle.std.specs.List.{zip}
 use Rattle.std.specs.Option.{is_some, option_copied}
 use Rattle.std.specs.Ordering.{nat_cmp}
-use Rattle.std.proofs.Math.Seq.{take-suc}
-use Rattle.std.proofs.lemmas.List.{map-append}
 use Rattle.std.proofs.Common.{Bor, get_or, inl, inr, refl, sym, ap, subst, ◌∙◌, arith}
 use Rattle.std.proofs.lemmas.Bool.{cases_Bool, eq-eqb, eqb-true, false≢true}
 use Rattle.std.proofs.lemmas.Option.{none-some}
-use Rattle.rc_tuple.specs.RisingSet.{AreDistinct, In, IsRising, gather}
-use Rattle.rc_tuple.specs.RisingSetLaws.{gather_in, has_in, in_gather, in_has, in_map, map_in, rising_filter, rising_gather, same_rising}
+use Rattle.rc_tuple.specs.RisingSet.{In, IsRising}
+use Rattle.rc_tuple.specs.RisingSetLaws.{has_in, in_has, in_map, map_in, rising_filter, same_rising}
 use Rattle.rc_tuple.specs.ColSet.{IsColSet, Within, has, rank, union}
-use Rattle.rc_tuple.specs.ColSetLaws.{in_range_bounds, in_union, minus_in, rank_within, slice_get-rank, union_left, union_right}
-use Rattle.rc_tuple.specs.MergeLaws.{project_all, value_in}
-use Rattle.rc_tuple.specs.Tuple.{IsTuple, Pairs, cols_of, get, pair_cmp, pick, project, tuple_of, value}
+use Rattle.rc_tuple.specs.ColSetLaws.{in_union, minus_in, rank_within, slice_get-rank, union_left, union_right}
+use Rattle.rc_tuple.specs.MergeLaws.{value_in}
+use Rattle.rc_tuple.specs.Tuple.{IsTuple, Pairs, cols_of, get, merge, pair_cmp, pick, project, value}
 use Rattle.rc_tuple.specs.TupleLaws.{cols-project, cols_of-zip, in_project, one_pair, pair_order, project_by, project_in, rising_cols, rising_pairs}
 use Rattle.rc_spec.specs.declared.spec.Spec.{Spec}
 use Rattle.rc_spec.specs.Acceptance.{IsSealed}
@@ -23,7 +21,7 @@ use Rattle.rc_bindings.specs.RegistersLaws.{get-project, get_of, zip_there}
 use Rattle.rc_fragment.specs.Fragment.{IsThereWith, shape_of}
 use Rattle.rc_fragment.specs.FragmentLaws.{parted_edge}
 use Rattle.rc_fragment.specs.RowValues.{IsParted, extra_columns, values_at}
-use Rattle.rc_fragment.specs.RowValuesLaws.{extra_set, extra_within, zip_values}
+use Rattle.rc_fragment.specs.RowValuesLaws.{extra_set, extra_within, row_of_parts, zip_values}
 use Rattle.rc_fragment.specs.declared.shape.EdgeShape.{EdgeShape}
 use Rattle.rc_machine.proofs.SeekLemmas.{same_projected}
 
@@ -85,11 +83,6 @@ value_other extra values t c fits none =
     let nowhere = get_none (zip extra values) c (λ m. false≢true (sym none ∙ has_in extra c (subst (In c) (cols_of-zip extra values fits) m))) in
     ap (λ (o : Option ℕ). unwrap_or o 0) (sym (get_second (zip extra values) t c nowhere))
 
-pub pick_more : (columns : List ℕ) (i : ℕ) (t : Pairs) → i < length columns → pick (take (i + 1) columns) t ≡ pick (take i columns) t ++ value t (get_or columns i 0) ∷ []
-pick_more columns i t below =
-    let one : i + 1 ≡ suc i = omega arith in
-    ap (λ n. pick (take n columns) t) one ∙ ap (λ l. pick l t) (take-suc columns i 0 below) ∙ map-append (value t) (take i columns) (get_or columns i 0 ∷ [])
-
 -- ---- what a look-up told
 
 pub values_told : (found : Option (Bor (List ℕ))) → is_some found ≡ true → (values : List ℕ) × (option_copied found ≡ Some values)
@@ -121,26 +114,6 @@ pick_values ys t rises up within =
     seconds : (ys : List ℕ) → pick ys t ≡ map (λ (p : ℕ × ℕ). p.1) (map (λ c. (c, value t c)) ys)
     seconds [] = refl
     seconds (c ∷ ys) = ap (λ l. value t c ∷ l) (seconds ys)
-
--- a tuple is what its columns and the values there give
-pub tuple_of_itself : (cols : List ℕ) (u : Pairs) → IsRising nat_cmp cols → cols_of u ≡ cols → tuple_of cols (pick cols u) ≡ u
-tuple_of_itself cols u rises over =
-    let up : IsRising nat_cmp (cols_of u) = subst (IsRising nat_cmp) (sym over) rises in
-    let its : Within (cols_of u) cols = (λ c m. subst (In c) over m) in
-    let pairs : zip cols (pick cols u) ≡ u =
-    ap (zip cols) (pick_values cols u rises up (λ c m. subst (In c) (sym over) m)) ∙ zip_values cols cols u rises rises (λ c m. m) over ∙ project_all cols u (rising_cols u up) its in
-    ap (gather pair_cmp) pairs
-    ∙ same_rising pair_cmp pair_order (gather pair_cmp u) u (rising_gather pair_cmp pair_order u) (rising_cols u up) (λ q m. in_gather pair_cmp pair_order q u m) (λ q m. gather_in pair_cmp pair_order q u m)
-
--- the first numbers of a range
-pub take_range : (from n k : ℕ) → k ≤ n → take k (range_with_len from n) ≡ range_with_len from k
-take_range from n zero h = refl
-take_range from zero (suc k) h = absurd (omega (arith, h))
-take_range from (suc n) (suc k) h = ap (λ z. from ∷ z) (take_range (from + 1) n k (omega (arith, h)))
-
-pub distinct_range : (from n : ℕ) → AreDistinct (range_with_len from n)
-distinct_range from zero = tt
-distinct_range from (suc n) = ((λ m. let h = in_range_bounds (from + 1) n from m in absurd (omega (arith, h.0))), distinct_range (from + 1) n)
 
 -- ---- a row with the values of source and key of a tuple that has these at least
 
@@ -194,9 +167,12 @@ module _ (spec : Spec) (sealed : IsSealed spec) (e : ℕ) (known : e < length sp
         picked_alike outs u (project (extra_columns edge_shape) u ++ s) (λ c m. get_found c (within c m))
         ∙ ap (λ z. pick outs (z ++ s)) (sym (zip_values edge_shape.target (extra_columns edge_shape) u edge_parted.target.rising (extra_set edge_shape edge_parted).rising (extra_within edge_shape edge_parted) columns) ∙ ap (zip (extra_columns edge_shape)) is)
 
-    -- so the row, as a tuple, is made of them
-    pub completed_is : (values : List ℕ) → values_at (extra_columns edge_shape) u ≡ values → tuple_of edge_shape.target (pick edge_shape.target (zip (extra_columns edge_shape) values ++ s)) ≡ u
-    completed_is values is = ap (tuple_of edge_shape.target) (sym (picked edge_shape.target (λ c m. m) values is)) ∙ tuple_of_itself edge_shape.target u edge_parted.target.rising columns
+    -- so the row is made of the tuple's values at source and key and of the extra ones
+    pub completed_is : (values : List ℕ) → values_at (extra_columns edge_shape) u ≡ values → merge (project (source_and_key spec (edge_at spec e)) s) (zip (extra_columns edge_shape) values) ≡ u
+    completed_is values is =
+        ap (λ z. merge z (zip (extra_columns edge_shape) values)) (sym same)
+        ∙ ap (λ z. merge (project (source_and_key spec (edge_at spec e)) u) (zip (extra_columns edge_shape) z)) (sym is)
+        ∙ row_of_parts edge_shape edge_parted u columns
 
 -- ---- a tuple that has these and no others
 

@@ -61,13 +61,13 @@ pub(crate) fn insert_by_edge<H: Holder>(
     match holder.add_new_tuple(stripe, class, path.edge, tuple) {
         Ok(()) => {}
         Err(AddStop::There) => {
-            space.finder.tell(reply, Reply::Present);
+            space.finder.spare.tell(reply, Reply::Present);
             return Ok(());
         }
         Err(AddStop::Memory) => return Err(Stop::Memory),
     }
     add_placed(holder, compiled, others, tuple)?;
-    space.finder.tell(reply, Reply::Inserted);
+    space.finder.spare.tell(reply, Reply::Inserted);
     Ok(())
 }
 
@@ -93,7 +93,7 @@ fn insert_looked_up<H: Holder>(
     let read = EdgeRead::of(compiled, path.edge, path.mode);
     let fragment = holder.fragment(stripe);
     if find_row(fragment, &read, &call.args, &mut space.finder)?.is_some() {
-        space.finder.tell(reply, Reply::Present);
+        space.finder.spare.tell(reply, Reply::Present);
         return Ok(());
     }
     add_rows(
@@ -103,7 +103,7 @@ fn insert_looked_up<H: Holder>(
         &mut space.class_stripes,
         &mut space.places,
     )?;
-    space.finder.tell(reply, Reply::Inserted);
+    space.finder.spare.tell(reply, Reply::Inserted);
     Ok(())
 }
 
@@ -132,14 +132,14 @@ pub(crate) fn remove_by_edge<H: Holder>(
     let read = EdgeRead::of(compiled, path.edge, path.mode);
     let fragment = holder.fragment(stripe);
     let Some(removed) = find_tuple(alloc, fragment, &read, &call.args, &mut space.finder)? else {
-        space.finder.tell(reply, Reply::Absent);
+        space.finder.spare.tell(reply, Reply::Absent);
         return Ok(());
     };
     // The stripes of the arguments are those of the tuple, which has their values.
     let stripes = &mut space.class_stripes;
     lock_found(holder, compiled, call, path, &removed, stripes)?;
     sub_rows(holder, compiled, &removed, stripes, &mut space.places)?;
-    space.finder.tell(reply, Reply::Removed(removed));
+    space.finder.spare.tell(reply, Reply::Removed(removed));
     Ok(())
 }
 
@@ -166,7 +166,7 @@ pub(crate) fn update_by_edge<H: Holder>(
     let read = EdgeRead::of(compiled, path.edge, path.mode);
     let fragment = holder.fragment(stripe);
     let Some(old) = find_tuple(alloc, fragment, &read, &call.args, &mut space.finder)? else {
-        space.finder.tell(reply, Reply::Absent);
+        space.finder.spare.tell(reply, Reply::Absent);
         return Ok(());
     };
     replace(
@@ -177,6 +177,6 @@ pub(crate) fn update_by_edge<H: Holder>(
         &mut space.class_stripes,
         &mut space.places,
     )?;
-    space.finder.tell(reply, Reply::Updated(old));
+    space.finder.spare.tell(reply, Reply::Updated(old));
     Ok(())
 }

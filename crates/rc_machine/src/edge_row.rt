@@ -1,12 +1,11 @@
 //! The row of an edge that has a tuple's values of source and key.
 
-ghost use Rattle.std.specs.Prelude.{◌≡◌, ◌+◌, ◌≤◌, ◌++◌, length, IfOk, OnOk, vec_capacity, vec_len};
-ghost use Rattle.std.specs.List.{range_with_len, zip};
+ghost use Rattle.std.specs.Prelude.{◌≡◌, ◌++◌, length, IfOk, OnOk};
+ghost use Rattle.std.specs.List.{zip};
 ghost use Rattle.std.specs.Option.{option_copied};
 ghost use Rattle.rc_tuple.specs.ColSet.{Within};
 ghost use Rattle.rc_tuple.specs.RisingSet.{In};
-ghost use Rattle.rc_tuple.specs.Tuple.{IsTuple, cols_of, pick, tuple_of, value};
-ghost use Rattle.rc_spec.specs.Calls.{all_columns};
+ghost use Rattle.rc_tuple.specs.Tuple.{IsTuple, cols_of, pick, value};
 ghost use Rattle.rc_spec.specs.Decomposition.{bound, edge_at, source_and_key};
 ghost use Rattle.rc_spec.specs.Fragments.{EdgeRow};
 ghost use Rattle.rc_fragment.specs.Fragment.{shape_of};
@@ -20,12 +19,6 @@ use rc_fragment::Fragment;
 use rc_tuple::{ColSet, Memory, Tuple};
 use std::alloc::Global;
 use std::mem;
-
-/// The columns that a tuple may have.
-const COLUMNS: [u8; 32] = [
-    0, 1, 2, 3, 4, 5, 6, 7, 8, 9, 10, 11, 12, 13, 14, 15, 16, 17, 18, 19, 20, 21, 22, 23, 24, 25,
-    26, 27, 28, 29, 30, 31,
-];
 
 /// Of the row that has the tuple's values of source and key the values at the extra columns, if there is one. Costs a walk
 /// over the tuple, and a look-up.
@@ -79,8 +72,9 @@ fn part_values(
     Ok(())
 }
 
-/// The row that has the tuple's values of source and key, if there is one; what else the tuple has is of no matter. The
-/// row has all columns. Costs what `find_row` does, and a block for the row, where no recycled one has room for it.
+/// The row that has the tuple's values of source and key, if there is one; what else the tuple has is of no matter. It takes
+/// the spare tuple's memory. Costs what `find_row` does, another walk over the tuple, and a block only where the spare tuple
+/// had room for fewer pairs.
 pub(crate) fn find_tuple(
     alloc: Global,
     fragment: &Fragment,
@@ -92,59 +86,16 @@ pub(crate) fn find_tuple(
     requires columns { (w : EdgeRow) → In w fragment.now.now → cols_of w.1 ≡ bound read.now.spec.now (edge_at read.now.spec.now w.0).to }
     requires tuple { IsTuple tuple.now }
     requires given { Within (source_and_key read.now.spec.now (edge_at read.now.spec.now read.now.edge)) (cols_of tuple.now) }
-    requires whole { bound read.now.spec.now (edge_at read.now.spec.now read.now.edge).to ≡ all_columns read.now.spec.now }
     ensures { IfOk result (IsTupleFound (shape_of read.now.spec.now read.now.edge) fragment.now.now read.now.edge tuple.now) }
 {
     let Some(values) = find_row(fragment, read, tuple, finder)? else {
         return Ok(None);
     };
-    let width = read.spec.columns.list().len();
-    let row = completed(alloc, width, tuple, read.resolved.extra, values, finder)?;
-    Ok(Some(row))
-}
-
-/// The tuple over the columns below the width that has these values at the extra columns, and at the others the tuple's.
-/// Takes the recycled tuple's memory, and a block only where that had room for fewer values; and memory for a list of the
-/// values, where the space had room for fewer.
-fn completed(
-    alloc: Global,
-    width: usize,
-    tuple: &Tuple,
-    extra: ColSet,
-    values: &[u64],
-    finder: &mut Finder,
-) -> Result<Tuple, Memory>
-    requires few { width ≤ 32 }
-    requires fits { length values.now ≡ length extra }
-    ensures { IfOk result (λ row. row ≡ tuple_of (range_with_len 0 width) (pick (range_with_len 0 width) (zip extra values.now ++ tuple.now))) }
-{
-    let columns = &COLUMNS[..width];
-    let row = &mut finder.rows;
-    row.clear();
-    row.reserve(width)?;
-    push_completed(row, columns, tuple, extra, values);
-    let mut found = mem::replace(&mut finder.recycled, Tuple::empty(alloc));
-    found.refill(columns, row)?;
-    Ok(found)
-}
-
-/// Adds the values at the columns, those below some number: the next of the extra values at an extra column, and else the
-/// tuple's. There is room for them.
-fn push_completed(row: &mut Vec<u64>, columns: &[u8], tuple: &Tuple, extra: ColSet, values: &[u64])
-    requires columns { columns.now ≡ range_with_len 0 (length columns.now) }
-    requires fits { length values.now ≡ length extra }
-    requires room { vec_len row.old + length columns.now ≤ vec_capacity row.old }
-    ensures { row.new.items ≡ row.old.items ++ pick columns.now (zip extra values.now ++ tuple.now) }
-{
-    let mut place = 0;
-    for col in columns {
-        if extra.has(*col) {
-            row.push_reserved(values[place]);
-            place += 1;
-        } else {
-            row.push_reserved(tuple.get(*col).unwrap_or(0));
-        }
-    }
+    let resolved = read.resolved;
+    let kept = resolved.source.union(resolved.key);
+    let row = &mut finder.spare.tuple;
+    row.refill_with(tuple, kept, resolved.extra, values)?;
+    Ok(Some(mem::replace(row, Tuple::empty(alloc))))
 }
 
 /// Adds the values at the columns, in the order of the list: those of the extra columns, or else the tuple's.

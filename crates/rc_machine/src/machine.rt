@@ -141,7 +141,7 @@ fn run_in_turn<H: Holder>(
     space.bindings.push_projection(&call.args)?;
     for at in 0..plan.len() {
         if let Some(answer) = step(alloc, holder, compiled, call, plan, at, space)? {
-            space.finder.tell(reply, answer);
+            space.finder.spare.tell(reply, answer);
             return Ok(());
         }
     }

@@ -1,6 +1,6 @@
 //! The stripe of a class on which a tuple falls.
 
-ghost use Rattle.std.specs.Prelude.{◌≡◌, ◌<◌, IfOk, IfSome, length};
+ghost use Rattle.std.specs.Prelude.{◌≡◌, ◌<◌, ◌%◌, IfOk, IfSome, length};
 ghost use Rattle.rc_tuple.specs.RisingSet.{In};
 ghost use Rattle.rc_tuple.specs.ColSet.{Within};
 ghost use Rattle.rc_tuple.specs.Tuple.{cols_of};
@@ -85,7 +85,21 @@ fn tuple_stripe(compiled: &Compiled, class: u8, tuple: &Tuple) -> u32
     ensures { result ≡ physical_stripe compiled.now.spec class tuple.now }
 {
     let named = compiled.class(class);
-    compiled.band_start(class) + hash_of(named.cols, tuple) % named.stripes
+    compiled.band_start(class) + remainder(hash_of(named.cols, tuple), named.stripes)
+}
+
+/// The remainder of a hash by a number of stripes.
+// Most classes have a power of two of them: there a mask tells it, and spares a division, which takes some twenty cycles.
+#[inline(always)]
+fn remainder(hash: u32, stripes: u32) -> u32
+    requires { 0 < stripes }
+    ensures { result ≡ hash % stripes }
+{
+    if stripes.is_power_of_two() {
+        hash & (stripes - 1)
+    } else {
+        hash % stripes
+    }
 }
 
 /// The hash of the tuple's values at columns that it has.

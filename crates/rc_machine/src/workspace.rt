@@ -1,18 +1,19 @@
 //! What a run of a plan works with.
 
-ghost use Rattle.std.specs.Prelude.{◌≡◌, ◌<◌, ◌≤◌, [], None};
+ghost use Rattle.std.specs.Prelude.{◌≡◌, ◌<◌, ◌≤◌, [], ◌∷◌, None, OnErr, OnOk};
 ghost use Rattle.rc_bindings.specs.Bindings.{no_binding};
+ghost use Rattle.rc_spec.specs.declared.call.Reply.TheVariants.{Rows};
 
 use crate::stripe::ClassStripe;
 use rc_bindings::Bindings;
-use rc_spec::Reply;
-use rc_tuple::Tuple;
+use rc_spec::{Reply, RowList};
+use rc_tuple::{Memory, Tuple};
 use std::alloc::Global;
 use std::mem;
 
 /// What runs of plans work with, one run after another: the bindings, the tuple that an update found, and space that
 /// statements use, for the bindings that a Read finds, for the values by which it looks up, for the stripes that a Lock
-/// takes and those on which a tuple falls, for the classes whose rows an Apply changes, and for a tuple of a reply. What a run
+/// takes and those on which a tuple falls, for the classes whose rows an Apply changes, and for what is told. What a run
 /// leaves in it the next one forgets; its memory the next one uses again.
 #[derive(Debug, Drop)]
 pub struct Workspace {
@@ -28,28 +29,70 @@ pub struct Workspace {
     pub(crate) places: Vec<ClassStripe>,
 }
 
-/// The values by which rows are looked up, those of rows that are found, and memory for a tuple that is.
+/// The values by which rows are looked up, those of rows that are found, and memory for what is told of them.
 #[derive(Debug, Drop)]
 pub(crate) struct Finder {
     pub(crate) source: Vec<u64>,
     pub(crate) key: Vec<u64>,
     pub(crate) rows: Vec<u64>,
-    /// The tuple of the last reply in whose place another was told and that had one: the next one that is found takes its
-    /// memory. A run that stops behind that lets it go.
-    pub(crate) recycled: Tuple,
+    pub(crate) spare: Spare,
 }
 
-impl Finder {
-    /// Tells the reply in the place of the one before it, of which it keeps the tuple, if it has one, in the place of the
-    /// one that it kept before. Takes no memory.
+/// Memory of replies in whose places later ones were told, for those that follow.
+#[derive(Debug, Drop)]
+pub(crate) struct Spare {
+    /// The next tuple that is found takes its memory. A run that stops behind that lets it go.
+    pub(crate) tuple: Tuple,
+    /// The next list of rows takes it. It has room for `MOST_KEPT` values at most.
+    pub(crate) block: Vec<u64>,
+}
+
+/// The most values of a block that waits for the next list of rows, so that one long list doesn't hold its memory for good:
+/// 8 kilobytes, in which most lists stand.
+const MOST_KEPT: usize = 1024;
+
+impl Spare {
+    /// Tells the reply in the place of the one before it, of which it keeps the tuple, if it has one, or the block in which
+    /// its rows stand, unless that is large. Takes no memory.
     #[inline(always)]
     pub(crate) fn tell(&mut self, reply: &mut Reply, told: Reply)
         ensures { reply.new ≡ told }
     {
-        if let Reply::Removed(tuple) | Reply::Updated(tuple) = reply {
-            mem::swap(tuple, &mut self.recycled);
+        match reply {
+            Reply::Removed(tuple) | Reply::Updated(tuple) => mem::swap(tuple, &mut self.tuple),
+            Reply::Rows(rows) => {
+                if let Some(block) = rows.take_block() {
+                    self.keep(block);
+                }
+            }
+            _ => {}
         }
         *reply = told;
+    }
+
+    /// Tells the one row in the place of the reply before it, and of a row of few values in its very place: most queries
+    /// ask for such a row, one after another. Takes memory where the row has more than three values. Where memory is
+    /// wanted the reply stays.
+    #[inline(always)]
+    pub(crate) fn tell_row(&mut self, reply: &mut Reply, row: &[u64]) -> Result<(), Memory>
+        ensures told { OnOk result (reply.new ≡ Rows (row.now ∷ [])) }
+        ensures kept { OnErr result (reply.new ≡ reply.old) }
+    {
+        if let Reply::Rows(rows) = reply {
+            if rows.refill_row(row) {
+                return Ok(());
+            }
+        }
+        let told = RowList::of_row(*self.block.allocator(), row)?;
+        self.tell(reply, Reply::Rows(told));
+        Ok(())
+    }
+
+    /// Keeps the block for the next list of rows, unless it is large, or smaller than the one that is there.
+    pub(crate) fn keep(&mut self, block: Vec<u64>) {
+        if block.capacity() <= MOST_KEPT && block.capacity() > self.block.capacity() {
+            self.block = block;
+        }
     }
 }
 
@@ -64,7 +107,10 @@ impl Workspace {
                 source: Vec::new(alloc),
                 key: Vec::new(alloc),
                 rows: Vec::new(alloc),
-                recycled: Tuple::empty(alloc),
+                spare: Spare {
+                    tuple: Tuple::empty(alloc),
+                    block: Vec::new(alloc),
+                },
             },
             stripes: Vec::new(alloc),
             class_stripes: Vec::new(alloc),

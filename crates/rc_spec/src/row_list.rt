@@ -1,6 +1,7 @@
 //! Lists of rows.
 
-ghost use Rattle.std.specs.Prelude.{◌≡◌, ◌==◌, ◌↔◌, ◌<◌, ◌≤◌, ◌-◌, ◌*◌, [], ◌∷◌, ◌++◌, drop, get_or, length, option_copied, slice_get, take, IsTrue, IfOk, OnErr, OnOk};
+ghost use Rattle.std.specs.Prelude.{◌≡◌, ◌==◌, ◌↔◌, ◌<◌, ◌≤◌, ◌-◌, ◌*◌, [], ◌∷◌, ◌++◌, drop, get_or, length, option_copied, slice_get, take, None, false, IsTrue, IfOk, IfSome, OnErr, OnOk, OnSome};
+ghost use Rattle.smallvec.specs.SmallVec.{HasRoomFor, IsSpilled};
 ghost use Rattle.rc_spec.specs.RowLists.{rows_of_width};
 
 use crate::row_ends::RowEnds;
@@ -8,6 +9,7 @@ use rc_tuple::Memory;
 use smallvec::SmallVec;
 use std::alloc::Global;
 use std::marker::Model;
+use std::mem;
 
 /// The most values that a list keeps without a block: most queries for one row ask for no more.
 const FEW: usize = 3;
@@ -59,7 +61,7 @@ impl RowList {
         ensures { IfOk result (λ list. list ≡ row.now ∷ []) }
     {
         Ok(RowList {
-            values: SmallVec::from_slice(alloc, row)?,
+            values: values_of(alloc, row)?,
             ends: RowEnds::of_width(1, row.len()),
         })
     }
@@ -119,6 +121,37 @@ impl RowList {
         }
     }
 
+    /// Takes all rows out of a list that keeps their values in a block, and hands the block out, empty, so that the rows of another
+    /// list can stand in it; `None`, and the list stays, where it has no block. Takes no memory.
+    #[inline(always)]
+    pub fn take_block(&mut self) -> Option<Vec<u64>>
+        ensures taken { OnSome result (self.new ≡ []) }
+        ensures kept { result ≡ None → self.new ≡ self.old }
+        ensures block { IfSome result (λ block. block.items ≡ []) }
+    {
+        if !self.values.spilled() {
+            return None;
+        }
+        self.ends = RowEnds::new();
+        Some(emptied(&mut self.values))
+    }
+
+    /// Makes it the list of this one row in its own place, and takes no memory; false, and the list stays, where its values stand in
+    /// a block or the row has more than three.
+    #[inline(always)]
+    pub fn refill_row(&mut self, row: &[u64]) -> bool
+        ensures told { IsTrue result → self.new ≡ row.now ∷ [] }
+        ensures kept { result ≡ false → self.new ≡ self.old }
+    {
+        if row.len() > FEW || self.values.spilled() {
+            return false;
+        }
+        self.values.clear();
+        push_few(&mut self.values, row);
+        self.ends = RowEnds::of_width(1, row.len());
+        true
+    }
+
     /// Another list of the same rows. Costs all values, and a block where they are more than three, and one where the rows differ in
     /// length.
     pub fn copy(&self) -> Result<RowList, Memory>
@@ -145,6 +178,47 @@ impl RowList {
         }
         true
     }
+}
+
+/// The values of a slice. Takes memory where they are more than three.
+// Most queries ask for one row of few values: these are pushed one by one, with no call.
+#[inline(always)]
+fn values_of(alloc: Global, row: &[u64]) -> Result<SmallVec<u64, FEW>, Memory>
+    ensures { IfOk result (λ values. values.items ≡ row.now) }
+{
+    if row.len() > FEW {
+        return Ok(SmallVec::from_slice(alloc, row)?);
+    }
+    let mut values = SmallVec::new(alloc);
+    push_few(&mut values, row);
+    Ok(values)
+}
+
+/// Adds the values of a slice, for which there is room.
+#[inline(always)]
+fn push_few(values: &mut SmallVec<u64, FEW>, row: &[u64])
+    requires { HasRoomFor values.old (length row.now) }
+    ensures { values.new.items ≡ values.old.items ++ row.now }
+{
+    for value in row {
+        values.push_reserved(*value);
+    }
+}
+
+/// Takes the values out of their block, and hands that out.
+// It stands apart, since most replies have no block.
+#[inline(never)]
+fn emptied(values: &mut SmallVec<u64, FEW>) -> Vec<u64>
+    requires { IsSpilled 3 values.old }
+    ensures taken { values.new.items ≡ [] }
+    ensures block { result.items ≡ [] }
+{
+    let none = SmallVec::new(*values.allocator());
+    let Ok(mut block) = mem::replace(values, none).into_vec() else {
+        unreachable!()
+    };
+    block.clear();
+    block
 }
 
 /// The values from one place up to another.

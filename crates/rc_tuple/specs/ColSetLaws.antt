@@ -432,6 +432,15 @@ pub count_ones-columns_of : (m : ℕ) → m < 2 ^ 32 → count_ones m ≡ length
 unfolding columns_of
 count_ones-columns_of m h = ap count_ones (sym (div-one m)) ∙ ones_from m 32 0 (omega (arith, div-one m))
 
+-- a number of which one bit is set is a power of two
+pub one_bit : (n : ℕ) → n < 2 ^ 32 → count_ones n ≡ 1 → (k : ℕ) × (n ≡ 2 ^ k)
+one_bit n below one = go (columns_of n) (sym (count_ones-columns_of n below) ∙ one) (mask_of-columns_of n below)
+  where
+    go : (xs : List ℕ) → length xs ≡ 1 → mask_of xs ≡ n → (k : ℕ) × (n ≡ 2 ^ k)
+    go [] e is = absurd (omega (arith, e))
+    go (k ∷ []) e is = (k, omega (arith, is))
+    go (k ∷ j ∷ xs) e is = absurd (omega (arith, e))
+
 -- the bits below c
 has_bit-low : (c k : ℕ) → has_bit (2 ^ c - 1) k ≡ ltb k c
 has_bit-low c k = elim (cases_below k c) [

@@ -1,6 +1,6 @@
 -- Laws of tuples: projection, agreement, merging and matching by their pairs.
-use Rattle.std.specs.Prelude.{◌≡◌, ℕ, ◌<◌, ◌≤◌, ◌^◌, Bool, true, false, List, [], ◌∷◌, ◌++◌, ◌⊎◌, ◌||◌, ◌&&◌, ◌==◌, filter, cond, not, length}
-use Rattle.std.specs.List.{list_all, zip}
+use Rattle.std.specs.Prelude.{◌≡◌, ℕ, ◌<◌, ◌≤◌, ◌^◌, Bool, true, false, List, [], ◌∷◌, ◌++◌, ◌⊎◌, ◌||◌, ◌&&◌, ◌==◌, Some, filter, cond, not, length}
+use Rattle.std.specs.List.{list_all, slice_get, zip}
 use Rattle.std.specs.declared.cmp.Ordering.{Ordering}
 use Rattle.std.specs.declared.cmp.Ordering.TheVariants.{Less, Equal, Greater}
 use Rattle.std.specs.Ordering.{ordering_then, nat_cmp, is_eq}
@@ -8,13 +8,13 @@ use Rattle.std.proofs.Common.{◌+◌, inl, inr, refl, sym, ap, subst, ◌∙◌
 use Rattle.std.proofs.lemmas.List.{take_more, take_all, map-append, append_assoc, append-nil, length-take, length-map}
 use Rattle.std.proofs.lemmas.Option.{get_or_from_slice_get}
 use Rattle.rc_tuple.specs.ColSetLaws.{rank_all, rank_more, rank_within, slice_get-rank}
-use Rattle.std.specs.Cmp.{tied_itself}
+use Rattle.std.specs.Cmp.{nat_cmp_is, tied_itself}
 use Rattle.std.proofs.lemmas.Bool.{false≢true, eqb-true, eq-eqb, or_cases, and_parts, and_from, or_left, or_right, cases_Bool}
 use Rattle.std.proofs.lemmas.Cmp.{nat_cmp_total, then_total, on_total, lists_total}
 use Rattle.rc_tuple.specs.RisingSet.{In, IsRising, AreDistinct, put, gather}
 use Rattle.rc_tuple.specs.ColSet.{has, rank, Within, IsColSet}
 use Rattle.rc_tuple.specs.Tuple.{Pairs, IsTuple, cols_of, project, agrees, pair_cmp, tuple_cmp, tuple_eq, agree_on, matches, has_pair, same_at, merge, tuple_of}
-use Rattle.rc_tuple.specs.RisingSetLaws.{IsOrder, is_eq_equal, rising_gather, in_gather, gather_in, gather-rising, gather_more, same_rising, not_below_itself, in_filter, filter_in, filter-filter, rising_filter, in_map, map_in, in_append, append_in_left, append_in_right, nat_order, in_has, has_in, same_bool, list_all_in, in_list_all}
+use Rattle.rc_tuple.specs.RisingSetLaws.{IsOrder, is_eq_equal, rising_gather, in_gather, gather_in, gather-rising, gather_more, put_behind, same_rising, not_below_itself, in_filter, filter_in, filter-filter, rising_filter, in_map, map_in, in_append, append_in_left, append_in_right, nat_order, in_has, has_in, same_bool, list_all_in, in_list_all}
 
 -- the orders
 
@@ -338,6 +338,15 @@ pub merge_more : (t u : Pairs) (i : ℕ) (d : ℕ × ℕ) → i < length u → m
 merge_more t u i d h =
     ap (λ l. gather pair_cmp (t ++ l)) (take_more u i d h) ∙ ap (gather pair_cmp) (sym (append_assoc t (take i u) (get_or u i d ∷ [])))
     ∙ gather_more pair_cmp pair_order (t ++ take i u) (get_or u i d)
+
+-- one more pair of the second
+pub merge_with : (t u : Pairs) (p : ℕ × ℕ) → merge t (u ++ p ∷ []) ≡ put pair_cmp p (merge t u)
+merge_with t u p = ap (gather pair_cmp) (sym (append_assoc t u (p ∷ []))) ∙ gather_more pair_cmp pair_order (t ++ u) p
+
+-- a pair at a column above the last one goes behind all
+pub put_above : (t : Pairs) (c v : ℕ) (p : ℕ × ℕ) (i : ℕ) → IsRising pair_cmp t → slice_get t i ≡ Some p → i + 1 ≡ length t → p.0 < c → put pair_cmp (c, v) t ≡ t ++ (c, v) ∷ []
+put_above t c v p i r e l below =
+    put_behind pair_cmp pair_order (c, v) p t i r e l (ap (λ a. ordering_then a (nat_cmp v p.1)) (sym (nat_cmp_is c p.0 Greater below)))
 
 pub merge_none : (t : Pairs) → IsRising pair_cmp t → merge t [] ≡ t
 merge_none t r = ap (gather pair_cmp) (append-nil t) ∙ gather-rising pair_cmp pair_order t r

@@ -1,9 +1,10 @@
-ghost use Rattle.std.specs.Prelude.{◌≡◌, ℕ, ◌<◌, ◌≤◌, ◌+◌, ◌||◌, ◌==◌, ◌++◌, [], not, length};
+ghost use Rattle.std.specs.Prelude.{◌≡◌, ℕ, ◌<◌, ◌≤◌, ◌+◌, ◌||◌, ◌==◌, ◌++◌, ◌∷◌, [], not, length, IsTrue};
 ghost use Rattle.std.specs.Prelude.{IfOk, OnOk, OnErr, vec_capacity, vec_len};
 ghost use Rattle.std.specs.Ordering.{nat_cmp};
 ghost use Rattle.std.specs.List.{list_all, zip};
 ghost use Rattle.rc_tuple.specs.RisingSet.{In, IsRising, AreDistinct, IsPlace, put, gather};
-ghost use Rattle.rc_tuple.specs.Tuple.{IsTuple, cols_of, get, project, pick, agrees, pair_cmp, tuple_cmp, agree_on, matches, merged, tuple_of, has_pair, same_at};
+ghost use Rattle.rc_tuple.specs.ColSet.{IsColSet};
+ghost use Rattle.rc_tuple.specs.Tuple.{IsTuple, cols_of, get, project, pick, agrees, pair_cmp, tuple_cmp, agree_on, matches, merge, merged, tuple_of, has_pair, same_at};
 
 use crate::{ColSet, Cols, MAX_COLS, Memory, Vals};
 use std::alloc::Global;
@@ -71,10 +72,31 @@ impl Tuple {
         self.pairs.clear();
         self.pairs.reserve(cols.len())?;
         for (place, col) in cols.iter().enumerate() {
-            let Ok(()) = put_pair(&mut self.pairs, (*col, vals[place])) else {
-                unreachable!()
-            };
+            put_reserved(&mut self.pairs, (*col, vals[place]));
         }
+        Ok(())
+    }
+
+    /// Becomes the tuple of the other's values at those of its columns that the first set has, and of these values at the
+    /// columns of the second, rising, in the memory that it has: memory is taken only where it had room for fewer pairs
+    /// than the other has and values come, together, and then at once. Where memory is wanted, it has no pair. Costs a walk
+    /// over the other and one over the columns, and for a value a search only where a later column is kept of the other.
+    pub fn refill_with(
+        &mut self,
+        other: &Tuple,
+        kept: ColSet,
+        cols: ColSet,
+        vals: &[u64],
+    ) -> Result<(), Memory>
+        requires fits { length vals.now ≡ length cols }
+        requires apart { (c : ℕ) → In c kept → In c cols → ⊥ }
+        ensures ok { OnOk result (self.new ≡ merge (project kept other.now) (zip cols vals.now)) }
+        ensures err { OnErr result (self.new ≡ []) }
+    {
+        self.pairs.clear();
+        self.pairs.reserve(other.pairs.len() + vals.len())?;
+        push_projected(&mut self.pairs, kept, &other.pairs);
+        put_columns(&mut self.pairs, cols, vals);
         Ok(())
     }
 
@@ -124,11 +146,7 @@ impl Tuple {
     {
         out.pairs.clear();
         out.pairs.reserve(self.pairs.len())?;
-        for pair in &self.pairs {
-            if cols.has(pair.0) {
-                out.pairs.push_reserved(*pair);
-            }
-        }
+        push_projected(&mut out.pairs, cols, &self.pairs);
         Ok(())
     }
 
@@ -258,6 +276,44 @@ fn has_pair(pairs: &[(u8, u64)], pair: &(u8, u64)) -> bool
         .any(|other| other.0 == pair.0 && other.1 == pair.1)
 }
 
+/// Adds those of the others that stand at columns of the set, in their order. There is room for all of them.
+#[inline(always)]
+fn push_projected(pairs: &mut Vec<(u8, u64)>, cols: ColSet, others: &[(u8, u64)])
+    requires { vec_len pairs.old + length others.now ≤ vec_capacity pairs.old }
+    ensures items { pairs.new.items ≡ pairs.old.items ++ project cols others.now }
+    ensures len { vec_len pairs.new ≤ vec_len pairs.old + length others.now }
+    ensures capacity { vec_capacity pairs.new ≡ vec_capacity pairs.old }
+{
+    for pair in others {
+        if cols.has(pair.0) {
+            pairs.push_reserved(*pair);
+        }
+    }
+}
+
+/// Puts each of these values at its column among the pairs. There is room for all of them.
+#[inline(always)]
+fn put_columns(pairs: &mut Vec<(u8, u64)>, cols: ColSet, vals: &[u64])
+    requires rising { IsRising pair_cmp pairs.old.items }
+    requires fits { length vals.now ≡ length cols }
+    requires room { vec_len pairs.old + length vals.now ≤ vec_capacity pairs.old }
+    ensures items { pairs.new.items ≡ merge pairs.old.items (zip cols vals.now) }
+    ensures set { IsColSet cols }
+{
+    // A call of a set tells the check what holds of every set.
+    let _ = cols.within(cols);
+    let mut place = 0;
+    for col in 0..MAX_COLS {
+        if place == vals.len() {
+            return;
+        }
+        if cols.has(col) {
+            put_reserved(pairs, (col, vals[place]));
+            place += 1;
+        }
+    }
+}
+
 /// The columns of the pairs.
 fn columns_of(pairs: &[(u8, u64)]) -> ColSet
     requires { (p : ℕ × ℕ) → In p pairs.now → p.0 < 32 }
@@ -324,6 +380,48 @@ fn place_of_pair(pairs: &[(u8, u64)], pair: &(u8, u64)) -> Option<usize>
         }
     }
     Some(pairs.len())
+}
+
+/// Puts the pair at its place, for which there is room.
+// Columns mostly come in their order: then the pair goes behind all others, with no search.
+#[inline(always)]
+fn put_reserved(pairs: &mut Vec<(u8, u64)>, pair: (u8, u64))
+    requires rising { IsRising pair_cmp pairs.old.items }
+    requires room { vec_len pairs.old < vec_capacity pairs.old }
+    ensures items { pairs.new.items ≡ put pair_cmp pair pairs.old.items }
+    ensures len { vec_len pairs.new ≤ vec_len pairs.old + 1 }
+    ensures capacity { vec_capacity pairs.old ≤ vec_capacity pairs.new }
+{
+    if is_behind(pairs, pair.0) {
+        pairs.push_reserved(pair);
+    } else {
+        put_among(pairs, pair);
+    }
+}
+
+/// Whether the column is above those of all pairs.
+fn is_behind(pairs: &[(u8, u64)], col: u8) -> bool
+    requires { IsRising pair_cmp pairs.now }
+    ensures { IsTrue result → (val : ℕ) → put pair_cmp (col, val) pairs.now ≡ pairs.now ++ (col, val) ∷ [] }
+{
+    match pairs.last() {
+        Some(last) => last.0 < col,
+        None => true,
+    }
+}
+
+/// Puts the pair at its place, for which there is room, wherever that is.
+#[inline(never)]
+fn put_among(pairs: &mut Vec<(u8, u64)>, pair: (u8, u64))
+    requires rising { IsRising pair_cmp pairs.old.items }
+    requires room { vec_len pairs.old < vec_capacity pairs.old }
+    ensures items { pairs.new.items ≡ put pair_cmp pair pairs.old.items }
+    ensures len { vec_len pairs.new ≤ vec_len pairs.old + 1 }
+    ensures capacity { vec_capacity pairs.old ≤ vec_capacity pairs.new }
+{
+    let Ok(()) = put_pair(pairs, pair) else {
+        unreachable!()
+    };
 }
 
 /// Puts the pair at its place. Memory is taken, and wanted, only where there is no room for one more.

@@ -1,7 +1,6 @@
 use Rattle.std.proofs.Common.{◌≡◌, ◌∷◌, Err, List, None, Option, Some, ap, drop, filter, map, refl, subst, sym, take, []}
 use Rattle.rc_tuple.specs.RisingSet.{In}
 use Rattle.rc_tuple.specs.Tuple.{Pairs, cols_of, matches}
-use Rattle.rc_spec.specs.Calls.{all_columns}
 use Rattle.rc_spec.specs.CallsLaws.{fits_at_op}
 use Rattle.rc_spec.specs.Decomposition.{bound, edge_at, source_and_key}
 use Rattle.rc_spec.specs.declared.call.Reply.TheVariants.{Absent, Removed}
@@ -59,13 +58,6 @@ find_tuple-requires-clause-given g c k m =
     let spec = c.args.compiled.now.spec in
     subst (In k) (sym (remove_given c.args.compiled.now c.args.call.now c.args.path c.args.stripe (g.H.Holder.seen c.args.holder.now) c.requires.locked (one g (goal.at.find_tuple-requires-clause-given g c).Start) c.requires.remove))
     (subst (λ e. In k (source_and_key spec (edge_at spec e))) c.of-read.ensures.edge (subst (λ (s : Spec). In k (source_and_key s (edge_at s c.of-read.result.edge))) c.of-read.ensures.spec m))
-
-pub find_tuple-requires-clause-whole : goal.find_tuple-requires-clause-whole
-find_tuple-requires-clause-whole g c =
-    let spec = c.args.compiled.now.spec in
-    subst (λ (s : Spec). bound s (edge_at s c.of-read.result.edge).to ≡ all_columns s) (sym c.of-read.ensures.spec)
-    (subst (λ e. bound spec (edge_at spec e).to ≡ all_columns spec) (sym c.of-read.ensures.edge)
-    (remove_whole c.args.compiled.now c.args.call.now c.args.path c.args.stripe (g.H.Holder.seen c.args.holder.now) c.requires.locked (one g (goal.at.find_tuple-requires-clause-whole g c).Start) c.requires.remove))
 
 pub returns-in_default-clause-run : goal.returns-in_default-clause-run
 returns-in_default-clause-run g c =

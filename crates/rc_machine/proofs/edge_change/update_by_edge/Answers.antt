@@ -1,7 +1,6 @@
 use Rattle.std.proofs.Common.{◌≡◌, Option, Some, refl, subst, sym, []}
 use Rattle.rc_tuple.specs.RisingSet.{In}
 use Rattle.rc_tuple.specs.Tuple.{Pairs, cols_of}
-use Rattle.rc_spec.specs.Calls.{all_columns}
 use Rattle.rc_spec.specs.CallsLaws.{fits_at_op}
 use Rattle.rc_spec.specs.Decomposition.{bound, edge_at, source_and_key}
 use Rattle.rc_spec.specs.declared.call.Reply.TheVariants.{Updated}
@@ -12,7 +11,7 @@ use Rattle.rc_fragment.specs.Holder.{AreOfOneRelation, held_of}
 use Rattle.rc_machine.specs.Access.{HasAnsweredByPath, IsTupleFound}
 use Rattle.rc_machine.specs.Machine.{told_answer}
 use Rattle.rc_machine.proofs.AccessRunLemmas.{lent_over}
-use Rattle.rc_machine.proofs.EdgeChangeLemmas.{can_update, done, unanswered, unfound_replies, update_given, update_replies, update_whole}
+use Rattle.rc_machine.proofs.EdgeChangeLemmas.{can_update, done, unanswered, unfound_replies, update_given, update_replies}
 use Rattle.rc_machine.proofs.GoLemmas.{applied_told, told_alike}
 use Rattle.rc_machine.proofs.LentLemmas.{lent_goes_on}
 use Rattle.rc_machine.proofs.ReadLemmas.{is_held}
@@ -55,13 +54,6 @@ find_tuple-requires-clause-given g c k m =
     let spec = c.args.compiled.now.spec in
     update_given c.args.compiled.now c.args.call.now c.args.path c.args.stripe (g.H.Holder.seen c.args.holder.now) c.requires.locked (one g (goal.at.find_tuple-requires-clause-given g c).Start) c.requires.update k
     (subst (λ e. In k (source_and_key spec (edge_at spec e))) c.of-read.ensures.edge (subst (λ (s : Spec). In k (source_and_key s (edge_at s c.of-read.result.edge))) c.of-read.ensures.spec m))
-
-pub find_tuple-requires-clause-whole : goal.find_tuple-requires-clause-whole
-find_tuple-requires-clause-whole g c =
-    let spec = c.args.compiled.now.spec in
-    subst (λ (s : Spec). bound s (edge_at s c.of-read.result.edge).to ≡ all_columns s) (sym c.of-read.ensures.spec)
-    (subst (λ e. bound spec (edge_at spec e).to ≡ all_columns spec) (sym c.of-read.ensures.edge)
-    (update_whole c.args.compiled.now c.args.call.now c.args.path c.args.stripe (g.H.Holder.seen c.args.holder.now) c.requires.locked (one g (goal.at.find_tuple-requires-clause-whole g c).Start) c.requires.update))
 
 pub returns-in_default-clause-answered : goal.returns-in_default-clause-answered
 returns-in_default-clause-answered g c =

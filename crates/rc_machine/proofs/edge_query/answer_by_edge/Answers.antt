@@ -9,7 +9,6 @@ use Rattle.rc_spec.specs.Decomposition.{bound, edge_at}
 use Rattle.rc_spec.specs.Fragments.{EdgeRow}
 use Rattle.rc_spec.specs.Placement.{op_at}
 use Rattle.rc_spec.specs.Plain.{plain}
-use Rattle.rc_spec.specs.declared.call.Reply.TheVariants.{Rows}
 use Rattle.rc_fragment.specs.Fragment.{shape_of}
 use Rattle.rc_fragment.specs.Holder.{held_of}
 use Rattle.rc_plan.specs.Access.{AsksFor, extra_of}
@@ -52,17 +51,16 @@ look_up-requires-clause-alone g c alone =
 pub list-requires-clause-columns : goal.list-requires-clause-columns
 list-requires-clause-columns g c = columns g (goal.at.list-requires-clause-columns g c).After-fragment-fragment
 
-pub returns-in_ok-rows-in-Lookup-clause-answered : goal.returns-in_ok-rows-in-Lookup-clause-answered
-returns-in_ok-rows-in-Lookup-clause-answered g c r a =
-    let at = (goal.at.returns-in_ok-rows-in-Lookup-clause-answered g c).After-fragment-fragment in
+pub returns-in_ok-look_up-in-Lookup-clause-answered : goal.returns-in_ok-look_up-in-Lookup-clause-answered
+returns-in_ok-look_up-in-Lookup-clause-answered g c r a =
+    let at = (goal.at.returns-in_ok-look_up-in-Lookup-clause-answered g c).After-fragment-fragment in
     let spec = c.args.compiled.now.spec in
     let rows = c.fragment-fragment.result.now.now in
-    let reply = Rows c.in_ok-rows-in-Lookup.rows in
-    subst (λ told. plain spec r c.args.call.now ≡ leaving told r) (sym c.tell.ensures)
-    (row_served spec c.requires.locked.sealed c.args.call.now c.requires.locked.fits (plan_at c.args.compiled.now.plans c.args.call.now.op) c.args.path c.requires.locked.path c.in-Query.outs c.in-Query.ranges (kind_is g at.before)
+    let reply = c.look_up.new.reply in
+    row_served spec c.requires.locked.sealed c.args.call.now c.requires.locked.fits (plan_at c.args.compiled.now.plans c.args.call.now.op) c.args.path c.requires.locked.path c.in-Query.outs c.in-Query.ranges (kind_is g at.before)
     rows r a.relation (lent_rows c.args.compiled.now c.args.call.now c.args.path c.args.stripe (g.H.Holder.seen c.args.holder.now) c.requires.locked c.fragment-fragment.result.now c.fragment-fragment.ensures r a) reply c.in-Lookup.is
     (subst (λ e. HasLookedUp (shape_of spec e) rows e c.args.call.now.args c.in-Query.outs reply) c.of-read.ensures.edge
-    (subst (λ (s : Spec). HasLookedUp (shape_of s c.of-read.result.edge) rows c.of-read.result.edge c.args.call.now.args c.in-Query.outs reply) c.of-read.ensures.spec c.in_ok-rows-in-Lookup.ensures)))
+    (subst (λ (s : Spec). HasLookedUp (shape_of s c.of-read.result.edge) rows c.of-read.result.edge c.args.call.now.args c.in-Query.outs reply) c.of-read.ensures.spec c.in_ok-look_up-in-Lookup.ensures.answered))
 
 pub returns-in_ok-told-in-Scan-clause-answered : goal.returns-in_ok-told-in-Scan-clause-answered
 returns-in_ok-told-in-Scan-clause-answered g c r a =
@@ -70,7 +68,7 @@ returns-in_ok-told-in-Scan-clause-answered g c r a =
     let spec = c.args.compiled.now.spec in
     let rows = c.fragment-fragment.result.now.now in
     let reply = c.in_ok-told-in-Scan.told in
-    subst (λ told. plain spec r c.args.call.now ≡ leaving told r) (sym c.tell-in-Scan.ensures)
+    subst (λ told. plain spec r c.args.call.now ≡ leaving told r) (sym c.tell.ensures)
     (rows_served spec c.requires.locked.sealed c.args.call.now c.requires.locked.fits (plan_at c.args.compiled.now.plans c.args.call.now.op) c.args.path c.requires.locked.path c.in-Query.outs c.in-Query.ranges (kind_is g at.before)
     rows r a.relation (lent_rows c.args.compiled.now c.args.call.now c.args.path c.args.stripe (g.H.Holder.seen c.args.holder.now) c.requires.locked c.fragment-fragment.result.now c.fragment-fragment.ensures r a) reply c.in-Scan.is
     (subst (λ e. HasListed (shape_of spec e) rows e c.args.call.now.args c.in-Query.outs spec.most_rows reply) c.of-read.ensures.edge

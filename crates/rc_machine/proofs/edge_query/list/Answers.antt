@@ -42,7 +42,7 @@ told c =
     let e : ℕ = c.args.read.now.edge in
     let has : HasShape c.args.fragment.now.table e (edge_shape c) = subst (λ t. HasShape t e (edge_shape c)) (sym c.requires.read.table) (number_has_shape spec e c.requires.read.known) in
     let all : HasScanned (edge_shape c) c.args.fragment.now.now e c.deref.result.now [] c.scan.new.out.items =
-    subst (λ z. HasScanned (edge_shape c) c.args.fragment.now.now e c.deref.result.now z c.scan.new.out.items) c.new-values.ensures.items (c.in_ok-scan.ensures.ok (edge_shape c) has) in
+    subst (λ z. HasScanned (edge_shape c) c.args.fragment.now.now e c.deref.result.now z c.scan.new.out.items) c.clear-2.ensures.items (c.in_ok-scan.ensures.ok (edge_shape c) has) in
     let alike : flat_map (key_and_extra (edge_shape c)) all.0 ≡ flat_map (pick c.args.outs.now) all.0 =
     flat_map_alike (key_and_extra (edge_shape c)) (pick c.args.outs.now) all.0
     (λ u m. let there = (all.2.only u m).0 in

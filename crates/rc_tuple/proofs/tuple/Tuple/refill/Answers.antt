@@ -7,18 +7,18 @@ use Rattle.rc_tuple.specs.Tuple.{IsTuple, pair_cmp, tuple_of}
 use Rattle.rc_tuple.specs.TupleLaws.{IsTuple-tuple_of, pair_order, tuple_of_next}
 use Rattle.rc_tuple.proofs.tuple.Tuple.refill.Goals as goal
 
-pub put_pair-requires : goal.put_pair-requires
-put_pair-requires c =
+pub put_reserved-requires-clause-rising : goal.put_reserved-requires-clause-rising
+put_reserved-requires-clause-rising c =
     subst (IsRising pair_cmp) (sym c.loop-place.invariant.items)
     (rising_gather pair_cmp pair_order (zip (take c.loop-place.place c.args.cols.now) (take c.loop-place.place c.args.vals.now)))
 
 pub loop-place-preserved : goal.loop-place-preserved
 loop-place-preserved c = record {
   items =
-      c.in-Ok.ensures.ok ∙ ap (put pair_cmp _) c.loop-place.invariant.items
+      c.put_reserved.ensures.items ∙ ap (put pair_cmp _) c.loop-place.invariant.items
       ∙ sym (tuple_of_next c.args.cols.now c.args.vals.now c.loop-place.place c.requires.fits (omega arith));
-  len = let more = c.in-Ok.ensures.len in let few = c.loop-place.invariant.len in omega arith;
-  room = let more = c.in-Ok.ensures.capacity in let room = c.loop-place.invariant.room in omega arith;
+  len = let more = c.put_reserved.ensures.len in let few = c.loop-place.invariant.len in omega arith;
+  room = let more = c.put_reserved.ensures.capacity in let room = c.loop-place.invariant.room in omega arith;
 }
 
 pub invariant_of-self-in-loop-place : goal.invariant_of-self-in-loop-place
