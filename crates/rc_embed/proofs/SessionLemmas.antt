@@ -12,13 +12,12 @@ use Rattle.rc_row.specs.declared.keeping.Keeping.{Keeping}
 use Rattle.rc_row.specs.declared.keeping.Keeping.TheVariants.{Counts}
 use Rattle.rc_row.specs.Passes.{IsMoreRoom, PassSeen, compiled_of, spec_of}
 use Rattle.rc_store.specs.declared.receipt.GroupReceipt.{GroupReceipt}
-use Rattle.rc_store.specs.declared.receipt.Position.{Position as Place}
 use Rattle.rc_store.specs.declared.receipt.Receipt.{Receipt}
 use Rattle.rc_store.specs.Running.{HasBegun, HasBegunGroup, RunningGroupSeen, RunningSeen, calls_of, replies_of as replies_with}
 use Rattle.rc_store.specs.Store.{AreRepliesFor, HasMade, HasMadeEntry, HasMadeGroup, HoldsExactly, IsAsBefore, IsReplyFor, StoreSeen, receipt_at}
 use Rattle.rc_work.specs.CallColumns.{call_of}
 use Rattle.rc_embed.specs.declared.session.Last.TheVariants.{Call, Group}
-use Rattle.rc_embed.specs.declared.session.Position.{Position}
+use Rattle.rc_store.specs.declared.receipt.Position.{Position}
 use Rattle.rc_embed.specs.declared.session.State.{State}
 use Rattle.rc_embed.specs.declared.session.State.TheVariants.{Idle, Prepared, PreparedGroup, Open, Moving}
 use Rattle.rc_embed.specs.Asked.{AskedCall}
@@ -74,12 +73,11 @@ made_alone store call reply old new receipt counts made = record {
 
 -- the call that was asked for, whose reply was told into a place, was made alone
 pub made_into : (within store : StoreSeen) → within ≡ store → (call asked : ACall) → call ≡ asked → (reply : Reply) (old new : PassSeen)
-    (at : Place) (answer : Position) → answer ≡ record { place = at.place; nth = at.nth } → within.row.keeping ≡ Counts
-    → HasMade within call reply old new (receipt_at at reply)
-    → HasMadeGroup store (asked ∷ []) (reply ∷ []) old new (receipt_of answer (reply ∷ []))
-made_into within store here call asked same reply old new at answer is counts made =
-    subst (λ (x : StoreSeen × ACall × Position). HasMadeGroup x.0 (x.1 ∷ []) (reply ∷ []) old new (receipt_of x.2 (reply ∷ [])))
-    (λ i. (here i, same i, sym is i))
+    (at : Position) → within.row.keeping ≡ Counts → HasMade within call reply old new (receipt_at at reply)
+    → HasMadeGroup store (asked ∷ []) (reply ∷ []) old new (receipt_of at (reply ∷ []))
+made_into within store here call asked same reply old new at counts made =
+    subst (λ (x : StoreSeen × ACall). HasMadeGroup x.0 (x.1 ∷ []) (reply ∷ []) old new (receipt_of at (reply ∷ [])))
+    (λ i. (here i, same i))
     (made_alone within call reply old new (receipt_at at reply) counts made)
 
 -- what is told of a group that was made

@@ -17,7 +17,7 @@ use Rattle.rc_store.specs.ReceiptLaws.{telling_goes_on}
 use Rattle.rc_store.specs.Receipts.{KnowsAll}
 use Rattle.rc_store.specs.Running.{RunningGroupSeen, calls_of, replies_of as replies_with}
 use Rattle.rc_store.specs.Store.{HasMadeEntry, IsAsBefore, StoreSeen}
-use Rattle.rc_embed.specs.declared.session.Position.{Position}
+use Rattle.rc_store.specs.declared.receipt.Position.{Position}
 use Rattle.rc_embed.specs.declared.session.State.{State}
 use Rattle.rc_embed.specs.declared.session.State.TheVariants.{Idle, Prepared, PreparedGroup, Open, Moving}
 use Rattle.rc_embed.specs.Asked.{AskedCall}

@@ -11,7 +11,7 @@ use Rattle.rc_embed.specs.declared.fault.CallFault.{CallFault}
 use Rattle.rc_embed.specs.declared.fault.CallFault.TheVariants as faults
 use Rattle.rc_embed.specs.declared.frame.Frame.{Frame}
 use Rattle.rc_embed.specs.declared.frame.Page.{Page}
-use Rattle.rc_embed.specs.declared.session.Position.{Position}
+use Rattle.rc_store.specs.declared.receipt.Position.{Position}
 use Rattle.rc_embed.specs.Codes as codes
 use Rattle.rc_embed.specs.Asking.{asked_by}
 use Rattle.rc_embed.specs.Refused.{HasCallCause, fault_of}

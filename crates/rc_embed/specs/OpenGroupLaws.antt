@@ -16,7 +16,7 @@ use Rattle.rc_store.specs.Store.{StoreSeen}
 use Rattle.rc_work.specs.CallColumns.{call_of}
 use Rattle.rc_embed.specs.declared.fault.OpenCallFault.TheVariants as faults
 use Rattle.rc_embed.specs.declared.opening.Options as opening
-use Rattle.rc_embed.specs.declared.session.Position.{Position}
+use Rattle.rc_store.specs.declared.receipt.Position.{Position}
 use Rattle.rc_embed.specs.declared.session.State.{State}
 use Rattle.rc_embed.specs.declared.session.State.TheVariants.{Idle, Prepared, PreparedGroup, Open, Moving}
 use Rattle.rc_embed.specs.Asked.{AskedCall, calls_by}

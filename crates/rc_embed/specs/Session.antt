@@ -15,7 +15,7 @@ use Rattle.rc_store.specs.Store.{IsFree, StoreSeen, one_step}
 use Rattle.rc_store.specs.declared.receipt.GroupReceipt.{GroupReceipt}
 use Rattle.rc_embed.specs.declared.session.Last.{Last}
 use Rattle.rc_embed.specs.declared.session.Last.TheVariants as lasts
-use Rattle.rc_embed.specs.declared.session.Position.{Position}
+use Rattle.rc_store.specs.declared.receipt.Position.{Position}
 use Rattle.rc_embed.specs.declared.session.State.{State}
 use Rattle.rc_embed.specs.declared.session.State.TheVariants.{Idle, Prepared, PreparedGroup, Open, Moving}
 use Rattle.rc_embed.specs.Asked.{AskedCall, calls_by}

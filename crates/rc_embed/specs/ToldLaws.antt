@@ -25,7 +25,7 @@ use Rattle.rc_store.specs.Closed.{ClosedSeen, HasClosed}
 use Rattle.rc_store.specs.Running.{RunningGroupSeen, calls_of}
 use Rattle.rc_store.specs.Store.{StoreSeen}
 use Rattle.rc_embed.specs.declared.opening.Options as opening
-use Rattle.rc_embed.specs.declared.session.Position.{Position}
+use Rattle.rc_store.specs.declared.receipt.Position.{Position}
 use Rattle.rc_embed.specs.Asked.{AskedCall, calls_by}
 use Rattle.rc_embed.specs.Entries.{HasEntry, HaveEntriesOf, StandsAt, entries_of}
 use Rattle.rc_embed.specs.EntriesLaws.{calls_stand, commits_stand, prepared_uncommitted}

@@ -6,8 +6,9 @@ ghost use Rattle.rc_embed.specs.Refused.{Answers, fault_of};
 ghost use Rattle.rc_embed.specs.Session.{HasCalled};
 
 use crate::fault::CallFault;
-use crate::session::{Last, Position, Session, State};
+use crate::session::{Last, Session, State};
 use rc_spec::Reply;
+use rc_store::Position;
 
 impl Session {
     /// Calls the operation with this number with these values, in the order of its columns, with a
@@ -48,22 +49,12 @@ impl Session {
         if let Last::Call(Some(reply)) = &mut self.last {
             let at = store.try_call_into(pass, &self.call, reply)?;
             self.picked = 0;
-            return Ok(position(at));
+            return Ok(at);
         }
         let mut reply = Reply::Absent;
         let at = store.try_call_into(pass, &self.call, &mut reply)?;
         self.last = Last::Call(Some(reply));
         self.picked = 0;
-        Ok(position(at))
-    }
-}
-
-/// The position that the store answers, as a session answers it.
-fn position(at: rc_store::Position) -> Position
-    ensures { result ≡ record { place = at.place; nth = at.nth } }
-{
-    Position {
-        place: at.place,
-        nth: at.nth,
+        Ok(at)
     }
 }

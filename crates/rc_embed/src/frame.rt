@@ -15,8 +15,9 @@ use crate::codes::{
 };
 use crate::fault::{CallFault, LearnFault, NotPrepared, OpenCallFault};
 use crate::group::Asks;
-use crate::session::{Position, Session};
+use crate::session::Session;
 use rc_spec::{Found, Reply};
+use rc_store::Position;
 
 /// The most values of a call: of a query those of its pattern, and a lower and an upper bound of
 /// each range column, which are 32 columns at most.

@@ -6,8 +6,8 @@ ghost use Rattle.rc_embed.specs.Refused.{Answers, fault_of};
 ghost use Rattle.rc_embed.specs.Session.{HasCalled, HasPrepared};
 
 use crate::fault::{CallFault, call_fault};
-use crate::session::{Last, Position, Session, State};
-use rc_store::{BeginBack, GroupReceipt};
+use crate::session::{Last, Session, State};
+use rc_store::{BeginBack, GroupReceipt, Position};
 use std::mem;
 
 /// The most calls of a group.

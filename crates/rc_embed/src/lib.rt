@@ -46,8 +46,9 @@ pub use open_frame::{
     OpenFrame, OperationFrame, open_by, open_with_by, open_with_plans_by, session_code,
 };
 pub use opening::{OpenStore, Options, open, open_with, open_with_plans};
+pub use rc_store::Position;
 pub use resume_frame::{ClosedPlace, NotClosed};
 pub use resuming::{ResumeBack, resume};
-pub use session::{Position, Session};
+pub use session::Session;
 pub use shape_frame::{MAX_LINE, ShapeFrame};
 pub use text_page::TextPage;

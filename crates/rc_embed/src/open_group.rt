@@ -11,8 +11,8 @@ ghost use Rattle.rc_embed.specs.Session.{HasCancelled, HasCommitted, HasNoCall, 
 use crate::declaring::Declared;
 use crate::fault::{CallFault, OpenCallFault, call_fault};
 use crate::group::{Asks, MAX_GROUP};
-use crate::session::{Last, Position, Session, State};
-use rc_store::{BeginBack, GroupReceipt, OpenBack};
+use crate::session::{Last, Session, State};
+use rc_store::{BeginBack, GroupReceipt, OpenBack, Position};
 use std::mem;
 
 impl Session {

@@ -7,8 +7,8 @@ ghost use Rattle.rc_embed.specs.Session.{HasCancelled, HasCommitted, HasNoCall, 
 ghost use Rattle.rc_embed.specs.Session.{IsOpen};
 
 use crate::fault::{CallFault, NotPrepared, call_fault};
-use crate::session::{Last, Position, Session, State};
-use rc_store::{BeginBack, GroupReceipt, Receipt};
+use crate::session::{Last, Session, State};
+use rc_store::{BeginBack, GroupReceipt, Position, Receipt};
 use std::mem;
 
 impl Session {

@@ -21,16 +21,6 @@ use std::alloc::Global;
 use std::marker::Model;
 use std::sync::Arc;
 
-/// Where a call, or a group of calls, stands in the history of all calls of its store, in which a
-/// group counts as one.
-#[derive(Clone, Copy, Debug, PartialEq, Eq)]
-pub struct Position {
-    /// Its place in the history, counted from 0.
-    pub place: u64,
-    /// Its number among the calls of its session, counted from 0.
-    pub nth: u64,
-}
-
 /// What a session does.
 #[derive(Drop)]
 pub(crate) enum State {

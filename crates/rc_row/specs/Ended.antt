@@ -17,16 +17,15 @@ use Rattle.rc_row.specs.PassInside.{AreOwnKept}
 use Rattle.rc_row.specs.Passes.{KeepsAs, PassSeen, RowSeen, core_of, none_kept, resumed_pass}
 use Rattle.rc_row.specs.declared.keeping.Keeping.{Keeping}
 
--- how many entries a pass committed, and the entries themselves where it kept them
-pub record IsEndedPass (own : List Placed) (kept : Option PartEntries) (e : EndedPass) : Type 0 where
-  pub made : e.made ≡ length own
-  pub entries : e.entries ≡ kept
-  pub own_entries : AreOwnKept kept own
-
 -- what a pass leaves that made these entries: so many, and the entries themselves where it has any
 pub record IsEndedOf (own : List Placed) (e : EndedPass) : Type 0 where
   pub made : e.made ≡ length own
   pub own_entries : AreOwnKept e.entries own
+
+-- and it has what the pass kept
+pub record IsEndedPass (own : List Placed) (kept : Option PartEntries) (e : EndedPass) : Type 0 where
+  pub of : IsEndedOf own e
+  pub entries : e.entries ≡ kept
 
 -- There is one good history of which the passes have their own entries, which goes on from all that they were told of, and whose rows the
 -- fragments have. It is short, and leaves few tuples.

@@ -9,7 +9,7 @@ use Rattle.rc_rel.specs.History.{replay}
 use Rattle.rc_row.specs.Passes.{PassSeen, spec_of}
 use Rattle.rc_store.specs.Closed.{ClosedSeen, HasClosed}
 use Rattle.rc_store.specs.Store.{StoreSeen}
-use Rattle.rc_embed.specs.declared.session.Position.{Position}
+use Rattle.rc_store.specs.declared.receipt.Position.{Position}
 use Rattle.rc_embed.specs.Asked.{one_call}
 use Rattle.rc_embed.specs.Session.{HasCalled, SessionSeen}
 use Rattle.rc_scheduler.specs.declared.processes.Process.{Process}

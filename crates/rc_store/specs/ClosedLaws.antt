@@ -103,7 +103,7 @@ kept_of_history row passes fragments h ended are keeps all = record {
       let p = at_place passes k (let l = slice_get_within ended k e at in let n = are.0 in omega arith) in
       let is : IsEndedPass (core_of p.0).own p.0.kept e = are.1 k p.0 e p.1 at in
       let of : IsPassOf row p.0 = subst (λ pass. IsPassOf row pass) (get_or_from_slice_get passes k p.0 p.0 p.1) (all k p.0 (slice_get_within passes k p.0 p.1)).0 in
-      let part = kept_part row.keeping (core_of p.0).own p.0.kept keeps of.keeps is.own_entries in
+      let part = kept_part row.keeping (core_of p.0).own p.0.kept keeps of.keeps (subst (λ kept. AreOwnKept kept (core_of p.0).own) is.entries is.of.own_entries) in
       (part.0, is.entries ∙ part.1, part.2 ∙ h.own k p.0 p.1);
   passes = λ e m. (let l = (h.good.entries e m).pass in let n = are.0 in omega arith);
 }

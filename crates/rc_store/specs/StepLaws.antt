@@ -1,5 +1,5 @@
 -- What the steps of a call make of a pass.
-use Rattle.std.specs.Prelude.{◌≡◌, ℕ, ◌+◌, ◌<◌, ◌≤◌, ◌^◌, Bool, false, List, [], ◌∷◌, ◌++◌, length, Option, None, Some, IsSome, All}
+use Rattle.std.specs.Prelude.{◌≡◌, ℕ, ◌+◌, ◌<◌, ◌≤◌, ◌^◌, Bool, List, [], ◌∷◌, ◌++◌, length, Option, None, Some, IsSome, All}
 use Rattle.std.proofs.Common.{refl, sym, ap, subst, ◌∙◌, arith}
 use Rattle.std.proofs.lemmas.Bool.{false≢true}
 use Rattle.std.proofs.lemmas.List.{length-append}
@@ -32,7 +32,7 @@ use Rattle.rc_row.specs.declared.law.Standing.{Standing}
 use Rattle.rc_row.specs.HeldRows.{HeldRows}
 use Rattle.rc_row.specs.Passes.{AreAtRest, HasReserved, HasSpare, IsMoreRoom, IsPassOf, KeepsAs, PassSeen, RowSeen, all_with, compiled_of, core_of, holds_taken, idle, reverted, spec_of, with_entry, with_fragment}
 use Rattle.rc_row.specs.Standings.{HaveOneRelation, KeepsOut, KeepsRefusals}
-use Rattle.rc_store.specs.Busy.{AreBusy, HasCause, IsBusy, IsLockBusy, fault_by}
+use Rattle.rc_store.specs.Busy.{AreBusy, IsBusy, IsLockBusy}
 use Rattle.rc_store.specs.CommitLaws.{holds_what_is_named, may_commit, now_committed}
 use Rattle.rc_multi.specs.HeldStripes.{all_taken}
 use Rattle.rc_store.specs.Lending.{IsOnTheWay, IsUnrefused, held_stripes}
@@ -42,7 +42,6 @@ use Rattle.rc_store.specs.Runs.{IsStoppedBy, IsStoppedFor}
 use Rattle.rc_store.specs.Store.{AreRepliesFor, HasMade, HasMadeEntry, HasMadeGroup, HoldsExactly, IsAsBefore, IsCallFinished, IsFinished, IsFree, IsGroupFinished, IsReplyFor, StoreSeen, one_step}
 use Rattle.rc_store.specs.declared.receipt.GroupReceipt.{GroupReceipt}
 use Rattle.rc_store.specs.declared.receipt.Receipt.{Receipt}
-use Rattle.rc_store.specs.declared.receipt.TryFault.TheVariants as fault
 
 -- ---- giving back
 
@@ -279,19 +278,6 @@ group_made store calls replies old mid new count prepared exact receipt f = reco
   exact = exact;
   given = f.given;
 }
-
--- ---- what calls that wait for nobody answer
-
--- what stopped one is the cause of its fault,
-pub cause_of_stop : (row : RowSeen) (calls : List Call) (old new : PassSeen) (s : Stop) → IsStoppedFor false row calls old new s
-    → HasCause row calls old new (fault_by s)
-cause_of_stop row calls old new Memory is = is refl
-cause_of_stop row calls old new (Held h) is = is.1
-
--- and not that the pass is spent
-pub unspent : (s : Stop) → fault_by s ≡ fault.Spent → ⊥
-unspent Memory is = cc
-unspent (Held h) is = cc
 
 -- ---- replies that come with receipts
 

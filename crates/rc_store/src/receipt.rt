@@ -33,12 +33,12 @@ pub struct GroupReceipt {
     pub replies: Option<SmallList<Reply>>,
 }
 
-/// Where an entry stands.
+/// Where a call, or a group of calls, stands in the history of all calls of its store, in which a group counts as one entry.
 #[derive(Clone, Copy, Debug, PartialEq, Eq)]
 pub struct Position {
     /// Its place in the history, counted from 0.
     pub place: u64,
-    /// Its number among the pass's own entries, counted from 0.
+    /// Its number among the entries of its pass, or session, counted from 0.
     pub nth: u64,
 }
 

@@ -19,7 +19,7 @@ returns-in-Call-Some c =
         picked = refl;
         made = made_into c.behind-self.inside.store c.args.self.now.store here c.refill_call.new.call
             (call_of (spec_of c.args.self.now.store.row) c.args.op c.args.values.now) call c.try_call_into.new.reply c.in-Idle.pass
-            c.try_call_into.new.pass c.in_ok-at.at c.position.result c.position.ensures c.behind-self.invariant.counts c.in_ok-at.ensures.made;
+            c.try_call_into.new.pass c.in_ok-at.at c.behind-self.invariant.counts c.in_ok-at.ensures.made;
       };
       cause = tt;
       unchanged = tt;
@@ -39,7 +39,7 @@ returns c =
         picked = refl;
         made = made_into c.behind-self.inside.store c.args.self.now.store here c.refill_call.new.call
             (call_of (spec_of c.args.self.now.store.row) c.args.op c.args.values.now) call c.try_call_into-2.new.reply c.in-Idle.pass
-            c.try_call_into-2.new.pass c.in_ok-at-2.at c.position-2.result c.position-2.ensures c.behind-self.invariant.counts c.in_ok-at-2.ensures.made;
+            c.try_call_into-2.new.pass c.in_ok-at-2.at c.behind-self.invariant.counts c.in_ok-at-2.ensures.made;
       };
       cause = tt;
       unchanged = tt;

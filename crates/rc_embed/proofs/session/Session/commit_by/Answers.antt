@@ -1,7 +1,7 @@
 use Rattle.std.proofs.Common.{IfSome, Option, ap, arith, ◌∙◌, refl, subst}
 use Rattle.rc_spec.specs.declared.call.Reply.{Reply}
 use Rattle.rc_embed.specs.declared.frame.Frame.{Frame}
-use Rattle.rc_embed.specs.declared.session.Position.{Position}
+use Rattle.rc_store.specs.declared.receipt.Position.{Position}
 use Rattle.rc_embed.specs.Session.{HasCommitted}
 use Rattle.rc_embed.specs.Frames.{with_picked_reply, with_reply}
 use Rattle.rc_embed.proofs.SessionLemmas.{committed_first}

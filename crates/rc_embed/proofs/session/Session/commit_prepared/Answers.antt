@@ -1,7 +1,7 @@
 use Rattle.std.proofs.Common.{◌≡◌, ◌∙◌, [], ◌∷◌, ap, rules, refl, subst, sym}
 use Rattle.rc_store.specs.Store.{StoreSeen}
 use Rattle.rc_embed.specs.declared.session.Last.TheVariants as lasts
-use Rattle.rc_embed.specs.declared.session.Position.{Position}
+use Rattle.rc_store.specs.declared.receipt.Position.{Position}
 use Rattle.rc_embed.specs.declared.session.State.{State}
 use Rattle.rc_embed.specs.declared.session.State.TheVariants as states
 use Rattle.rc_embed.specs.Session.{HeldFor, alone, receipt_of, replies_given, uncommitted_in}
