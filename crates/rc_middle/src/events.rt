@@ -3,11 +3,12 @@
 use crate::lines::small;
 use crate::stop::Stop;
 use rc_core::Event;
-use rc_rel::{Entry, Steps};
+use rc_rel::{Entry, Step, Steps};
+use std::mem;
 
 /// The event of a line `VERB PASS STRIPE`, `learn PASS LENGTH` or `commit PASS PASS-OF-ENTRY NTH`, whose entry takes these
 /// steps.
-pub(crate) fn event(verb: &str, numbers: &[u64], steps: &mut Steps) -> Result<Event, Stop> {
+pub(crate) fn event(verb: &str, numbers: &[u64], steps: &mut Vec<Step>) -> Result<Event, Stop> {
     match numbers {
         [pass, number] => plain_event(verb, small(*pass)?, *number),
         [pass, of, nth] if verb == "commit" => Ok(Event::Commit {
@@ -39,8 +40,8 @@ fn plain_event(verb: &str, pass: u32, number: u64) -> Result<Event, Stop> {
 }
 
 /// The entry of a pass, which takes the steps.
-fn entry(pass: u32, nth: u64, steps: &mut Steps) -> Entry {
-    let alloc = steps.alloc();
-    let steps = std::mem::replace(steps, Steps::new(alloc));
+fn entry(pass: u32, nth: u64, steps: &mut Vec<Step>) -> Entry {
+    let none = Vec::new(*steps.allocator());
+    let steps = Steps::from_vec(mem::replace(steps, none));
     Entry { pass, nth, steps }
 }

@@ -9,7 +9,7 @@ use crate::states::{push_others, state_lines};
 use crate::stop::Stop;
 use rc_core::{CoreState, Event, step, waits};
 use rc_plan::Compiled;
-use rc_rel::Steps;
+use rc_rel::Step;
 use rc_text::push_bytes;
 
 /// Where a list of events has led.
@@ -19,7 +19,7 @@ struct Played {
     /// The lines of the state.
     lines: Vec<u8>,
     /// The steps of the next entry.
-    steps: Steps,
+    steps: Vec<Step>,
 }
 
 /// `steps`: tries one event after another, each a line, from the start of as many passes as the first line says. One that is
@@ -32,7 +32,7 @@ pub(crate) fn play(compiled: &Compiled, text: &str, out: &mut Vec<u8>) -> Result
     let mut played = Played {
         state: start(compiled, first)?,
         lines: Vec::new(alloc),
-        steps: Steps::new(alloc),
+        steps: Vec::new(alloc),
     };
     play_lines(compiled, &mut played, lines, out)
 }
@@ -83,8 +83,8 @@ fn act(compiled: &Compiled, played: &mut Played, line: &str, out: &mut Vec<u8>) 
 }
 
 /// Adds a step to the next entry.
-fn add_step(compiled: &Compiled, steps: &mut Steps, text: &str) -> Result<(), Stop> {
-    let step = step_of(steps.alloc(), compiled.accepted().spec(), text)?;
+fn add_step(compiled: &Compiled, steps: &mut Vec<Step>, text: &str) -> Result<(), Stop> {
+    let step = step_of(*steps.allocator(), compiled.accepted().spec(), text)?;
     steps.push(step)?;
     Ok(())
 }

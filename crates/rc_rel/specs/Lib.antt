@@ -1,3 +1,4 @@
+pub mod Steps
 pub mod History
 pub mod Match
 pub mod Over

@@ -2,8 +2,9 @@
 
 ghost use Rattle.std.specs.Prelude.{◌≡◌, IfOk};
 
+use crate::steps::Steps;
 use rc_spec::{Call, Reply};
-use rc_tuple::{Memory, SmallList};
+use rc_tuple::Memory;
 
 /// The most entries that one pass makes.
 pub const MAX_ENTRIES: u64 = 1 << 48;
@@ -14,9 +15,6 @@ pub struct Step {
     pub call: Call,
     pub reply: Reply,
 }
-
-/// Steps, in the order in which they were made.
-pub type Steps = SmallList<Step>;
 
 /// An entry of a history: the steps that a pass made at once, as its entry number `nth`, counted
 /// from 0.
@@ -47,17 +45,6 @@ impl Step {
     }
 }
 
-/// Another list of the same steps.
-fn copy_steps(steps: &Steps) -> Result<Steps, Memory>
-    ensures { IfOk result (λ copy. copy ≡ steps.now) }
-{
-    let mut copy = Steps::new(steps.alloc());
-    for step in steps.list() {
-        copy.push(step.copy()?)?;
-    }
-    Ok(copy)
-}
-
 impl Entry {
     /// Another entry of the same pass with the same number and steps.
     pub fn copy(&self) -> Result<Entry, Memory>
@@ -66,7 +53,7 @@ impl Entry {
         Ok(Entry {
             pass: self.pass,
             nth: self.nth,
-            steps: copy_steps(&self.steps)?,
+            steps: self.steps.copy()?,
         })
     }
 }

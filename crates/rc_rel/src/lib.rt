@@ -9,11 +9,13 @@ mod laws;
 mod plain_rel;
 mod replaying;
 mod scan;
+mod steps;
 
-pub use entry::{Entry, MAX_ENTRIES, Placed, Step, Steps};
+pub use entry::{Entry, MAX_ENTRIES, Placed, Step};
 pub use laws::{
     histories_are_few, histories_stay, numbered_goes_on, own_entries_are_the_history,
     own_entries_stand, placed_are_own, shares_add_up, states_are_relations, states_satisfy,
 };
 pub use plain_rel::PlainRel;
 pub use replaying::replay;
+pub use steps::Steps;

@@ -15,7 +15,6 @@ use rc_rel::{Entry, Step, Steps};
 use rc_row::{Keeping, Pass};
 use rc_spec::{Call, Reply};
 use rc_tuple::Memory;
-use std::alloc::Global;
 use std::slice;
 
 impl<W: Wakes> Store<W> {
@@ -36,20 +35,19 @@ impl<W: Wakes> Store<W> {
     {
         match self.row.keeping() {
             Keeping::Counts => Ok(self.finish_counted(pass, call, reply, gate)),
-            Keeping::Entries => match entry_of(self.alloc, pass, call, reply) {
-                Ok(entry) => {
-                    let at = self.commit_entry(pass, entry, gate);
-                    Ok(Receipt {
-                        place: at.place,
-                        nth: at.nth,
-                        reply: None,
-                    })
-                }
-                Err(Memory) => {
+            Keeping::Entries => {
+                let Ok(call) = call.copy() else {
                     self.give_back(pass);
-                    Err(Memory)
-                }
-            },
+                    return Err(Memory);
+                };
+                let entry = entry_of_step(pass, Step { call, reply });
+                let at = self.commit_entry(pass, entry, gate);
+                Ok(Receipt {
+                    place: at.place,
+                    nth: at.nth,
+                    reply: None,
+                })
+            }
         }
     }
 
@@ -94,23 +92,13 @@ impl<W: Wakes> Store<W> {
     }
 }
 
-/// The next entry of the pass, of the call with its reply.
-fn entry_of(alloc: Global, pass: &Pass, call: &Call, reply: Reply) -> Result<Entry, Memory>
-    ensures { IfOk result (λ entry. entry ≡ next_of (core_of pass.now) (one_step call.now reply)) }
+/// The next entry of the pass, of one step. Takes no memory.
+pub(crate) fn entry_of_step(pass: &Pass, step: Step) -> Entry
+    ensures { result ≡ next_of (core_of pass.now) (one_step step.call step.reply) }
 {
-    let call = call.copy()?;
-    entry_of_step(alloc, pass, Step { call, reply })
-}
-
-/// The next entry of the pass, of one step.
-pub(crate) fn entry_of_step(alloc: Global, pass: &Pass, step: Step) -> Result<Entry, Memory>
-    ensures { IfOk result (λ entry. entry ≡ next_of (core_of pass.now) (one_step step.call step.reply)) }
-{
-    let mut steps = Vec::with_capacity(alloc, 1)?;
-    steps.push(step)?;
-    Ok(Entry {
+    Entry {
         pass: pass.number(),
         nth: pass.made(),
-        steps: Steps::from_vec(steps),
-    })
+        steps: Steps::of_one(step),
+    }
 }

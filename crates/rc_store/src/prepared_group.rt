@@ -76,9 +76,9 @@ impl PreparedGroup {
     {
         match self {
             PreparedGroup::Entry(entry) => {
-                let mut entry = entry;
-                entry.steps.push(Step { call, reply })?;
-                Ok(PreparedGroup::Entry(entry))
+                let Entry { pass, nth, steps } = entry;
+                let steps = steps.with(Step { call, reply })?;
+                Ok(PreparedGroup::Entry(Entry { pass, nth, steps }))
             }
             PreparedGroup::Counted(calls, replies) => {
                 let mut calls = calls;

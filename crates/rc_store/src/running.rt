@@ -22,7 +22,6 @@ use rc_rel::{Entry, Step};
 use rc_row::{Keeping, Pass};
 use rc_spec::{Call, Reply};
 use rc_tuple::Memory;
-use std::alloc::Global;
 use std::marker::Model;
 use std::snapshot::Snapshot;
 
@@ -157,7 +156,7 @@ impl<W: Wakes> Store<W> {
         let taking = AtOnce { wakes: &self.wakes };
         let mut reply = Reply::Absent;
         self.prepare(pass, call, &taking, &mut reply)?;
-        match prepared_of(self.alloc, self.row.keeping(), pass, call, reply) {
+        match prepared_of(self.row.keeping(), pass, call, reply) {
             Ok(prepared) => Ok(prepared),
             Err(Memory) => {
                 self.give_back(pass);
@@ -193,7 +192,6 @@ impl<W: Wakes> Store<W> {
 
 /// What is to be committed of the call with its reply, and the step that it makes.
 fn prepared_of(
-    alloc: Global,
     keeping: Keeping,
     pass: &Pass,
     call: &Call,
@@ -207,7 +205,7 @@ fn prepared_of(
     let step = Step { call, reply };
     let seen = Snapshot::of(&step);
     let prepared = match keeping {
-        Keeping::Entries => Prepared::Entry(entry_of_step(alloc, pass, step)?),
+        Keeping::Entries => Prepared::Entry(entry_of_step(pass, step)),
         Keeping::Counts => Prepared::Counted(step),
     };
     Ok((prepared, seen))
