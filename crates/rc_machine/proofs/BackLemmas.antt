@@ -1,11 +1,14 @@
 -- A holder that took all back.
-use Rattle.std.specs.Prelude.{◌≡◌, List, [], ◌∷◌, map}
+use Rattle.std.specs.Prelude.{◌≡◌, Err, List, [], ◌∷◌, map}
 use Rattle.std.proofs.Common.{inl, refl, sym, ap, subst, ◌∙◌}
 use Rattle.rc_tuple.specs.RisingSet.{In}
 use Rattle.rc_tuple.specs.RisingSetLaws.{in_map}
 use Rattle.rc_fragment.specs.Holder.{GoesOn, HeldStripe, Holding, all_reverted, held_of, reverted}
 use Rattle.rc_fragment.specs.HoldingLaws.{goes_on_again, held-reverted}
-use Rattle.rc_machine.specs.Machine.{AreAsTaken, AreTakenAsOffered}
+use Rattle.rc_spec.specs.declared.call.Call.{Call}
+use Rattle.rc_plan.specs.Compiled.{SpecWithPlans}
+use Rattle.rc_machine.specs.Machine.{AreAsTaken, AreTakenAsOffered, HasRunCall}
+use Rattle.rc_machine.specs.declared.stop.Stop.TheVariants as stop
 use Rattle.rc_machine.proofs.GoLemmas.{told_alike}
 
 back_on : (mid new : Holding) → new ≡ all_reverted mid → GoesOn mid new
@@ -26,3 +29,14 @@ pub back_as_taken : (mid new : Holding) → new ≡ all_reverted mid → AreAsTa
 back_as_taken mid new e h m =
     let w : (g : HeldStripe) × In g (held_of mid) × (h ≡ reverted g) = in_map reverted h (held_of mid) (subst (In h) (ap held_of e ∙ held-reverted mid) m) in
     ap (λ (z : HeldStripe). z.now) w.2 ∙ sym (ap (λ (z : HeldStripe). z.taken) w.2)
+
+-- a run that wanted memory, once all is taken back
+pub run_back : (compiled : SpecWithPlans) (call : Call) (old mid new : Holding) → new ≡ all_reverted mid → HasRunCall compiled call old mid (Err stop.Memory) → HasRunCall compiled call old new (Err stop.Memory)
+run_back compiled call old mid new e by = record {
+  answered = tt;
+  taken = back_taken mid new e by.taken;
+  stopped = λ h is. absurd cc;
+  refused = λ h is. absurd cc;
+  counted = ap (λ (s : Holding). s.refusals) e ∙ by.counted;
+  goes_on = back_goes_on old mid new e by.goes_on;
+}

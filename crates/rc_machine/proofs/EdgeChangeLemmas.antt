@@ -48,10 +48,10 @@ use Rattle.rc_plan.specs.declared.access.AccessPath.{AccessPath}
 use Rattle.rc_plan.specs.declared.statement.ReadMode.{ReadMode}
 use Rattle.rc_plan.specs.declared.statement.ReadMode.TheVariants.{Lookup, Scan}
 use Rattle.rc_plan.specs.declared.statement.Statement.{Statement}
-use Rattle.rc_machine.specs.Access.{HasAnsweredByPath, HasLockedPath, HasRunByPath, IsBehind, IsOnlyMatch, IsRowFound, IsTupleFound, leaving}
+use Rattle.rc_machine.specs.Access.{HasAnsweredByPath, HasLockedPath, IsBehind, IsOnlyMatch, IsRowFound, IsTupleFound, leaving}
 use Rattle.rc_machine.specs.Applied.{CanInsert, CanReplace, HasReplaced, replaced_in}
 use Rattle.rc_machine.specs.Apply.{IsSameButLent, all_changed}
-use Rattle.rc_machine.specs.Machine.{AreAsTaken, AreTakenAsOffered, HasRefusedCall, HasReplied, told_answer}
+use Rattle.rc_machine.specs.Machine.{AreAsTaken, AreTakenAsOffered, HasRefusedCall, HasReplied, HasRunCall, told_answer}
 use Rattle.rc_machine.specs.ReplyLaws.{told_answer_fault}
 use Rattle.rc_machine.specs.Stopped.{CountsIfHeld}
 use Rattle.rc_machine.specs.Stripes.{AreStripesOf}
@@ -408,7 +408,7 @@ unanswered compiled call old new (Err e) reply is told lent = record { answered 
 -- ---- what is answered in place is one way to run a call, and so is one behind stripes that were taken
 
 pub run_in_place : {T : Type 0} (compiled : SpecWithPlans) (call : Call) (old new : Holding) (result : Result T Stop) (reply : Reply) → IfErr result (λ s. s ≡ stop.Memory)
-    → HasAnsweredByPath compiled call old new (told_answer result reply) → HasRunByPath compiled call old new (told_answer result reply)
+    → HasAnsweredByPath compiled call old new (told_answer result reply) → HasRunCall compiled call old new (told_answer result reply)
 run_in_place compiled call old new result reply memory by =
     let alone = told_answer_fault (λ s. s ≡ stop.Memory) result reply memory in record {
       answered = by.answered;
@@ -419,7 +419,7 @@ run_in_place compiled call old new result reply memory by =
       goes_on = lent_goes_on old new by.lent;
     }
 
-pub run_since : (compiled : SpecWithPlans) (call : Call) (first old new : Holding) (result : Result Reply Stop) → GoesOn first old → old.refusals ≡ first.refusals → HasRunByPath compiled call old new result → HasRunByPath compiled call first new result
+pub run_since : (compiled : SpecWithPlans) (call : Call) (first old new : Holding) (result : Result Reply Stop) → GoesOn first old → old.refusals ≡ first.refusals → HasRunCall compiled call old new result → HasRunCall compiled call first new result
 run_since compiled call first old new result on same by = record {
   answered = by.answered;
   taken = by.taken;
@@ -432,7 +432,7 @@ run_since compiled call first old new result on same by = record {
 -- a stop that is handed on
 pub run_stopped : {T : Type 0} (compiled : SpecWithPlans) (call : Call) (old new : Holding) (result : Result T Stop) (reply : Reply) (x : Stop) → IsErr result → IsErrAnd result (λ y. y ≡ x) → AreTakenAsOffered new
     → ((h : Held) → x ≡ stop.Held h → AreAsTaken (held_of new)) → ((h : Held) → x ≡ stop.Held h → HasRefusedCall compiled call old new h) → CountsIfHeld x old new → GoesOn old new
-    → HasRunByPath compiled call old new (told_answer result reply)
+    → HasRunCall compiled call old new (told_answer result reply)
 run_stopped compiled call old new (Ok answer) reply x is gives told stopped refused counted on = absurd cc
 run_stopped compiled call old new (Err e) reply x is gives told stopped refused counted on = record {
   answered = tt;

@@ -1,5 +1,5 @@
 -- What a call takes and answers from the rows of one edge, on the stripe on which its arguments fall.
-use Rattle.std.specs.Prelude.{◌≡◌, ℕ, List, [], ◌∷◌, ◌++◌, Err, IfOk, None, Option, Result, Some, drop, filter, map, take, true}
+use Rattle.std.specs.Prelude.{◌≡◌, ℕ, List, [], ◌∷◌, ◌++◌, IfOk, None, Option, Result, Some, drop, filter, map, take, true}
 use Rattle.std.specs.List.{list_any, zip}
 use Rattle.rc_tuple.specs.ColSet.{Within}
 use Rattle.rc_tuple.specs.RisingSet.{In}
@@ -17,18 +17,14 @@ use Rattle.rc_spec.specs.Stripes.{physical_stripe}
 use Rattle.rc_fragment.specs.Fragment.{IsFoundAt, IsLookedUp, IsScan, edge_table}
 use Rattle.rc_fragment.specs.RowValues.{extra_columns, values_at}
 use Rattle.rc_fragment.specs.declared.shape.EdgeShape.{EdgeShape}
-use Rattle.rc_fragment.specs.declared.held.Held.{Held}
-use Rattle.rc_fragment.specs.Holder.{AreOfRelation, GoesOn, HeldStripe, Holding, held_of}
+use Rattle.rc_fragment.specs.Holder.{AreOfRelation, HeldStripe, Holding, held_of}
 use Rattle.rc_plan.specs.Access.{IsAccessPath, is_lock_of, is_read_of}
 use Rattle.rc_plan.specs.Compiled.{IsPlanOf, SpecWithPlans, plan_at}
 use Rattle.rc_plan.specs.declared.access.AccessPath.{AccessPath}
 use Rattle.rc_plan.specs.declared.statement.Statement.{Statement}
 use Rattle.rc_machine.specs.Apply.{IsSameButLent}
-use Rattle.rc_machine.specs.Machine.{AreAsTaken, AreTakenAsOffered, HasAnswered, HasRefusedCall, stripes_held}
+use Rattle.rc_machine.specs.Machine.{AreTakenAsOffered, HasAnswered, stripes_held}
 use Rattle.rc_machine.specs.Run.{IsAt}
-use Rattle.rc_machine.specs.Stopped.{CountsOnlyHeld}
-use Rattle.rc_machine.specs.declared.stop.Stop.{Stop}
-use Rattle.rc_machine.specs.declared.stop.Stop.TheVariants as stop
 
 -- of each class that one of the statements locks the stripe on which the tuple falls is among these
 abbrev pub AreLockedFor : Spec → Pairs → List Statement → List ℕ → Type 0
@@ -93,12 +89,3 @@ pub record HasAnsweredByPath {E : Type 0} (compiled : SpecWithPlans) (call : Cal
   pub answered : IfOk result (HasAnswered compiled call new)
   pub taken : AreTakenAsOffered new
   pub lent : IsSameButLent old new
-
--- The same of a call that may take further stripes, of which one may be refused. Then nothing is changed.
-pub record HasRunByPath (compiled : SpecWithPlans) (call : Call) (old new : Holding) (result : Result Reply Stop) : Type 0 where
-  pub answered : IfOk result (HasAnswered compiled call new)
-  pub taken : AreTakenAsOffered new
-  pub stopped : (h : Held) → result ≡ Err (stop.Held h) → AreAsTaken (held_of new)
-  pub refused : (h : Held) → result ≡ Err (stop.Held h) → HasRefusedCall compiled call old new h
-  pub counted : CountsOnlyHeld result old new
-  pub goes_on : GoesOn old new

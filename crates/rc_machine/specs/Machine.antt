@@ -1,5 +1,5 @@
 -- What a run of a plan over a holder leaves: held stripes, and a reply. (PLDI 2012, execution of query plans with two-phase locks.)
-use Rattle.std.specs.Prelude.{◌≡◌, ℕ, List, Result, Ok, Err, Some, map}
+use Rattle.std.specs.Prelude.{◌≡◌, ℕ, List, Result, Ok, Err, Some, IfOk, map}
 use Rattle.std.specs.List.{flat_map}
 use Rattle.std.specs.Ordering.{nat_cmp}
 use Rattle.rc_tuple.specs.RisingSet.{In, IsRising, gather}
@@ -12,11 +12,14 @@ use Rattle.rc_spec.specs.declared.spec.Spec.{Spec}
 use Rattle.rc_spec.specs.Fragments.{EdgeRow, edge_row_cmp, fragment_of}
 use Rattle.rc_spec.specs.Plain.{plain}
 use Rattle.rc_fragment.specs.declared.held.Held.{Held}
-use Rattle.rc_fragment.specs.Holder.{AreOffered, AreOfRelation, HasRisen, HeldStripe, Holding, IsAbove, IsRefusal, held_of, offered_at}
+use Rattle.rc_fragment.specs.Holder.{AreOffered, AreOfRelation, GoesOn, HasRisen, HeldStripe, Holding, IsAbove, IsRefusal, held_of, offered_at}
 use Rattle.rc_plan.specs.declared.statement.Statement.{Statement}
 use Rattle.rc_plan.specs.Compiled.{SpecWithPlans, plan_at}
 use Rattle.rc_plan.specs.Evaluation.{eval, rows_as_taken, touched}
 use Rattle.rc_spec.specs.Locks.{StripeLock}
+use Rattle.rc_machine.specs.Stopped.{CountsOnlyHeld}
+use Rattle.rc_machine.specs.declared.stop.Stop.{Stop}
+use Rattle.rc_machine.specs.declared.stop.Stop.TheVariants as stop
 
 -- ---- held stripes, put together
 
@@ -88,3 +91,14 @@ pub record IsRefused (spec : Spec) (plan : List Statement) (call : Call) (old ne
 -- the same by the call's own plan
 abbrev pub HasRefusedCall : SpecWithPlans → Call → Holding → Holding → Held → Type 0
 HasRefusedCall compiled call old new answer = IsRefused compiled.spec (plan_at compiled.plans call.op) call old new answer
+
+-- ---- what a run leaves
+
+-- After a reply the call is answered. Whatever the result, stripes were taken as they are offered, what the holder offers stays, and only a refused take adds to the count of such. After one the refusal is the last, and no held stripe is changed; where memory was wanted some may be.
+pub record HasRunCall (compiled : SpecWithPlans) (call : Call) (old new : Holding) (result : Result Reply Stop) : Type 0 where
+  pub answered : IfOk result (HasAnswered compiled call new)
+  pub taken : AreTakenAsOffered new
+  pub stopped : (h : Held) → result ≡ Err (stop.Held h) → AreAsTaken (held_of new)
+  pub refused : (h : Held) → result ≡ Err (stop.Held h) → HasRefusedCall compiled call old new h
+  pub counted : CountsOnlyHeld result old new
+  pub goes_on : GoesOn old new

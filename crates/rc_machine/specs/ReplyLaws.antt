@@ -1,9 +1,11 @@
 -- Laws of answers whose replies are told into a place.
 use Rattle.std.specs.Prelude.{◌≡◌, Result, Ok, Err, IfErr, IfOk, OnOk}
-use Rattle.std.proofs.Common.{ap}
+use Rattle.std.proofs.Common.{ap, subst}
+use Rattle.rc_spec.specs.declared.call.Call.{Call}
 use Rattle.rc_spec.specs.declared.call.Reply.{Reply}
 use Rattle.rc_fragment.specs.Holder.{Holding}
-use Rattle.rc_machine.specs.Machine.{told_answer}
+use Rattle.rc_plan.specs.Compiled.{SpecWithPlans}
+use Rattle.rc_machine.specs.Machine.{HasAnswered, HasRunCall, told_answer}
 use Rattle.rc_machine.specs.Stopped.{CountsOnlyHeld}
 use Rattle.rc_machine.specs.declared.stop.Stop.{Stop}
 
@@ -28,3 +30,13 @@ told_answer_err result reply e is = ap (λ r. told_answer r reply) is
 pub told_answer_counts : {T : Type 0} (result : Result T Stop) (reply : Reply) (old new : Holding) → CountsOnlyHeld (told_answer result reply) old new → CountsOnlyHeld result old new
 told_answer_counts (Ok x) reply old new is = is
 told_answer_counts (Err e) reply old new is = is
+
+-- ---- a run that answered
+
+pub replied_of : (compiled : SpecWithPlans) (call : Call) (old new : Holding) (result : Result Reply Stop) (reply : Reply) → result ≡ Ok reply
+    → HasRunCall compiled call old new result → HasAnswered compiled call new reply
+replied_of compiled call old new result reply is run = (subst (HasRunCall compiled call old new) is run).answered
+
+pub answered_of : {T : Type 0} (compiled : SpecWithPlans) (call : Call) (old new : Holding) (result : Result T Stop) (x : T) (reply : Reply) → result ≡ Ok x
+    → HasRunCall compiled call old new (told_answer result reply) → HasAnswered compiled call new reply
+answered_of compiled call old new result x reply is = replied_of compiled call old new (told_answer result reply) reply (ap (λ r. told_answer r reply) is)

@@ -1,16 +1,13 @@
 //! The run of a plan.
 
-ghost use Rattle.std.specs.Prelude.{◌≡◌, [], IfOk, IfErr, Err, OnErr, OnOk};
+ghost use Rattle.std.specs.Prelude.{◌≡◌, [], IfErr, OnErr};
 ghost use Rattle.rc_spec.specs.Calls.{Fits};
 ghost use Rattle.rc_spec.specs.declared.spec.Spec.{Spec};
 ghost use Rattle.rc_spec.specs.Locks.{StripeLock};
-ghost use Rattle.rc_fragment.specs.Holder.{GoesOn, MayTake, held_of};
-ghost use Rattle.rc_fragment.specs.declared.held.Held.{Held};
+ghost use Rattle.rc_fragment.specs.Holder.{MayTake, held_of};
 ghost use Rattle.rc_plan.specs.Compiled.{plan_at};
 ghost use Rattle.rc_plan.specs.NamedStripes.{IsNamedBy};
-ghost use Rattle.rc_machine.specs.Machine.{AreAsTaken, AreTakenAsOffered, HasAnswered, HasRefusedCall};
-ghost use Rattle.rc_machine.specs.Stopped.{CountsOnlyHeld};
-ghost use Rattle.rc_machine.specs.declared.stop.Stop.TheVariants as stop;
+ghost use Rattle.rc_machine.specs.Machine.{AreAsTaken, HasRunCall, told_answer};
 
 use crate::Stop;
 use crate::arguments::lock_arguments;
@@ -23,7 +20,6 @@ use rc_plan::Compiled;
 use rc_spec::{Call, Reply};
 
 /// Does what `run_statements` does, but hands the reply up, and after any stop each held stripe has its rows as taken.
-#[tactic(auto, using(crate::proofs::BackLemmas::back_goes_on, crate::proofs::BackLemmas::back_taken, crate::proofs::BackLemmas::back_as_taken))]
 pub fn run_plan<H: Reverts>(
     compiled: &Compiled,
     call: &Call,
@@ -35,13 +31,8 @@ pub fn run_plan<H: Reverts>(
     requires free { held_of (H.seen holder.old) ≡ [] }
     requires lent { (lock : StripeLock) → IsNamedBy compiled.now.spec call.now.args (plan_at compiled.now.plans call.now.op) lock
         → MayTake (H.seen holder.old).lends lock.0 lock.1 }
-    ensures answered { IfOk result (HasAnswered compiled.now call.now (H.seen holder.new)) }
-    ensures taken { AreTakenAsOffered (H.seen holder.new) }
-    ensures stopped { IfErr result (λ _. AreAsTaken (held_of (H.seen holder.new))) }
-    ensures refused { (h : Held) → result ≡ Err (stop.Held h)
-        → HasRefusedCall compiled.now call.now (H.seen holder.old) (H.seen holder.new) h }
-    ensures counted { CountsOnlyHeld result (H.seen holder.old) (H.seen holder.new) }
-    ensures goes_on { GoesOn (H.seen holder.old) (H.seen holder.new) }
+    ensures run { HasRunCall compiled.now call.now (H.seen holder.old) (H.seen holder.new) result }
+    ensures reverted { IfErr result (λ _. AreAsTaken (held_of (H.seen holder.new))) }
     ensures sound { (spec : Spec) → H.is_sound holder.old spec → H.is_sound holder.new spec }
 {
     let mut reply = Reply::Absent;
@@ -89,14 +80,8 @@ pub fn run_statements<H: Holder>(
     requires free { held_of (H.seen holder.old) ≡ [] }
     requires lent { (lock : StripeLock) → IsNamedBy compiled.now.spec call.now.args (plan_at compiled.now.plans call.now.op) lock
         → MayTake (H.seen holder.old).lends lock.0 lock.1 }
-    ensures answered { OnOk result (HasAnswered compiled.now call.now (H.seen holder.new) reply.new) }
+    ensures run { HasRunCall compiled.now call.now (H.seen holder.old) (H.seen holder.new) (told_answer result reply.new) }
     ensures kept { OnErr result (reply.new ≡ reply.old) }
-    ensures taken { AreTakenAsOffered (H.seen holder.new) }
-    ensures stopped { (h : Held) → result ≡ Err (stop.Held h) → AreAsTaken (held_of (H.seen holder.new)) }
-    ensures refused { (h : Held) → result ≡ Err (stop.Held h)
-        → HasRefusedCall compiled.now call.now (H.seen holder.old) (H.seen holder.new) h }
-    ensures counted { CountsOnlyHeld result (H.seen holder.old) (H.seen holder.new) }
-    ensures goes_on { GoesOn (H.seen holder.old) (H.seen holder.new) }
     ensures sound { (spec : Spec) → H.is_sound holder.old spec → H.is_sound holder.new spec }
 {
     let Some(path) = compiled.access_path(call.op) else {
@@ -124,14 +109,8 @@ fn run_in_turn<H: Holder>(
     requires free { held_of (H.seen holder.old) ≡ [] }
     requires lent { (lock : StripeLock) → IsNamedBy compiled.now.spec call.now.args (plan_at compiled.now.plans call.now.op) lock
         → MayTake (H.seen holder.old).lends lock.0 lock.1 }
-    ensures answered { OnOk result (HasAnswered compiled.now call.now (H.seen holder.new) reply.new) }
+    ensures run { HasRunCall compiled.now call.now (H.seen holder.old) (H.seen holder.new) (told_answer result reply.new) }
     ensures kept { OnErr result (reply.new ≡ reply.old) }
-    ensures taken { AreTakenAsOffered (H.seen holder.new) }
-    ensures stopped { (h : Held) → result ≡ Err (stop.Held h) → AreAsTaken (held_of (H.seen holder.new)) }
-    ensures refused { (h : Held) → result ≡ Err (stop.Held h)
-        → HasRefusedCall compiled.now call.now (H.seen holder.old) (H.seen holder.new) h }
-    ensures counted { CountsOnlyHeld result (H.seen holder.old) (H.seen holder.new) }
-    ensures goes_on { GoesOn (H.seen holder.old) (H.seen holder.new) }
     ensures sound { (spec : Spec) → H.is_sound holder.old spec → H.is_sound holder.new spec }
 {
     let plan = compiled.plan(call.op).list();

@@ -6,8 +6,8 @@ ghost use Rattle.rc_spec.specs.declared.spec.Spec.{Spec};
 ghost use Rattle.rc_fragment.specs.Holder.{MayTake};
 ghost use Rattle.rc_plan.specs.Compiled.{plan_at};
 ghost use Rattle.rc_plan.specs.NamedStripes.{IsNamedBy};
-ghost use Rattle.rc_machine.specs.Access.{HasLockedPath, HasRunByPath};
-ghost use Rattle.rc_machine.specs.Machine.{told_answer};
+ghost use Rattle.rc_machine.specs.Access.{HasLockedPath};
+ghost use Rattle.rc_machine.specs.Machine.{HasRunCall, told_answer};
 ghost use Rattle.rc_machine.specs.Stripes.{AreStripesOf};
 
 use crate::Stop;
@@ -35,7 +35,7 @@ pub(crate) fn answer_by_path<H: Holder>(
     requires sound { H.is_sound holder.old compiled.now.spec }
     requires lent { (lock : StripeLock) → IsNamedBy compiled.now.spec call.now.args (plan_at compiled.now.plans call.now.op) lock
         → MayTake (H.seen holder.old).lends lock.0 lock.1 }
-    ensures run { HasRunByPath compiled.now call.now (H.seen holder.old) (H.seen holder.new) (told_answer result reply.new) }
+    ensures run { HasRunCall compiled.now call.now (H.seen holder.old) (H.seen holder.new) (told_answer result reply.new) }
     ensures kept { OnErr result (reply.new ≡ reply.old) }
     ensures sound { (spec : Spec) → H.is_sound holder.old spec → H.is_sound holder.new spec }
 {

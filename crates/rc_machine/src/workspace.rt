@@ -54,8 +54,24 @@ const MOST_KEPT: usize = 1024;
 impl Spare {
     /// Tells the reply in the place of the one before it, of which it keeps the tuple, if it has one, or the block in which
     /// its rows stand, unless that is large. Takes no memory.
+    // In its callers' places stands no more than what tells a reply in the place of one without memory.
     #[inline(always)]
     pub(crate) fn tell(&mut self, reply: &mut Reply, told: Reply)
+        ensures { reply.new ≡ told }
+    {
+        if matches!(
+            reply,
+            Reply::Rows(_) | Reply::Removed(_) | Reply::Updated(_)
+        ) {
+            self.tell_in_memory(reply, told);
+        } else {
+            *reply = told;
+        }
+    }
+
+    /// Does so in the place of a reply that may have memory.
+    #[inline(never)]
+    fn tell_in_memory(&mut self, reply: &mut Reply, told: Reply)
         ensures { reply.new ≡ told }
     {
         match reply {

@@ -10,8 +10,8 @@ use Rattle.rc_fragment.specs.Fragment.{shape_of}
 use Rattle.rc_fragment.specs.Holder.{AreOfOneRelation, HeldStripe, held_of, reverted}
 use Rattle.rc_plan.specs.Compiled.{plan_at}
 use Rattle.rc_plan.specs.declared.statement.Statement.{Statement}
-use Rattle.rc_machine.specs.Access.{HasRunByPath, IsTupleFound}
-use Rattle.rc_machine.specs.Machine.{told_answer}
+use Rattle.rc_machine.specs.Access.{IsTupleFound}
+use Rattle.rc_machine.specs.Machine.{HasRunCall, told_answer}
 use Rattle.rc_machine.proofs.AccessRunLemmas.{lent_over}
 use Rattle.rc_machine.proofs.ArriveLemmas.{ComesToApply}
 use Rattle.rc_machine.proofs.EdgeChangeLemmas.{absent_replies, done, if_stopped, only_match, remove_given, remove_whole, run_in_place, run_since, run_stopped, stripes_of_removed, unanswered}
@@ -63,7 +63,7 @@ pub returns-in_default-clause-run : goal.returns-in_default-clause-run
 returns-in_default-clause-run g c =
     let at = goal.at.returns-in_default-clause-run g c in
     let old = g.H.Holder.seen c.args.holder.now in
-    subst (λ reply. HasRunByPath c.args.compiled.now c.args.call.now old old (told_answer done reply)) (sym c.tell.ensures) (run_in_place c.args.compiled.now c.args.call.now old old done Absent tt (record {
+    subst (λ reply. HasRunCall c.args.compiled.now c.args.call.now old old (told_answer done reply)) (sym c.tell.ensures) (run_in_place c.args.compiled.now c.args.call.now old old done Absent tt (record {
       answered = absent_replies c.args.compiled.now c.args.call.now c.args.path c.args.stripe old c.requires.locked (one g at.Start) c.requires.remove c.fragment-fragment.result.now c.fragment-fragment.ensures
           (subst (IsLooked g at.In_ok-removed) c.in_default.is (looked g at.In_ok-removed));
       taken = c.requires.locked.taken;
@@ -153,7 +153,7 @@ returns-clause-run g c =
     let gone = c.in_ok-sub_rows.ensures in
     let path = c.requires.locked in
     let answer = Removed c.in-Some.removed in
-    subst (λ reply. HasRunByPath compiled call old new (told_answer done reply)) (sym c.tell-2.ensures)
+    subst (λ reply. HasRunCall compiled call old new (told_answer done reply)) (sym c.tell-2.ensures)
     (run_since compiled call old mid_seen new (told_answer done answer) locked.goes_on locked.counted (run_in_place compiled call mid_seen new done answer tt (record {
       answered = remove_replies (spec g at) path.sealed (plan g at) call path.fits path.planned c.requires.remove (mid g at) (still_one g at) (arrived g at) (c.in-Some.removed ∷ []) (only g at) (held_of new) answer (refl, gone.ok)
           (g.met.H.Holder.sound_rows c.sub_rows.new.holder compiled.spec (gone.sound compiled.spec (locked.sound compiled.spec c.requires.sound)));

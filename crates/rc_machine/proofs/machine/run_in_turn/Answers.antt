@@ -11,11 +11,9 @@ use Rattle.rc_fragment.specs.HoldingLaws.{goes_on_same}
 use Rattle.rc_plan.specs.declared.statement.Statement.{Statement}
 use Rattle.rc_plan.specs.Compiled.{IsPlanOf, plan_at}
 use Rattle.rc_plan.specs.NamedStripes.{IsNamedBy}
-use Rattle.rc_machine.specs.Machine.{IsRefused}
+use Rattle.rc_machine.specs.Machine.{IsRefused, told_answer}
 use Rattle.rc_machine.specs.Run.{IsAt}
-use Rattle.rc_machine.proofs.GoLemmas.{refused_since}
-use Rattle.rc_machine.proofs.LentLemmas.{counted_same}
-use Rattle.rc_machine.proofs.LockLemmas.{counted_stop_on, counted_stop_since}
+use Rattle.rc_machine.proofs.EdgeChangeLemmas.{run_since, run_stopped}
 use Rattle.rc_machine.proofs.StepLemmas.{begins}
 use Rattle.rc_machine.proofs.machine.run_in_turn.Given.{Over}
 use Rattle.rc_machine.proofs.machine.run_in_turn.Goals.{After-list, After-list-plan}
@@ -80,28 +78,18 @@ step-requires-clause-lent g c lock named =
     subst (λ lends. MayTake lends lock.0 lock.1) (sym c.loop-at.invariant.goes_on.lends)
     (c.requires.lent lock (subst (λ (z : List Statement). IsNamedBy c.args.compiled.now.spec c.args.call.now.args z lock) (plan_is g (goal.at.step-requires-clause-lent g c).After-list-plan) named))
 
-pub returns-in_err-answer-clause-stopped : goal.returns-in_err-answer-clause-stopped
-returns-in_err-answer-clause-stopped g c h e =
-    let given = c.from_residual-in_err-answer.ensures.1 in
-    let is = rw e at given in
-    c.in_err-answer.ensures.stopped h (ap Err (sym is))
-
-pub returns-in_err-answer-clause-refused : goal.returns-in_err-answer-clause-refused
-returns-in_err-answer-clause-refused g c h e =
-    let given = c.from_residual-in_err-answer.ensures.1 in
-    let is = rw e at given in
-    let spec : Spec = c.args.compiled.now.spec in
+pub returns-in_err-answer-clause-run : goal.returns-in_err-answer-clause-run
+returns-in_err-answer-clause-run g c =
+    let failed = c.in_err-answer.ensures in
+    let given = c.from_residual-in_err-answer.ensures in
+    let compiled = c.args.compiled.now in
+    let call = c.args.call.now in
     let old = g.H.Holder.seen c.args.holder.now in
+    let mid = g.H.Holder.seen c.loop-at.holder in
     let new = g.H.Holder.seen c.step.new.holder in
-    subst (λ (z : List Statement). IsRefused spec z c.args.call.now old new h) (plan_is g (goal.at.returns-in_err-answer-clause-refused g c).After-list-plan)
-    (refused_since spec c.list-plan.result.now c.args.call.now old (g.H.Holder.seen c.loop-at.holder) new h c.loop-at.invariant.goes_on (c.in_err-answer.ensures.refused h (ap Err (sym is))))
-
-pub returns-in_err-push_projection-clause-counted : goal.returns-in_err-push_projection-clause-counted
-returns-in_err-push_projection-clause-counted g c = counted_same _ _
-
-pub returns-in_err-answer-clause-counted : goal.returns-in_err-answer-clause-counted
-returns-in_err-answer-clause-counted g c =
-    let old = g.H.Holder.seen c.loop-at.holder in
-    let new = g.H.Holder.seen c.step.new.holder in
-    counted_stop_since c.from_residual-in_err-answer.result (g.H.Holder.seen c.args.holder.now) old new c.loop-at.invariant.counted
-    (counted_stop_on c.from_residual-in_err-answer.result c.in_err-answer.field-0.0 old new c.from_residual-in_err-answer.ensures.0 c.from_residual-in_err-answer.ensures.1 c.in_err-answer.ensures.counted)
+    let result = c.from_residual-in_err-answer.result in
+    run_since compiled call old mid new (told_answer result c.loop-at.reply) c.loop-at.invariant.goes_on c.loop-at.invariant.counted
+    (run_stopped compiled call mid new result c.loop-at.reply c.in_err-answer.field-0.0 given.0 given.1 failed.taken (λ h q. failed.stopped h (ap Err q))
+    (λ h q.
+    subst (λ (z : List Statement). IsRefused compiled.spec z call mid new h) (plan_is g (goal.at.returns-in_err-answer-clause-run g c).After-list-plan) (failed.refused h (ap Err q)))
+    failed.counted failed.goes_on)

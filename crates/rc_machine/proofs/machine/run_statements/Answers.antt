@@ -8,16 +8,13 @@ use Rattle.rc_plan.specs.Access.{IsAccessPath, is_given_lock}
 use Rattle.rc_plan.specs.Compiled.{IsPlanOf, plan_at}
 use Rattle.rc_plan.specs.declared.statement.Statement.{Statement}
 use Rattle.std.specs.Prelude.{List, drop, take}
-use Rattle.rc_machine.specs.Access.{HasRunByPath}
-use Rattle.rc_machine.specs.Machine.{HasAnswered, IsRefused, stripes_held, told_answer}
-use Rattle.rc_machine.specs.ReplyLaws.{told_answer_counts, told_answer_err, told_answer_from_ok}
-use Rattle.rc_machine.specs.declared.stop.Stop.TheVariants as stop
+use Rattle.rc_machine.specs.Machine.{IsRefused, stripes_held, told_answer}
 use Rattle.rc_machine.specs.Run.{IsAt}
 use Rattle.rc_machine.proofs.AccessRunLemmas.{args_are, args_striped}
-use Rattle.rc_machine.proofs.EdgeChangeLemmas.{run_since}
+use Rattle.rc_machine.proofs.EdgeChangeLemmas.{run_since, run_stopped}
 use Rattle.rc_machine.proofs.ReadLemmas.{class_known}
 use Rattle.rc_machine.proofs.machine.run_statements.Given.{Over}
-use Rattle.rc_machine.proofs.machine.run_statements.Goals.{After-answer_by_path, After-list-plan}
+use Rattle.rc_machine.proofs.machine.run_statements.Goals.{After-list-plan}
 use Rattle.rc_machine.proofs.machine.run_statements.Goals as goal
 
 -- the call's plan is that of what is compiled
@@ -34,18 +31,15 @@ lock_arguments-requires-clause-first g c =
     subst (λ cols. list_all (is_given_lock c.args.compiled.now.spec cols) (take c.in-Some.path.locks c.list-plan.result.now) ≡ true)
     (sym (args_are c.args.compiled.now.spec c.accepted.ensures.sealed c.args.call.now c.requires.fits)) (path_of g at).locks.first
 
-pub returns-in_err-lock_arguments-clause-stopped : goal.returns-in_err-lock_arguments-clause-stopped
-returns-in_err-lock_arguments-clause-stopped g c h e =
-    let given = c.from_residual.ensures.1 in
-    let is = rw e at given in
-    c.in_err-lock_arguments.ensures.stopped h (ap Err (sym is))
-
-pub returns-in_err-lock_arguments-clause-refused : goal.returns-in_err-lock_arguments-clause-refused
-returns-in_err-lock_arguments-clause-refused g c h e =
-    let given = c.from_residual.ensures.1 in
-    let is = rw e at given in
-    subst (λ (z : List Statement). IsRefused c.args.compiled.now.spec z c.args.call.now (g.H.Holder.seen c.args.holder.now) (g.H.Holder.seen c.lock_arguments.new.holder) h)
-    (plan_is g (goal.at.returns-in_err-lock_arguments-clause-refused g c).After-list-plan) (c.in_err-lock_arguments.ensures.refused h (ap Err (sym is)))
+pub returns-in_err-lock_arguments-clause-run : goal.returns-in_err-lock_arguments-clause-run
+returns-in_err-lock_arguments-clause-run g c =
+    let failed = c.in_err-lock_arguments.ensures in
+    let old = g.H.Holder.seen c.args.holder.now in
+    let new = g.H.Holder.seen c.lock_arguments.new.holder in
+    run_stopped c.args.compiled.now c.args.call.now old new c.from_residual.result c.args.reply.now c.in_err-lock_arguments.field-0.0 c.from_residual.ensures.0 c.from_residual.ensures.1 failed.taken (λ h q. failed.stopped h (ap Err q))
+    (λ h q.
+    subst (λ (z : List Statement). IsRefused c.args.compiled.now.spec z c.args.call.now old new h) (plan_is g (goal.at.returns-in_err-lock_arguments-clause-run g c).After-list-plan) (failed.refused h (ap Err q)))
+    failed.counted failed.goes_on
 
 pub answer_by_path-requires-clause-locked : goal.answer_by_path-requires-clause-locked
 answer_by_path-requires-clause-locked g c =
@@ -83,30 +77,8 @@ find_stripe-requires-clause-within g c k m =
 pub answer_by_path-requires-clause-lent : goal.answer_by_path-requires-clause-lent
 answer_by_path-requires-clause-lent g c lock named = subst (λ lends. MayTake lends lock.0 lock.1) (sym c.in_ok-lock_arguments.ensures.goes_on.lends) (c.requires.lent lock named)
 
--- the whole run
-run : (g : Over) (c : After-answer_by_path g)
-    → HasRunByPath c.args.compiled.now c.args.call.now (g.H.Holder.seen c.args.holder.now) (g.H.Holder.seen c.answer_by_path.new.holder) (told_answer c.answer_by_path.result c.answer_by_path.new.reply)
-run g c =
+pub returns-clause-run : goal.returns-clause-run
+returns-clause-run g c =
     let locked = c.in_ok-lock_arguments.ensures in
     run_since c.args.compiled.now c.args.call.now (g.H.Holder.seen c.args.holder.now) (g.H.Holder.seen c.lock_arguments.new.holder) (g.H.Holder.seen c.answer_by_path.new.holder) (told_answer c.answer_by_path.result c.answer_by_path.new.reply)
     locked.goes_on locked.counted c.answer_by_path.ensures.run
-
-pub returns-clause-answered : goal.returns-clause-answered
-returns-clause-answered g c =
-    told_answer_from_ok (HasAnswered c.args.compiled.now c.args.call.now (g.H.Holder.seen c.answer_by_path.new.holder)) c.answer_by_path.result c.answer_by_path.new.reply (run g c).answered
-
-pub returns-clause-taken : goal.returns-clause-taken
-returns-clause-taken g c = (run g c).taken
-
-pub returns-clause-stopped : goal.returns-clause-stopped
-returns-clause-stopped g c h is = (run g c).stopped h (told_answer_err c.answer_by_path.result c.answer_by_path.new.reply (stop.Held h) is)
-
-pub returns-clause-refused : goal.returns-clause-refused
-returns-clause-refused g c h is = (run g c).refused h (told_answer_err c.answer_by_path.result c.answer_by_path.new.reply (stop.Held h) is)
-
-pub returns-clause-counted : goal.returns-clause-counted
-returns-clause-counted g c =
-    told_answer_counts c.answer_by_path.result c.answer_by_path.new.reply (g.H.Holder.seen c.args.holder.now) (g.H.Holder.seen c.answer_by_path.new.holder) (run g c).counted
-
-pub returns-clause-goes_on : goal.returns-clause-goes_on
-returns-clause-goes_on g c = (run g c).goes_on

@@ -1,6 +1,8 @@
 use Rattle.std.proofs.Common.{◌≡◌, List, Some, Err, ap, subst, sym, ◌∙◌}
 use Rattle.rc_machine.specs.Apply.{IsSameButLent}
 use Rattle.rc_machine.specs.Machine.{locks_of}
+use Rattle.rc_machine.specs.ReplyLaws.{answered_of, told_answer_err}
+use Rattle.rc_machine.specs.declared.stop.Stop.TheVariants as stop
 use Rattle.rc_spec.specs.declared.spec.Spec.{Spec}
 use Rattle.rc_fragment.specs.Holder.{HeldStripe, Holding, MayTake, held_of}
 use Rattle.rc_plan.specs.Compiled.{plan_at}
@@ -38,13 +40,15 @@ run_statements-requires-clause-lent g c lock n =
     subst (λ (held : List HeldStripe). MayTake (Some (locks_of held)) lock.0 lock.1) (sym (ap (λ h. held_of (g.H.Holder.seen h)) c.requires.begun)) (c.requires.covered lock n)
 
 pub unreachable-requires : goal.unreachable-requires
-unreachable-requires g c = none_risen (c.run_statements.ensures.refused _ (c.in-Err-Held.is ∙ ap Err c.in-Err-Held.field-0-is)).risen
+unreachable-requires g c =
+    none_risen (c.run_statements.ensures.run.refused c.in-Err-Held.field-0-0 (told_answer_err c.run_statements.result c.run_statements.new.reply (stop.Held c.in-Err-Held.field-0-0) (c.in-Err-Held.is ∙ ap Err c.in-Err-Held.field-0-is))).risen
 
 pub returns-in-Ok-clause-ran : goal.returns-in-Ok-clause-ran
 returns-in-Ok-clause-ran g c =
     let new = c.run_statements.new.holder in
     ran_taking (held_of (g.H.Holder.seen new.begun.now.value)) (held_of (g.H.Holder.seen c.args.offered.now.holder.now)) (g.H.Holder.seen new.holder.now) new.taken.now.items new.holder.ghost_name
-    c.args.compiled.now.spec (plan_at c.args.compiled.now.plans c.args.call.now.op) c.args.call.now c.run_statements.new.reply (ap held_of (same g (goal.at.returns-in-Ok-clause-ran g c).After-run_statements)) new.kept c.in-Ok.ensures.answered
+    c.args.compiled.now.spec (plan_at c.args.compiled.now.plans c.args.call.now.op) c.args.call.now c.run_statements.new.reply (ap held_of (same g (goal.at.returns-in-Ok-clause-ran g c).After-run_statements)) new.kept
+    (answered_of c.args.compiled.now c.args.call.now _ _ c.run_statements.result _ c.run_statements.new.reply c.in-Ok.is c.run_statements.ensures.run)
 
 pub returns-in-Ok-clause-taken : goal.returns-in-Ok-clause-taken
 returns-in-Ok-clause-taken g c = kept g (goal.at.returns-in-Ok-clause-taken g c).After-run_statements

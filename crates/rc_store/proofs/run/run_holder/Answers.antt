@@ -1,6 +1,7 @@
 use Rattle.std.specs.Prelude.{◌≡◌}
 use Rattle.rc_fragment.specs.Holder.{Holding}
-use Rattle.rc_machine.specs.ReplyLaws.{told_answer_fault, told_answer_ok}
+use Rattle.rc_machine.specs.ReplyLaws.{told_answer_counts, told_answer_err, told_answer_fault, told_answer_from_ok, told_answer_ok}
+use Rattle.rc_machine.specs.declared.stop.Stop.TheVariants as stop
 use Rattle.rc_row.specs.Passes.{spec_of}
 use Rattle.rc_store.specs.Lending.{IsLentBy, IsUnrefused, lending}
 use Rattle.rc_store.specs.RunLaws.{answered_so, busy_so, lent_run, none_waits_so, of_row_so, replied_so, stopped_so, unrefused_so, way_so}
@@ -32,6 +33,7 @@ pub returns-clause-run : goal.returns-clause-run
 returns-clause-run g c =
     let answer = c.run_statements.result in
     let reply = c.run_statements.new.reply in
+    let counted = told_answer_counts answer reply (before g c) (after g c) c.run_statements.ensures.run.counted in
     record {
       of_row = of_row_so _ _ _ _ _ _ (lent g c) c.run_statements.new.holder.of_row;
       way = way_so _ _ _ _ _ _ (lent g c);
@@ -39,24 +41,24 @@ returns-clause-run g c =
           told_answer_ok _ answer reply
           (replied_so _ _ _ _ _ _
           (lent g c) c.args.compiled.now c.requires.compiled c.args.call.now c.run_statements.new.holder.pass.ghost_name reply)
-          c.run_statements.ensures.answered;
+          (told_answer_from_ok _ answer reply c.run_statements.ensures.run.answered);
       unrefused =
           told_answer_ok _ answer reply (λ unrefused. unrefused)
           (answered_so g.T.Takes.waits c.args.lender.now.row.now c.args.call.now c.args.lender.now.pass.now
-          c.run_statements.new.holder.pass.now (before g c) (after g c) (quiet g c) answer c.run_statements.ensures.counted);
+          c.run_statements.new.holder.pass.now (before g c) (after g c) (quiet g c) answer counted);
       stopped =
           told_answer_fault _ answer reply
           (stopped_so g.T.Takes.waits c.args.lender.now.row.now c.args.call.now c.args.lender.now.pass.now
-          c.run_statements.new.holder.pass.now (before g c) (after g c) (quiet g c) answer c.run_statements.ensures.counted
+          c.run_statements.new.holder.pass.now (before g c) (after g c) (quiet g c) answer counted
           (λ h e. (
             none_waits_so _ _ _ _ _ _ (lent g c) c.args.compiled.now c.requires.compiled c.args.call.now
                 c.args.lender.now.refused.now
                 c.args.lender.now.pass.ghost_name c.run_statements.new.holder.pass.ghost_name c.requires.none h
-                (c.run_statements.ensures.refused h e),
+                (c.run_statements.ensures.run.refused h (told_answer_err answer reply (stop.Held h) e)),
             busy_so _ _ _ _ _ _ (lent g c) c.args.compiled.now c.requires.compiled c.args.call.now
                 c.args.lender.now.refused.now
                 c.args.lender.now.pass.ghost_name c.run_statements.new.holder.pass.ghost_name
                 (record { sealed = c.accepted.ensures.sealed; planned = c.accepted.ensures.planned }) c.requires.fits
-                c.requires.none h (c.run_statements.ensures.refused h e),
+                c.requires.none h (c.run_statements.ensures.run.refused h (told_answer_err answer reply (stop.Held h) e)),
           )));
     }
