@@ -1,5 +1,5 @@
 -- Processes, and what calls make of them.
-use Rattle.std.specs.Prelude.{◌≡◌, ◌↔◌, ℕ, Bool, true, false, List, [], ◌∷◌, Some, codes}
+use Rattle.std.specs.Prelude.{◌≡◌, ◌↔◌, ℕ, Bool, true, List, [], ◌∷◌, Some, codes}
 use Rattle.rc_tuple.specs.Tuple.{Pairs}
 use Rattle.rc_spec.specs.declared.call.Reply.TheVariants.{Inserted, Removed, Updated}
 use Rattle.rc_spec.specs.declared.spec.Spec.{Spec}

@@ -99,9 +99,23 @@ fn use_store<R: Print>(rt: &R, store: &mut OpenStore) -> Result<(), Fault>
         return Err(Fault::Refused);
     };
     let mut first = Box::into_inner(store.session()?);
+    use_second(rt, store, operations, &mut first)?;
+    give_back(store, first)
+}
+
+/// Lets them do so where the first has its session. (A function that owns both has more to drop at each `?` than the borrow
+/// checker covers.)
+fn use_second<R: Print>(
+    rt: &R,
+    store: &mut OpenStore,
+    operations: Operations,
+    first: &mut Session,
+) -> Result<(), Fault>
+    ensures store { store.new.store ≡ store.old.store }
+    ensures first { first.new.store ≡ first.old.store }
+{
     let mut second = Box::into_inner(store.session()?);
-    take_turns(rt, operations, &mut first, &mut second)?;
-    give_back(store, first)?;
+    take_turns(rt, operations, first, &mut second)?;
     give_back(store, second)
 }
 

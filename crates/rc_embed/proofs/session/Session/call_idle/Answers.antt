@@ -1,5 +1,4 @@
 use Rattle.std.proofs.Common.{◌≡◌, rules, refl}
-use Rattle.rc_spec.specs.declared.call.Call.{Call}
 use Rattle.rc_row.specs.Passes.{spec_of}
 use Rattle.rc_work.specs.CallColumns.{call_of}
 use Rattle.rc_embed.proofs.SessionLemmas.{made_into}
