@@ -4,14 +4,13 @@ use denote.RattleType.{RattleType}
 use denote.RawPtr.{Ptr, lies_at, room_at}
 use Rattle.std.specs.Prelude.{◌≡◌, ℕ, List, Option, Some, None}
 use Rattle.std.specs.Borrow.{full_share}
-use Rattle.rc_store.specs.Closed.{ClosedSeen, HasClosed}
+use Rattle.rc_store.specs.Closed.{ClosedSeen}
 use Rattle.rc_embed.specs.declared.open_frame.OpenFrame.{OpenFrame}
-use Rattle.rc_embed.specs.declared.resume_frame.NotClosed.{NotClosed}
 use Rattle.rc_embed.specs.Closing.{HasAllPasses}
 use Rattle.rc_embed.specs.Codes as codes
 use Rattle.rc_embed.specs.OpenFrames.{KeepsAsked}
 use Rattle.rc_embed.specs.Opened.{OpenSeen}
-use Rattle.rc_embed.specs.ResumedFrames.{IsResumedBy, IsUnclosedFor, IsUnresumedBy}
+use Rattle.rc_embed.specs.ResumedFrames.{IsUnclosedFor, IsUnresumedBy}
 
 -- a value of the type lies at the pointer, or there is room for one
 abbrev pub left_behind : (T : RattleType) → Ptr → Option T.Denot → Fml
@@ -22,25 +21,16 @@ left_behind T pointer (Some after) = lies_at T full_share pointer after
 abbrev pub left_at : (T : RattleType) → Ptr → (Option T.Denot → Type 0) → Fml
 left_at T pointer IsSo = fex (Option T.Denot) (λ after. fsep (fex (IsSo after) (λ _. ftrue)) (left_behind T pointer after))
 
--- all passes of the store are its own, and it was closed
-abbrev pub IsClosed : OpenSeen → Type 0
-IsClosed opened = HasAllPasses opened × ((closed : ClosedSeen) × HasClosed opened.store opened.passes closed)
-
--- a store is closed; or it comes back as it was, with the code that tells why
-abbrev pub IsClosing : OpenSeen → Option NotClosed → Type 0
-IsClosing opened None = IsClosed opened
-IsClosing opened (Some back) = (back.store ≡ opened) × IsUnclosedFor opened back.code
-
--- The store is closed, and nothing is left of it at its handle; or it is there as it was, and the code tells why.
+-- All passes of the store were its own, and nothing is left of it at its handle, and it is done; or it is there as it was, and the
+-- code tells why. (What the closed store is, says what is handed out: `HasClosedInto`.)
 pub record AnswersClosed (old : OpenSeen) (new : Option OpenSeen) (code : ℕ) : Type 0 where
-  pub gone : new ≡ None → (code ≡ codes.done) × IsClosed old
+  pub gone : new ≡ None → (code ≡ codes.done) × HasAllPasses old
   pub same : (after : OpenSeen) → new ≡ Some after → (after ≡ old) × IsUnclosedFor old code
 
--- A store goes on from the closed one, by the texts and as the frame asks, and its place is empty; or the place is as it was, and
--- the code and the frame tell why.
+-- The place of the closed store is empty, since a store goes on from it, and it is done; or the place is as it was, and the code and
+-- the frame tell why. (What goes on, by the texts and as the frame asks, says what is handed out: `IsResumedBy`.)
 pub record AnswersResumed (closed : ClosedSeen) (text shapes plans : List ℕ) (before : OpenFrame)
     (new : Option ClosedSeen) (after : OpenFrame) (code : ℕ) : Type 0 where
   pub asked : KeepsAsked before after
-  pub resumed : code ≡ codes.done
-      → (new ≡ None) × (after.length ≡ 0) × ((opened : OpenSeen) × IsResumedBy closed text shapes plans before opened)
+  pub resumed : code ≡ codes.done → (new ≡ None) × (after.length ≡ 0)
   pub refused : (code ≡ codes.done → ⊥) → (new ≡ Some closed) × IsUnresumedBy closed text shapes plans before after code

@@ -3,17 +3,19 @@
 //! what each function wants.)
 #![tactic(auto)]
 
-ghost use Rattle.std.specs.Prelude.{◌≡◌, [], IsSome, Option, Some};
+ghost use Rattle.std.specs.Prelude.{◌≡◌, ◌∷◌, [], IfErr, IfOk, IsSome, None, Option, Some, length};
 ghost use Rattle.std.specs.Borrow.{full_share, sem};
 ghost use Rattle.std.specs.Ptr.{lies_at, room_at};
 ghost use Rattle.rc_store.specs.Closed.{ClosedSeen};
 ghost use Rattle.rc_embed.specs.Codes as codes;
 ghost use Rattle.rc_embed.specs.Frames.{AnswersBegin, AnswersBeginGroup, AnswersCall, AnswersCommit};
 ghost use Rattle.rc_embed.specs.Frames.{AnswersGroup, AnswersLearn};
-ghost use Rattle.rc_embed.specs.OpenFrames.{HasOpened, HasOpenedWith, IsRefusedBy};
-ghost use Rattle.rc_embed.specs.OpenFrames.{IsRefusedWithBy, KeepsAsked};
+ghost use Rattle.rc_embed.specs.Closing.{HasAllPasses};
+ghost use Rattle.rc_embed.specs.OpenFrames.{IsRefusedBy, IsRefusedWithBy, KeepsAsked};
 ghost use Rattle.rc_embed.specs.OpenGroupFrames.{AnswersCallOpen, AnswersOpenGroup};
-ghost use Rattle.rc_embed.specs.Opened.{OpenSeen};
+ghost use Rattle.rc_embed.specs.Opened.{HasDealt, OpenSeen};
+ghost use Rattle.rc_embed.specs.ResumedFrames.{HasClosedInto, IsResumedBy, IsUnclosedFor};
+ghost use Rattle.rc_embed.specs.ResumedFrames.{IsUnresumedFrom};
 ghost use Rattle.rc_embed.specs.Session.{IsIdle, SessionSeen};
 ghost use Rattle.rc_embed.specs.contracts.opening.OpenStore as stores;
 ghost use Rattle.rc_embed.specs.contracts.resume_frame.ClosedPlace as places;
@@ -22,14 +24,32 @@ ghost use Rattle.rc_c.specs.Answered.{AnswersSameFrame, AnswersSameOperation, An
 ghost use Rattle.rc_c.specs.Answered.{AnswersSamePlans};
 ghost use Rattle.rc_c.specs.Answered.{AnswersSameRow, AnswersSameRows, AnswersSameShape};
 ghost use Rattle.rc_c.specs.Answered.{AnswersSession, lies_again};
-ghost use Rattle.rc_c.specs.Closing.{AnswersClosed, AnswersResumed, IsClosing, left_at};
+ghost use Rattle.rc_c.specs.Closing.{AnswersClosed, AnswersResumed, left_at};
 ghost use Rattle.rc_c.specs.GivenBack.{AnswersGivenBack, Handles, HasSettled};
+ghost use Rattle.rc_c.specs.HandedOut.{HasOpenedThis, hands_out, lies_again_beside};
 
 use rc_embed::{
     ClosedPlace, DONE, Frame, MEMORY, NotClosed, NotPrepared, OpenFrame, OpenStore, OperationFrame,
     Page, Session, ShapeFrame, TextPage, open_by, open_with_by, open_with_plans_by, session_code,
 };
 use std::alloc::Global;
+
+/// Opens a store by the text, as the frame asks, in a block of its own that is never freed here; else the frame tells why not.
+fn opened<'a>(alloc: Global, text: &[u8], frame: &mut OpenFrame) -> Result<&'a mut OpenStore, u32>
+    ensures opened { IfOk result
+        (λ store. HasOpenedThis text.now [] [] frame.old frame.new store.now) }
+    ensures refused { IfErr result (IsRefusedBy text.now frame.old frame.new) }
+    ensures asked { KeepsAsked frame.old frame.new }
+{
+    let store = match open_by(alloc, text, frame) {
+        Ok(store) => store,
+        Err(code) => return Err(code),
+    };
+    match Box::new(alloc, store) {
+        Ok(held) => Ok(Box::leak(held)),
+        Err(_) => Err(MEMORY),
+    }
+}
 
 /// Opens a store by the text, as the frame asks, and hands out a pointer to it; else the frame
 /// tells why not. (No pointer is written then.)
@@ -40,20 +60,40 @@ pub extern "C" fn relc_open(
     frame: &mut OpenFrame,
     out: &mut *mut u8,
 ) -> u32
-    ensures opened { result ≡ codes.done → HasOpened text.now frame.old frame.new }
     ensures refused { (result ≡ codes.done → ⊥) → IsRefusedBy text.now frame.old frame.new result }
     ensures asked { KeepsAsked frame.old frame.new }
+    ensures unwritten { (result ≡ codes.done → ⊥) → out.new ≡ out.old }
+    ensures* opened { sem 𝓛 (hands_out stores.the_row result out.new
+        (HasOpenedThis text.now [] [] frame.old frame.new)) }
 {
-    let store = match open_by(alloc, text, frame) {
-        Ok(store) => store,
-        Err(code) => return code,
-    };
-    match Box::new(alloc, store) {
-        Ok(held) => {
-            *out = Box::into_raw(held) as *mut u8;
+    match opened(alloc, text, frame) {
+        Ok(store) => {
+            *out = store as *mut OpenStore as *mut u8;
             DONE
         }
-        Err(_) => MEMORY,
+        Err(code) => code,
+    }
+}
+
+/// Opens a store so, with the plans of operations that are written in the second text.
+fn opened_planned<'a>(
+    alloc: Global,
+    text: &[u8],
+    plans: &[u8],
+    frame: &mut OpenFrame,
+) -> Result<&'a mut OpenStore, u32>
+    ensures opened { IfOk result
+        (λ store. HasOpenedThis text.now [] plans.now frame.old frame.new store.now) }
+    ensures refused { IfErr result (IsRefusedWithBy text.now [] plans.now frame.old frame.new) }
+    ensures asked { KeepsAsked frame.old frame.new }
+{
+    let store = match open_with_plans_by(alloc, text, plans, frame) {
+        Ok(store) => store,
+        Err(code) => return Err(code),
+    };
+    match Box::new(alloc, store) {
+        Ok(held) => Ok(Box::leak(held)),
+        Err(_) => Err(MEMORY),
     }
 }
 
@@ -67,22 +107,44 @@ pub extern "C" fn relc_open_planned(
     frame: &mut OpenFrame,
     out: &mut *mut u8,
 ) -> u32
-    ensures opened { result ≡ codes.done
-        → HasOpenedWith text.now [] plans.now frame.old frame.new }
     ensures refused { (result ≡ codes.done → ⊥)
         → IsRefusedWithBy text.now [] plans.now frame.old frame.new result }
     ensures asked { KeepsAsked frame.old frame.new }
+    ensures unwritten { (result ≡ codes.done → ⊥) → out.new ≡ out.old }
+    ensures* opened { sem 𝓛 (hands_out stores.the_row result out.new
+        (HasOpenedThis text.now [] plans.now frame.old frame.new)) }
 {
-    let store = match open_with_plans_by(alloc, text, plans, frame) {
-        Ok(store) => store,
-        Err(code) => return code,
-    };
-    match Box::new(alloc, store) {
-        Ok(held) => {
-            *out = Box::into_raw(held) as *mut u8;
+    match opened_planned(alloc, text, plans, frame) {
+        Ok(store) => {
+            *out = store as *mut OpenStore as *mut u8;
             DONE
         }
-        Err(_) => MEMORY,
+        Err(code) => code,
+    }
+}
+
+/// Opens a store so, with the further operations of a text of shapes, and the plans of operations that
+/// are written in the third text.
+fn opened_shaped<'a>(
+    alloc: Global,
+    text: &[u8],
+    shapes: &[u8],
+    plans: &[u8],
+    frame: &mut OpenFrame,
+) -> Result<&'a mut OpenStore, u32>
+    ensures opened { IfOk result
+        (λ store. HasOpenedThis text.now shapes.now plans.now frame.old frame.new store.now) }
+    ensures refused { IfErr result
+        (IsRefusedWithBy text.now shapes.now plans.now frame.old frame.new) }
+    ensures asked { KeepsAsked frame.old frame.new }
+{
+    let store = match open_with_by(alloc, text, shapes, plans, frame) {
+        Ok(store) => store,
+        Err(code) => return Err(code),
+    };
+    match Box::new(alloc, store) {
+        Ok(held) => Ok(Box::leak(held)),
+        Err(_) => Err(MEMORY),
     }
 }
 
@@ -98,22 +160,19 @@ pub extern "C" fn relc_open_shaped(
     frame: &mut OpenFrame,
     out: &mut *mut u8,
 ) -> u32
-    ensures opened { result ≡ codes.done
-        → HasOpenedWith text.now shapes.now plans.now frame.old frame.new }
     ensures refused { (result ≡ codes.done → ⊥)
         → IsRefusedWithBy text.now shapes.now plans.now frame.old frame.new result }
     ensures asked { KeepsAsked frame.old frame.new }
+    ensures unwritten { (result ≡ codes.done → ⊥) → out.new ≡ out.old }
+    ensures* opened { sem 𝓛 (hands_out stores.the_row result out.new
+        (HasOpenedThis text.now shapes.now plans.now frame.old frame.new)) }
 {
-    let store = match open_with_by(alloc, text, shapes, plans, frame) {
-        Ok(store) => store,
-        Err(code) => return code,
-    };
-    match Box::new(alloc, store) {
-        Ok(held) => {
-            *out = Box::into_raw(held) as *mut u8;
+    match opened_shaped(alloc, text, shapes, plans, frame) {
+        Ok(store) => {
+            *out = store as *mut OpenStore as *mut u8;
             DONE
         }
-        Err(_) => MEMORY,
+        Err(code) => code,
     }
 }
 
@@ -173,16 +232,16 @@ pub unsafe extern "C" fn relc_shape_of(store: *mut u8, frame: &mut ShapeFrame) -
     shape_on(&mut *(store as *mut OpenStore), frame)
 }
 
-/// Begins a session of the store, and hands out a pointer to it.
-fn open_session_on(store: &mut OpenStore, out: &mut *mut u8) -> u32
-    ensures { AnswersSession store.old store.new result }
+/// Begins a session of the store, in a block of its own that is never freed here; else the code tells why none begins.
+fn session_on<'a>(store: &mut OpenStore) -> Result<&'a mut Session, u32>
+    ensures begun { IfOk result (λ session. HasDealt store.old store.new session.now) }
+    ensures done { IfOk result (λ _. AnswersSession store.old store.new codes.done) }
+    ensures fault { IfErr result (λ code. code ≡ codes.done → ⊥) }
+    ensures refused { IfErr result (AnswersSession store.old store.new) }
 {
     match store.session() {
-        Ok(held) => {
-            *out = Box::into_raw(held) as *mut u8;
-            DONE
-        }
-        Err(fault) => session_code(fault),
+        Ok(held) => Ok(Box::leak(held)),
+        Err(fault) => Err(session_code(fault)),
     }
 }
 
@@ -192,9 +251,18 @@ fn open_session_on(store: &mut OpenStore, out: &mut *mut u8) -> u32
 pub unsafe extern "C" fn relc_open_session(store: *mut u8, out: &mut *mut u8) -> u32
     ghost held: { OpenSeen }
     requires* { sem 𝓛 (lies_at stores.the_row full_share store held) }
-    ensures* { sem 𝓛 (lies_again stores.the_row store (λ after. AnswersSession held after result)) }
+    ensures unwritten { (result ≡ codes.done → ⊥) → out.new ≡ out.old }
+    ensures* begun { sem 𝓛 (lies_again_beside stores.the_row store
+        (λ after. AnswersSession held after result)
+        (λ after. hands_out sessions.the_row result out.new (HasDealt held after))) }
 {
-    open_session_on(&mut *(store as *mut OpenStore), out)
+    match session_on(&mut *(store as *mut OpenStore)) {
+        Ok(session) => {
+            *out = session as *mut Session as *mut u8;
+            DONE
+        }
+        Err(code) => code,
+    }
 }
 
 /// Makes the call that the frame asks for, and waits for nobody.
@@ -501,17 +569,15 @@ pub unsafe extern "C" fn relc_take_back(store: *mut u8, session: *mut u8) -> u32
     )
 }
 
-/// Closes the store, and hands out a pointer to the place of what is left of it; else the store comes back. (No pointer is
-/// written then.)
-fn close_on(store: OpenStore, out: &mut *mut u8) -> Option<NotClosed>
-    ensures { IsClosing store result }
+/// Closes the store into a place that is never freed here; else it comes back, with the code that tells why not.
+fn close_on<'a>(store: OpenStore) -> Result<&'a mut ClosedPlace, NotClosed>
+    ensures closed { IfOk result
+        (λ place. HasAllPasses store × HasClosedInto store place.now) }
+    ensures same { IfErr result (λ back. (back.store ≡ store) × IsUnclosedFor store back.code) }
 {
     match store.close_by() {
-        Ok(place) => {
-            *out = Box::into_raw(place) as *mut u8;
-            None
-        }
-        Err(back) => Some(back),
+        Ok(place) => Ok(Box::leak(place)),
+        Err(back) => Err(back),
     }
 }
 
@@ -522,11 +588,17 @@ fn close_on(store: OpenStore, out: &mut *mut u8) -> Option<NotClosed>
 pub unsafe extern "C" fn relc_shut_store(store: *mut u8, out: &mut *mut u8) -> u32
     ghost held: { OpenSeen }
     requires* { sem 𝓛 (lies_at stores.the_row full_share store held) }
-    ensures* { sem 𝓛 (left_at stores.the_row store (λ after. AnswersClosed held after result)) }
+    ensures unwritten { (result ≡ codes.done → ⊥) → out.new ≡ out.old }
+    ensures* store { sem 𝓛 (left_at stores.the_row store
+        (λ after. AnswersClosed held after result)) }
+    ensures* closed { sem 𝓛 (hands_out places.the_row result out.new (HasClosedInto held)) }
 {
-    match close_on(std::ptr::read(store as *const OpenStore), out) {
-        None => DONE,
-        Some(back) => {
+    match close_on(std::ptr::read(store as *const OpenStore)) {
+        Ok(place) => {
+            *out = place as *mut ClosedPlace as *mut u8;
+            DONE
+        }
+        Err(back) => {
             let NotClosed { store: again, code } = back;
             std::ptr::write(store as *mut OpenStore, again);
             code
@@ -534,33 +606,45 @@ pub unsafe extern "C" fn relc_shut_store(store: *mut u8, out: &mut *mut u8) -> u
     }
 }
 
-/// Opens the closed store at its place again by the texts, as the frame asks, and hands out a pointer to the store; else the
-/// frame tells why not. (No pointer is written then.)
-fn resume_on(
+/// The one store of the list, in the list's block, which is never freed here.
+fn alone<'a>(stores: Vec<OpenStore>) -> &'a mut OpenStore
+    requires { length stores.items ≡ 1 }
+    ensures { stores.items ≡ result.now ∷ [] }
+{
+    match stores.leak() {
+        [store, ..] => store,
+        [] => unreachable!(),
+    }
+}
+
+/// Opens the closed store at its place again by the texts, as the frame asks, in a block that is never freed here; else the frame tells
+/// why not, and the code is answered.
+fn resume_on<'a>(
     place: &mut ClosedPlace,
     text: &[u8],
     shapes: &[u8],
     plans: &[u8],
     frame: &mut OpenFrame,
-    out: &mut *mut u8,
-) -> u32
+) -> Result<&'a mut OpenStore, u32>
     requires { IsSome place.old }
-    ensures { (closed : ClosedSeen) → place.old ≡ Some closed
-        → AnswersResumed closed text.now shapes.now plans.now frame.old place.new frame.new result }
+    ensures resumed { IfOk result (λ store. (closed : ClosedSeen) → place.old ≡ Some closed
+        → IsResumedBy closed text.now shapes.now plans.now frame.old store.now) }
+    ensures none { IfOk result (λ _. (place.new ≡ None) × (frame.new.length ≡ 0)) }
+    ensures same { IfErr result (λ _. place.new ≡ place.old) }
+    ensures refused { IfErr result
+        (IsUnresumedFrom place.old text.now shapes.now plans.now frame.old frame.new) }
+    ensures asked { KeepsAsked frame.old frame.new }
 {
     match place.resume_by(text, shapes, plans, frame) {
-        Ok(mut stores) => {
-            *out = stores.as_mut_ptr() as *mut u8;
-            let _ = stores.leak();
-            DONE
-        }
-        Err(code) => code,
+        Ok(stores) => Ok(alone(stores)),
+        Err(code) => Err(code),
     }
 }
 
 /// Opens the closed store at the pointer again by the texts, as the frame asks, and hands out a pointer to the store; what lies
 /// at the closed store's pointer is empty then, and `relc_end_closed` ends it. Else the frame tells why not, and the closed
-/// store lies there as it did. (What callers in C are given takes no shapes, or no plans, also where there is no such text.)
+/// store lies there as it did. (No pointer is written then. What callers in C are given takes no shapes, or no plans, also where
+/// there is no such text.)
 #[unsafe(no_mangle)]
 pub unsafe extern "C" fn relc_resume_closed(
     closed: *mut u8,
@@ -572,17 +656,25 @@ pub unsafe extern "C" fn relc_resume_closed(
 ) -> u32
     ghost held: { ClosedSeen }
     requires* { sem 𝓛 (lies_at places.the_row full_share closed (Some held)) }
-    ensures* { sem 𝓛 (lies_again places.the_row closed
+    ensures unwritten { (result ≡ codes.done → ⊥) → out.new ≡ out.old }
+    ensures* closed { sem 𝓛 (lies_again places.the_row closed
         (λ after. AnswersResumed held text.now shapes.now plans.now frame.old after frame.new result)) }
+    ensures* resumed { sem 𝓛 (hands_out stores.the_row result out.new
+        (IsResumedBy held text.now shapes.now plans.now frame.old)) }
 {
-    resume_on(
+    match resume_on(
         &mut *(closed as *mut ClosedPlace),
         text,
         shapes,
         plans,
         frame,
-        out,
-    )
+    ) {
+        Ok(store) => {
+            *out = store as *mut OpenStore as *mut u8;
+            DONE
+        }
+        Err(code) => code,
+    }
 }
 
 /// Drops the place, with the closed store where there is one.

@@ -19,12 +19,12 @@ use types.Tokens.{lft_new, lft_end}
 use denote.Builtin.{u32}
 use denote.Exit.{yes}
 use denote.Laws.{Is, shows}
-use denote.Lend.{lends_ref, ref_back, lends_again, comes_back, LentAgain}
+use denote.Lend.{lends_ref, ref_back}
 use denote.Memory.{mem}
 use denote.Plain.{uint_Lawful}
 use denote.RattleType.{owns}
 use denote.RawPtr.{Ptr, RawPtr, block_ptr, lies_at, in_a_block, rawptr_vals, rawptr_Tells}
-use denote.Ref.{MutRef, mut_vals, mut_Tells}
+use denote.Ref.{MutRef, mut_vals}
 use denote.Slice.{MutSlice, mut_slice_vals, mut_slice_Tells, slice_val}
 use borrow.Rule.Slice.Lend.{kept_f, sl_relend, sl_relent_backˡ}
 use borrow.Table.Owned.{MutSlice as Owned}
