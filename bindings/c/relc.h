@@ -352,12 +352,13 @@ uint32_t relc_give_back(relc_store *store, relc_session *session);
 uint32_t relc_close(relc_store *store, relc_closed **closed);
 
 /* Makes a store of a closed one again, by texts and a frame as relc_open_with takes them. It has the tuples of the
- * closed store, and its history goes on: the first call's place is the number of those that were made before. The
- * specification is that of the closed store, shapes among its operations, or that with further operations behind
- * its own: those of `op` lines where no shapes were there, and those of shapes. Operations keep their numbers. `rows`
- * is as it was (else RELC_OTHER); plans, limit and seed may be others (the seed is that of tables that are made from now on). There
- * may be more sessions than before, and not fewer. None is begun: one that is opened has the pass of its number, so
- * that its calls count on, `nth` and the limit, and stand after all that were made before.
+ * closed store, and its history goes on: the first call's place is the number of entries that were made before, of
+ * which a group is one. The specification is that of the closed store, shapes among its operations, or that with
+ * further operations behind its own: those of `op` lines where no shapes were there, and those of shapes.
+ * Operations keep their numbers. `rows` is as it was (else RELC_OTHER); plans, limit and seed may be others (the
+ * seed is that of tables that are made from now on). There may be more sessions than before, and not fewer. None
+ * is begun: one that is opened has the pass of its number, so that its calls count on, `nth` and the limit, and
+ * stand after all that were made before.
  *
  * RELC_DONE: the closed store's handle ends, and *store is the caller's. Else the closed store is as it was, and may
  * be resumed again, and *store is not written: RELC_OPTIONS, RELC_SESSIONS, RELC_LIMIT, then what relc_open_with
