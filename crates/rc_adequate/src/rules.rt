@@ -44,15 +44,7 @@ pub fn keeps_a5(spec: &Spec, edge: &Edge) -> bool
 fn is_reached(edges: &[Edge], node: u8) -> bool
     ensures { IsTrue result ↔ IsReachedBy edges.now node }
 {
-    if node == 0 {
-        return true;
-    }
-    for edge in edges {
-        if edge.to == node {
-            return true;
-        }
-    }
-    false
+    node == 0 || edges.iter().any(|edge| edge.to == node)
 }
 
 /// Whether the edge with this number begins at the root or where an earlier edge ends, and its join with what

@@ -55,12 +55,7 @@ pub(crate) fn has_left(cursors: &[usize], round: &[Turn]) -> bool
     ensures yes { result ≡ true → (thread : ℕ) × HasLeft round.now cursors.now thread }
     ensures no { result ≡ false → (thread : ℕ) → HasLeft round.now cursors.now thread → ⊥ }
 {
-    for cursor in cursors {
-        if *cursor < round.len() {
-            return true;
-        }
-    }
-    false
+    cursors.iter().any(|cursor| *cursor < round.len())
 }
 
 /// Whether the line begins with the place of an entry and the thread, each with a space behind it.

@@ -71,12 +71,7 @@ impl<'a> Binding<'a> {
     pub(crate) fn is_in_ranges(&self, ranges: &[Range]) -> bool
         ensures { result ≡ in_ranges ranges.now self.now.tuple }
     {
-        for range in ranges {
-            if !self.is_within(*range) {
-                return false;
-            }
-        }
-        true
+        ranges.iter().all(|range| self.is_within(*range))
     }
 
     /// Whether the value at the range's column is between its bounds.

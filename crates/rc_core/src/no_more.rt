@@ -100,12 +100,9 @@ fn classes_locked(compiled: &Compiled, locks: &[StripeLock], steps: &[Step]) -> 
     requires fit { StepsFit compiled.now.spec steps.now }
     ensures { result ≡ list_all (λ lock. is_of_class_locked compiled.now steps.now lock.0) locks.now }
 {
-    for lock in locks {
-        if !is_of_class_locked(compiled, steps, lock.0) {
-            return false;
-        }
-    }
-    true
+    locks
+        .iter()
+        .all(|lock| is_of_class_locked(compiled, steps, lock.0))
 }
 
 /// Whether a plan of the steps locks the stripe's class.
@@ -129,12 +126,11 @@ fn plan_locks(compiled: &Compiled, op: u8, stripe: u32) -> bool
     ensures { result ≡ list_any (locks_class_of compiled.now.spec stripe) (plan_at compiled.now.plans op) }
 {
     let spec = compiled.accepted().spec();
-    for statement in compiled.plan(op).list() {
-        if locks_class_of(spec, stripe, statement) {
-            return true;
-        }
-    }
-    false
+    compiled
+        .plan(op)
+        .list()
+        .iter()
+        .any(|statement| locks_class_of(spec, stripe, statement))
 }
 
 /// Whether the statement locks the stripe's class.

@@ -144,12 +144,10 @@ impl Shared {
 fn place_of(passes: &[Pass], number: u32) -> usize
     ensures { IsPlaceOf number passes.now result }
 {
-    for (at, pass) in passes.iter().enumerate() {
-        if pass.number() >= number {
-            return at;
-        }
-    }
-    passes.len()
+    passes
+        .iter()
+        .position(|pass| pass.number() >= number)
+        .unwrap_or(passes.len())
 }
 
 /// Whether these are so many passes, by number.

@@ -132,12 +132,7 @@ fn test_options(closed: &Closed, options: Options) -> Result<(), ResumeFault>
 fn are_within(numbers: &[u64], limit: u64) -> bool
     ensures { IsTrue result ↔ AllByRecursion (λ number. number ≤ limit) numbers.now }
 {
-    for number in numbers {
-        if *number > limit {
-            return false;
-        }
-    }
-    true
+    numbers.iter().all(|number| *number <= limit)
 }
 
 /// Opens a closed store again over a specification whose operations are planned.

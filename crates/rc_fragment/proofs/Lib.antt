@@ -13,7 +13,6 @@ mod RevertLemmas
 mod NotedLemmas
 mod LookupLemmas
 mod CopyLemmas
-mod ShapeLemmas
 mod TupleLemmas
 mod SourceReadLemmas
 mod WalkLemmas

@@ -1,9 +1,11 @@
 //! What a fragment knows of the edges.
 
 ghost use Rattle.std.specs.Prelude.{◌≡◌, ◌<◌, length};
+ghost use Rattle.std.specs.List.{find};
 ghost use Rattle.rc_tuple.specs.ColSet.{IsColSet};
 ghost use Rattle.rc_edges.specs.Values.{values_eq};
 ghost use Rattle.rc_spec.specs.Decomposition.{edge_at};
+ghost use Rattle.rc_spec.specs.Fragments.{edge_numbers};
 ghost use Rattle.rc_fragment.specs.Fragment.{is_below, is_hash, lower_of, may_be_implied, shape_of};
 ghost use Rattle.rc_fragment.specs.ImpliedTables.{is_kept_of_class};
 ghost use Rattle.rc_fragment.specs.RowValues.{extra_columns};
@@ -63,15 +65,20 @@ fn lower_of(accepted: &Accepted, number: u8) -> Option<u8>
     requires { number < length accepted.now.edges }
     ensures { result ≡ lower_of accepted.now number }
 {
-    if !may_be_implied(accepted, number) {
-        return None;
+    if may_be_implied(accepted, number) {
+        first_below(accepted, number)
+    } else {
+        None
     }
-    for lower in 0..accepted.spec().edges.list().len() as u8 {
-        if is_below(accepted, number, lower) {
-            return Some(lower);
-        }
-    }
-    None
+}
+
+/// The first edge that is below this one, if one is.
+fn first_below(accepted: &Accepted, number: u8) -> Option<u8>
+    requires { number < length accepted.now.edges }
+    ensures { result ≡ find (is_below accepted.now number) (edge_numbers accepted.now) }
+{
+    let edges = accepted.spec().edges.list().len() as u8;
+    (0..edges).find(|lower| is_below(accepted, number, *lower))
 }
 
 /// Whether the edge's rows may be told by those of another.

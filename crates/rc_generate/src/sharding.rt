@@ -20,22 +20,12 @@ pub fn is_sharded(spec: &Spec, key: u8) -> bool
 fn patterns_have(ops: &[Op], key: u8) -> bool
     ensures { result ≡ list_all (λ op. has op.pattern key) ops.now }
 {
-    for op in ops {
-        if !op.pattern.list().contains(&key) {
-            return false;
-        }
-    }
-    true
+    ops.iter().all(|op| op.pattern.list().contains(&key))
 }
 
 /// Whether each left side has the column.
 fn lefts_have(deps: &[Dep], key: u8) -> bool
     ensures { result ≡ list_all (λ dep. has dep.left key) deps.now }
 {
-    for dep in deps {
-        if !dep.left.has(key) {
-            return false;
-        }
-    }
-    true
+    deps.iter().all(|dep| dep.left.has(key))
 }

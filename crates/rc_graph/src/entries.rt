@@ -8,24 +8,14 @@ use rc_spec::Spec;
 fn has_edge_in(spec: &Spec, node: u8) -> bool
     ensures { IsTrue result ↔ HasEdgeInto spec.now node }
 {
-    for edge in spec.edges.list() {
-        if edge.to == node {
-            return true;
-        }
-    }
-    false
+    spec.edges.list().iter().any(|edge| edge.to == node)
 }
 
 /// Whether an edge leaves the node.
 fn has_edge_out(spec: &Spec, node: u8) -> bool
     ensures { IsTrue result ↔ HasEdgeOutOf spec.now node }
 {
-    for edge in spec.edges.list() {
-        if edge.from == node {
-            return true;
-        }
-    }
-    false
+    spec.edges.list().iter().any(|edge| edge.from == node)
 }
 
 /// Whether the first node is the root.

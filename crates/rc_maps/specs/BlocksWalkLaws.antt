@@ -1,7 +1,7 @@
 -- Laws of walks over several blocks, one behind the other: their rows, listed, counted and in one block.
-use Rattle.std.specs.Prelude.{◌≡◌, ℕ, zero, suc, ◌+◌, ◌<◌, ◌≤◌, Bool, true, false, ◌↔◌, List, [], ◌∷◌, ◌++◌, length, take, drop, slice_index_or}
-use Rattle.std.specs.Bool.{IsTrue}
-use Rattle.std.specs.List.{flat_map}
+use Rattle.std.specs.Prelude.{◌≡◌, ℕ, zero, suc, ◌+◌, ◌*◌, ◌^◌, ◌<◌, ◌≤◌, Bool, true, false, ◌↔◌, List, [], ◌∷◌, ◌++◌, length, take, drop, slice_index_or}
+use Rattle.std.specs.Bool.{IsTrue, MatchBool}
+use Rattle.std.specs.List.{AllWithin, HoldsAt, flat_map, sum_by}
 use Rattle.std.specs.Option.{option_map}
 use Rattle.std.specs.FinMap as fin
 use Rattle.std.specs.FinMap.{entries_sorted, len-entries}
@@ -9,7 +9,8 @@ use Rattle.std.proofs.Common.{refl, sym, ap, subst, ◌∙◌, arith}
 use Rattle.std.proofs.lemmas.Bool.{false≢true}
 use Rattle.std.proofs.lemmas.List.{append_assoc, append-nil, length-append, take_all, take_more}
 use Rattle.std.proofs.lemmas.List.Concat.{flat_map-append}
-use Rattle.std.proofs.lemmas.List.Elements.{filter_map-append}
+use Rattle.std.proofs.lemmas.List.Elements.{All-from_recursion, All-weaker, filter_map-append}
+use Rattle.std.proofs.lemmas.List.Sums.{sum_by-cons, sum_by-le}
 use Rattle.rc_edges.specs.Values.{Values}
 use Rattle.rc_edges.specs.EdgeMap.{Counted, Rows, current, listed, parts, present}
 use Rattle.rc_edges.specs.ListMap.{IsKeyed, Items, count_in, rows_in, values_in}
@@ -17,7 +18,7 @@ use Rattle.rc_edges.specs.ListMapLaws.{count_within, entries-whole, len-rows, li
 use Rattle.rc_edges.specs.RowsLaws.{entries-keep}
 use Rattle.rc_maps.specs.Blocks.{AreBlocks, items_in}
 use Rattle.rc_maps.specs.BlockLaws.{keyed_front}
-use Rattle.rc_maps.specs.BlocksLaws.{AreOf, all_at, behind_first, behind_is, entries_empty, rows_entries}
+use Rattle.rc_maps.specs.BlocksLaws.{AreOf, behind_first, behind_is, entries_empty, rows_entries}
 use Rattle.rc_maps.specs.PushLaws.{values_in-append}
 
 -- ---- blocks alone, and one behind the other
@@ -62,21 +63,28 @@ count_in-append items more =
     ap length (filter_map-append (λ (e : Values × Counted). option_map (λ (y : Counted). (e.0, y)) (present e.1)) items more)
     ∙ length-append (parts present items) (parts present more)
 
-pub counted_next : (blocks : List Rows) (n : ℕ) (b : Rows) → n < length blocks → b ≡ slice_index_or blocks n b
-    → count_in (items_in (take (n + 1) blocks)) ≡ count_in (items_in (take n blocks)) + fin.len (current b)
-counted_next blocks n b l is =
-    ap count_in (items_next blocks n b l is) ∙ count_in-append (items_in (take n blocks)) (fin.entries b)
-    ∙ ap (λ z. count_in (items_in (take n blocks)) + z) (sym (len_counts b))
+-- how many rows each block has
+abbrev pub row_count : Rows → ℕ
+row_count b = fin.len (current b)
+
+pub len_sum : (blocks : List Rows) → count_in (items_in blocks) ≡ sum_by row_count blocks
+len_sum [] = refl
+len_sum (b ∷ blocks) = count_in-append (fin.entries b) (items_in blocks) ∙ (λ i. sym (len_counts b) i + len_sum blocks i) ∙ sym (sum_by-cons row_count b blocks)
 
 -- there are no more rows in a block than are kept
-pub len_within : (blocks : List Rows) (n : ℕ) (b : Rows) → AreBlocks blocks → n < length blocks → b ≡ slice_index_or blocks n b
-    → fin.len (current b) ≤ 128
-len_within blocks n b are l is =
-    let most : fin.len b ≤ 128 = subst (λ z. fin.len z ≤ 128) (sym is) (all_at (λ x. fin.len x ≤ 128) blocks n b l are.small) in
+rows_within : (b : Rows) → fin.len b ≤ 128 → row_count b ≤ 128
+rows_within b most =
     let rows : fin.len (current b) ≡ count_in (fin.entries b) = len_counts b in
     let kept : fin.len b ≡ length (fin.entries b) = len-entries b in
     let less_than : count_in (fin.entries b) ≤ length (fin.entries b) = count_within (fin.entries b) in
     omega (arith, most, rows, kept, less_than)
+
+pub rows_fit : (blocks : List Rows) → AreBlocks blocks → sum_by row_count blocks < 2 ^ 64
+rows_fit blocks are =
+    let most : sum_by row_count blocks ≤ length blocks * 128 =
+    sum_by-le row_count 128 blocks (All-weaker (λ b. fin.len b ≤ 128) (λ b. row_count b ≤ 128) rows_within blocks (All-from_recursion (λ b. fin.len b ≤ 128) blocks are.small)) in
+    let few : length blocks ≤ 2 ^ 56 = are.few in
+    omega (arith, most, few)
 
 -- ---- nothing kept
 
@@ -112,45 +120,45 @@ pushed_all old now blocks n e l k =
 
 -- ---- whether a row is there
 
-some_row : (blocks : List Rows) (n : ℕ) (b : Rows) → n < length blocks → b ≡ slice_index_or blocks n b → 0 < fin.len (current b)
-    → 0 < count_in (items_in blocks)
-some_row [] n b l is some = absurd (omega (arith, l))
-some_row (x ∷ blocks) zero b l is some =
+abbrev pub HasRow : Rows → Type 0
+HasRow b = 0 < fin.len (current b)
+
+some_row : (blocks : List Rows) (n : ℕ) → n < length blocks → HoldsAt HasRow blocks n → 0 < count_in (items_in blocks)
+some_row [] n l some = absurd (omega (arith, l))
+some_row (x ∷ blocks) zero l some =
     let more : count_in (items_in (x ∷ blocks)) ≡ count_in (fin.entries x) + count_in (items_in blocks) =
     count_in-append (fin.entries x) (items_in blocks) in
-    let here : fin.len (current b) ≡ count_in (fin.entries x) = len_counts b ∙ ap (λ z. count_in (fin.entries z)) is in
-    omega (arith, more, here, some)
-some_row (x ∷ blocks) (suc n) b l is some =
+    let here : 0 < fin.len (current x) = some x in
+    let rows : fin.len (current x) ≡ count_in (fin.entries x) = len_counts x in
+    omega (arith, more, here, rows)
+some_row (x ∷ blocks) (suc n) l some =
     let more : count_in (items_in (x ∷ blocks)) ≡ count_in (fin.entries x) + count_in (items_in blocks) =
     count_in-append (fin.entries x) (items_in blocks) in
-    let later : 0 < count_in (items_in blocks) = some_row blocks n b (omega (arith, l)) is some in
+    let later : 0 < count_in (items_in blocks) = some_row blocks n (omega (arith, l)) some in
     omega (arith, more, later)
+
+no_row : (blocks : List Rows) → AllWithin (λ b. HasRow b → ⊥) blocks 0 (length blocks) → count_in (items_in blocks) ≡ 0
+no_row [] none = refl
+no_row (x ∷ blocks) none =
+    let more : count_in (items_in (x ∷ blocks)) ≡ count_in (fin.entries x) + count_in (items_in blocks) =
+    count_in-append (fin.entries x) (items_in blocks) in
+    let here : 0 < fin.len (current x) → ⊥ = none 0 x (omega arith) (omega arith) in
+    let rows : fin.len (current x) ≡ count_in (fin.entries x) = len_counts x in
+    let later : count_in (items_in blocks) ≡ 0 = no_row blocks (λ k d low high. none (suc k) d (omega arith) (omega (arith, high))) in
+    omega (arith, more, here, rows, later)
 
 module _ (blocks : List Rows) (m : Rows) (of : rows_in (items_in blocks) ≡ m) (k : IsKeyed (items_in blocks)) where
   pub len_all : fin.len (current m) ≡ count_in (items_in blocks)
   len_all = ap (λ (z : Rows). fin.len (current z)) (sym of) ∙ len-rows (items_in blocks) k
 
-  pub has_some : (n : ℕ) (b : Rows) (r : Bool) → n < length blocks → b ≡ slice_index_or blocks n b → IsTrue r ↔ (0 < fin.len (current b)) → r ≡ true
-      → 0 < fin.len (current m)
-  has_some n b r l is h t = subst (λ z. 0 < z) (sym len_all) (some_row blocks n b l is (h.0 t))
-
-  pub has_none : (n : ℕ) → length blocks ≤ n → count_in (items_in (take n blocks)) ≡ 0 → (0 < fin.len (current m)) → ⊥
-  has_none n l e some =
-      let none : count_in (items_in blocks) ≡ 0 = ap (λ z. count_in (items_in z)) (sym (take_all n blocks l)) ∙ e in
-      let all : fin.len (current m) ≡ count_in (items_in blocks) = len_all in
-      omega (arith, none, all, some)
-
-pub none_next : (blocks : List Rows) (n : ℕ) (b : Rows) (r : Bool) → n < length blocks → b ≡ slice_index_or blocks n b
-    → IsTrue r ↔ (0 < fin.len (current b)) → r ≡ false → count_in (items_in (take n blocks)) ≡ 0
-    → count_in (items_in (take (n + 1) blocks)) ≡ 0
-none_next blocks n b r l is h f none = go (fin.len (current b)) refl
-  where
-    go : (k : ℕ) → fin.len (current b) ≡ k → count_in (items_in (take (n + 1) blocks)) ≡ 0
-    go zero e =
-        let next : count_in (items_in (take (n + 1) blocks)) ≡ count_in (items_in (take n blocks)) + fin.len (current b) =
-        counted_next blocks n b l is in
-        omega (arith, next, none, e)
-    go (suc k) e = let some : 0 < fin.len (current b) = omega (arith, e) in absurd (false≢true (sym f ∙ h.1 some))
+  -- what a test of the blocks answers, one after the other
+  pub has_any : (r : Bool) → MatchBool r ((n : ℕ) × (n < length blocks) × HoldsAt HasRow blocks n) (AllWithin (λ b. HasRow b → ⊥) blocks 0 (length blocks))
+      → IsTrue r ↔ (0 < fin.len (current m))
+  has_any true some = (λ t. subst (λ z. 0 < z) (sym len_all) (some_row blocks some.0 some.1 some.2), λ l. refl)
+  has_any false none = (
+    λ t. absurd (false≢true t),
+    λ l. let zero : fin.len (current m) ≡ 0 = len_all ∙ no_row blocks none in absurd (omega (arith, zero, l)),
+  )
 
 -- ---- all blocks in one
 

@@ -160,23 +160,14 @@ impl<const EXTRA: usize> Blocks<EXTRA> {
     pub fn len(&self) -> u64
         ensures { result ≡ fin.len (current self.now) }
     {
-        let mut count = 0;
-        for block in &self.blocks {
-            count += block.len();
-        }
-        count
+        self.blocks.iter().map(Block::len).sum()
     }
 
     /// Whether a row is there. Costs a step for each tombstone before one.
     pub fn has_row(&self) -> bool
         ensures { IsTrue result ↔ (0 < fin.len (current self.now)) }
     {
-        for block in &self.blocks {
-            if block.has_row() {
-                return true;
-            }
-        }
-        false
+        self.blocks.iter().any(Block::has_row)
     }
 
     /// Whether nothing is kept, not even a tombstone.
@@ -268,10 +259,9 @@ fn split<const EXTRA: usize>(
 
 /// How many values the blocks' rows have, and their tombstones would have.
 fn most_values<const EXTRA: usize>(blocks: &[Block<EXTRA>]) -> usize {
-    let mut rows: usize = 0;
-    for block in blocks {
-        rows = rows.saturating_add(block.kept());
-    }
+    let rows = blocks
+        .iter()
+        .fold(0_usize, |rows, block| rows.saturating_add(block.kept()));
     rows.saturating_mul(EXTRA.saturating_add(1))
 }
 

@@ -1,17 +1,13 @@
 -- Which stripes a Lock may take.
-use Rattle.std.proofs.Common.{◌≡◌, ℕ, Bool, true, false, List, [], ◌∷◌, Option, None, Some, ◌+◌, ◌<◌, ◌≤◌, ◌==◌, get_or, take, length, inl, inr, arith, refl, sym, ap, subst, ◌∙◌, ◌↔◌}
-use Rattle.std.proofs.lemmas.Bool.{eq-eqb, eqb-true, false≢true}
-use Rattle.std.proofs.lemmas.List.{take_more}
+use Rattle.std.proofs.Common.{◌≡◌, Bool, true, false, List, Some, ◌<◌, length, refl, sym, subst, ◌∙◌, ◌↔◌}
+use Rattle.std.proofs.lemmas.Bool.{false≢true}
 use Rattle.rc_tuple.specs.RisingSet.{In}
-use Rattle.rc_tuple.specs.RisingSetLaws.{in_append}
 use Rattle.rc_tuple.specs.ColSet.{Within}
 use Rattle.rc_tuple.specs.ColSetLaws.{test_from_within, within_from_test}
 use Rattle.rc_tuple.specs.Tuple.{Pairs, cols_of}
 use Rattle.rc_spec.specs.declared.call.Call.{Call}
-use Rattle.rc_spec.specs.declared.lock.Mode.{Mode}
-use Rattle.rc_spec.specs.declared.lock.Mode.TheVariants.{Shared}
 use Rattle.rc_spec.specs.declared.spec.Spec.{Spec}
-use Rattle.rc_spec.specs.Locks.{StripeLock, Suffices}
+use Rattle.rc_spec.specs.Locks.{StripeLock}
 use Rattle.rc_spec.specs.Placement.{IsPlaced, class_at}
 use Rattle.rc_spec.specs.Stripes.{physical_stripe}
 use Rattle.rc_fragment.specs.Holder.{MayTake}
@@ -78,37 +74,3 @@ each_covered c call locks covers s m l e stripe of own =
       of_class = of;
       by_arguments = own;
     })
-
--- one more statement of a plan
-pub covered_more : (spec : Spec) (args : Pairs) (plan : List Statement) (locks : List StripeLock) (i : ℕ) (s : Statement) → i < length plan → s ≡ get_or plan i s
-    → AreCovered spec args (take i plan) locks → ((l : ClassLock) → class_lock s ≡ Some l → IsCovered spec args l locks) → AreCovered spec args (take (i + 1) plan) locks
-covered_more spec args plan locks i s l is before here x m =
-    elim (in_append x (take i plan) (get_or plan i s ∷ []) (subst (In x) (take_more plan i s l) m)) [
-      | inl a ↦ before x a
-      | inr (inl e) ↦ subst (λ (y : Statement). (k : ClassLock) → class_lock y ≡ Some k → IsCovered spec args k locks) (is ∙ sym e) here
-      | inr (inr z) ↦ absurd z
-    ]
-
--- ---- loops
-
--- one more lock that isn't the stripe's in a mode that suffices
-pub none_more : (locks : List StripeLock) (stripe : ℕ) (mode : Mode) (i : ℕ) → i < length locks → ((held : Mode) → In (stripe, held) (take i locks) → Suffices held mode → ⊥)
-    → ((get_or locks i (let none : StripeLock = (0, Shared) in none)).0 ≡ stripe → Suffices (get_or locks i (let none : StripeLock = (0, Shared) in none)).1 mode → ⊥)
-    → (held : Mode) → In (stripe, held) (take (i + 1) locks) → Suffices held mode → ⊥
-none_more locks stripe mode i l before here held m s =
-    let none : StripeLock = (0, Shared) in
-    elim (in_append (stripe, held) (take i locks) (get_or locks i none ∷ []) (subst (In (stripe, held)) (take_more locks i none l) m)) [
-      | inl a ↦ before held a s
-      | inr (inl e) ↦ here (ap (λ (x : StripeLock). x.0) (sym e)) (subst (λ (x : StripeLock). Suffices x.1 mode) e s)
-      | inr (inr z) ↦ absurd z
-    ]
-
--- one more number of a range
-pub one_more : (P : ℕ → Type 0) (a n : ℕ) → ((s : ℕ) → a ≤ s → s < a + n → P s) → P (a + n) → (s : ℕ) → a ≤ s → s < a + (n + 1) → P s
-one_more P a n before here s low high = go (s == a + n) refl
-  where
-    go : (b : Bool) → s == a + n ≡ b → P s
-    go true e = subst P (sym (eqb-true s (a + n) e)) here
-    go false e =
-        let other : s ≡ a + n → ⊥ = (λ q. false≢true (sym e ∙ eq-eqb s (a + n) q)) in
-        before s low (omega (arith, low, high, other))

@@ -1,3 +1,4 @@
+pub mod AnswerLemmas
 pub mod ClassLemmas
 pub mod CoverLemmas
 pub mod UseLemmas

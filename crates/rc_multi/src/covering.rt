@@ -2,6 +2,7 @@
 
 ghost use Rattle.std.specs.Prelude.{◌≡◌, ◌<◌, ◌↔◌, IsTrue, Some, length};
 ghost use Rattle.rc_spec.specs.Calls.{Fits};
+ghost use Rattle.rc_spec.specs.Locks.{Suffices};
 ghost use Rattle.rc_fragment.specs.Holder.{MayTake};
 ghost use Rattle.rc_plan.specs.PlanRules.{IsKnown};
 ghost use Rattle.rc_multi.specs.declared.class_lock.ClassLock.{ClassLock as AClassLock};
@@ -22,12 +23,11 @@ pub fn covers(compiled: &Compiled, call: &Call, locks: &[(u32, Mode)]) -> bool
     requires { Fits compiled.now.spec call.now }
     ensures { IsTrue result ↔ Covers compiled.now call.now locks.now }
 {
-    for statement in compiled.plan(call.op).list() {
-        if !is_covered(compiled, call, statement, locks) {
-            return false;
-        }
-    }
-    true
+    compiled
+        .plan(call.op)
+        .list()
+        .iter()
+        .all(|statement| is_covered(compiled, call, statement, locks))
 }
 
 /// Whether each stripe that the statement may take at the call's arguments is among the locks, in a mode that suffices.
@@ -67,22 +67,20 @@ fn is_band_covered(compiled: &Compiled, class: u8, mode: Mode, locks: &[(u32, Mo
     ensures { IsTrue result ↔ IsBandCovered compiled.now.spec class mode locks.now }
 {
     let start = compiled.band_start(class);
-    for place in 0..compiled.accepted().spec().class(class).stripes {
-        if !is_held(start + place, mode, locks) {
-            return false;
-        }
-    }
-    true
+    let stripes = compiled.accepted().spec().class(class).stripes;
+    (start..start + stripes).all(|stripe| is_held(stripe, mode, locks))
 }
 
 /// Whether the stripe is.
 fn is_held(stripe: u32, mode: Mode, locks: &[(u32, Mode)]) -> bool
     ensures { IsTrue result ↔ MayTake (Some locks.now) stripe mode }
 {
-    for lock in locks {
-        if lock.0 == stripe && lock.1.suffices(mode) {
-            return true;
-        }
-    }
-    false
+    locks.iter().any(|lock| holds(*lock, stripe, mode))
+}
+
+/// Whether the lock is the stripe's, in a mode that suffices.
+fn holds(lock: (u32, Mode), stripe: u32, mode: Mode) -> bool
+    ensures { IsTrue result ↔ ((lock.0 ≡ stripe) × Suffices lock.1 mode) }
+{
+    lock.0 == stripe && lock.1.suffices(mode)
 }

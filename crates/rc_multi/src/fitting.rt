@@ -13,12 +13,7 @@ pub fn all_fit(spec: &Spec, calls: &[Call]) -> bool
     requires { IsInRange spec.now }
     ensures { IsTrue result ↔ AllByRecursion (Fits spec.now) calls.now }
 {
-    for call in calls {
-        if !fits(spec, call) {
-            return false;
-        }
-    }
-    true
+    calls.iter().all(|call| fits(spec, call))
 }
 
 /// Whether each of the calls is of one of the specification's operations, whatever its arguments: so they may be declared

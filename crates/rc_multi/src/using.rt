@@ -18,12 +18,11 @@ pub fn uses(compiled: &Compiled, call: &Call, stripe: u32) -> bool
     ensures { IsTrue result ↔ IsOfClassLocked compiled.now.spec
         (plan_at compiled.now.plans call.now.op) stripe }
 {
-    for statement in compiled.plan(call.op).list() {
-        if locks_class_of(compiled, statement, stripe) {
-            return true;
-        }
-    }
-    false
+    compiled
+        .plan(call.op)
+        .list()
+        .iter()
+        .any(|statement| locks_class_of(compiled, statement, stripe))
 }
 
 /// Whether the statement locks the class of the stripe.

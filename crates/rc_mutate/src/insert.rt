@@ -26,12 +26,10 @@ use std::alloc::Global;
 fn reads_class(spec: &Spec, route: &[u8], class: u8) -> bool
     ensures { result ≡ has (map (class_of spec.now) route.now) class }
 {
-    for edge in route {
-        if spec.class_of(*edge) == class {
-            return true;
-        }
-    }
-    false
+    route
+        .iter()
+        .map(|edge| spec.class_of(*edge))
+        .any(|other| other == class)
 }
 
 /// Whether the probe reads an edge of the class, and its columns don't choose a stripe of it.

@@ -284,12 +284,9 @@ fn are_given_locks(spec: &Spec, cols: ColSet, statements: &[Statement]) -> bool
     requires { AreKnown spec.now statements.now }
     ensures { result ≡ list_all (is_given_lock spec.now cols) statements.now }
 {
-    for statement in statements {
-        if !is_given_lock(spec, cols, statement) {
-            return false;
-        }
-    }
-    true
+    statements
+        .iter()
+        .all(|statement| is_given_lock(spec, cols, statement))
 }
 
 /// Whether one is a Lock of the class.

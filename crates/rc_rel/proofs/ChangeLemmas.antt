@@ -1,14 +1,17 @@
 -- What a change of the list of tuples does, in the words of the plain step.
-use Rattle.std.proofs.Common.{◌≡◌, ℕ, zero, suc, ◌<◌, Bool, true, false, cond, not, List, [], ◌∷◌, length, None, get_or, refl, sym, ap, ◌∙◌, inl, inr, subst, arith}
+use Rattle.std.proofs.Common.{◌≡◌, ℕ, zero, suc, ◌+◌, ◌<◌, Bool, true, false, cond, not, ltb, List, [], ◌∷◌, length, Option, Some, None, drop, get_or, position, refl, sym, ap, ◌∙◌, inl, inr, subst, arith}
 use Rattle.std.specs.Prelude.{remove}
-use Rattle.std.specs.List.{list_any, filter}
+use Rattle.std.specs.List.{list_any, filter, position_or_len}
+use Rattle.std.proofs.lemmas.Bool.{cond_both, cond-true, cond-false, ltb-true, ltb-false, not-false}
+use Rattle.std.proofs.lemmas.List.{drop_all, drop_more}
+use Rattle.std.proofs.lemmas.List.Sums.{prefix_len_stops}
 use Rattle.std.specs.declared.cmp.Ordering.TheVariants.{Less}
 use Rattle.std.specs.Ordering.{nat_cmp}
 use Rattle.rc_tuple.specs.RisingSet.{In, IsRising, put, gather}
-use Rattle.rc_tuple.specs.RisingSetLaws.{get_or_in, put_old, rising_put, rising_filter, in_filter, not_below_itself}
+use Rattle.rc_tuple.specs.RisingSetLaws.{each_in, get_or_in, put_old, rising_put, rising_filter, in_filter, not_below_itself}
 use Rattle.rc_tuple.specs.ColSet.{has}
 use Rattle.rc_tuple.specs.ColSetLaws.{has-gather}
-use Rattle.rc_tuple.specs.Tuple.{Pairs, agree_on, tuple_cmp, tuple_eq}
+use Rattle.rc_tuple.specs.Tuple.{Pairs, agree_on, cols_of, tuple_cmp, tuple_eq}
 use Rattle.rc_tuple.specs.TupleLaws.{tuple_order, same_from_test, test_from_same}
 use Rattle.rc_tuple.specs.RelationLaws.{agree_on-same, satisfies_fewer}
 use Rattle.rc_tuple.specs.Relation.{Satisfies}
@@ -18,6 +21,37 @@ use Rattle.rc_spec.specs.declared.call.Reply.TheVariants.{Removed}
 use Rattle.rc_spec.specs.Plain.{Outcome, first_broken_dependency, removed_first, updated_first, updated_unless, plain_by}
 use Rattle.rc_spec.specs.PlainLaws.{satisfies_from_none, rising_after, in_after_remove}
 use Rattle.rc_rel.specs.KnownDeps.{IsKnownToSatisfy}
+use Rattle.rc_rel.specs.Match.{IsFirst}
+use Rattle.rc_rel.specs.Over.{AreOver}
+
+-- one of the tuples over some columns, by its place
+pub over_at : (columns : List ℕ) (tuples : List Pairs) (k : ℕ) (t : Pairs) → AreOver columns tuples → k < length tuples → t ≡ get_or tuples k t → columns ≡ cols_of t
+over_at columns tuples k t over within is =
+    subst (λ (u : Pairs). columns ≡ cols_of u) (sym is) (each_in (λ (u : Pairs). columns ≡ cols_of u) tuples over (get_or tuples k t) (get_or_in tuples k t within))
+
+filter_drop : (test : Pairs → Bool) (r : List Pairs) → filter test r ≡ filter test (drop (position_or_len test r) r)
+filter_drop test [] = refl
+filter_drop test (t ∷ r) = go (test t) refl (filter_drop test r)
+  where
+    go : (b : Bool) → test t ≡ b → filter test r ≡ filter test (drop (position_or_len test r) r) → filter test (t ∷ r) ≡ filter test (drop (cond (not b) (1 + position_or_len test r) 0) (t ∷ r))
+    go true e h = refl
+    go false e h =
+        let n : ℕ = position_or_len test r in
+        let next : suc n ≡ 1 + n = omega arith in
+        cond-false (test t) (t ∷ filter test r) (filter test r) e ∙ subst (λ k. filter test r ≡ filter test (drop k (t ∷ r))) next h
+
+-- the place that `position` finds is that of the first tuple that passes
+pub first_found : (test : Pairs → Bool) (r : List Pairs) (found : Option ℕ) → found ≡ position test r → IsFirst test r found
+first_found test r found is =
+    let at : ℕ = position_or_len test r in
+    subst (IsFirst test r) (sym is) (cond_both (ltb at (length r)) (Some at) None (IsFirst test r)
+    (λ y.
+    let within : at < length r = ltb-true at (length r) y in
+    let passes : test (get_or r at []) ≡ true = not-false (test (get_or r at [])) (prefix_len_stops (λ t. not (test t)) r [] within) in (
+      within,
+      (filter test (drop (at + 1) r), filter_drop test r ∙ ap (filter test) (drop_more r at [] within) ∙ cond-true (test (get_or r at [])) _ _ passes),
+    ))
+    (λ n. filter_drop test r ∙ ap (filter test) (drop_all at r (ltb-false at (length r) n))))
 
 any_agrees_same : (xs ys : List ℕ) → ((c : ℕ) → has xs c ≡ has ys c) → (t : Pairs) (r : List Pairs) → list_any (agree_on xs t) r ≡ list_any (agree_on ys t) r
 any_agrees_same xs ys h t [] = refl

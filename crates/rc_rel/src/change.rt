@@ -38,12 +38,7 @@ pub(crate) fn first_agreeing(tuples: &[Tuple], tuple: &Tuple, cols: ColSet) -> O
     requires { AreOver (cols_of tuple.now) tuples.now }
     ensures { IsFirstAgreeing cols tuple.now tuples.now result }
 {
-    for (at, other) in tuples.iter().enumerate() {
-        if tuple.agrees_on(other, cols) {
-            return Some(at);
-        }
-    }
-    None
+    tuples.iter().position(|other| tuple.agrees_on(other, cols))
 }
 
 /// Another list of the same tuples.
@@ -61,10 +56,5 @@ pub(crate) fn copy_tuples(alloc: Global, tuples: &[Tuple]) -> Result<Vec<Tuple>,
 pub(crate) fn first_match(tuples: &[Tuple], pattern: &Tuple) -> Option<usize>
     ensures { IsFirstMatch pattern.now tuples.now result }
 {
-    for (at, tuple) in tuples.iter().enumerate() {
-        if tuple.matches(pattern) {
-            return Some(at);
-        }
-    }
-    None
+    tuples.iter().position(|tuple| tuple.matches(pattern))
 }

@@ -13,12 +13,7 @@ pub(crate) fn any_agrees(tuples: &[Tuple], tuple: &Tuple, cols: ColSet) -> bool
     requires { AreOver (cols_of tuple.now) tuples.now }
     ensures { result ≡ list_any (agree_on cols tuple.now) tuples.now }
 {
-    for other in tuples {
-        if tuple.agrees_on(other, cols) {
-            return true;
-        }
-    }
-    false
+    tuples.iter().any(|other| tuple.agrees_on(other, cols))
 }
 
 /// Whether the two agree on the left side and differ on the right.
@@ -34,12 +29,7 @@ fn breaks_with(dep: &Dep, tuple: &Tuple, tuples: &[Tuple]) -> bool
     requires { AreOver (cols_of tuple.now) tuples.now }
     ensures { result ≡ breaks_with dep.now tuple.now tuples.now }
 {
-    for other in tuples {
-        if breaks_pair(dep, tuple, other) {
-            return true;
-        }
-    }
-    false
+    tuples.iter().any(|other| breaks_pair(dep, tuple, other))
 }
 
 /// Whether some two tuples of the list break the dependency.
@@ -47,12 +37,7 @@ fn breaks(tuples: &[Tuple], dep: &Dep) -> bool
     requires { (t u : Pairs) → In t tuples.now → In u tuples.now → cols_of t ≡ cols_of u }
     ensures { result ≡ breaks tuples.now dep.now }
 {
-    for tuple in tuples {
-        if breaks_with(dep, tuple, tuples) {
-            return true;
-        }
-    }
-    false
+    tuples.iter().any(|tuple| breaks_with(dep, tuple, tuples))
 }
 
 /// Whether the tuples with one more break the dependency. Where they are known to satisfy it, only the

@@ -91,12 +91,7 @@ fn is_within(range: Range, tuple: &Tuple) -> bool
 pub fn in_ranges(ranges: &[Range], tuple: &Tuple) -> bool
     ensures { result ≡ in_ranges ranges.now tuple.now }
 {
-    for range in ranges {
-        if !is_within(*range, tuple) {
-            return false;
-        }
-    }
-    true
+    ranges.iter().all(|range| is_within(*range, tuple))
 }
 
 /// Whether the bounds are for these columns, in this order.

@@ -8,13 +8,11 @@ use Rattle.std.proofs.lemmas.List.{take_more}
 use Rattle.std.proofs.lemmas.List.Elements.{All-cons, All-nil}
 use Rattle.std.specs.List.{slice_get}
 use Rattle.rc_tuple.specs.RisingSet.{In, IsRising}
-use Rattle.rc_tuple.specs.RisingSetLaws.{in_append, in_map, map_in, nat_order, not_below_itself}
+use Rattle.rc_tuple.specs.RisingSetLaws.{in_append, nat_order, not_below_itself}
 use Rattle.rc_spec.specs.declared.call.Call.{Call}
-use Rattle.rc_spec.specs.declared.lock.Mode.TheVariants.{Shared}
 use Rattle.rc_spec.specs.Locks.{StripeLock}
 use Rattle.rc_fragment.specs.FragmentRows.{FragmentRows}
 use Rattle.rc_plan.specs.Compiled.{SpecWithPlans, plan_at}
-use Rattle.rc_plan.specs.StripeLocks.{stripes_of}
 use Rattle.rc_core.specs.Passes.{IsOfClassLocked, other_holds}
 use Rattle.rc_core.specs.declared.state.Hold.{Hold}
 use Rattle.rc_core.specs.State.{hold}
@@ -262,18 +260,6 @@ held_so lock x kept now e m same = record {
 }
 
 -- ---- the loops that look for a stripe
-
--- one more lock that isn't of the stripe
-pub none_listed_more : (locks : List StripeLock) (p n : ℕ) → n < length locks → (In p (stripes_of (take n locks)) → ⊥)
-    → ((get_or locks n (let none : StripeLock = (0, Shared) in none)).0 ≡ p → ⊥) → In p (stripes_of (take (n + 1) locks)) → ⊥
-none_listed_more locks p n l before here m =
-    let none : StripeLock = (0, Shared) in
-    let w : (x : StripeLock) × In x (take (n + 1) locks) × (p ≡ x.0) = in_map (λ (x : StripeLock). x.0) p (take (n + 1) locks) m in
-    elim (in_append w.0 (take n locks) (get_or locks n none ∷ []) (subst (In w.0) (take_more locks n none l) w.1)) [
-      | inl a ↦ before (subst (λ (q : ℕ). In q (stripes_of (take n locks))) (sym w.2) (map_in (λ (x : StripeLock). x.0) w.0 (take n locks) a))
-      | inr (inl e) ↦ here (sym (w.2 ∙ ap (λ (x : StripeLock). x.0) e))
-      | inr (inr z) ↦ absurd z
-    ]
 
 -- one more call whose plan doesn't lock its class
 pub none_used_more : (c : SpecWithPlans) (calls : List Call) (p n : ℕ) (call : Call) → n < length calls → slice_get calls n ≡ Some call → (IsUsedBy c (take n calls) p → ⊥)

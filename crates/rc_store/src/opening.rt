@@ -245,10 +245,5 @@ impl<W: Wakes> Store<W> {
 fn is_listed(locks: &[(u32, Mode)], stripe: u32) -> bool
     ensures { IsTrue result ↔ In stripe (lock_stripes locks.now) }
 {
-    for lock in locks {
-        if lock.0 == stripe {
-            return true;
-        }
-    }
-    false
+    locks.iter().any(|lock| lock.0 == stripe)
 }

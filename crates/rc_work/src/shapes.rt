@@ -171,12 +171,7 @@ pub fn shape_place(shapes: &[Op], op: &Op) -> Option<usize>
     ensures place { result ≡ shape_place shapes.now op.now }
     ensures within { IfSome result (λ place. place < length shapes.now) }
 {
-    for (place, shape) in shapes.iter().enumerate() {
-        if is_same_shape(op, shape) {
-            return Some(place);
-        }
-    }
-    None
+    shapes.iter().position(|shape| is_same_shape(op, shape))
 }
 
 /// Whether a shape with this place among the others is one more than there may be.

@@ -1,9 +1,17 @@
-use Rattle.std.proofs.Common.{ℕ, Some}
+use Rattle.std.proofs.Common.{ℕ, ◌+◌, Some, arith, rules, tests}
+use Rattle.std.proofs.lemmas.Iterator.{YieldsList-from_range}
+use Rattle.rc_spec.specs.Placement.{class_at}
+use Rattle.rc_spec.specs.Stripes.{band_start}
 use Rattle.rc_fragment.specs.Holder.{MayTake}
-use Rattle.rc_multi.proofs.CoverLemmas.{one_more}
+use Rattle.rc_plan.specs.StripeLocksLaws.{band_of_class}
+use Rattle.rc_multi.proofs.AnswerLemmas.{all_said}
 use Rattle.rc_multi.proofs.covering.is_band_covered.Goals as goal
 
-pub loop-place-preserved : goal.loop-place-preserved
-loop-place-preserved c =
-    one_more (λ (stripe : ℕ). MayTake (Some c.args.locks.now) stripe c.args.mode) c.band_start-start.result c.loop-place.place c.loop-place.invariant
-    (c.is_held.ensures.0 c.if-not-is_held.false)
+pub returns : goal.returns
+returns c =
+    let spec = c.args.compiled.now.spec in
+    let start : ℕ = band_start spec c.args.class in
+    let stripes : ℕ = (class_at spec c.args.class).stripes in
+    let all = all_said (λ (stripe : ℕ). MayTake (Some c.args.locks.now) stripe c.args.mode) _ _ c.all.result c.all.ensures.ran
+    (YieldsList-from_range start (start + stripes) stripes (cc) (omega arith)) (λ x b q k. search (rules, tests)) in
+    (λ t stripe of. all.0 t stripe ((band_of_class spec stripe c.args.class).1 of), λ band. all.1 (λ stripe m. band stripe ((band_of_class spec stripe c.args.class).0 m)))

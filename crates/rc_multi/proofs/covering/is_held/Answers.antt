@@ -1,30 +1,14 @@
-use Rattle.std.specs.Prelude.{get_or}
-use Rattle.std.proofs.Common.{ℕ, refl, sym, subst, ◌∙◌}
-use Rattle.std.proofs.lemmas.Bool.{false≢true}
+use Rattle.std.proofs.Common.{◌≡◌, ℕ, refl, rules, subst, tests}
+use Rattle.std.proofs.lemmas.Iterator.{YieldsList-from_slice}
 use Rattle.rc_tuple.specs.RisingSet.{In}
-use Rattle.rc_tuple.specs.RisingSetLaws.{get_or_in}
-use Rattle.rc_spec.specs.declared.lock.Mode.TheVariants.{Shared}
-use Rattle.rc_spec.specs.Locks.{StripeLock}
-use Rattle.rc_multi.proofs.CoverLemmas.{none_more}
-use Rattle.rc_multi.proofs.covering.is_held.Goals.{else-lock-stripe-via-then-lock-stripe+else-suffices, else-lock-stripe-via-else-lock-stripe}
+use Rattle.rc_spec.specs.Locks.{StripeLock, Suffices}
+use Rattle.rc_multi.proofs.AnswerLemmas.{any_said}
 use Rattle.rc_multi.proofs.covering.is_held.Goals as goal
 
-pub returns-then-suffices : goal.returns-then-suffices
-returns-then-suffices c =
-    let none : StripeLock = (0, Shared) in
-    let l : StripeLock = get_or c.args.locks.now c.loop-lock.lock-index none in (
-      (λ t. (
-        l.1,
-        subst (λ (n : ℕ). In (n, l.1) c.args.locks.now) c.if-lock-stripe.true (get_or_in c.args.locks.now c.loop-lock.lock-index none c.loop-lock-test.true),
-        c.suffices.ensures.0 c.if-suffices.true,
-      )),
-      (λ h. refl),
+pub returns : goal.returns
+returns c =
+    let some = any_said (λ (l : StripeLock). (l.0 ≡ c.args.stripe) × Suffices l.1 c.args.mode) _ _ c.any.result c.any.ensures.ran
+    (YieldsList-from_slice c.args.locks.now c.iter.ensures.rest) (λ x b q k. search (rules, tests)) in (
+      (λ t. let w = some.0 t in (w.0.1, subst (λ (n : ℕ). In (n, w.0.1) c.args.locks.now) w.2.0 w.1, w.2.1)),
+      (λ h. some.1 ((c.args.stripe, h.0), h.1, (refl, h.2))),
     )
-
-pub loop-lock-preserved : goal.loop-lock-preserved
-loop-lock-preserved c =
-    none_more c.args.locks.now c.args.stripe c.args.mode c.loop-lock.lock-index c.loop-lock-test.true c.loop-lock.invariant
-    (λ e s. elim c.else-lock-stripe.branch [
-      | else-lock-stripe-via-then-lock-stripe+else-suffices w ↦ false≢true (sym w.if-suffices.false ∙ w.suffices.ensures.1 s)
-      | else-lock-stripe-via-else-lock-stripe w ↦ w.if-lock-stripe.false e
-    ])

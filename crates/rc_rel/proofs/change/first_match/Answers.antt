@@ -1,23 +1,11 @@
-use Rattle.std.proofs.Common.{◌≡◌, ℕ, ◌+◌, ◌<◌, ◌∷◌, List, [], Bool, true, length, drop, get_or, sym, ap, ◌∙◌}
-use Rattle.std.specs.List.{filter}
-use Rattle.std.proofs.lemmas.List.{drop_more, get_or_default}
-use Rattle.std.proofs.lemmas.Bool.{cond-true}
-use Rattle.rc_tuple.specs.Tuple.{Pairs, matches}
+use Rattle.std.proofs.Common.{rules, tests}
+use Rattle.std.proofs.lemmas.Iterator.{YieldsList-from_slice}
+use Rattle.std.proofs.lemmas.Iterator.Search.{position_from_yields_List}
+use Rattle.rc_tuple.specs.Tuple.{matches}
+use Rattle.rc_rel.proofs.ChangeLemmas.{first_found}
 use Rattle.rc_rel.proofs.change.first_match.Goals as goal
 
-filter_here : (p : Pairs → Bool) (r : List Pairs) (at : ℕ) (d : Pairs) → at < length r → p (get_or r at d) ≡ true
-    → filter p (drop at r) ≡ get_or r at d ∷ filter p (drop (at + 1) r)
-filter_here p r at d h e = ap (filter p) (drop_more r at d h) ∙ cond-true (p (get_or r at d)) _ _ e
-
-pub returns-then-matches : goal.returns-then-matches
-returns-then-matches c =
-    let r : List Pairs = c.args.tuples.now in
-    let p : Pairs → Bool = matches c.args.pattern.now in
-    let here : c.index-tuples-at.result ≡ get_or c.args.tuples.now c.loop-at.at [] =
-    c.index-tuples-at.is ∙ get_or_default c.args.tuples.now c.loop-at.at c.index-tuples-at.result [] c.loop-at-test.true in (
-      c.loop-at-test.true,
-      (
-        filter p (drop (c.loop-at.at + 1) r),
-        sym c.loop-at.invariant ∙ filter_here p r c.loop-at.at [] c.loop-at-test.true (sym (ap p here) ∙ sym c.if-matches.ensures),
-      ),
-    )
+pub returns : goal.returns
+returns c =
+    first_found (matches c.args.pattern.now) c.args.tuples.now c.position.result
+    (position_from_yields_List (matches c.args.pattern.now) _ _ _ c.position.ensures.ran (YieldsList-from_slice c.args.tuples.now cc) (λ x b q k. search (rules, tests)))

@@ -1,11 +1,16 @@
-use Rattle.std.proofs.Common.{◌≡◌, arith, sym, subst}
+use Rattle.std.proofs.Common.{◌≡◌, rules, tests, sym, subst}
+use Rattle.std.proofs.lemmas.Iterator.{YieldsList-from_slice}
+use Rattle.std.proofs.lemmas.Iterator.Adapters.{serves_from_places}
 use Rattle.rc_tuple.specs.RisingSet.{In}
 use Rattle.rc_tuple.specs.RisingSetLaws.{in_each, get_or_in}
 use Rattle.rc_tuple.specs.Tuple.{Pairs, cols_of}
+use Rattle.rc_rel.specs.Over.{AreOver}
 use Rattle.rc_rel.proofs.dependencies.breaks.Goals as goal
 
-pub breaks_with-requires : goal.breaks_with-requires
-breaks_with-requires c =
-    let here : In c.tuple-item.result c.args.tuples.now =
-    subst (λ (t : Pairs). In t c.args.tuples.now) (sym c.tuple-item.is) (get_or_in c.args.tuples.now c.loop-tuple.tuple-index c.tuple-item.result (omega arith)) in
-    in_each (λ (t : Pairs). cols_of c.tuple-item.result ≡ cols_of t) c.args.tuples.now (λ t m. c.requires c.tuple-item.result t here m)
+pub any-requires-clause-callable : goal.any-requires-clause-callable
+any-requires-clause-callable c =
+    let tuples = c.args.tuples.now in
+    serves_from_places (YieldsList-from_slice tuples cc) (λ x q k. search (rules, tests)) (λ x k within is.
+    let here : In x.now tuples = subst (λ (t : Pairs). In t tuples) (sym is) (get_or_in tuples k x.now within) in
+    let over : AreOver (cols_of x.now) tuples = in_each (λ (t : Pairs). cols_of x.now ≡ cols_of t) tuples (λ t m. c.requires x.now t here m) in
+    search (rules, over))
