@@ -1,5 +1,5 @@
 -- What is written of a text with plans that are written for operations, and what its run leaves.
-use Rattle.std.proofs.Common.{◌≡◌, ◌∙◌, ◌<◌, ℕ, inl, List, ◌∷◌, Option, Some, None, Result, Ok, Err, ap, length, refl, subst, sym}
+use Rattle.std.proofs.Common.{◌≡◌, ◌<◌, ℕ, inl, List, ◌∷◌, Option, Some, None, Result, Ok, Err, length, refl, subst, sym}
 use Rattle.std.specs.Prelude.{IfOk, IfSome}
 use Rattle.rc_tuple.specs.RisingSet.{In}
 use Rattle.rc_tuple.specs.RisingSetLaws.{append_in_right}
@@ -25,8 +25,8 @@ use Rattle.rc_work.specs.declared.also.Also.TheVariants.{Nothing}
 use Rattle.rc_work.specs.declared.work.Work.{Work}
 use Rattle.rc_work.specs.Ranking.{work_reading}
 use Rattle.rc_answer.specs.Answers.{AnswersByHand, AnswersChosen, AnswersHands, AnswersWorkBy, IsReportBy, work_in_lines}
-use Rattle.rc_answer.specs.Ran.{HasHandText, IsOfItsStore, IsRunBy, run_text}
-use Rattle.rc_answer.specs.RanByHand.{HasChosenText, HasHandsText}
+use Rattle.rc_answer.specs.Ran.{IsOfItsStore, IsRunBy, run_text}
+use Rattle.rc_answer.specs.RanByHand.{HasChosenText}
 use Rattle.rc_answer.specs.RanLaws.{report_by}
 use Rattle.rc_answer.specs.Refusals.{IsOfAnOperation, WritesRefusal}
 use Rattle.rc_answer.specs.Writes.{Writes}
@@ -99,15 +99,6 @@ module _ (spec : Spec) (text : List ℕ) (rest behind : Rest) (hands : List Hand
       subst (λ (found : Result HandReading hand_lines.Broken). Writes (AnswersHands (past_end_of text) spec found) old new r) (sym h.gives_it)
       (subst (λ (z : List Hand × List ContentLine). Writes (AnswersChosen (past_end_of text) spec z.0 z.1) old new r) (λ i. (sym h.hands_are i, h.others i)) written)
 
-  pub hands_text : (old new : Option (List ℕ)) (ran : Ran)
-      → HasChosenText (past_end_of text) spec hands (content_from (rest_place text behind)) old new ran
-      → HasHandsText (past_end_of text) spec (rest_place text rest) old new ran
-  hands_text old new ran is = record {
-    plans = h.reading;
-    plans_read = h.gives_it;
-    text = subst (λ (z : List Hand × List ContentLine). HasChosenText (past_end_of text) spec z.0 z.1 old new ran) (λ i. (sym h.hands_are i, h.others i)) is;
-  }
-
 -- ---- the specification
 
 module _ (input : List ℕ) (reading : Reading) (spec : Spec) (rest : Rest) (read : spec_reading input ≡ Ok reading) (is : IsRead input spec rest reading) (accepted : IsAccepted spec) where
@@ -124,27 +115,6 @@ module _ (input : List ℕ) (reading : Reading) (spec : Spec) (rest : Rest) (rea
             (λ i. (sym is.value i, sym (read_place input reading spec rest is) i)) h,
       )))
       written
-
-  pub hand_text : (old new : Option (List ℕ)) (ran : Ran) → HasHandsText (past_end_of input) spec (rest_place input rest) old new ran → HasHandText input old new ran
-  hand_text old new ran h = record {
-    spec = spec;
-    hands = h.plans.hands;
-    work = h.text.work;
-    read = record {
-      reading = reading;
-      read = read;
-      of_spec = is.value;
-      accepted = accepted;
-      plans = h.plans;
-      plans_read = ap (hands_reading spec) (read_place input reading spec rest is) ∙ h.plans_read;
-      of_plans = refl;
-      keep = h.text.keep;
-      work_read = h.text.work_read;
-    };
-    run = h.text.run;
-    store = h.text.store;
-    written = h.text.written;
-  }
 
 -- the refusal of a specification is that of `hand`
 pub hand_refusal_answers : (input : List ℕ) (refusal : ReadRefusal) (old new : Option (List ℕ)) (r : Result Status Stop)

@@ -47,8 +47,6 @@ run_of_generated seed calls spec work ran is made run =
     subst (λ (w : Work). IsRunOf sample_graph w ran) made (subst (λ (s : Spec). IsRunOf s work ran) is run)
 
 module _ (seed calls : ℕ) (ran : Ran) (run : IsRunOf sample_graph (generated seed calls) ran) where
-  pub has_journal : IsSome ran.closed.journal
-  has_journal = subst (λ (o : Option (List Entry)). IsSome o) (sym run.journal) refl
 
   -- it is small enough to be counted
   pub steps_are_few : calls ≤ 20000 → length (steps_of (entries_in ran.closed.journal)) < 2 ^ 64

@@ -54,14 +54,6 @@ module _ (form : Form) (compiled : SpecWithPlans) (work : Work) (can : IsJudgeab
     opening_front : (line : List ℕ) → line ≡ get_or opening.lines opening.met [] → front ++ line ∷ [] ≡ take (opening.met + 1) opening.lines
     opening_front line is = ap (λ l. l ++ line ∷ []) at.front_is ∙ one_more [] opening.lines opening.met line [] at.within is
 
-    pub opening_more : (line : List ℕ) (next : Opening) → line ≡ get_or opening.lines opening.met [] → next ≡ record opening { met = opening.met + 1 }
-        → opening.met + 1 < length opening.lines → IsOpening form compiled work next (front ++ line ∷ [])
-    opening_more line next is next_is within = subst (λ (o : Opening). IsOpening form compiled work o (front ++ line ∷ [])) (sym next_is) (record {
-      lines_are = at.lines_are;
-      within = within;
-      front_is = opening_front line is;
-    })
-
     -- with the last of the lines the judge stands before the first round
     pub opening_last : (line : List ℕ) (relation : Relation) → line ≡ get_or opening.lines opening.met [] → opening.met + 1 ≡ length opening.lines
         → Keeps compiled.spec relation [] → IsBefore form compiled work relation 0 0 (front ++ line ∷ [])

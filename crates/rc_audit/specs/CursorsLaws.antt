@@ -1,28 +1,18 @@
 -- What places of threads in a round say of the turns that are left.
-use Rattle.std.proofs.Common.{◌≡◌, ◌≢◌, ℕ, zero, suc, ◌+◌, ◌<◌, ◌≤◌, List, [], ◌∷◌, ◌++◌, drop, get_or, set, length, Some, refl, sym, ap, ◌∙◌, inl, inr, subst, arith}
+use Rattle.std.proofs.Common.{◌≡◌, ℕ, zero, suc, ◌+◌, ◌<◌, ◌≤◌, List, [], ◌∷◌, ◌++◌, drop, get_or, set, length, Some, refl, sym, ap, ◌∙◌, inl, inr, subst, arith}
 use Rattle.std.specs.List.{slice_get}
 use Rattle.std.proofs.lemmas.Bool.{cases_eq, cases_lt}
 use Rattle.std.proofs.lemmas.List.{drop_more, get_or_append_left, get_or-set_same, get_or-set_other, length-append, length-set}
-use Rattle.std.proofs.lemmas.Option.{get_or_from_slice_get, slice_get-get_or, slice_get_within}
+use Rattle.std.proofs.lemmas.Option.{get_or_from_slice_get, slice_get_within}
 use Rattle.rc_spec.specs.declared.call.Call.{Call}
 use Rattle.rc_work.specs.declared.work.Turn.{Turn}
 use Rattle.rc_work.specs.Made.{HasTurnsBelow}
 use Rattle.rc_work.specs.Runs.{thread_turns}
 use Rattle.rc_audit.specs.Cursors.{AreCursors, HasGoneOn, HasLeft, HaveBegun, IsTurnOf, cursor_at, left_in, turns_from}
 use Rattle.rc_audit.specs.Left.{AreNoneFrom, IsMade, NoneLeft}
-use Rattle.rc_audit.specs.LeftLaws.{not_none, turn_mine, turn_other, turns_none}
+use Rattle.rc_audit.specs.LeftLaws.{not_none, turn_mine, turns_none}
 
 -- ---- the next turn of a thread
-
--- a turn of another thread is passed
-pub passed : (round : List Turn) (thread place : ℕ) (d : Turn) → place < length round → (get_or round place d).thread ≢ thread
-    → turns_from round thread place ≡ turns_from round thread (place + 1)
-passed round thread place d within apart =
-    ap (thread_turns thread) (drop_more round place d within) ∙ turn_other (get_or round place d) (drop (place + 1) round) thread apart
-
--- a turn of the thread is found
-pub found : (round : List Turn) (thread place : ℕ) (d : Turn) → place < length round → (get_or round place d).thread ≡ thread → IsTurnOf round thread place
-found round thread place d within mine = inr (get_or round place d, slice_get-get_or round place d within, mine)
 
 beyond : (round : List Turn) (place : ℕ) → length round ≤ place → drop place round ≡ []
 beyond [] zero l = refl

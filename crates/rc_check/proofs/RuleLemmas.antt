@@ -24,7 +24,7 @@ use Rattle.rc_plan.specs.declared.statement.Statement.TheVariants.{Lock, CheckDe
 use Rattle.rc_plan.specs.declared.statement.Which.{Which}
 use Rattle.rc_plan.specs.declared.statement.Which.TheVariants as which
 use Rattle.rc_plan.specs.Evaluation.{dep_at, no_dep}
-use Rattle.rc_plan.specs.PlanRules.{Progress, Covers, FindsTuples, IsAtRisk, IsFindable, IsKeyBound, IsLocked, IsQuery, KeepsK2, KeepsK7, OutputsAreVisited, TellsOld, pattern_columns}
+use Rattle.rc_plan.specs.PlanRules.{Progress, Covers, FindsTuples, IsAtRisk, IsFindable, IsKeyBound, IsLocked, KeepsK2, KeepsK7, OutputsAreVisited, TellsOld, pattern_columns}
 use Rattle.rc_check.specs.declared.progress.ProgressSets.{ProgressSets}
 use Rattle.rc_check.specs.Sets.{sets_of, keyed_classes, whole_classes, above, places_of_deps}
 use Rattle.rc_check.specs.SetsLaws.{in_gathered, in_keyed_classes, in_whole_classes, in_places_of_deps, below_above, above_below}
@@ -169,13 +169,6 @@ ranges_visited kind outs ranges cols visited b is same e =
       (λ h c m. test.0 h c ((in_gathered ranges c).1 m)),
       λ w. test.1 (λ c m. w c ((in_gathered ranges c).0 m)),
     )
-
--- but for a query no operation has range columns
-pub no_range : (kind : OpKind) → (IsQuery kind → ⊥) → (visited : List ℕ) → Within (range_columns kind) visited
-no_range (Query outs ranges) n visited = absurd (n tt)
-no_range Insert n visited = λ c m. absurd m
-no_range Remove n visited = λ c m. absurd m
-no_range Update n visited = λ c m. absurd m
 
 pub old_told : (op : Op) (kind : OpKind) (cols visited : List ℕ) (b : Bool) → kind ≡ Update → cols ≡ pattern_columns op → b ≡ is_within cols visited
     → (b ≡ true) ↔ TellsOld op kind visited

@@ -1,26 +1,14 @@
 -- Laws of the sets of a progress: what stands in them.
-use Rattle.std.specs.Prelude.{◌≡◌, ℕ, zero, suc, ◌+◌, ◌-◌, ◌<◌, ◌≤◌, ◌↔◌, ◌⊎◌, List, [], ◌∷◌}
+use Rattle.std.specs.Prelude.{◌≡◌, ℕ, zero, suc, ◌+◌, ◌<◌, ◌≤◌, ◌↔◌, ◌⊎◌, List, [], ◌∷◌}
 use Rattle.std.proofs.Common.{refl, inl, inr, ap, arith}
 use Rattle.std.specs.Ordering.{nat_cmp}
 use Rattle.rc_tuple.specs.RisingSet.{In, gather}
 use Rattle.rc_tuple.specs.RisingSetLaws.{nat_order, in_gather, gather_in}
 use Rattle.rc_plan.specs.declared.statement.Which.{Which}
 use Rattle.rc_plan.specs.declared.statement.Which.TheVariants as which
-use Rattle.rc_plan.specs.PlanRules.{Phase, Progress, IsLocked}
-use Rattle.rc_check.specs.Sets.{stage_of, with_keyed, with_whole, keyed_classes, whole_classes, above, with_place, places_of_deps}
-use Rattle.rc_check.specs.declared.progress.Stage.TheVariants.{Searching, Decided, Committed}
+use Rattle.rc_check.specs.Sets.{with_keyed, with_whole, keyed_classes, whole_classes, above, with_place, places_of_deps}
 
 -- ---- stages
-
-pub is_searching : (phase : Phase) → (stage_of phase ≡ Searching) ↔ (phase ≡ Phase.Searching)
-is_searching Phase.Searching = ((λ h. refl), λ h. refl)
-is_searching Phase.Decided = ((λ h. absurd cc), λ h. absurd cc)
-is_searching Phase.Committed = ((λ h. absurd cc), λ h. absurd cc)
-
-pub is_committed : (phase : Phase) → (stage_of phase ≡ Committed) ↔ (phase ≡ Phase.Committed)
-is_committed Phase.Searching = ((λ h. absurd cc), λ h. absurd cc)
-is_committed Phase.Decided = ((λ h. absurd cc), λ h. absurd cc)
-is_committed Phase.Committed = ((λ h. refl), λ h. refl)
 
 -- ---- gathered numbers
 

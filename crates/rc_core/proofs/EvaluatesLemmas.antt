@@ -1,5 +1,5 @@
 -- Steps evaluated one after another over what is held.
-use Rattle.std.proofs.Common.{◌≡◌, ℕ, suc, ◌<◌, ◌≤◌, ◌^◌, Bool, true, false, List, [], ◌∷◌, filter, length, cond, Option, Some, None, ap, ◌∙◌, subst, arith}
+use Rattle.std.proofs.Common.{◌≡◌, ℕ, suc, ◌<◌, ◌≤◌, ◌^◌, Bool, true, false, List, [], ◌∷◌, filter, length, cond, Option, Some, ap, ◌∙◌, subst, arith}
 use Rattle.rc_tuple.specs.RisingSet.{In}
 use Rattle.rc_tuple.specs.Tuple.{Pairs, project, tuple_eq}
 use Rattle.rc_spec.specs.declared.call.Reply.{Reply}
@@ -31,17 +31,11 @@ use Rattle.std.specs.List.{slice_get}
 
 -- ---- the first step, and the others
 
-abbrev the_reply : Option Reply → List (Option Reply) → Option Reply
-the_reply d [] = d
-the_reply d (x ∷ xs) = x
-
 abbrev the_others : List (Option Reply) → List (Option Reply)
 the_others [] = []
 the_others (x ∷ xs) = xs
 
 module _ (compiled : SpecWithPlans) (locks : List StripeLock) (x : Step) (steps : List Step) (rows : List EdgeRow) where
-  pub first_reply : Evaluates compiled locks (x ∷ steps) rows → (eval compiled.spec (plan_at compiled.plans x.call.op) x.call rows).reply ≡ Some x.reply
-  first_reply e = ap (the_reply None) e.replies
 
   pub others_evaluate : Evaluates compiled locks (x ∷ steps) rows → Evaluates compiled locks steps (eval compiled.spec (plan_at compiled.plans x.call.op) x.call rows).rows
   others_evaluate e = record { replies = ap the_others e.replies; held = e.held.1 }

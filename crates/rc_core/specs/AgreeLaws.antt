@@ -23,7 +23,7 @@ use Rattle.rc_core.specs.Passes.{IsHigh}
 use Rattle.rc_core.specs.KeepsLaws.{above_itself, shares_held, at_itself}
 use Rattle.rc_core.specs.ListLaws.{not_has}
 use Rattle.std.proofs.lemmas.Bool.{or_right}
-use Rattle.rc_core.specs.State.{writes_of, is_at, counts_at}
+use Rattle.rc_core.specs.State.{is_at, counts_at}
 use Rattle.std.proofs.Common.{◌||◌}
 
 counted_there : (stripes : List StripeState) (p k : ℕ) → has (stripe_at stripes p).counted k ≡ true → p < length stripes
@@ -70,6 +70,3 @@ module _ (spec : Spec) (c : CoreState) (good : IsGood spec c) (p : ℕ) (k : ℕ
 
   pub sharing_counted : In p (shares_of u) → In k (stripe_at c.stripes p).counted
   sharing_counted m = in_has (stripe_at c.stripes p).counted k (sym ((good.passes k u at).counts p) ∙ shares_count u p m)
-
-  pub writing_keeper : In p (writes_of u) → (stripe_at c.stripes p).keeper ≡ Writer k
-  writing_keeper m = writer_of_pass (stripe_at c.stripes p).keeper k (sym ((good.passes k u at).writes p) ∙ has_in (writes_of u) p m)

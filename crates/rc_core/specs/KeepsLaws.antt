@@ -55,8 +55,6 @@ at_below (x ∷ xs) (suc i) a e = let r = at_below xs i a e in omega arith
 -- ---- one pass and one stripe change
 
 module _ (spec : Spec) (c : CoreState) (k p : ℕ) (u w : PassState) (t : StripeState) (good : IsGood spec c) (at : slice_get c.passes k ≡ Some u) (there : p < length c.stripes) where
-  abbrev stripes' : List StripeState
-  stripes' = set c.stripes p t
 
   -- another pass doesn't see the change
   other_pass : (j : ℕ) (v : PassState) → is_writer t.keeper j ≡ is_writer (stripe_at c.stripes p).keeper j → has t.counted j ≡ has (stripe_at c.stripes p).counted j

@@ -1,5 +1,5 @@
 -- Texts with one part more.
-use Rattle.std.proofs.Common.{◌≡◌, ℕ, zero, suc, ◌+◌, ◌≤◌, Bool, true, false, cond, List, [], ◌∷◌, ◌++◌, Some, None, filter, get_or, take, sym, ap, ◌∙◌, arith}
+use Rattle.std.proofs.Common.{◌≡◌, ℕ, zero, suc, ◌+◌, ◌≤◌, Bool, true, false, cond, List, [], ◌∷◌, ◌++◌, Some, filter, get_or, take, sym, ap, ◌∙◌, arith}
 use Rattle.std.specs.List.{slice_get, flat_map, range_with_len}
 use Rattle.std.proofs.lemmas.List.{take_more, append_assoc, append-nil}
 use Rattle.std.proofs.lemmas.Grind.{flat_map-append}
@@ -21,10 +21,6 @@ flat_more f xs i x e =
     ap (flat_map f) (take_more xs i x (slice_get_within xs i x e) ∙ ap (λ y. take i xs ++ y ∷ []) (get_or_from_slice_get xs i x x e))
     ∙ flat_map-append f (take i xs) (x ∷ []) ∙ ap (λ l. flat_map f (take i xs) ++ l) (append-nil (f x))
     )
-
-pub text_more : {A : Type 0} (f : A → List ℕ) (text : List ℕ) (xs : List A) (i : ℕ) (x : A) → slice_get xs i ≡ Some x
-    → (text ++ flat_map f (take i xs)) ++ f x ≡ text ++ flat_map f (take (i + 1) xs)
-text_more f text xs i x e = append_assoc text (flat_map f (take i xs)) (f x) ∙ ap (λ l. text ++ l) (flat_more f xs i x e)
 
 -- the text of one number more
 pub range_more : (f : ℕ → List ℕ) (text : List ℕ) (a n k : ℕ) → a + n ≡ k
@@ -55,10 +51,6 @@ columns_more spec text cols i c some e = append_assoc text (columns_text spec (t
 pub first_column : (spec : Spec) (cols : List ℕ) (c : ℕ) → slice_get cols 0 ≡ Some c → columns_text spec (take 1 cols) ≡ (get_or spec.columns c no_column).name
 first_column spec [] c e = cc
 first_column spec (d ∷ cols) c e = let same : d ≡ c = cc in append-nil (get_or spec.columns d no_column).name ∙ ap (λ k. (get_or spec.columns k no_column).name) same
-
-pub no_columns : (spec : Spec) (text cols : List ℕ) → slice_get cols 0 ≡ None → text ≡ text ++ columns_text spec cols
-no_columns spec text [] e = sym (append-nil text)
-no_columns spec text (d ∷ cols) e = cc
 
 -- a word, and then what stands behind it
 pub behind : (text word rest one all : List ℕ) → one ≡ text ++ word → all ≡ one ++ rest → all ≡ text ++ (word ++ rest)

@@ -3,7 +3,6 @@ use Rattle.std.proofs.Common.{◌≡◌, ℕ, zero, suc, ◌+◌, ◌<◌, ◌�
 use Rattle.std.specs.List.{zip}
 use Rattle.std.specs.Option.{option_or}
 use Rattle.std.proofs.lemmas.List.{get_or-map, length-map, take-append-drop, take_more, take_more_set}
-use Rattle.std.proofs.lemmas.Bool.{eq-eqb, false≢true}
 use Rattle.std.proofs.lemmas.List.Elements.{All-cons, All-nil}
 use Rattle.rc_tuple.specs.RisingSet.{AreDistinct, In}
 use Rattle.rc_tuple.specs.RisingSetLaws.{append_in_left, distinct_left, get_or_in}
@@ -31,7 +30,7 @@ use Rattle.rc_embed.specs.declared.session.State.TheVariants as states
 use Rattle.rc_embed.specs.Asked.{AskedCall}
 use Rattle.rc_embed.specs.Declaring.{declared_by, declared_call, declared_fault_at, declared_fault_in, declared_fault_of, declares_values, first_declared_fault, pattern_at}
 use Rattle.rc_embed.specs.DeclaringLaws.{declared_calls_are_covered}
-use Rattle.rc_embed.specs.OpenGroups.{HasDeclaredCause, HasOpenCause, IsLeftBy, IsUncoveredIn, open_fault_by, open_fault_in, open_fault_of}
+use Rattle.rc_embed.specs.OpenGroups.{HasDeclaredCause, HasOpenCause, IsLeftBy, IsUncoveredIn, open_fault_in, open_fault_of}
 use Rattle.rc_embed.specs.Refused.{is_group, spent_by}
 use Rattle.rc_embed.specs.Session.{SessionSeen}
 use Rattle.rc_embed.proofs.FaultLemmas.{IsOwn, IsOwnIf, none_both, own_group, own_or, own_spent}
@@ -224,14 +223,6 @@ pub own_open_cause : (session : SessionSeen) (asked : AskedCall) (fault : OpenCa
 own_open_cause session asked fault is =
     open_cause_by session asked fault (subst IsOwnOpenIf is (own_open_in session.store session.state asked)) is
 
-open_tests : (known same full : Bool)
-    → (if known then (if same then (if full then Some faults.Full else None) else Some faults.Values) else Some faults.UnknownOperation) ≡ None
-    → (known ≡ true) × (same ≡ true) × (full ≡ false)
-open_tests true true true is = absurd cc
-open_tests true true false is = (refl, refl, refl)
-open_tests true false full is = absurd cc
-open_tests false same full is = absurd cc
-
 -- one for which what was declared doesn't suffice was not declared
 pub uncovered_so : (store : StoreSeen) (group : OpenGroupSeen) (call : Call) → IsCompiled (spec_of store.row) (compiled_of store.row).plans
     → Fits (spec_of store.row) call → (Covers (compiled_of store.row) call group.locks → ⊥) → IsUncoveredIn store (states.Open group) call
@@ -240,19 +231,3 @@ uncovered_so store group call ok fits none = (
   (λ declared locks is. none
       (subst (Covers (compiled_of store.row) call) (sym locks) (declared_calls_are_covered store ok declared call fits is))),
 )
-
--- an open group that may be asked for a call: the call's operation is known and takes so many values, and the group isn't full
-pub record MayBeAsked (spec : Spec) (group : OpenGroupSeen) (asked : AskedCall) : Type 0 where
-  pub known : asked.op < length spec.ops
-  pub count : asked.count ≡ length (written_columns_at spec asked.op)
-  pub left : length group.steps ≡ 16 → ⊥
-
-pub may_be_asked : (spec : Spec) (group : OpenGroupSeen) (asked : AskedCall) → open_fault_by spec (length group.steps) asked ≡ None
-    → MayBeAsked spec group asked
-may_be_asked spec group asked is =
-    let tests = open_tests (ltb asked.op (length spec.ops)) (eqb asked.count (length (written_columns_at spec asked.op))) (eqb (length group.steps) 16) is in
-    record {
-      known = ltb-true asked.op (length spec.ops) tests.0;
-      count = eqb-true asked.count (length (written_columns_at spec asked.op)) tests.1;
-      left = λ full. false≢true (sym tests.2 ∙ eq-eqb (length group.steps) 16 full);
-    }

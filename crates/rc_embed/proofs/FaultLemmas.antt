@@ -1,18 +1,17 @@
 -- Calls that have no fault of their own.
-use Rattle.std.proofs.Common.{◌≡◌, ℕ, zero, suc, ◌+◌, ◌<◌, ◌≤◌, Bool, true, false, List, [], ◌∷◌, ◌++◌, length, map, take, Option, Some, None, if◌then◌else◌, ltb, eqb, leb, ltb-true, leb-true, eqb-true, get_or, set, refl, sym, ap, ◌∙◌, subst, arith}
+use Rattle.std.proofs.Common.{◌≡◌, ℕ, zero, suc, ◌+◌, ◌<◌, Bool, true, false, List, [], ◌∷◌, ◌++◌, length, map, take, Option, Some, None, if◌then◌else◌, ltb, eqb, ltb-true, eqb-true, get_or, set, refl, sym, ap, ◌∙◌, subst, arith}
 use Rattle.std.specs.Option.{option_or}
 use Rattle.std.specs.List.{AllByRecursion}
-use Rattle.std.proofs.lemmas.Bool.{and_parts}
 use Rattle.std.proofs.lemmas.List.{get_or-map, take_more, take_more_set}
 use Rattle.rc_spec.specs.declared.call.Call.{Call}
 use Rattle.rc_spec.specs.declared.spec.Spec.{Spec}
-use Rattle.rc_row.specs.Passes.{PassSeen, core_of, spec_of}
+use Rattle.rc_row.specs.Passes.{core_of, spec_of}
 use Rattle.rc_store.specs.Store.{StoreSeen}
 use Rattle.rc_work.specs.CallColumns.{call_of, written_columns_at}
 use Rattle.rc_embed.specs.declared.fault.CallFault.{CallFault}
 use Rattle.rc_embed.specs.declared.fault.CallFault.TheVariants.{Busy, Count, Memory, Prepared, Spent, UnknownOperation, Values}
 use Rattle.rc_embed.specs.Asked.{AskedCall, calls_by}
-use Rattle.rc_embed.specs.Refused.{HasCallCause, fault_at, fault_by, fault_in, fault_of, first_fault, is_group, spent_by}
+use Rattle.rc_embed.specs.Refused.{HasCallCause, fault_at, fault_in, fault_of, first_fault, is_group, spent_by}
 use Rattle.rc_embed.specs.Session.{SessionSeen}
 use Rattle.rc_embed.specs.declared.session.State.{State}
 use Rattle.rc_embed.specs.declared.session.State.TheVariants as states
@@ -41,24 +40,6 @@ pub taken_at : (spec : Spec) (op count : ℕ) → fault_at spec op count ≡ Non
 taken_at spec op count is =
     let tests = both_tests (ltb op (length spec.ops)) (eqb count (length (written_columns_at spec op))) is in
     (ltb-true op (length spec.ops) tests.0, eqb-true count (length (written_columns_at spec op)) tests.1)
-
-pub is_some_group : (test : Bool) (fault : Option CallFault) → (if test then fault else Some Count) ≡ None → (test ≡ true) × (fault ≡ None)
-is_some_group true fault is = (refl, is)
-is_some_group false fault is = absurd cc
-
--- calls that a pass may make as one are 1 to 16, none of them has a fault, and the pass isn't spent
-pub record MayBeMade (store : StoreSeen) (pass : PassSeen) (calls : List AskedCall) : Type 0 where
-  pub some : 1 ≤ length calls
-  pub few : length calls ≤ 16
-  pub first : first_fault (spec_of store.row) calls ≡ None
-  pub left : spent_by store pass ≡ None
-
-pub may_be_made : (store : StoreSeen) (pass : PassSeen) (calls : List AskedCall) → fault_by store pass calls ≡ None → MayBeMade store pass calls
-may_be_made store pass calls is =
-    let group = is_some_group (is_group calls) (option_or (first_fault (spec_of store.row) calls) (spent_by store pass)) is in
-    let sizes = and_parts (leb 1 (length calls)) (leb (length calls) 16) group.0 in
-    let none = none_both (first_fault (spec_of store.row) calls) (spent_by store pass) group.1 in
-    record { some = leb-true 1 (length calls) sizes.0; few = leb-true (length calls) 16 sizes.1; first = none.0; left = none.1 }
 
 -- ---- calls that are filled one after another
 

@@ -6,8 +6,7 @@ use Rattle.std.proofs.lemmas.List.Edits.{map_over_more}
 use Rattle.std.proofs.lemmas.Option.{same_Some}
 use Rattle.rc_spec.specs.declared.call.Reply.{Reply}
 use Rattle.rc_embed.specs.declared.frame.Frame.{Frame}
-use Rattle.rc_embed.specs.Frames.{HaveReplies, with_picked_reply, with_replies, with_reply}
-use Rattle.rc_embed.specs.Session.{SessionSeen, replies_of, reply_of}
+use Rattle.rc_embed.specs.Frames.{with_replies, with_reply}
 
 -- so many frames are told their replies
 abbrev pub told_so_far : List Reply → List Frame → ℕ → List Frame
@@ -74,19 +73,3 @@ told_all (reply ∷ replies) (frame ∷ frames) (suc at) same all =
     ap (λ (l : List Frame). with_reply reply frame ∷ l) (told_all replies frames at (omega (arith, same)) (omega (arith, all)))
 
 -- ---- one frame
-
-one_told : (replies : List Reply) (picked : ℕ) (frame : Frame) → length replies ≡ 1 → picked ≡ 0
-    → with_picked_reply (slice_get replies picked) frame ∷ [] ≡ with_replies replies (frame ∷ [])
-one_told [] picked frame one first = absurd (omega (arith, one))
-one_told (reply ∷ []) picked frame one first = ap (λ (k : ℕ). with_picked_reply (slice_get (reply ∷ []) k) frame ∷ []) first
-one_told (reply ∷ (other ∷ replies)) picked frame one first = absurd (omega (arith, one))
-
--- it has the one reply, which is picked
-pub told_one : (session : SessionSeen) (before after : Frame) → length (replies_of session) ≡ 1 → session.picked ≡ 0
-    → after ≡ with_picked_reply (reply_of session) before → HaveReplies session (before ∷ []) (after ∷ [])
-told_one session before after one first is = record {
-  count = one;
-  same =
-      ap (λ (frame : Frame). let frames : List Frame = frame ∷ [] in frames) is
-      ∙ one_told (replies_of session) session.picked before one first;
-}

@@ -60,12 +60,6 @@ count_of passes count all =
     ∙ ap (λ (ks : List ℕ). length ks) all
     ∙ length-range_with_len 0 count
 
--- a list begins with its first
-pub first_of : {X : Type 0} (xs : List X) (x : X) → 0 < length xs → x ≡ get_or xs 0 x
-    → xs ≡ x ∷ drop 1 xs
-first_of [] x some is = absurd (omega arith)
-first_of (y ∷ xs) x some is = ap (λ z. z ∷ xs) (sym is)
-
 -- what holds of each holds of each with one more among them
 pub all_with : {X : Type 0} (P : X → Type 0) (at : ℕ) (xs : List X) (x : X) → All P xs → P x
     → All P (take at xs ++ x ∷ drop at xs)

@@ -25,8 +25,8 @@ use Rattle.rc_work.specs.ShapesGrammar.{shapes_of}
 use Rattle.rc_embed.specs.declared.open_frame.OpenFrame.{OpenFrame}
 use Rattle.rc_embed.specs.OpenFrames.{BreaksRule, HasRefusal, IsOpenedBy, IsOpenedWithBy, IsRefusedBy, IsRefusedWithBy, options_asked}
 use Rattle.rc_embed.specs.OpenedLaws.{opened_plans, refused_without_plans}
-use Rattle.rc_embed.specs.Opened.{AreInBounds, ArePlannedOf, AreShapesUnreadFor, AreShort, IsAskedBy, IsBuiltOf, IsCompiledWith, IsMadeOf, IsOfTexts, IsOpened, IsOpenedWith, IsStoreOfTexts}
-use Rattle.rc_embed.specs.Opened.{IsPlannedWith, IsRefusedFor, IsRefusedPlan, IsRefusedWith, IsUnplannedFor, OpenSeen, ReadsAccepted}
+use Rattle.rc_embed.specs.Opened.{AreInBounds, ArePlannedOf, AreShort, IsAskedBy, IsBuiltOf, IsCompiledWith, IsMadeOf, IsOfTexts, IsOpened, IsOpenedWith, IsStoreOfTexts}
+use Rattle.rc_embed.specs.Opened.{IsPlannedWith, IsRefusedFor, IsRefusedPlan, IsRefusedWith, IsUnplannedFor, OpenSeen}
 
 -- its operation is one of the specification's
 pub first_is_known : (spec : Spec) (hands : List Hand) (op : ℕ) (refusal : PlanRefusal) → AreHands spec hands
@@ -61,28 +61,8 @@ planned_with declared spec own plans hands compiled is read same kept chosen = r
 -- ---- what opening a store answers
 
 module _ (text shapes plans : List ℕ) (options : asked.Options) (bounds : AreInBounds options) (short : AreShort text shapes plans) where
-  -- the specification isn't read, or isn't accepted
-  pub unread : (fault : OpenFault) → ReadsAccepted text options (Err fault) → IsRefusedWith text shapes plans options fault
-  unread Memory cause = (bounds, short)
-  unread Options cause = absurd cause
-  unread TooLong cause = absurd cause
-  unread (Line rule line) cause = (bounds, short, cause)
-  unread (Rule spec refusal) cause = (bounds, short, cause)
-  unread (ShapeLine rule line) cause = absurd cause
-  unread (PlanLine rule line) cause = absurd cause
-  unread (Plan spec op refusal) cause = absurd cause
 
   module _ (spec : Spec) (from : IsAskedBy text options spec) (accepted : IsAccepted spec) (named : IsWellNamed spec) where
-    -- the shapes aren't read
-    pub shapes_unread : (fault : OpenFault) → AreShapesUnreadFor text shapes spec fault → IsRefusedWith text shapes plans options fault
-    shapes_unread Memory cause = (bounds, short)
-    shapes_unread Options cause = absurd cause
-    shapes_unread TooLong cause = absurd cause
-    shapes_unread (Line rule line) cause = absurd cause
-    shapes_unread (Rule broken refusal) cause = absurd cause
-    shapes_unread (ShapeLine rule line) cause = (bounds, short, record { spec = spec; from = from; accepted = accepted; broken = cause })
-    shapes_unread (PlanLine rule line) cause = absurd cause
-    shapes_unread (Plan planned op refusal) cause = absurd cause
 
     module _ (further : List Op) (read : shapes_of (text_version text) spec shapes ≡ Ok further) where
       abbrev of_texts : IsOfTexts text shapes options (with_operations spec further)

@@ -3,16 +3,15 @@ use Rattle.std.proofs.Common.{◌≡◌, ℕ, List, Result, Ok, Err, IfOk, IfErr
 use Rattle.rc_plan.specs.Compiled.{SpecWithPlans}
 use Rattle.rc_rel.specs.Further.{Extends}
 use Rattle.rc_store.specs.Closed.{ClosedSeen}
-use Rattle.rc_embed.specs.declared.fault.OpenFault.{OpenFault}
 use Rattle.rc_embed.specs.declared.fault.OpenFault.TheVariants as faults
 use Rattle.rc_embed.specs.declared.fault.ResumeFault.{ResumeFault}
 use Rattle.rc_embed.specs.declared.fault.ResumeFault.TheVariants.{Refused, Sessions, Limit, Other}
 use Rattle.rc_embed.specs.declared.open_frame.OpenFrame.{OpenFrame}
 use Rattle.rc_embed.specs.declared.opening.Options as asked
-use Rattle.rc_embed.specs.OpenFrames.{HasItem, options_asked}
-use Rattle.rc_embed.specs.Opened.{AreInBounds, IsCompiledWith, IsRefusedWith, OpenSeen}
-use Rattle.rc_embed.specs.ResumedFrames.{BreaksRuleOf, HasItemOf, IsUnresumedBy, TellsResumeFault}
-use Rattle.rc_embed.specs.Resuming.{IsOneOf, IsOneResumed, IsResumedOf, IsResumedWith, IsTooSmallFor, IsUnresumedFor, Suffices}
+use Rattle.rc_embed.specs.OpenFrames.{options_asked}
+use Rattle.rc_embed.specs.Opened.{AreInBounds, IsCompiledWith, OpenSeen}
+use Rattle.rc_embed.specs.ResumedFrames.{BreaksRuleOf, IsUnresumedBy, TellsResumeFault}
+use Rattle.rc_embed.specs.Resuming.{IsOneOf, IsOneResumed, IsResumedOf, IsResumedWith, IsUnresumedFor, Suffices}
 use Rattle.rc_embed.proofs.PlanningLemmas.{memory_too, store_of_texts, tells_none}
 
 -- what comes of what is so
@@ -25,23 +24,10 @@ err_if P Q (Ok x) is more = tt
 err_if P Q (Err y) is more = more y is
 
 module _ (closed : ClosedSeen) (text shapes plans : List ℕ) (options : asked.Options) where
-  -- the options are refused, or don't suffice
-  pub too_small : (fault : ResumeFault) → IsTooSmallFor closed options fault → IsUnresumedFor closed text shapes plans options fault
-  too_small (Refused fault) cause =
-      (subst (IsRefusedWith text shapes plans options) (sym cause.0) cause.1, λ bounds. absurd (cause.1 bounds))
-  too_small Sessions cause = cause
-  too_small Limit cause = cause
-  too_small Other cause = absurd cause
 
   module _ (bounds : AreInBounds options) (suffices : Suffices closed options) where
-    -- a text is refused
-    pub text_refused : (fault : OpenFault) → IsRefusedWith text shapes plans options fault → IsUnresumedFor closed text shapes plans options (Refused fault)
-    text_refused fault cause = (cause, λ _. suffices)
 
     module _ (compiled : SpecWithPlans) (with_plans : IsCompiledWith text shapes plans options compiled) where
-      -- the specification is another one
-      pub another : (Extends closed.compiled.spec compiled.spec → ⊥) → IsUnresumedFor closed text shapes plans options Other
-      another other = (bounds, suffices, record { compiled = compiled; with_plans = with_plans; other = other })
 
       -- memory is wanted
       pub no_memory : (fault : ResumeFault) → fault ≡ Refused faults.Memory → IsUnresumedFor closed text shapes plans options fault
@@ -66,23 +52,7 @@ module _ (closed : ClosedSeen) (text shapes plans : List ℕ) (options : asked.O
 
 -- ---- frames
 
--- what is refused is an item of the specification
-has_item : (text shapes plans : List ℕ) (options : asked.Options) (fault : OpenFault) → IsRefusedWith text shapes plans options fault → HasItem fault
-has_item text shapes plans options faults.Memory cause = tt
-has_item text shapes plans options faults.Options cause = tt
-has_item text shapes plans options faults.TooLong cause = tt
-has_item text shapes plans options (faults.Line rule line) cause = tt
-has_item text shapes plans options (faults.Rule spec refusal) cause = cause.2.item
-has_item text shapes plans options (faults.ShapeLine rule line) cause = tt
-has_item text shapes plans options (faults.PlanLine rule line) cause = tt
-has_item text shapes plans options (faults.Plan spec op refusal) cause = cause.2.refused.known
-
 module _ (closed : ClosedSeen) (text shapes plans : List ℕ) (options : asked.Options) where
-  pub has_item_of : (fault : ResumeFault) → IsUnresumedFor closed text shapes plans options fault → HasItemOf fault
-  has_item_of (Refused fault) cause = has_item text shapes plans options fault cause.0
-  has_item_of Sessions cause = tt
-  has_item_of Limit cause = tt
-  has_item_of Other cause = tt
 
   -- where memory is wanted for the refusal of a text, nothing else was wrong before
   pub memory_resumed : (fault : ResumeFault) → BreaksRuleOf fault → IsUnresumedFor closed text shapes plans options fault

@@ -1,7 +1,6 @@
 -- A session that is the same is unchanged; and what is told of calls that were made.
 use Rattle.std.proofs.Common.{◌≡◌, ℕ, ◌≤◌, List, [], ◌∷◌, length, Option, Some, None, refl, sym, ap, ◌∙◌, subst, arith}
 use Rattle.std.specs.List.{slice_get}
-use Rattle.std.proofs.lemmas.List.{length-map}
 use Rattle.rc_spec.specs.declared.call.Call.{Call as ACall}
 use Rattle.rc_spec.specs.declared.call.Reply.{Reply}
 use Rattle.rc_journal.specs.PartEntries.{PartEntries}
@@ -10,21 +9,20 @@ use Rattle.rc_rel.specs.HistoryLaws.{with_replies-parts}
 use Rattle.rc_multi.specs.Group.{with_step}
 use Rattle.rc_row.specs.declared.keeping.Keeping.{Keeping}
 use Rattle.rc_row.specs.declared.keeping.Keeping.TheVariants.{Counts}
-use Rattle.rc_row.specs.Passes.{IsMoreRoom, PassSeen, compiled_of, spec_of}
+use Rattle.rc_row.specs.Passes.{IsMoreRoom, PassSeen, compiled_of}
 use Rattle.rc_store.specs.declared.receipt.GroupReceipt.{GroupReceipt}
 use Rattle.rc_store.specs.declared.receipt.Receipt.{Receipt}
 use Rattle.rc_store.specs.Running.{HasBegun, HasBegunGroup, RunningGroupSeen, RunningSeen, calls_of, replies_of as replies_with}
 use Rattle.rc_store.specs.Store.{AreRepliesFor, HasMade, HasMadeEntry, HasMadeGroup, HoldsExactly, IsAsBefore, IsReplyFor, StoreSeen, receipt_at}
-use Rattle.rc_work.specs.CallColumns.{call_of}
 use Rattle.rc_embed.specs.declared.session.Last.TheVariants.{Call, Group}
 use Rattle.rc_store.specs.declared.receipt.Position.{Position}
 use Rattle.rc_embed.specs.declared.session.State.{State}
 use Rattle.rc_embed.specs.declared.session.State.TheVariants.{Idle, Prepared, PreparedGroup, Open, Moving}
 use Rattle.rc_embed.specs.Asked.{AskedCall}
-use Rattle.rc_embed.specs.EntriesLaws.{prepared_uncommitted, told_last}
+use Rattle.rc_embed.specs.EntriesLaws.{told_last}
 use Rattle.rc_embed.specs.OpenGroups.{HasCalledOpen, call_in}
-use Rattle.rc_embed.specs.Session.{HasCalled, HasCommitted, HasPrepared, IsStateAsBefore, IsStateOf, IsUnchanged, SessionSeen}
-use Rattle.rc_embed.specs.Session.{alone, receipt_of, replies_given, replies_in, replies_of, reply_of, uncommitted_in}
+use Rattle.rc_embed.specs.Session.{HasCommitted, IsStateAsBefore, IsStateOf, IsUnchanged, SessionSeen}
+use Rattle.rc_embed.specs.Session.{alone, receipt_of, replies_given, replies_in, reply_of, uncommitted_in}
 
 same_room : (kept : Option PartEntries) → IsMoreRoom kept kept
 same_room None = tt
@@ -145,24 +143,6 @@ told_open store steps given counts is =
     ap (λ (o : Option (List Reply)). replies_given (Group o)) (subst (λ (k : Keeping). AreRepliesFor k (replies_with steps) given) counts is)
 
 -- ---- how many replies there are
-
--- as many as calls were made
-pub called_count : (old new : SessionSeen) (asked : List AskedCall) (at : Position) → HasCalled old asked new at
-    → length (replies_of new) ≡ length asked
-called_count old new asked at h =
-    ap (λ (l : List Reply). length l) (told_last new h.after h.is)
-    ∙ h.made.count
-    ∙ length-map asked (λ (call : AskedCall). call_of (spec_of old.store.row) call.op call.values)
-
--- or prepared
-pub prepared_count : (old new : SessionSeen) (asked : List AskedCall) → HasPrepared old asked new
-    → length (replies_of new) ≡ length asked
-prepared_count old new asked h =
-    ap (λ (o : Option RunningGroupSeen). length (replies_in o new.last)) (prepared_uncommitted new.state h.running h.is)
-    ∙ length-map h.running.steps (λ (s : Step). s.reply)
-    ∙ sym (length-map h.running.steps (λ (s : Step). s.call))
-    ∙ ap (λ (l : List ACall). length l) h.begun.asked
-    ∙ length-map asked (λ (call : AskedCall). call_of (spec_of old.store.row) call.op call.values)
 
 some_first : (steps : List Step) → 1 ≤ length steps → (reply : Reply) × (slice_get (replies_with steps) 0 ≡ Some reply)
 some_first [] some = absurd (omega (arith, some))

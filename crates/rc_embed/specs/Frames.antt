@@ -70,9 +70,6 @@ with_replies (reply ∷ replies) (frame ∷ frames) = with_reply reply frame ∷
 abbrev pub with_place : Position → Frame → Frame
 with_place at frame = record frame { place = at.place; nth = at.nth }
 
-abbrev pub place_told : Frame → Position
-place_told frame = record { place = frame.place; nth = frame.nth }
-
 abbrev pub with_found : Found → Frame → Frame
 with_found (finds.Pass k) frame = record frame { found = 0; who = k }
 with_found (finds.Readers n) frame = record frame { found = 1; who = n }

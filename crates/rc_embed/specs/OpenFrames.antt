@@ -134,9 +134,6 @@ pub record HasOpenedWith (text shapes plans : List ℕ) (before after : OpenFram
   pub opened : IsOpenedWithBy text shapes plans before store
   pub none : after.length ≡ 0
 
-abbrev pub HasOpened : List ℕ → OpenFrame → OpenFrame → Type 0
-HasOpened text before after = HasOpenedWith text [] [] before after
-
 -- no store was opened, for a cause, which the code and the frame tell
 pub record IsRefusedAs (IsCause : asked.Options → OpenFault → Type 0) (before after : OpenFrame) (code : ℕ) : Type 0 where
   pub fault : OpenFault

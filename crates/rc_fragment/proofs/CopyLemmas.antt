@@ -61,9 +61,6 @@ IsCopied-more all e left copy new w apart h set same s =
         ∙ sym (ap (λ b. or_else (seen (cond b (Some e.1) (find values_cmp s left))) (seen (fin.get copy s))) t)
     go false t = sym (ap (λ b. or_else (seen (cond b (Some e.1) (find values_cmp s left))) (seen (fin.get copy s))) t)
 
-pub IsCopied-all : (all copy : Sources) → IsCopied all [] copy → AreSeenAlike all copy
-IsCopied-all all copy h = h
-
 -- ---- where the same is seen the same is found
 
 module _ (old new : Sources) (h : AreSeenAlike old new) where

@@ -5,8 +5,7 @@ use Rattle.std.specs.Ordering.{nat_cmp}
 use Rattle.std.proofs.Common.{refl, inl, inr, arith}
 use Rattle.std.proofs.lemmas.List.{length-map}
 use Rattle.std.proofs.lemmas.Bool.Decides.{nat_tests}
-use Rattle.std.proofs.lemmas.Nat.{le-div}
-use Rattle.std.proofs.Math.Nat.{min-le_left, min-le_right, le-min, div-mul-le_self}
+use Rattle.std.proofs.Math.Nat.{min-le_left, min-le_right, div-mul-le_self}
 use Rattle.rc_tuple.specs.RisingSet.{In, IsRising}
 use Rattle.rc_tuple.specs.RisingSetLaws.{in_map, in_has}
 use Rattle.rc_tuple.specs.ColSet.{has, union}
@@ -62,10 +61,6 @@ values_shorter cols (p ∷ t) = omega (arith, count_more cols p t, at_most (has 
 abbrev pub AreDisjoint : List ℕ → List ℕ → List ℕ → Type 0
 AreDisjoint xs ys zs = (c : ℕ) → at_pair (has xs c) + at_pair (has ys c) + at_pair (has zs c) ≤ 1
 
-pub few_values : (xs ys zs : List ℕ) → AreDisjoint xs ys zs → (t : Pairs) → length (values_at xs t) + length (values_at ys t) + length (values_at zs t) ≤ length t
-few_values xs ys zs d [] = omega arith
-few_values xs ys zs d (p ∷ t) = omega (arith, d p.0, count_more xs p t, count_more ys p t, count_more zs p t, few_values xs ys zs d t)
-
 pub parted_columns : (shape : EdgeShape) → IsParted shape → AreDisjoint shape.source shape.key (extra_columns shape)
 parted_columns shape parted c = go (has shape.source c) (has shape.key c) (has (extra_columns shape) c) refl refl refl
   where
@@ -93,18 +88,5 @@ room_some a b h =
     let d : b / 32 * 32 ≤ b = div-mul-le_self b 32 in
     (omega arith, omega arith)
 
-pub room_less : (a b c d : ℕ) → a ≤ c + 1 → b ≤ d + 32 → min a (b / 32) ≤ min c (d / 32) + 1
-room_less a b c d h k =
-    let m : ℕ = min a (b / 32) in
-    let l : min a (b / 32) ≤ a = min-le_left a (b / 32) in
-    let r : min a (b / 32) ≤ b / 32 = min-le_right a (b / 32) in
-    let e : b / 32 * 32 ≤ b = div-mul-le_self b 32 in
-    let f : min a (b / 32) - 1 ≤ d / 32 = le-div (min a (b / 32) - 1) d 32 (omega arith) (omega arith) in
-    let g : min a (b / 32) - 1 ≤ min c (d / 32) = le-min (omega arith) f in
-    omega arith
-
 pub zero_least : (n : ℕ) → 0 ≤ n
 zero_least n = omega arith
-
-pub room_same : (a b c d : ℕ) → a ≡ c → b ≡ d → min a (b / 32) ≤ min c (d / 32)
-room_same a b c d e f = let l : min a (b / 32) ≡ min c (d / 32) = (λ i. min (e i) (f i / 32)) in omega (arith, l)

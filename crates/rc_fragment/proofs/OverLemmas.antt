@@ -15,9 +15,6 @@ pub record AreCut (cols rest : Values) (rows : List Pairs) (lists : List Values)
   pub values : rest ≡ flat_map (λ s. s) left
   pub come : rows ++ map (zip cols) left ≡ map (zip cols) lists
 
-pub AreCut-first : (cols values rest : Values) (rows : List Pairs) (lists : List Values) → rest ≡ values → rows ≡ [] → values ≡ flat_map (λ s. s) lists → HaveWidth (length cols) lists → AreCut cols rest rows lists
-AreCut-first cols values rest rows lists begin none are width = record { left = lists; width = width; values = begin ∙ are; come = ap (λ z. z ++ map (zip cols) lists) none }
-
 pub AreCut-next : (cols values rest : Values) (rows new : List Pairs) (lists : List Values) → length values ≡ length cols → 0 < length cols → AreCut cols (values ++ rest) rows lists → new ≡ rows ++ zip cols values ∷ [] → AreCut cols rest new lists
 AreCut-next cols values rest rows new lists long some cut is = go cut.left cut.width cut.values cut.come
   where

@@ -129,16 +129,6 @@ module _ (shape : EdgeShape) (parted : IsParted shape) (old : List ℕ) (t : Pai
         extra_is = are.extra_is ∙ ap (λ l. key + length l) (sym k);
       }
 
--- the parts lie within the list
-pub parted_within : (shape : EdgeShape) (old : List ℕ) (t : Pairs) (values : List ℕ) (key extra : ℕ) → AreParted shape old t values key extra → (key ≤ length values) × (extra ≤ length values)
-parted_within shape old t values key extra are =
-    let S : List ℕ = values_at shape.source t in
-    let K : List ℕ = values_at shape.key t in
-    let X : List ℕ = values_at (extra_columns shape) t in
-    let l : length values ≡ length old + (length S + (length K + length X)) =
-    ap length are.values_are ∙ length-append old (S ++ (K ++ X)) ∙ ap (λ n. length old + n) (length-append S (K ++ X) ∙ ap (λ n. length S + n) (length-append K X)) in
-    (omega (arith, l, are.key_is), omega (arith, l, are.key_is, are.extra_is))
-
 -- the same of what is equal
 pub parted_as : (shape : EdgeShape) (old : List ℕ) (t : Pairs) (values now : List ℕ) (key extra k x : ℕ) → AreParted shape old t values key extra → now ≡ values → k ≡ key → x ≡ extra → AreParted shape old t now k x
 parted_as shape old t values now key extra k x are v e f = record {

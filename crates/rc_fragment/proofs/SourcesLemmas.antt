@@ -19,7 +19,7 @@ use Rattle.rc_fragment.specs.declared.container.Container.{Container}
 use Rattle.rc_fragment.specs.declared.edge_rows.EdgeRows.{EdgeRows}
 use Rattle.rc_fragment.specs.declared.shape.EdgeShape.{EdgeShape}
 use Rattle.rc_fragment.specs.declared.source_table.SourceTable.{SourceTable}
-use Rattle.rc_edges.specs.RowsLaws.{get-current, get-written, written_again}
+use Rattle.rc_edges.specs.RowsLaws.{get-current, get-written}
 use Rattle.rc_edges.specs.ValuesLaws.{same_from_test as values_same, test_from_same as values_test}
 
 -- ---- a container in the place of what the source had
@@ -51,10 +51,6 @@ module _ (old new : Sources) (source : Values) (o : Option Container) (w : Conta
       go : (b : Bool) → values_eq s source ≡ b → cond b (Some w) (fin.get old s) ≡ Some c → form_in c ≡ form
       go true t p = let q : w ≡ c = cc in ap form_in (sym q) ∙ is
       go false t p = all s c p
-
--- what was found at a source and key, written there again
-pub again : (m : Rows) (n : Rows) (key : Values) → m ≡ n → m ≡ written n key (fin.get n key)
-again m n key is = is ∙ sym (written_again n key (fin.get n key) refl)
 
 -- ---- a source taken out, whose container has no row
 
@@ -234,10 +230,6 @@ pub takes_first : (v : Container) (of : EdgeKind) (one : Bool) (key : Values) �
 takes_first v of one key e w is = takes_alone v of one key e w (λ z k there. absurd (false≢true (subst IsSome (get-current (kept_in v) k ∙ ap (option_and_then present) (none_there (kept_in v) is k)) there)))
 
 -- ---- results
-
-pub on_ok : {X E : Type 0} (P : Type 0) (r : Result X E) → P → OnOk r P
-on_ok P (Ok x) p = p
-on_ok P (Err e) p = tt
 
 pub on_err : {X E : Type 0} (P : Type 0) (r : Result X E) → P → OnErr r P
 on_err P (Ok x) p = tt

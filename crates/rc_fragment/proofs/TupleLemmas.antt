@@ -1,5 +1,5 @@
 -- What is noted of a tuple is noted of its row.
-use Rattle.std.specs.Prelude.{◌≡◌, ℕ, pred, ◌-◌, ◌++◌, List, Some, [], length, map}
+use Rattle.std.specs.Prelude.{◌≡◌, ℕ, pred, ◌-◌, List, Some, [], length, map}
 use Rattle.std.specs.List.{slice_get}
 use Rattle.std.specs.Option.{option_map_or}
 use Rattle.std.proofs.Common.{sym, ap, ◌∙◌, arith}
@@ -40,7 +40,3 @@ module _ (edges : List EdgeRows) (e : ℕ) (x : EdgeRows) (number : slice_get ed
   pub note_of_tuple : (values : Values) (n : NotedRow) → place_of values n ≡ (e, values_at x.shape.source t, values_at x.shape.key t) → noted_extra values n ≡ values_at (extra_columns x.shape) t → IsWithin (length values) n
       → IsNoteOf e x (edge_row (shapes edges) e t) values n
   note_of_tuple values n place extra within = record { place = place ∙ (λ i. (e, source_is i, key_is i)); extra = extra ∙ extra_is; within = within }
-
-  pub values_of_tuple : (old new : Values) → new ≡ old ++ (values_at x.shape.source t ++ (values_at x.shape.key t ++ values_at (extra_columns x.shape) t))
-      → new ≡ old ++ (values_at x.shape.source (edge_row (shapes edges) e t) ++ (values_at x.shape.key (edge_row (shapes edges) e t) ++ values_at (extra_columns x.shape) (edge_row (shapes edges) e t)))
-  values_of_tuple old new is = is ∙ (λ i. old ++ (source_is i ++ (key_is i ++ extra_is i)))

@@ -98,9 +98,6 @@ module _ (table : List EdgeShape) (good : IsTable table) (rows : List EdgeRow) (
     columns_below : (u : Pairs) → IsThere rows l u → cols_of (project upper.target u) ≡ upper.target
     columns_below u h = cols-project lower.target upper.target u (good.parted l lower low).target.rising target.target.rising within (fit.columns (l, u, h.0) h.1 lower low)
 
-    own_values : (t : Pairs) → cols_of t ≡ upper.target → project upper.target t ≡ t → values_at upper.target t ≡ map (λ (p : ℕ × ℕ). p.1) t
-    own_values t c p = ap (map (λ (p : ℕ × ℕ). p.1)) p
-
     -- a row of the upper edge is the projection of one of the lower edge
     below : (t : Pairs) → IsThere (full_rows table rows) e t → (u : Pairs) × IsThere rows l u × (project upper.target u ≡ t)
     below t h =

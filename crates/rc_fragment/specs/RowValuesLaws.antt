@@ -2,7 +2,7 @@
 use Rattle.std.specs.Prelude.{◌≡◌, ℕ, suc, List, [], ◌∷◌, map, length}
 use Rattle.std.specs.List.{zip}
 use Rattle.std.specs.Ordering.{nat_cmp}
-use Rattle.std.proofs.Common.{refl, sym, ap, subst, ◌∙◌, inl, inr, arith}
+use Rattle.std.proofs.Common.{refl, sym, ap, subst, ◌∙◌, inl, inr}
 use Rattle.std.proofs.lemmas.Bool.{false≢true, cases_Bool}
 use Rattle.rc_tuple.specs.RisingSet.{In, IsRising}
 use Rattle.rc_tuple.specs.RisingSetLaws.{gather-rising, rising_filter, in_has, has_in}
@@ -31,12 +31,6 @@ length_values columns cols t r s w over =
     length_seconds : (t : Pairs) → length (map (λ (p : ℕ × ℕ). p.1) t) ≡ length (cols_of t)
     length_seconds [] = refl
     length_seconds (p ∷ t) = ap suc (length_seconds t)
-
-values_of-zip : (cols vals : List ℕ) → length vals ≡ length cols → map (λ (p : ℕ × ℕ). p.1) (zip cols vals) ≡ vals
-values_of-zip [] [] e = refl
-values_of-zip [] (v ∷ vals) e = absurd (omega arith)
-values_of-zip (c ∷ cols) [] e = absurd (omega arith)
-values_of-zip (c ∷ cols) (v ∷ vals) e = ap (λ l. v ∷ l) (values_of-zip cols vals (omega arith))
 
 pub zip_from_values : (columns cols vals : List ℕ) (t : Pairs) → IsRising nat_cmp columns → IsRising nat_cmp cols → Within cols columns → cols_of t ≡ columns → values_at cols t ≡ vals → project cols t ≡ zip cols vals
 zip_from_values columns cols vals t r s w over e = sym (zip_values columns cols t r s w over) ∙ ap (zip cols) e
@@ -96,13 +90,6 @@ module _ (shape : EdgeShape) (parted : IsParted shape) where
       sym both ∙ sym (merge-merge [] u S K) ∙ ap (λ z. merge z (project K u)) first
       ∙ (λ i. merge (sym (zip_values shape.target S u parted.target.rising parted.source.rising parted.source_within over) i) (sym (zip_values shape.target K u parted.target.rising parted.key.rising parted.key_within over) i)) in
       ap (λ z. merge z (zip (extra_columns shape) (values_at (extra_columns shape) u))) two ∙ row_from_values u over
-
-  pub row_with_values : (t : Pairs) (source key extra : List ℕ) → HasValues shape t source key extra → row_from shape source key extra ≡ t
-  row_with_values t source key extra h = (λ i. row_from shape (sym h.source_is i) (sym h.key_is i) (sym h.extra_is i)) ∙ row_from_values t h.columns
-
-  -- so two rows with the same values are one
-  pub one_row : (t u : Pairs) (source key extra : List ℕ) → HasValues shape t source key extra → HasValues shape u source key extra → t ≡ u
-  one_row t u source key extra a b = sym (row_with_values t source key extra a) ∙ row_with_values u source key extra b
 
   pub same_source : (t u : Pairs) → cols_of t ≡ shape.target → cols_of u ≡ shape.target → values_at shape.source t ≡ values_at shape.source u → project shape.source t ≡ project shape.source u
   same_source t u a b e = same_projection shape.target shape.source t u parted.target.rising parted.source.rising parted.source_within a b e

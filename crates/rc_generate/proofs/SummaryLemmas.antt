@@ -14,19 +14,6 @@ use Rattle.rc_generate.specs.Summary.{one_call, one_inserted, one_present, one_c
 counted-append : (count : Reply → ℕ) (a : ℕ) (xs ys : List Step) → a + counted count xs + counted count ys ≡ a + counted count (xs ++ ys)
 counted-append count a xs ys = omega (arith, sum_by-append (λ (s : Step). count s.reply) xs ys)
 
--- steps are counted one after another
-pub plus_steps-append : (s : Summary) (xs ys : List Step) → plus_steps (plus_steps s xs) ys ≡ plus_steps s (xs ++ ys)
-plus_steps-append s xs ys =
-    let a = counted-append one_call s.calls xs ys in
-    let b = counted-append one_inserted s.inserted xs ys in
-    let c = counted-append one_present s.present xs ys in
-    let d = counted-append one_conflict s.conflict xs ys in
-    let e = counted-append one_removed s.removed xs ys in
-    let f = counted-append one_absent s.absent xs ys in
-    let g = counted-append one_query s.queries xs ys in
-    let h = counted-append rows_in s.rows xs ys in
-    let i = counted-append one_many s.many xs ys in cc
-
 below : (count : Reply → ℕ) (a : ℕ) (xs ys : List Step) → a + counted count (xs ++ ys) < 2 ^ 64 → a + counted count xs < 2 ^ 64
 below count a xs ys h = let e = counted-append count a xs ys in omega (arith, h, e)
 

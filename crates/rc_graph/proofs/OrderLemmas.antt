@@ -98,9 +98,6 @@ pub record IsOrderOf (spec : Spec) (before order : List ℕ) : Type 0 where
   pub same : (v : ℕ) → In v before ↔ In v order
   pub next : (k : ℕ) → k < length order → IsNext spec (take k order) (get_or order k 0)
 
-pub order_none : (spec : Spec) → IsOrderOf spec [] []
-order_none spec = record { same = λ v. ((λ m. m), (λ m. m)); next = λ k l. absurd (omega arith) }
-
 -- the same by equations
 next_at : (spec : Spec) (xs ys : List ℕ) (v w : ℕ) → xs ≡ ys → v ≡ w → IsNext spec ys w → IsNext spec xs v
 next_at spec xs ys v w e f next = subst (λ z. IsNext spec z v) (sym e) (subst (IsNext spec ys) (sym f) next)

@@ -28,9 +28,6 @@ columns_from names seen (word ∷ words) =
 abbrev told : Bool → List ℕ → Option (List ℕ)
 told unknown columns = cond (unknown || has_repeat columns) None (Some (gather nat_cmp columns))
 
-told_unknown : (columns : List ℕ) → told true columns ≡ None
-told_unknown columns = refl
-
 told_repeated : (unknown : Bool) (columns : List ℕ) → has_repeat columns ≡ true → told unknown columns ≡ None
 told_repeated true columns e = refl
 told_repeated false columns e = rw e refl

@@ -90,15 +90,6 @@ with_at-set f [] k x e = refl
 with_at-set f (z ∷ xs) zero x e = ap (λ w. f w ∷ xs) (sym (same_Some _ _ e))
 with_at-set f (z ∷ xs) (suc k) x e = ap (λ w. z ∷ w) (with_at-set f xs k x e)
 
-pub length-with_at : {A : Type 0} (f : A → A) (k : ℕ) (xs : List A) → length (with_at f k xs) ≡ length xs
-length-with_at f k [] = refl
-length-with_at f zero (x ∷ xs) = refl
-length-with_at f (suc k) (x ∷ xs) = ap suc (length-with_at f k xs)
-
-pub length-each_at : {A : Type 0} (f : A → A) (ns : List ℕ) (xs : List A) → length (each_at f ns xs) ≡ length xs
-length-each_at f [] xs = refl
-length-each_at f (n ∷ ns) xs = length-each_at f ns (with_at f n xs) ∙ length-with_at f n xs
-
 -- what stands in a list with one element changed
 pub record IsChangedAt {A : Type 0} (f : A → A) (k : ℕ) (xs : List A) (n : ℕ) (y : A) : Type 0 where
   pub was : A

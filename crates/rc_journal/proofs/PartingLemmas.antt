@@ -12,7 +12,7 @@ use Rattle.rc_rel.specs.declared.entry.Placed.{Placed}
 use Rattle.rc_rel.specs.History.{own_placed, placed, placed_from}
 use Rattle.rc_rel.specs.OwnLaws.{own_end_mine, own_end_other, placed_from-append}
 use Rattle.rc_journal.specs.PartEntries.{PartEntries}
-use Rattle.rc_journal.specs.Parting.{HasRoomFor, pushed, pushed_at, with_placed}
+use Rattle.rc_journal.specs.Parting.{pushed, pushed_at, with_placed}
 
 pub pushed_is : (parts : List PartEntries) (n : ℕ) (w : Placed) (x y : PartEntries) → n < length parts → y ≡ pushed w (slice_index_or parts n x) → slice_set parts n y ≡ pushed_at n w parts
 pushed_is [] n w x y lt made = absurd (omega (arith, lt))
@@ -41,9 +41,6 @@ at_other (part ∷ parts) (suc n) (suc k) w apart = at_other parts n k w (λ e. 
 abbrev pub HaveOwn : List Entry → List Entry → List PartEntries → Type 0
 HaveOwn moved all parts = (pass : ℕ) (part : PartEntries) → slice_get parts pass ≡ Some part
     → (part.list ≡ own_placed moved pass) × (length (own_placed all pass) ≤ length part.list + part.spare)
-
-pub none_moved : (journal : List Entry) (parts : List PartEntries) → HasRoomFor journal parts → HaveOwn [] journal parts
-none_moved journal parts room pass part at = let r = room pass part at in (r.0, (let few = r.1 in omega (arith, few)))
 
 -- those that are moved are some of all
 own_grow : (moved rest : List Entry) (e : Entry) → suc (length (own_placed moved e.pass)) ≤ length (own_placed (moved ++ e ∷ rest) e.pass)

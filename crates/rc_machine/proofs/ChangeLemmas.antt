@@ -147,9 +147,6 @@ lowered_done spec t (e ∷ edges) ws = lowered_done spec t edges (lowered e (row
 -- ---- held stripes
 
 module _ (change : Change) (local : IsLocal change) (spec : Spec) (t : Pairs) where
-  -- each stripe has its part of all rows
-  abbrev HaveParts : List HeldStripe → List EdgeRow → Type 0
-  HaveParts held ws = (h : HeldStripe) → In h held → h.now ≡ on_stripes spec (h.stripe ∷ []) ws
 
   one_part : (e : ℕ) (ws : List EdgeRow) → AreCountedRows ws → (h : HeldStripe) → h.now ≡ on_one spec h.stripe ws
       → (with_now (stripe_in spec t e) (change e (row_in spec t e)) h).now ≡ on_one spec (with_now (stripe_in spec t e) (change e (row_in spec t e)) h).stripe (change e (row_in spec t e) ws)
@@ -203,8 +200,6 @@ module _ (spec : Spec) (sealed : IsSealed spec) (plan : List Statement) (call : 
     (x : Statement) (rest : List Statement) (bs : List Pairs) (old : Option Pairs) (held : List HeldStripe) (at : IsAt spec plan call (x ∷ rest) bs old held) (answer : Reply) (t : Pairs)
     (f : (rows : List EdgeRow) → run_one spec (op_at spec call.op) call (updating old bs (locks_of held) rows) x
     ≡ record { bindings = bs; named = locks_of held; old = old; reply = Some answer; rows = all_done change spec t (edge_numbers spec) rows }) where
-  new : List HeldStripe
-  new = all_changed change spec t (edge_numbers spec) held
 
   locks_same : locks_of (all_changed change spec t (edge_numbers spec) held) ≡ locks_of held
   locks_same = locks_kept change spec t (edge_numbers spec) held

@@ -46,8 +46,6 @@ module _ (spec : Spec) (sealed : IsSealed spec) (plan : List Statement) (call : 
   -- ---- Probe
 
   module _ (xs : List ℕ) (rest : List Statement) (bs : List Pairs) (old : Option Pairs) (held : List HeldStripe) (at : IsAt spec plan call (Probe xs ∷ rest) bs old held) where
-    t : Pairs
-    t = call.args
 
     keeps : KeepsAll spec (op_at spec call.op) at.progress (Probe xs)
     keeps = at.keeps.0

@@ -31,11 +31,10 @@ use Rattle.rc_spec.specs.Plain.{plain, plain_by}
 use Rattle.rc_spec.specs.PlainLaws.{insert-present, plain-known, update-absent}
 use Rattle.rc_spec.specs.Stripes.{physical_stripe}
 use Rattle.rc_fragment.specs.Fragment.{IsThereWith, shape_of}
-use Rattle.rc_fragment.specs.FragmentLaws.{parted_edge}
 use Rattle.rc_fragment.specs.FragmentRows.{FragmentRows}
 use Rattle.rc_fragment.specs.Holder.{AreOfOneRelation, AreOfRelation, GoesOn, HeldStripe, Holding, IsLent, held_of}
 use Rattle.rc_fragment.specs.HoldingLaws.{goes_on_again}
-use Rattle.rc_fragment.specs.RowValues.{IsParted, values_at}
+use Rattle.rc_fragment.specs.RowValues.{values_at}
 use Rattle.rc_fragment.specs.declared.held.Held.{Held}
 use Rattle.rc_fragment.specs.declared.shape.EdgeShape.{EdgeShape}
 use Rattle.rc_plan.specs.Access.{AreLate, Asks, InsertsRow, MayBeLate, RemovesRow, UpdatesRow, is_dep_check, is_lock}
@@ -106,9 +105,6 @@ module _ (compiled : SpecWithPlans) (call : Call) (p : AccessPath) (stripe : ℕ
 
   abbrev fall : ℕ
   fall = physical_stripe spec (class_of spec p.edge) call.args
-
-  parted : IsParted shape
-  parted = parted_edge spec locked.sealed p.edge locked.path.locks.edge
 
   args : IsTuple call.args
   args = (fits_at_op spec call locked.fits).tuple

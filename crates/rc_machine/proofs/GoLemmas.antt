@@ -1,5 +1,5 @@
 -- A run goes on from statement to statement.
-use Rattle.std.specs.Prelude.{◌≡◌, ℕ, ◌+◌, ◌<◌, Bool, true, false, List, [], ◌∷◌, ◌++◌, None, Option, Some, IfErr, Result, Ok, Err, cond, filter, drop, get_or, length, map, take}
+use Rattle.std.specs.Prelude.{◌≡◌, ℕ, ◌+◌, ◌<◌, Bool, true, false, List, [], ◌∷◌, ◌++◌, None, Option, Some, cond, filter, drop, get_or, length, map, take}
 use Rattle.std.specs.Ordering.{nat_cmp}
 use Rattle.std.proofs.Common.{inl, inr, refl, sym, ap, subst, ◌∙◌}
 use Rattle.std.proofs.lemmas.List.{drop_more}
@@ -55,10 +55,6 @@ use Rattle.rc_machine.proofs.StepLemmas.{fewer}
 use Rattle.rc_machine.proofs.UpdateLemmas.{found_step, old_named, old_there, updated_relation}
 use Rattle.rc_plan.specs.Search.{updating}
 use Rattle.rc_plan.specs.UpdateLaws.{IsOld}
-
-pub if_err : {T E : Type 0} {P : Type 0} (r : Result T E) → P → IfErr r (λ _. P)
-if_err (Ok x) p = tt
-if_err (Err e) p = p
 
 -- the next statement is the first of the rest
 pub at_is : (spec : Spec) (plan : List Statement) (call : Call) (n : ℕ) (d x : Statement) (bs : List Pairs) (old : Option Pairs) (held : List HeldStripe) → n < length plan → get_or plan n d ≡ x → IsAt spec plan call (drop n plan) bs old held

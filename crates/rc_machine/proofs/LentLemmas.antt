@@ -10,9 +10,6 @@ use Rattle.rc_machine.specs.declared.stop.Stop.TheVariants as stop
 abbrev with_lent : Holding → List LentStripe → Holding
 with_lent s ls = record s { lent = ls }
 
-pub lent_same : (s : Holding) → IsSameButLent s s
-lent_same s = refl
-
 -- other stripes are lent
 pub lent_new : (old new : Holding) (ls : List LentStripe) → new ≡ record old { lent = ls } → IsSameButLent old new
 lent_new old new ls e = e ∙ ap (with_lent old) (sym (ap (λ (s : Holding). s.lent) e))

@@ -1,5 +1,5 @@
 -- What the containers of held stripes answer a binding, merged with it, is its part of a join.
-use Rattle.std.specs.Prelude.{◌≡◌, ℕ, zero, suc, ◌+◌, ◌<◌, ◌≤◌, true, List, [], ◌∷◌, ◌++◌, ◌⊎◌, None, Some, filter, length, map, take, get_or, Result, Ok, Err, IfOk, OnErr, OnOk}
+use Rattle.std.specs.Prelude.{◌≡◌, ℕ, zero, suc, ◌+◌, ◌<◌, ◌≤◌, true, List, [], ◌∷◌, ◌++◌, ◌⊎◌, None, Some, filter, length, map, take, get_or, Result, Ok, Err, OnErr, OnOk}
 use Rattle.std.specs.List.{flat_map, range_with_len}
 use Rattle.std.specs.Ordering.{nat_cmp}
 use Rattle.std.proofs.Common.{inl, inr, refl, sym, ap, subst, ◌∙◌, arith, add-one}
@@ -55,10 +55,6 @@ pub at_err : {T E : Type 0} {P : Type 0} (r : Result T E) → P → OnErr r P
 at_err (Ok x) p = tt
 at_err (Err e) p = p
 
-pub if_ok : {T E : Type 0} {P Q : T → Type 0} (r : Result T E) → ((x : T) → P x → Q x) → IfOk r P → IfOk r Q
-if_ok (Ok x) f h = f x h
-if_ok (Err e) f h = tt
-
 -- ---- edges
 
 pub class_known : (spec : Spec) → IsSealed spec → (e : ℕ) → e < length spec.edges → class_of spec e < length spec.classes
@@ -96,9 +92,6 @@ module _ (spec : Spec) (sealed : IsSealed spec) (e : ℕ) (known : e < length sp
     (columns : (w : EdgeRow) → In w rows → cols_of w.1 ≡ bound spec (edge_at spec w.0).to) where
   abbrev pub shape : EdgeShape
   shape = shape_of spec e
-
-  target : List ℕ
-  target = bound spec (edge_at spec e).to
 
   a3 : KeepsA3 spec (edge_at spec e)
   a3 = sealed.accepted.adequate.a3 e known
@@ -168,9 +161,6 @@ module _ (s : Holding) (stripe : ℕ) (fragment : FragmentRows) (m : In stripe (
         only = λ c n. elim (f.only c n) [ inl k ↦ inl k | inr k ↦ inr (q.0, q.1, subst (λ ws. IsMergeOf b e ws c) (lent.now q.0 q.1 q.2) k) ];
         each = λ g n asked c k. elim asked [ inl z ↦ f.each c (subst (λ ws. IsMergeOf b e ws c) (sym (lent.now g n z)) k) | inr z ↦ absurd z ];
       }
-
-pub on_none : (b : Pairs) (e : ℕ) (held : List HeldStripe) (old : List Pairs) → HasMergedOn b e held [] old old
-on_none b e held old = record { kept = λ c m. m; only = λ c m. inl m; each = λ h m asked c q. absurd asked }
 
 pub on_more : (b : Pairs) (e : ℕ) (held : List HeldStripe) (asked : List ℕ) (stripe : ℕ) (old mid new : List Pairs) → HasMergedOn b e held asked old mid → HasMergedOn b e held (stripe ∷ []) mid new
     → HasMergedOn b e held (asked ++ stripe ∷ []) old new

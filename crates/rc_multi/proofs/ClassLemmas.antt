@@ -1,5 +1,5 @@
 -- The locks of a class, found call by call.
-use Rattle.std.proofs.Common.{◌≡◌, ℕ, ◌+◌, ◌<◌, ◌≤◌, ◌-◌, zero, suc, Bool, true, false, List, [], ◌∷◌, ◌++◌, Some, None, filter, get_or, length, map, take, drop, refl, sym, ap, subst, ◌∙◌, if◌then◌else◌, arith}
+use Rattle.std.proofs.Common.{◌≡◌, ℕ, ◌+◌, ◌<◌, ◌≤◌, ◌-◌, Bool, true, false, List, [], ◌∷◌, ◌++◌, Some, None, filter, get_or, length, map, take, drop, sym, ap, subst, ◌∙◌, if◌then◌else◌, arith}
 use Rattle.std.specs.List.{insert, list_any}
 use Rattle.std.specs.Ordering.{match_ordering, nat_cmp}
 use Rattle.std.specs.declared.cmp.Ordering.{Ordering}
@@ -18,24 +18,14 @@ use Rattle.rc_spec.specs.declared.lock.Mode.TheVariants.{Exclusive, Shared}
 use Rattle.rc_spec.specs.declared.spec.Spec.{Spec}
 use Rattle.rc_spec.specs.Locks.{StripeLock}
 use Rattle.rc_spec.specs.Stripes.{physical_stripe}
-use Rattle.rc_plan.specs.declared.statement.Statement.{Statement}
 use Rattle.rc_plan.specs.StripeLocks.{band, stripes_of}
 use Rattle.rc_plan.specs.Turns.{CallWithPlan}
 use Rattle.rc_multi.specs.declared.class_lock.ClassUse.{ClassUse}
-use Rattle.rc_multi.specs.ClassUse.{class_locks, class_use, either, group_use, in_mode, plan_use, statement_use, with_chosen}
+use Rattle.rc_multi.specs.ClassUse.{class_locks, class_use, either, group_use, in_mode, with_chosen}
 use Rattle.rc_multi.specs.GroupLocksLaws.{stripes_in_mode}
 use Rattle.rc_multi.specs.GroupLocks.{chosen_stripes, group_mode, group_stripes, locks_class, takes_any, writes_class}
 
 -- ---- what plans ask
-
--- by one more statement of a plan
-pub plan_use_more : (c : ℕ) (chosen : Bool) (plan : List Statement) (i : ℕ) (d : Statement) → i < length plan
-    → plan_use c chosen (take (i + 1) plan) ≡ either (plan_use c chosen (take i plan)) (statement_use c chosen (get_or plan i d))
-plan_use_more c chosen plan i d l =
-    let locks = list_any_more (λ s. (statement_use c chosen s).locks) plan i d l in
-    let any = list_any_more (λ s. (statement_use c chosen s).any) plan i d l in
-    let exclusive = list_any_more (λ s. (statement_use c chosen s).exclusive) plan i d l in
-    λ j. record { locks = locks j; any = any j; exclusive = exclusive j }
 
 -- by one more call
 pub group_use_more : (spec : Spec) (c : ℕ) (calls : List CallWithPlan) (i : ℕ) (d : CallWithPlan) → i < length calls
@@ -87,19 +77,6 @@ module _ (x : ℕ) (xs : List ℕ) (i d : ℕ) (l : i < length xs) (h : put nat_
   -- it goes behind
   pub place_behind : nat_cmp x (get_or xs i d) ≡ Greater → put nat_cmp x xs ≡ take (i + 1) xs ++ put nat_cmp x (drop (i + 1) xs)
   place_behind e = h ∙ place_more nat_cmp x xs i d l e
-
--- or at the end
-pub place_last : (x : ℕ) (xs : List ℕ) (n : ℕ) → n ≡ length xs → put nat_cmp x xs ≡ take n xs ++ put nat_cmp x (drop n xs) → IsPlace nat_cmp x xs (Some n)
-place_last x xs n e h = (omega (arith, e), h ∙ ap (λ ys. take n xs ++ ys) (none (drop n xs) (drop_none xs n (omega (arith, e)))))
-  where
-    drop_none : (ys : List ℕ) (k : ℕ) → length ys ≤ k → drop k ys ≡ []
-    drop_none [] zero l = refl
-    drop_none [] (suc k) l = refl
-    drop_none (y ∷ ys) zero l = absurd (omega (arith, l))
-    drop_none (y ∷ ys) (suc k) l = drop_none ys k (omega (arith, l))
-
-    none : (ys : List ℕ) → ys ≡ [] → put nat_cmp x ys ≡ x ∷ ys
-    none ys z = ap (put nat_cmp x) z ∙ ap (λ zs. x ∷ zs) (sym z)
 
 -- ---- a stripe put among the locks
 

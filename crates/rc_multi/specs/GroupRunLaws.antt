@@ -3,7 +3,7 @@ use Rattle.std.specs.Prelude.{◌≡◌, ℕ, zero, suc, ◌+◌, ◌<◌, ◌�
 use Rattle.std.specs.List.{AllByRecursion}
 use Rattle.std.specs.Ordering.{nat_cmp}
 use Rattle.std.proofs.Common.{refl, sym, ap, subst, ◌∙◌, arith}
-use Rattle.std.proofs.lemmas.List.{length-map, map-append, take_all, take_more}
+use Rattle.std.proofs.lemmas.List.{length-map, map-append, take_more}
 use Rattle.rc_tuple.specs.RisingSet.{In, IsRising}
 use Rattle.rc_tuple.specs.RisingSetLaws.{in_map}
 use Rattle.rc_tuple.specs.Tuple.{Pairs}
@@ -22,7 +22,7 @@ use Rattle.rc_core.specs.declared.state.Hold.{Hold}
 use Rattle.rc_machine.specs.Machine.{AreAsTaken, locks_of, stripes_held}
 use Rattle.rc_multi.specs.Group.{AreNowOf, AreOfRelationFor, HasRunIn, Suffice, with_part, with_step}
 use Rattle.rc_multi.specs.GroupLaws.{now_of_relation, served_more, served_none}
-use Rattle.rc_multi.specs.GroupRun.{HasRunGroup, IsGroupAt}
+use Rattle.rc_multi.specs.GroupRun.{IsGroupAt}
 use Rattle.rc_multi.specs.HeldStripes.{all_taken, hold_taken}
 
 -- ---- what is held after a plan
@@ -127,15 +127,4 @@ first_at spec calls held same of rising = record {
   relation = of;
   rising = rising;
   taken = refl;
-}
-
--- and at the end
-pub has_run : (spec : Spec) (calls : List Call) (n : ℕ) (old new : List HeldStripe) (replies : List Reply) → length calls ≤ n
-    → IsGroupAt spec calls n (all_taken old) new replies → HasRunGroup spec calls old new replies
-has_run spec calls n old new replies l at = record {
-  steps = at.steps;
-  calls_are = at.calls_are ∙ take_all n calls l;
-  replies_are = at.replies_are;
-  served = at.served;
-  taken = at.taken;
 }

@@ -1,2 +1,3 @@
+mod AdequacyLemmas
 mod JudgeLemmas
 mod PlacementLemmas

@@ -5,9 +5,9 @@ ghost use Rattle.rc_spec.specs.Acceptance.{AreOfKind, IsKept, Keeps, checks, cou
 ghost use Rattle.rc_spec.specs.First.{Judges};
 ghost use Rattle.rc_spec.specs.InRange.{IsWellFormed};
 
+use crate::adequacy::{keeps_a3, keeps_a4, keeps_a5, keeps_a6, keeps_a7};
 use crate::ops::{keeps_o1, keeps_o2, keeps_o3};
 use crate::placement::{keeps_p1, keeps_p2, keeps_p3, keeps_p4, keeps_p5, keeps_p6};
-use rc_adequate::{keeps_a3, keeps_a4, keeps_a5, keeps_a6, keeps_a7};
 use rc_graph::{keeps_a1, keeps_a2};
 use rc_spec::{Item, ItemKind, Refusal, Rule, Spec};
 

@@ -2,17 +2,16 @@
 use Rattle.std.specs.Prelude.{◌≡◌, ℕ, zero, suc, ◌<◌, Bool, true, false, ◌||◌, List, [], ◌∷◌, cond, drop, get_or, is_some, length, take, ◌≤◌}
 use Rattle.std.specs.List.{list_all, list_any}
 use Rattle.std.specs.Ordering.{nat_cmp}
-use Rattle.std.proofs.Common.{arith, inl, inr, refl, sym, subst, ◌∙◌}
+use Rattle.std.proofs.Common.{arith, inl, refl, sym, subst, ◌∙◌}
 use Rattle.std.proofs.lemmas.List.{get_or-take, get_or_default, length-take-le, take-take}
 use Rattle.std.proofs.lemmas.Bool.{false≢true}
 use Rattle.rc_tuple.specs.RisingSet.{In, IsRising}
-use Rattle.rc_tuple.specs.ColSet.{Within, union}
+use Rattle.rc_tuple.specs.ColSet.{Within}
 use Rattle.rc_tuple.specs.ColSetLaws.{rising_range}
-use Rattle.rc_tuple.specs.MergeLaws.{project-nothing}
 use Rattle.rc_tuple.specs.Relation.{IsRelation}
 use Rattle.rc_tuple.specs.RisingSetLaws.{get_or_in, list_all_in}
-use Rattle.rc_tuple.specs.Tuple.{Pairs, agrees, cols_of, matches, pair_cmp, project}
-use Rattle.rc_tuple.specs.TupleLaws.{Agree, agree_from, same_from_test}
+use Rattle.rc_tuple.specs.Tuple.{Pairs, cols_of, matches, project}
+use Rattle.rc_tuple.specs.TupleLaws.{Agree, same_from_test}
 use Rattle.rc_spec.specs.declared.call.Call.{Call}
 use Rattle.rc_spec.specs.declared.items.Op.{Op}
 use Rattle.rc_spec.specs.declared.items.OpKind.{OpKind}
@@ -21,12 +20,10 @@ use Rattle.rc_spec.specs.declared.lock.Mode.{Mode}
 use Rattle.rc_spec.specs.declared.spec.Spec.{Spec}
 use Rattle.rc_spec.specs.Adequacy.{IsAdequate}
 use Rattle.rc_spec.specs.Calls.{all_columns}
-use Rattle.rc_spec.specs.Contents.{join}
 use Rattle.rc_spec.specs.ContentsLaws.{target_within}
 use Rattle.rc_spec.specs.Decomposition.{target_columns}
-use Rattle.rc_spec.specs.Fragments.{EdgeRow, all_rows, fragment_of, rows_on, tuples_of_edge}
+use Rattle.rc_spec.specs.Fragments.{EdgeRow, all_rows, fragment_of}
 use Rattle.rc_spec.specs.FragmentsLaws.{fragments_in, in_fragments, in_tuples_of_edge, tuples_of_edge_in}
-use Rattle.rc_spec.specs.HeathLaws.{AreProjections, IsSeen, reached_more}
 use Rattle.rc_spec.specs.InRange.{IsInRange}
 use Rattle.rc_spec.specs.Placement.{class_at, class_of, IsPlaced}
 use Rattle.rc_spec.specs.Stripes.{physical_stripe}
@@ -39,7 +36,7 @@ use Rattle.rc_plan.specs.declared.statement.Statement.TheVariants.{Lock, Probe, 
 use Rattle.rc_plan.specs.Evaluation.{RunState, run, run_next, run_one, stripes_locked}
 use Rattle.rc_plan.specs.MatchLaws.{matching_agrees}
 use Rattle.rc_plan.specs.PlanRules.{IsKeyBound}
-use Rattle.rc_plan.specs.RunLaws.{AreProjections-all_rows, cols_of-project, edge_of_fragments, fragments_of_edge, join_same, named-apply, named-check_absent, named-check_dep, named-emit, named-keep_least}
+use Rattle.rc_plan.specs.RunLaws.{AreProjections-all_rows, cols_of-project, named-apply, named-check_absent, named-check_dep, named-emit, named-keep_least}
 use Rattle.rc_plan.specs.StripeLocksLaws.{physical_stripe-agreeing, physical_stripe-in_band, striping_in_target}
 
 -- ---- statements that are no Locks name no stripe
@@ -101,27 +98,6 @@ module _ (spec : Spec) (range : IsInRange spec) (ok : IsAdequate spec) (placed :
       let w : EdgeRow = (e, u, q.0.2) in
       let is : q.0 ≡ w = λ k. (q.2 k, sym q.3 k, q.0.2) in
       (q.0.2, fragments_in spec r (stripe ∷ []) w (subst (λ (z : EdgeRow). In z (all_rows spec r)) is q.1) (inl falls))
-
-  -- where s has the class's columns, what it is joined with on stripes among which is its own is all that the edge has of it
-  pub joined_seen : (s : Pairs) → IsRising pair_cmp s → Within (class_at spec (class_of spec e)).cols (cols_of s) → (stripes : List ℕ) → In (physical_stripe spec (class_of spec e) s) stripes
-      → IsSeen r s (union [] (target_columns spec e)) (join (s ∷ []) (tuples_of_edge e (rows_on spec r stripes)))
-  joined_seen s rises striped stripes there =
-      let all : List Pairs = tuples_of_edge e (all_rows spec r) in
-      let projections : AreProjections r (target_columns spec e) all = AreProjections-all_rows spec r e known in
-      let columns : (u : Pairs) → In u all → Within (class_at spec (class_of spec e)).cols (cols_of u) = (λ u m c n.
-      let q : (t : Pairs) × In t r × (u ≡ project (target_columns spec e) t) = projections.only u m in
-      subst (λ z. In c (cols_of z)) (sym q.2) (row_has q.0 q.1 c (striping_in_target spec ok placed e known c n))) in
-      let same : join (s ∷ []) (tuples_of_edge e (rows_on spec r stripes)) ≡ join (s ∷ []) all =
-      join_same (s ∷ []) (tuples_of_edge e (rows_on spec r stripes)) all (edge_of_fragments spec r stripes e)
-      (λ b u m n agree. fragments_of_edge spec r stripes e u n
-      (subst (λ z. In z stripes) (physical_stripe-agreeing spec (class_of spec e) s u striped (columns u n) (agree_from s u (subst (λ z. agrees z u ≡ true) (one b m) agree))) there)) in
-      subst (IsSeen r s (union [] (target_columns spec e))) (sym same)
-      (reached_more (all_columns spec) (rising_range 0 (length spec.columns)) r i s rises [] (target_columns spec e) (s ∷ []) all (inl (refl, refl)) projections
-      (inl (λ t u m n e. project-nothing t ∙ sym (project-nothing u))))
-    where
-      one : (b : Pairs) → In b (s ∷ []) → b ≡ s
-      one b (inl e) = e
-      one b (inr m) = absurd m
 
 -- ---- the first Locks
 

@@ -71,16 +71,6 @@ module _ (columns : List ℕ) (o : IsRising nat_cmp columns) (r : List Pairs) (i
       subst (λ z. In z bs) (merge-matching xs s t (rising_of columns r o i t f.0) w m)
       (seen.each t f.0 (matching_agrees xs s t (subst (IsRising nat_cmp) (sym (i.each t f.0).over) o) m))
 
-  -- so a query answers from them as from the matching tuples
-  pub answer-seen : (most : ℕ) (xs outs : List ℕ) (bs : List Pairs) → IsSeen r s xs bs → Within (cols_of s) xs → Within outs xs → answer most outs bs ≡ answer most outs (filter (matches s) r)
-  answer-seen most xs outs bs seen w v =
-      ap (at_most most) (same_gather row_cmp number_lists_order (map (pick outs) bs) (map (pick outs) (filter (matches s) r))
-      (λ z h. let b : (b : Pairs) × In b bs × (z ≡ pick outs b) = in_map (pick outs) z bs h in
-      let t : (t : Pairs) × In t (filter (matches s) r) × (b.0 ≡ project xs t) = seen_matches xs bs seen w b.0 b.1 in
-      subst (λ y. In y (map (pick outs) (filter (matches s) r))) (sym (b.2 ∙ ap (pick outs) t.2 ∙ pick-project xs outs t.0 v)) (map_in (pick outs) t.0 (filter (matches s) r) t.1))
-      (λ z h. let t : (t : Pairs) × In t (filter (matches s) r) × (z ≡ pick outs t) = in_map (pick outs) z (filter (matches s) r) h in
-      subst (λ y. In y (map (pick outs) bs)) (pick-project xs outs t.0 v ∙ sym t.2) (map_in (pick outs) (project xs t.0) bs (matches_seen xs bs seen w t.0 t.1))))
-
   -- and from those between the bounds of some ranges as from the tuples that match a call with these
   pub answer-asked : (most : ℕ) (ranges : List Range) (xs outs : List ℕ) (bs : List Pairs) → IsSeen r s xs bs → Within (cols_of s) xs → Within outs xs → Within (map range_column ranges) xs
       → answer most outs (filter (in_ranges ranges) bs) ≡ answer most outs (filter (is_asked s ranges) r)

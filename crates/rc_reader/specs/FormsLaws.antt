@@ -43,13 +43,6 @@ few_stripes n =
       | false ↦ λ e. grind (arith, nat_tests)
     ] refl
 
-some_number : Option ℕ → Option (Option ℕ)
-some_number number = Some number
-
-same_number : (x y : Option ℕ) → some_number x ≡ some_number y → x ≡ y
-unfolding some_number
-same_number x y e = cc
-
 stripes_formed : (word : List ℕ) (stripes : Option ℕ) → stripes_at word ≡ Some stripes → unwrap_or stripes 0 ≤ 65535
 stripes_formed word stripes e =
     elim (is_number word) as (λ v. cond v (Some (stripes_read word)) None ≡ Some stripes → unwrap_or stripes 0 ≤ 65535) [

@@ -24,9 +24,6 @@ pub record IsBestSoFar (P : ℕ → Type 0) (price : ℕ → ℕ) (top limit : �
   pub found : IsFirstLeastOrNone P price limit best
   pub costs : MatchOption best (lowest ≡ top) (λ n. lowest ≡ price n)
 
-pub best_start : (P : ℕ → Type 0) (price : ℕ → ℕ) (top : ℕ) → IsBestSoFar P price top 0 None top
-best_start P price top = record { found = λ k l p. omega arith; costs = refl }
-
 pub best_passes : (P : ℕ → Type 0) (price : ℕ → ℕ) (top limit : ℕ) (best : Option ℕ) (lowest : ℕ) → (P limit → ⊥) → IsBestSoFar P price top limit best lowest → IsBestSoFar P price top (limit + 1) best lowest
 best_passes P price top limit best lowest out h = record { found = least_passes P price limit best out h.found; costs = h.costs }
 

@@ -44,13 +44,6 @@ good_more spec need reached visited edges rest i l step =
           subst (λ z. IsGoodFrom spec need reached visited (z ++ rest)) (sym front) (step, h),
     )
 
--- an edge that cannot be read
-pub not_good : (spec : Spec) (need reached visited edges rest : List ℕ) (i : ℕ) → i < length edges → (IsStep spec reached visited (get_or edges i 0) → ⊥)
-    → IsGoodFrom spec need reached visited (drop i edges ++ rest) → ⊥
-not_good spec need reached visited edges rest i l fails g =
-    let front : drop i edges ≡ get_or edges i 0 ∷ drop (suc i) edges = drop-cons edges i 0 l in
-    let h : IsGoodFrom spec need reached visited (get_or edges i 0 ∷ (drop (suc i) edges ++ rest)) = subst (λ z. IsGoodFrom spec need reached visited (z ++ rest)) front g in fails h.0
-
 -- two equivalences, one after the other
 pub both_ways : {A B C : Type 0} → A ↔ B → B ↔ C → A ↔ C
 both_ways f g = (λ a. g.0 (f.0 a), λ c. f.1 (g.1 c))

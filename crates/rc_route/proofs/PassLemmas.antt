@@ -1,7 +1,7 @@
 -- A pass by the place of the edge that is tried.
-use Rattle.std.proofs.Common.{◌≡◌, ℕ, zero, suc, ◌+◌, ◌-◌, ◌*◌, ◌<◌, ◌≤◌, Bool, true, false, List, [], ◌∷◌, ◌++◌, length, take, drop, get_or, if◌then◌else◌, inl, inr, refl, sym, ap, subst, ◌∙◌, arith, drop-cons, length-append, length-drop}
+use Rattle.std.proofs.Common.{◌≡◌, ℕ, zero, suc, ◌+◌, ◌-◌, ◌<◌, ◌≤◌, Bool, true, false, List, [], ◌∷◌, ◌++◌, length, take, drop, get_or, inl, inr, refl, sym, ap, subst, ◌∙◌, arith, drop-cons, length-append, length-drop}
 use Rattle.std.proofs.lemmas.List.{length-take, take_all}
-use Rattle.rc_route.specs.PrunedWalk.{onto, IsLeftFrom, IsPass}
+use Rattle.rc_route.specs.PrunedWalk.{onto, IsLeftFrom}
 use Rattle.rc_route.specs.PrunedWalkLaws.{onto_onto}
 
 onto_take : (xs ys : List ℕ) (i : ℕ) → i < length xs → onto (take (suc i) xs) ys ≡ get_or xs i 0 ∷ onto (take i xs) ys
@@ -22,22 +22,6 @@ drop_front (x ∷ xs) zs (suc j) l = drop_front xs zs j (omega arith)
 -- what is left where the edges up to a place are still to be tried
 abbrev pub IsLeftAt : (List ℕ → Type 0) → List ℕ → ℕ → List ℕ → Type 0
 IsLeftAt Good xs i left = IsLeftFrom Good (onto (take i xs) []) (drop i xs) left
-
-pub left_start : (Good : List ℕ → Type 0) (xs left : List ℕ) (i : ℕ) → i ≡ length xs → IsLeftAt Good xs i left → IsPass Good xs left
-left_start Good xs left i e h =
-    let all : take i xs ≡ xs = take_all i xs (omega arith) in
-    let none : drop i xs ≡ [] = drop_whole xs i (omega arith) in
-    subst (λ z. IsLeftFrom Good (onto z []) [] left) all (subst (λ z. IsLeftFrom Good (onto (take i xs) []) z left) none h)
-  where
-    drop_whole : (xs : List ℕ) (i : ℕ) → length xs ≤ i → drop i xs ≡ []
-    drop_whole xs i l = none (drop i xs) (omega (arith, length-drop i xs))
-      where
-        none : (ys : List ℕ) → length ys ≡ 0 → ys ≡ []
-        none [] e = refl
-        none (y ∷ ys) e = absurd (omega arith)
-
-pub left_end : (Good : List ℕ → Type 0) (xs : List ℕ) (i : ℕ) → i ≡ 0 → IsLeftAt Good xs i xs
-left_end Good xs i e = subst (λ z. IsLeftAt Good xs z xs) (sym e) refl
 
 step_at : (Good : List ℕ → Type 0) (xs left : List ℕ) (j : ℕ) → j < length xs → IsLeftFrom Good (get_or xs j 0 ∷ onto (take j xs) []) (drop (suc j) xs) left → IsLeftAt Good xs (suc j) left
 step_at Good xs left j l h = subst (λ z. IsLeftFrom Good z (drop (suc j) xs) left) (sym (onto_take xs [] j l)) h
@@ -63,11 +47,6 @@ one_up i l = omega arith
 pub shorter : (xs ys : List ℕ) (j : ℕ) → j < length xs → ys ≡ take j xs ++ drop (suc j) xs → suc (length ys) ≡ length xs
 shorter xs ys j l e = let n : length ys ≡ length (take j xs ++ drop (suc j) xs) = ap length e in
     let m : suc (length (take j xs ++ drop (suc j) xs)) ≡ length xs = simp (length-append, length-take, length-drop) (omega arith) in omega arith
-
--- the measure of the passes falls
-pub falls : (m n : ℕ) (again : Bool) → (again ≡ true → m < n) → (again ≡ false → m ≡ n) → 2 * m + (if again then 1 else 0) < 2 * n + 1
-falls m n true less same = let l : m < n = less refl in omega arith
-falls m n false less same = let e : m ≡ n = same refl in omega arith
 
 -- the pieces before and behind a place
 pub pieces : (xs a b : List ℕ) (j : ℕ) → a ≡ xs → b ≡ xs → take j a ++ take (length b - (j + 1)) (drop (j + 1) b) ≡ take j xs ++ drop (suc j) xs

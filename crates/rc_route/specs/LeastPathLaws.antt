@@ -24,7 +24,7 @@ use Rattle.rc_route.specs.ImpliedLaws.{within_decided}
 use Rattle.rc_route.specs.Paths.{IsPath, end_of, cost, path_cmp, IsPathFor, IsLeastPath, SomeNodeBinds, IsChosenRoute, Least, Pruned}
 use Rattle.rc_route.specs.PathsLaws.{HasPath, path_end, path_short, end_below, node_reached, paths_are_good}
 use Rattle.rc_route.specs.PrunedWalk.{IsPrunedWalk}
-use Rattle.rc_route.specs.PrunedWalkLaws.{walks_are_good, walk_short, one_walk, has_walk}
+use Rattle.rc_route.specs.PrunedWalkLaws.{walks_are_good, one_walk, has_walk}
 
 -- ---- the order of paths
 

@@ -1,6 +1,5 @@
 -- Laws of pruned walks.
 use Rattle.std.specs.Prelude.{◌≡◌, ℕ, zero, suc, ◌+◌, ◌≤◌, List, [], ◌∷◌, ◌++◌, ◌⊎◌, length}
-use Rattle.std.specs.List.{range_with_len}
 use Rattle.std.proofs.Common.{inl, inr, refl, sym, ap, subst, ◌∙◌, arith}
 use Rattle.std.proofs.lemmas.Bool.{cases_eq}
 use Rattle.std.proofs.lemmas.List.{append-nil}
@@ -30,10 +29,6 @@ twice_round es = onto_onto es [] [] ∙ append-nil es
 pub length-onto : (xs ys : List ℕ) → length (onto xs ys) ≡ length xs + length ys
 length-onto [] ys = omega arith
 length-onto (x ∷ xs) ys = let h : length (onto xs (x ∷ ys)) ≡ length xs + suc (length ys) = length-onto xs (x ∷ ys) in omega arith
-
-length-range : (a n : ℕ) → length (range_with_len a n) ≡ n
-length-range a zero = refl
-length-range a (suc n) = ap suc (length-range (a + 1) n)
 
 module _ (Good : List ℕ → Type 0) where
   -- ---- one pass
@@ -121,12 +116,6 @@ module _ (Good : List ℕ → Type 0) where
   passes_good zero es left g h = subst Good (sym h) g
   passes_good (suc n) es left g h = passes_good n h.0 left (pass_good es h.0 g h.1) h.2
 
-  passes_length : (n : ℕ) (es left : List ℕ) → ArePasses Good n es left → length left ≤ length es
-  passes_length zero es left h = let q : length left ≡ length es = ap length h in omega arith
-  passes_length (suc n) es left h =
-      let a : length h.0 ≤ length es = pass_length es h.0 h.1 in
-      let b : length left ≤ length h.0 = passes_length n h.0 left h.2 in omega arith
-
   -- one more pass
   pub passes_more : (n : ℕ) (es once left : List ℕ) → ArePasses Good n es once → IsPass Good once left → ArePasses Good (suc n) es left
   passes_more zero es once left h p = (left, subst (λ z. IsPass Good z left) h p, refl)
@@ -178,12 +167,6 @@ WalksAreGood = (spec : Spec) → IsAdequate spec → (need walk : List ℕ) → 
 
 pub walks_are_good : WalksAreGood
 walks_are_good spec a need walk w p = passes_good (IsGoodRoute spec need) p.passes.0 (all_edges spec) walk (all_edges_good spec a need w) p.passes.1
-
--- it has at most as many edges as the specification
-pub walk_short : (spec : Spec) (need walk : List ℕ) → IsPrunedWalk spec need walk → length walk ≤ length spec.edges
-walk_short spec need walk p =
-    let l : length walk ≤ length (all_edges spec) = passes_length (IsGoodRoute spec need) p.passes.0 (all_edges spec) walk p.passes.1 in
-    let n : length (all_edges spec) ≡ length spec.edges = length-range 0 (length spec.edges) in omega arith
 
 -- no edge of it can be left out
 abbrev pub WalksArePruned : Type 0

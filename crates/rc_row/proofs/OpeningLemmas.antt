@@ -231,10 +231,6 @@ opens key words slots compiled may first is_words = record {
 pub compiled_key : (key : Key) (s : SpecWithPlans) → key.compiled.value ≡ s → IsSealed s.spec → ArePlansOf s.spec s.plans → IsCompiled (spec_by key) (compiled_by key).plans
 compiled_key key s told sealed planned = subst (λ (x : SpecWithPlans). IsCompiled x.spec x.plans) (sym told) (record { sealed = sealed; planned = planned })
 
--- how many stripes are counted, and how many words are made for them
-pub stripes_of_key : (key : Key) (s : SpecWithPlans) (accepted spec : Spec) (n : ℕ) → key.compiled.value ≡ s → accepted ≡ s.spec → spec ≡ accepted → n ≡ stripe_total spec → n ≡ stripes_by key
-stripes_of_key key s accepted spec n told first read count = count ∙ ap stripe_total (read ∙ first ∙ ap (λ (x : SpecWithPlans). x.spec) (sym told))
-
 pub words_of_key : (key : Key) (n : ℕ) → n ≡ stripes_by key → 8 * (2 * n + 1) ≡ 8 * suc (stripes_by key + stripes_by key)
 words_of_key key n is = omega (arith, is)
 

@@ -16,10 +16,6 @@ abbrev one_more : Option (ℕ × Found) → Found → Option (ℕ × Found)
 one_more None found = Some (0, found)
 one_more (Some (n, x)) found = Some (suc n, found)
 
-same_hold : (mode : Mode) (s : Standing) (p : ℕ) (steps : Option (ℕ × Found)) → (waited_so mode s p steps).core.held ≡ s.core.held
-same_hold mode s p None = refl
-same_hold mode s p (Some (n, x)) = refl
-
 same_number : (mode : Mode) (s : Standing) (p : ℕ) (steps : Option (ℕ × Found)) → (waited_so mode s p steps).core.number ≡ s.core.number
 same_number mode s p None = refl
 same_number mode s p (Some (n, x)) = refl

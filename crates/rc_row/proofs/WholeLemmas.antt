@@ -67,10 +67,6 @@ module _ (a : Inside) (whole : IsWholePass a) (seen : PassSeen) (is : pass_seen 
       let e = ap (λ (t : TableId). t.words) (ap (λ (s : PassSeen). s.table) is ∙ same) in
       omega arith
 
-  -- it holds no more than there are stripes
-  pub few_there : (p : ℕ) → IsAbove (core_of seen) p → length a.held.items ≤ p
-  few_there p above = few_held a.number a.seat.me a.held.items p whole.agrees (above_there p above)
-
   module _ (b : RowInside) (row : RowSeen) (whole_row : IsWholeRow b) (row_is : row_seen b ≡ row) (of : IsPassOf row seen) where
     -- how many passes its row has, by the slots of its table
     pub passes_there : passes_in a.seat.table_id.slots ≡ row.key.passes

@@ -26,7 +26,7 @@ use Rattle.rc_store.specs.declared.receipt.GroupReceipt.{GroupReceipt}
 use Rattle.rc_store.specs.declared.receipt.Receipt.{Receipt}
 use Rattle.rc_store.specs.Closed.{ClosedSeen, HasClosed, Leaves, where_kept}
 use Rattle.rc_store.specs.FreeLaws.{new_are_free as all_free}
-use Rattle.rc_store.specs.Store.{HasMade, HasMadeEntry, HasMadeGroup, IsFree, StoreSeen, one_step}
+use Rattle.rc_store.specs.Store.{HasMade, HasMadeEntry, HasMadeGroup, IsFree, StoreSeen}
 use Rattle.rc_work.specs.declared.work.Turn.{Turn}
 use Rattle.rc_work.specs.declared.work.Work.{Work}
 use Rattle.rc_work.specs.Fitting.{HasThreads, TurnsFit}
@@ -49,17 +49,6 @@ module _ (store : StoreSeen) (steps : List Step) (old new : PassSeen) (place nth
     before = subst (λ (u : PassState). place < u.seen) (sym m.core) (omega arith);
   }
 
-  entry_number : number_of new ≡ number_of old
-  entry_number = ap (λ (u : PassState). u.number) m.core ∙ ap (λ (u : PassState). u.number) m.was
-
--- of a call
-module _ (store : StoreSeen) (call : Call) (reply : Reply) (old new : PassSeen) (receipt : Receipt) (m : HasMade store call reply old new receipt) where
-  pub called_so : HasCalled (call ∷ []) (stand_of old) (stand_of new)
-  called_so = entry_called store (one_step call reply) old new receipt.place receipt.nth m.entry
-
-  pub called_number : number_of new ≡ number_of old
-  called_number = entry_number store (one_step call reply) old new receipt.place receipt.nth m.entry
-
 -- and of a group
 module _ (store : StoreSeen) (calls : List Call) (replies : List Reply) (old new : PassSeen) (receipt : GroupReceipt)
     (m : HasMadeGroup store calls replies old new receipt) where
@@ -67,9 +56,6 @@ module _ (store : StoreSeen) (calls : List Call) (replies : List Reply) (old new
   group_called_so =
       subst (λ (l : List Call). HasCalled l (stand_of old) (stand_of new)) (calls-with_replies calls replies m.count)
       (entry_called store (with_replies calls replies) old new receipt.place receipt.nth m.entry)
-
-  pub group_called_number : number_of new ≡ number_of old
-  group_called_number = entry_number store (with_replies calls replies) old new receipt.place receipt.nth m.entry
 
 -- ---- how many entries a pass has
 

@@ -193,10 +193,6 @@ pub hits : Spec → Pairs → ℕ → Pairs → List ℕ → ℕ
 hits spec t e row [] = 0
 hits spec t e row (x ∷ es) = cond (is_row_at e row (x, row_in spec t x, 0)) 1 0 + hits spec t e row es
 
-one_hit : (b : Bool) (m c h : ℕ) → cond b (suc m) c + h ≡ (cond b m c + cond b 1 0) + h
-one_hit true m c h = omega arith
-one_hit false m c h = omega arith
-
 pub AreCountedRows-all_raised : (spec : Spec) (t : Pairs) (es : List ℕ) (ws : List EdgeRow) → AreCountedRows ws → AreCountedRows (all_raised spec t es ws)
 AreCountedRows-all_raised spec t [] ws a = a
 AreCountedRows-all_raised spec t (x ∷ es) ws a = AreCountedRows-all_raised spec t es (raised x (row_in spec t x) ws) (AreCountedRows-with_count x (row_in spec t x) (suc (count_at x (row_in spec t x) ws)) ws a)

@@ -1,45 +1,28 @@
 -- What takes in turn make of a pass: a group's locks, before the first of its plans.
-use Rattle.std.specs.Prelude.{◌≡◌, ℕ, zero, suc, ◌<◌, ◌≤◌, Bool, false, List, [], ◌∷◌, ◌++◌, length, take, get_or, None, Option, Some}
+use Rattle.std.specs.Prelude.{◌≡◌, ℕ, zero, suc, ◌<◌, Bool, false, List, [], ◌∷◌, ◌++◌, length, take, get_or, None, Option, Some}
 use Rattle.std.specs.Ordering.{nat_cmp}
 use Rattle.std.proofs.lemmas.Cmp.{ranked}
 use Rattle.std.specs.declared.cmp.Ordering.TheVariants.{Less}
 use Rattle.std.proofs.Common.{refl, sym, ap, subst, ◌∙◌, inl, inr, arith}
-use Rattle.std.proofs.lemmas.List.{take_all}
-use Rattle.std.proofs.lemmas.List.Elements.{All-nil, All-push}
 use Rattle.rc_tuple.specs.RisingSet.{In, IsRising}
 use Rattle.rc_tuple.specs.RisingSetLaws.{get_or_in, map_in}
 use Rattle.rc_spec.specs.declared.lock.Found.{Found}
 use Rattle.rc_spec.specs.declared.lock.Mode.{Mode}
 use Rattle.rc_spec.specs.Locks.{StripeLock}
-use Rattle.rc_fragment.specs.Keep.{IsAtRest}
 use Rattle.rc_plan.specs.StripeLocks.{stripes_of}
 use Rattle.rc_core.specs.declared.state.PassState.{PassState}
 use Rattle.rc_core.specs.Passes.{IsAbove, took}
 use Rattle.rc_core.specs.State.{hold, stripes_in}
 use Rattle.rc_machine.specs.Machine.{locks_of}
 use Rattle.rc_row.specs.declared.law.Standing.{Standing}
-use Rattle.rc_row.specs.HeldRows.{HeldRows, just_held}
-use Rattle.rc_row.specs.Law.{kept_of}
-use Rattle.rc_row.specs.Passes.{AreAtRest, HasWaited, PassSeen, RowSeen, core_of, holds_taken, spec_of, waited_so, with_standing}
-use Rattle.rc_row.specs.Standings.{HaveOneRelation, KeepsOut, KeepsRefusals, turned_away, without_wish}
+use Rattle.rc_row.specs.HeldRows.{HeldRows}
+use Rattle.rc_row.specs.Passes.{HasWaited, PassSeen, RowSeen, core_of, holds_taken, spec_of, waited_so, with_standing}
+use Rattle.rc_row.specs.Standings.{HaveOneRelation, KeepsOut, KeepsRefusals, turned_away}
 use Rattle.rc_row.specs.StandingsLaws.{refusals_first, refusals_more, refusals_on}
 use Rattle.rc_store.specs.Busy.{IsLockBusy}
-use Rattle.rc_store.specs.Lending.{IsOnTheWay, IsUnrefused, held_stripes}
-use Rattle.rc_store.specs.LendingLaws.{at_first}
+use Rattle.rc_store.specs.Lending.{IsOnTheWay, held_stripes}
 use Rattle.rc_store.specs.Locking.{HasTakenLocks}
-use Rattle.rc_store.specs.Taking.{HasGivenUp, HasTakenStripe, HasWaitedIf}
-
-pub none_taken : (waits : Bool) (row : RowSeen) (pass : PassSeen) → holds_taken pass.held ≡ (core_of pass).held → pass.held ≡ [] → HasTakenLocks waits row pass pass []
-none_taken waits row pass agrees idle = record {
-  way = at_first row pass agrees idle;
-  unrefused = λ at_once. refl;
-  locks = ap (λ (hs : List HeldRows). locks_of (held_stripes hs)) idle;
-  rest = subst AreAtRest (sym idle) (All-nil (λ (h : HeldRows). IsAtRest h.fragment));
-}
-
-locks_more : (hs : List HeldRows) (h : HeldRows) → locks_of (held_stripes (hs ++ h ∷ [])) ≡ locks_of (held_stripes hs) ++ (h.stripe, h.mode) ∷ []
-locks_more [] h = refl
-locks_more (x ∷ hs) h = ap (λ (l : List StripeLock). (x.stripe, x.mode) ∷ l) (locks_more hs h)
+use Rattle.rc_store.specs.Taking.{HasGivenUp, HasTakenStripe}
 
 -- ---- a pass that waited, or was refused, or gave up
 
@@ -73,26 +56,12 @@ module _ (row : RowSeen) (begun old new : PassSeen) (way : IsOnTheWay row begun 
       go (Some (n, found)) e =
           stays_on (waited_so mode old.standing p (Some (n, found))) e refl (refusals_more old.standing (waited_so mode old.standing p (Some (n, found))) (omega arith)) refl
 
-  pub refused_way : (mode : Mode) (stripe : ℕ) (found : Found) → new ≡ with_standing (turned_away mode old.standing stripe found) old → IsOnTheWay row begun new
-  refused_way mode stripe found e =
-      stays_on (turned_away mode old.standing stripe found) e refl (refusals_more old.standing (turned_away mode old.standing stripe found) (omega arith)) refl
-
-  pub wishless_way : new ≡ with_standing (without_wish old.standing) old → IsOnTheWay row begun new
-  wishless_way e = stays_on (without_wish old.standing) e refl (refusals_first old.standing) refl
-
--- where nothing waits it is as it was
-unrefused_waiting : (waits : Bool) (mode : Mode) (passes p : ℕ) (begun old new : PassSeen) → IsUnrefused waits begun old → HasWaitedIf waits mode passes p old new → IsUnrefused waits begun new
-unrefused_waiting waits mode passes p begun old new none w at_once = ap (λ (q : PassSeen). q.standing.refusals) (w.at_once at_once) ∙ none at_once
-
 -- ---- a take
 
 module _ (waits : Bool) (row : RowSeen) (begun old new : PassSeen) (taken : List StripeLock) (at : HasTakenLocks waits row begun old taken) (mode : Mode) (stripe : ℕ) where
   module _ (t : HasTakenStripe waits row mode stripe old new) (one : HaveOneRelation (spec_of row) (core_of new).held) (agrees : holds_taken new.held ≡ (core_of new).held) where
     mid : IsOnTheWay row begun t.before
     mid = waited_way row begun old t.before at.way mode row.key.passes stripe t.waits_so.waited
-
-    held_is : new.held ≡ old.held ++ just_held stripe mode (kept_of (spec_of row) t.rows) ∷ []
-    held_is = ap (λ (q : PassSeen). q.held) t.is ∙ ap (λ (q : PassSeen). q.held ++ just_held stripe mode (kept_of (spec_of row) t.rows) ∷ []) t.waits_so.waited.is
 
     core_held : (core_of new).held ≡ (core_of t.before).held ++ hold stripe mode t.rows ∷ []
     core_held = ap (λ (q : PassSeen). (core_of q).held) t.is
@@ -115,31 +84,6 @@ module _ (waits : Bool) (row : RowSeen) (begun old new : PassSeen) (taken : List
       agrees = agrees;
       one = one;
     }
-
-    pub more_taken : HasTakenLocks waits row begun new (taken ++ (stripe, mode) ∷ [])
-    more_taken = record {
-      way = way;
-      unrefused = λ at_once.
-          ap (λ (q : PassSeen). q.standing.refusals) t.is
-          ∙ unrefused_waiting waits mode row.key.passes stripe begun old t.before at.unrefused t.waits_so at_once;
-      locks =
-          ap (λ (hs : List HeldRows). locks_of (held_stripes hs)) held_is
-          ∙ locks_more old.held (just_held stripe mode (kept_of (spec_of row) t.rows))
-          ∙ ap (λ (l : List StripeLock). l ++ (stripe, mode) ∷ []) at.locks;
-      rest =
-          subst AreAtRest (sym held_is)
-          (All-push (λ (h : HeldRows). IsAtRest h.fragment) old.held (just_held stripe mode (kept_of (spec_of row) t.rows)) at.rest (record { taken = refl; changes = refl }));
-    }
-
-  -- and one for which memory was wanted
-  module _ (t : HasGivenUp waits row mode stripe old new) where
-    pub given_up_way : IsOnTheWay row begun new
-    given_up_way = wishless_way row begun t.before new (waited_way row begun old t.before at.way mode row.key.passes stripe t.waits_so.waited) t.is
-
-    pub given_up_unrefused : IsUnrefused waits begun new
-    given_up_unrefused at_once =
-        ap (λ (q : PassSeen). q.standing.refusals) t.is
-        ∙ unrefused_waiting waits mode row.key.passes stripe begun old t.before at.unrefused t.waits_so at_once
 
   -- a refused one is the cause
   pub busy_there : (locks : List StripeLock) (found : Found) → waits ≡ false → new ≡ with_standing (turned_away mode old.standing stripe found) old
@@ -178,7 +122,3 @@ pub next_above : (waits : Bool) (row : RowSeen) (begun now : PassSeen) (locks : 
 next_above waits row begun now locks n d at rising l q m =
     let same : stripes_in (core_of now).held ≡ stripes_of (locks_of (held_stripes now.held)) = ap stripes_in (sym at.way.agrees) ∙ stripes_held_in now.held in
     below_next locks n d rising l q (subst (λ (xs : List ℕ). In q xs) (same ∙ ap stripes_of at.locks) m)
-
-pub whole_taken : (waits : Bool) (row : RowSeen) (begun now : PassSeen) (locks : List StripeLock) (n : ℕ) → length locks ≤ n → HasTakenLocks waits row begun now (take n locks)
-    → HasTakenLocks waits row begun now locks
-whole_taken waits row begun now locks n l at = subst (HasTakenLocks waits row begun now) (take_all n locks l) at

@@ -93,8 +93,6 @@ module _ (closed : ClosedSeen) (h : HasOneHistory closed) (passes : ℕ) (ended 
           (subst (λ (o : Option (List Entry)). IfSome o (λ history. AreKeptParts history passes ended)) is kept))
 
 module _ (closed : ClosedSeen) (h : HasOneHistory closed) (later : Spec) (extends : Extends closed.compiled.spec later) where
-  abbrev spec : Spec
-  spec = closed.compiled.spec
 
   same_rows : (p : ℕ) → kept_of closed.compiled.spec (fragment_of closed.compiled.spec (replay closed.compiled.spec h.history) p) ≡ kept_of later (fragment_of later (replay later h.history) p)
   same_rows p =

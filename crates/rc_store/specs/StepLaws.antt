@@ -39,7 +39,7 @@ use Rattle.rc_store.specs.Lending.{IsOnTheWay, IsUnrefused, held_stripes}
 use Rattle.rc_store.specs.LendingLaws.{all_now-held, all_taken-held, one_relation, still_of_row}
 use Rattle.rc_store.specs.Prepared.{HasGoneOn, IsPrepared, IsReady}
 use Rattle.rc_store.specs.Runs.{IsStoppedBy, IsStoppedFor}
-use Rattle.rc_store.specs.Store.{AreRepliesFor, HasMade, HasMadeEntry, HasMadeGroup, HoldsExactly, IsAsBefore, IsCallFinished, IsFinished, IsFree, IsGroupFinished, IsReplyFor, StoreSeen, one_step}
+use Rattle.rc_store.specs.Store.{HasMade, HasMadeEntry, HasMadeGroup, HoldsExactly, IsAsBefore, IsCallFinished, IsFinished, IsFree, IsGroupFinished, IsReplyFor, StoreSeen, one_step}
 use Rattle.rc_store.specs.declared.receipt.GroupReceipt.{GroupReceipt}
 use Rattle.rc_store.specs.declared.receipt.Receipt.{Receipt}
 
@@ -281,12 +281,6 @@ group_made store calls replies old mid new count prepared exact receipt f = reco
 
 -- ---- replies that come with receipts
 
--- a pass keeps its entries exactly where the row's do
-pub is_counted : (keeping : Keeping) (kept : Option PartEntries) → KeepsAs keeping kept → kept ≡ None → keeping ≡ Counts
-is_counted Counts kept keeps none = refl
-is_counted Entries None keeps none = absurd keeps
-is_counted Entries (Some part) keeps none = absurd cc
-
 pub is_kept : (keeping : Keeping) (kept : Option PartEntries) → KeepsAs keeping kept → IsSome kept → keeping ≡ Entries
 is_kept Entries kept keeps some = refl
 is_kept Counts None keeps some = absurd (false≢true some)
@@ -297,6 +291,3 @@ no_reply_given keeping reply e = subst (λ (k : Keeping). IsReplyFor k reply Non
 
 pub reply_given : (keeping : Keeping) (reply : Reply) → keeping ≡ Counts → IsReplyFor keeping reply (Some reply)
 reply_given keeping reply e = subst (λ (k : Keeping). IsReplyFor k reply (Some reply)) (sym e) refl
-
-pub replies_given : (keeping : Keeping) (replies : List Reply) → keeping ≡ Counts → AreRepliesFor keeping replies (Some replies)
-replies_given keeping replies e = subst (λ (k : Keeping). AreRepliesFor k replies (Some replies)) (sym e) refl

@@ -1,6 +1,6 @@
 -- Passes that each made calls.
-use Rattle.std.proofs.Common.{◌≡◌, ◌<◌, ◌≤◌, ℕ, suc, List, [], ◌∷◌, All, map, length, get_or, sym, refl, ap, ◌∙◌, subst, arith}
-use Rattle.std.proofs.lemmas.List.Elements.{All-from_get_or, All-get_or, All-nil}
+use Rattle.std.proofs.Common.{◌≡◌, ◌<◌, ℕ, suc, List, [], ◌∷◌, map, length, get_or, refl, ◌∙◌, arith}
+use Rattle.std.proofs.lemmas.List.Elements.{All-from_get_or, All-nil}
 use Rattle.rc_row.specs.Passes.{AreIdlePasses, IsPassOf, PassSeen, core_of}
 use Rattle.rc_store.specs.Store.{IsFree, StoreSeen}
 use Rattle.rc_tests.specs.Free.{AreFew}
@@ -16,12 +16,6 @@ same_map f (x ∷ xs) (y ∷ ys) l h =
     λ j. first j ∷ rest j
 
 module _ (store : StoreSeen) (olds : List PassSeen) (idle : AreIdlePasses store.row olds) (few : AreFew store.limit olds) where
-  -- each pass is free
-  pub each_free : (i : ℕ) (pass : PassSeen) → i < length olds → pass ≡ get_or olds i pass → IsFree store pass
-  each_free i pass l e =
-      let w : IsPassOf store.row (get_or olds i pass) × ((get_or olds i pass).held ≡ []) = All-get_or (λ (p : PassSeen). IsPassOf store.row p × (p.held ≡ [])) olds i pass l idle.idle in
-      let n : length (core_of (get_or olds i pass)).own ≤ store.limit = All-get_or (λ (p : PassSeen). length (core_of p).own ≤ store.limit) olds i pass l few in
-      subst (IsFree store) (sym e) record { of_row = w.0; idle = w.1; few = n }
 
   -- and so are those that it has become, where each kept its number
   pub still_idle : (news : List PassSeen) → length news ≡ length olds

@@ -185,15 +185,3 @@ module _ {State Given Read Rule : Type 0} (language : Language State Given Read 
             (keeps found.before found.last.bytes found.given before found.gives))
         | inr out ↦ at_out past_end out.next read (taken_keeps P keeps state lines out.next out.taken h) out.out
       ]
-
-  -- and what is refused is refused for a rule that a line breaks, or that lines break which run out
-  pub refused_for : (P : Rule → Type 0)
-      → ((state : State) (bytes : List ℕ) (rule : Rule) → language.next state bytes ≡ Err rule → P rule)
-      → ((past_end : ℕ) (state : State) (broken : Broken Rule) → language.out past_end state ≡ Err broken → P broken.rule)
-      → (past_end : ℕ) (state : State) (lines : List ContentLine) (broken : Broken Rule)
-      → reading_from language past_end state lines ≡ Err broken → P broken.rule
-  refused_for P at_line at_out past_end state lines broken e =
-      elim (subst (LinesMean language past_end state lines) e (means-reading past_end state lines)) [
-        | inl found ↦ at_line found.before found.line.bytes broken.rule found.breaks
-        | inr out ↦ at_out past_end out.next broken out.out
-      ]

@@ -17,9 +17,9 @@ use Rattle.rc_answer.specs.RanLaws.{summed_is_one_history, text_is_one_history}
 use Rattle.rc_answer.specs.Writes.{Writes}
 use Rattle.rc_work.specs.declared.also.Also.TheVariants.{Nothing}
 use Rattle.rc_command.specs.declared.command.Command.{Command}
-use Rattle.rc_command.specs.declared.command.Command.TheVariants.{Big, OfText}
+use Rattle.rc_command.specs.declared.command.Command.TheVariants.{Big}
 use Rattle.rc_command.specs.declared.command.TextCommand.{TextCommand}
-use Rattle.rc_top.specs.Asks.{MakesRun, also_asked, ArePlansAsked}
+use Rattle.rc_top.specs.Asks.{also_asked, ArePlansAsked}
 use Rattle.rc_top.specs.Ends.{status_of}
 
 -- what holds of each run that there may be
@@ -60,19 +60,6 @@ pub size_not_done : (old new : Option (List ℕ)) (r : Result Status Stop) → W
 size_not_done old new (Ok status) (text, is, adds) e = let f : Refused ≡ Done = sym is.1 ∙ e in cc
 size_not_done old new (Err Memory) h e = cc
 size_not_done old new (Err Sink) h e = cc
-
--- so it is for the words that name the command
-pub left_by_words : {X D : Type 0} (named : Option Command) (command : TextCommand) → named ≡ Some (OfText command) → X ↔ MakesCalls command × D
-    → X ↔ MakesRun named × D
-left_by_words {X} {D} named command is h = subst (λ (c : Option Command). X ↔ MakesRun c × D) (sym is) h
-
-pub history_by_words : (named : Option Command) (command : TextCommand) (ran : Option Ran) → named ≡ Some (OfText command)
-    → IfSome ran (IsOneHistory (ArePlansFor command) (also_of command)) → IfSome ran (IsOneHistory (ArePlansAsked named) (also_asked named))
-history_by_words named command ran is h = subst (λ (c : Option Command). IfSome ran (IsOneHistory (ArePlansAsked c) (also_asked c))) (sym is) h
-
--- and where a generated workload was run
-pub left_by_seed : {X D : Type 0} (named : Option Command) (seed calls : ℕ) → named ≡ Some (Big seed calls) → X ↔ D → X ↔ MakesRun named × D
-left_by_seed {X} {D} named seed calls is h = subst (λ (c : Option Command). X ↔ MakesRun c × D) (sym is) (λ x. (tt, h.0 x), λ e. h.1 e.1)
 
 pub history_by_seed : (named : Option Command) (seed calls : ℕ) (ran : Option Ran) → named ≡ Some (Big seed calls) → IfSome ran (IsOneHistory ArePlanned Nothing)
     → IfSome ran (IsOneHistory (ArePlansAsked named) (also_asked named))

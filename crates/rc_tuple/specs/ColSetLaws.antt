@@ -86,18 +86,6 @@ within_none (x ∷ xs) = ne_zero (length xs)
 pub IsColSet-none : IsColSet []
 IsColSet-none = record { rising = tt; below = λ c h. absurd h }
 
-pub IsColSet-with_column : (xs : List ℕ) (c : ℕ) → IsColSet xs → c < 32 → IsColSet (with_column xs c)
-IsColSet-with_column xs c set lt = record {
-  rising = rising_put nat_cmp nat_order c xs set.rising;
-  below = λ k h. elim (in_put nat_cmp nat_order k c xs h) [ inl e ↦ subst (λ n. n < 32) (sym e) lt | inr m ↦ set.below k m ];
-}
-
-pub IsColSet-union : (xs ys : List ℕ) → IsColSet xs → IsColSet ys → IsColSet (union xs ys)
-IsColSet-union xs ys s t = record {
-  rising = rising_gather nat_cmp nat_order (xs ++ ys);
-  below = λ k h. elim (in_union xs ys k h) [ inl m ↦ s.below k m | inr m ↦ t.below k m ];
-}
-
 pub IsColSet-filter : (p : ℕ → Bool) (xs : List ℕ) → IsColSet xs → IsColSet (filter p xs)
 IsColSet-filter p xs s = record {
   rising = rising_filter nat_cmp p xs s.rising;

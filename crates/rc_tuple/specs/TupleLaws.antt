@@ -307,13 +307,6 @@ zip_more (d ∷ cols) (w ∷ vals) c v e = ap (λ l. (d, w) ∷ l) (zip_more col
 pub tuple_of_more : (cols vals : List ℕ) (c v : ℕ) → length cols ≡ length vals → tuple_of (cols ++ c ∷ []) (vals ++ v ∷ []) ≡ put pair_cmp (c, v) (tuple_of cols vals)
 tuple_of_more cols vals c v e = ap (gather pair_cmp) (zip_more cols vals c v e) ∙ gather_more pair_cmp pair_order (zip cols vals) (c, v)
 
--- the columns of a tuple are a column set
-pub IsColSet-cols_of : (t : Pairs) → IsTuple t → IsColSet (cols_of t)
-IsColSet-cols_of t h = record {
-  rising = h.rising;
-  below = λ c m. let w = in_map (λ (x : ℕ × ℕ). x.0) c t m in subst (λ k. k < 32) (sym w.2) (h.columns w.0 w.1);
-}
-
 pub cols_of-zip : (cols vals : List ℕ) → length vals ≡ length cols → cols_of (zip cols vals) ≡ cols
 cols_of-zip [] vals e = refl
 cols_of-zip (c ∷ cols) [] e = absurd (omega arith)

@@ -164,11 +164,6 @@ kept_by_lines P also spec keeps past_end draft lines last is e =
     read_keeps (drafts also spec) P P (λ before bytes next h given. keeps before bytes next h given) (λ next line others h. h)
     (λ at next found h out. subst P (ended_draft next.ended at next found out) h) past_end draft lines last is e
 
-pub IsDraft-reading_from : (also : Also) (past_end : ℕ) (spec : Spec) (draft : Draft) (lines : List ContentLine) (last : Draft) → IsDraft spec draft
-    → reading_from also past_end spec draft lines ≡ Ok last → IsDraft spec last
-IsDraft-reading_from also past_end spec draft lines last is e =
-    kept_by_lines (IsDraft spec) also spec (IsDraft-after_bytes also spec) past_end draft lines last is e
-
 -- ---- the header
 
 -- 1 to 8

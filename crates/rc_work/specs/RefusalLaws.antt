@@ -4,7 +4,7 @@ use Rattle.std.specs.Prelude.{◌&&◌, nat_le}
 use Rattle.std.specs.Str.{bytes_eq}
 use Rattle.rc_text.specs.Language.{LinesMean}
 use Rattle.rc_text.specs.LanguageLaws.{means-reading, taken_keeps}
-use Rattle.rc_text.specs.Lines.{ContentLine, TextPlace, content_from, past_end_of}
+use Rattle.rc_text.specs.Lines.{ContentLine}
 use Rattle.rc_text.specs.Words.{WordText, plain_text, quoted_text}
 use Rattle.rc_text.specs.Numbers.{u64_of}
 use Rattle.rc_text.specs.declared.numbers.NumFault.{NumFault}
@@ -19,13 +19,11 @@ use Rattle.rc_reader.specs.declared.refusal.ReadRefusal.TheVariants as refusals
 use Rattle.rc_work.specs.declared.also.Also.{Also}
 use Rattle.rc_work.specs.declared.also.Also.TheVariants.{Nothing, Groups}
 use Rattle.rc_work.specs.declared.draft.Draft.{Draft}
-use Rattle.rc_work.specs.declared.work.Work.{Work}
 use Rattle.rc_work.specs.LineForms.{FormText, words_read, form_of}
 use Rattle.rc_work.specs.LineRules.{breaks_range, breaks_limit, breaks_order, breaks_operation, breaks_count, breaks_kinds, breaks_group, with_line, after_form}
 use Rattle.rc_work.specs.WorkGrammar.{after_form_of, after_words, after_bytes, broken_at, drafts, reading_from, threads_by, threads_at, threads_of_words, threads_of_read, threads_of, headed_by, draft_of, reading_behind, reading_all}
 use Rattle.rc_work.specs.Drafts.{IsOfAlso}
 use Rattle.rc_work.specs.GroupsLaws.{IsOfAlso-after_bytes, IsOfAlso-draft_of, outside_groups}
-use Rattle.rc_work.specs.Ranking.{work_by, work_reading}
 use Rattle.rc_work.specs.Answers.{IsWorkRule, IsWorkRefusal}
 
 abbrev refused : {X : Type 0} → LineRule → Result X LineRule
@@ -145,18 +143,6 @@ module _ (also : Also) where
       → IsWorkRule also broken.rule
   content_rule past_end spec [] broken e = at_line {X = Draft} S1 past_end broken tt e
   content_rule past_end spec (line ∷ others) broken e = head_rule past_end spec line others (threads_of line.bytes) broken refl e
-
-  work_rule : (spec : Spec) (lines : List ContentLine) (past_end : ℕ) (found : Result Draft Broken) (broken : Broken)
-      → reading_all also past_end spec lines ≡ found → work_by spec found ≡ Err broken → IsWorkRule also broken.rule
-  work_rule spec lines past_end (Ok draft) broken is e = absurd cc
-  work_rule spec lines past_end (Err other) broken is e =
-      subst (λ (x : Broken). IsWorkRule also x.rule) (same_broken {X = Work} other broken e) (content_rule past_end spec lines other is)
-
-  -- a workload is refused by one of its rules
-  pub IsWorkRule-work_reading : (spec : Spec) (place : TextPlace) (broken : Broken) → work_reading also spec place ≡ Err broken
-      → IsWorkRule also broken.rule
-  IsWorkRule-work_reading spec place broken e =
-      work_rule spec (content_from place) (past_end_of place.text) (reading_all also (past_end_of place.text) spec (content_from place)) broken refl e
 
   pub IsWorkRefusal-reading_all : (past_end : ℕ) (spec : Spec) (lines : List ContentLine) (refusal : ReadRefusal)
       → Refuses refusal (reading_all also past_end spec lines) → IsWorkRefusal also refusal

@@ -4,7 +4,7 @@ use Rattle.rc_spec.specs.declared.items.Edge.{Edge}
 use Rattle.rc_spec.specs.Adequacy.{visited}
 use Rattle.rc_spec.specs.Decomposition.{bound}
 use Rattle.rc_spec.specs.DecompositionLaws.{visited_more}
-use Rattle.rc_adequate.proofs.rules.visited.Goals as goal
+use Rattle.rc_place.proofs.adequacy.visited.Goals as goal
 
 pub loop-number-preserved : goal.loop-number-preserved
 loop-number-preserved c =

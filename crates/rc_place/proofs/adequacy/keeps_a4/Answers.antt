@@ -1,6 +1,6 @@
 use Rattle.rc_spec.specs.Decomposition.{bound, source_and_key}
 use Rattle.rc_tuple.specs.RelationLaws.{follows_at}
-use Rattle.rc_adequate.proofs.rules.keeps_a4.Goals as goal
+use Rattle.rc_place.proofs.adequacy.keeps_a4.Goals as goal
 
 pub returns : goal.returns
 returns c =

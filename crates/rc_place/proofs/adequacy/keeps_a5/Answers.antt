@@ -1,7 +1,7 @@
 use Rattle.std.proofs.Common.{refl}
 use Rattle.rc_spec.specs.Decomposition.{bound}
 use Rattle.rc_tuple.specs.RelationLaws.{follows_at}
-use Rattle.rc_adequate.proofs.rules.keeps_a5.Goals as goal
+use Rattle.rc_place.proofs.adequacy.keeps_a5.Goals as goal
 
 pub returns-in-Singleton : goal.returns-in-Singleton
 returns-in-Singleton c =

@@ -3,7 +3,7 @@ use Rattle.rc_tuple.specs.RisingSet.{In}
 use Rattle.rc_tuple.specs.RisingSetLaws.{in_has, has_in}
 use Rattle.rc_spec.specs.declared.items.Edge.{Edge}
 use Rattle.rc_spec.specs.Adequacy.{visited}
-use Rattle.rc_adequate.proofs.rules.keeps_a7.Goals as goal
+use Rattle.rc_place.proofs.adequacy.keeps_a7.Goals as goal
 
 pub returns : goal.returns
 returns c =

@@ -2,8 +2,8 @@ use Rattle.std.proofs.Common.{◌==◌, rules, tests}
 use Rattle.std.proofs.lemmas.Iterator.{YieldsList-from_slice}
 use Rattle.std.proofs.lemmas.Iterator.Search.{any_from_yields_List}
 use Rattle.rc_spec.specs.declared.items.Edge.{Edge}
-use Rattle.rc_adequate.proofs.RuleLemmas.{reached_test}
-use Rattle.rc_adequate.proofs.rules.is_reached.Goals as goal
+use Rattle.rc_place.proofs.AdequacyLemmas.{reached_test}
+use Rattle.rc_place.proofs.adequacy.is_reached.Goals as goal
 
 pub returns-else-node-eq0 : goal.returns-else-node-eq0
 returns-else-node-eq0 c =

@@ -1,7 +1,7 @@
 use Rattle.std.proofs.Common.{sym, ◌∙◌}
 use Rattle.std.proofs.lemmas.Bool.{false≢true}
-use Rattle.rc_adequate.proofs.RuleLemmas.{a3_found, a3_apart, a3_inside}
-use Rattle.rc_adequate.proofs.rules.keeps_a3.Goals as goal
+use Rattle.rc_place.proofs.AdequacyLemmas.{a3_found, a3_apart, a3_inside}
+use Rattle.rc_place.proofs.adequacy.keeps_a3.Goals as goal
 
 pub returns-then-is_empty : goal.returns-then-is_empty
 returns-then-is_empty c = (

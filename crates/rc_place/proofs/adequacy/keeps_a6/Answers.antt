@@ -5,8 +5,8 @@ use Rattle.rc_spec.specs.Decomposition.{bound, edge_at}
 use Rattle.rc_spec.specs.DecompositionLaws.{edge_at_found}
 use Rattle.rc_spec.specs.Adequacy.{visited}
 use Rattle.rc_fd.specs.FollowsLaws.{lossless_at}
-use Rattle.rc_adequate.proofs.RuleLemmas.{reached_at, reached_back}
-use Rattle.rc_adequate.proofs.rules.keeps_a6.Goals as goal
+use Rattle.rc_place.proofs.AdequacyLemmas.{reached_at, reached_back}
+use Rattle.rc_place.proofs.adequacy.keeps_a6.Goals as goal
 
 pub returns-then-is_reached : goal.returns-then-is_reached
 returns-then-is_reached c =
